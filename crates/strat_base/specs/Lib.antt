@@ -2,3 +2,4 @@ pub mod Numbers
 pub mod Order
 pub mod Tree
 pub mod PairBuf
+pub mod Sizes

@@ -2,7 +2,7 @@
 use Rattle.std.specs.Prelude.{◌≡◌, ◌<◌, ℕ, ◌^◌, ◌&&◌, Bool, true, false, nat_le, if◌then◌else◌, List, [], ◌∷◌, ◌++◌, length, Option, Some, None}
 use Rattle.std.specs.List.{flat_map}
 use Rattle.strat_base.specs.Numbers.{be, number}
-use Rattle.strat_base.specs.declared.limits.TheConstants.{KEY_MAX, VALUE_MAX}
+use Rattle.strat_base.specs.Sizes.{is_key, is_value}
 use Rattle.strat_model.specs.declared.replies.Reply.{Reply}
 use Rattle.strat_model.specs.declared.replies.Reply.TheVariants as reply
 use Rattle.strat_model.specs.declared.replies.Refusal.TheVariants as why
@@ -30,14 +30,6 @@ command_bytes Stat = 10 ∷ []
 -- the body of a command
 abbrev pub command_body : ℕ → Request → List ℕ
 command_body tag request = be 4 tag ++ command_bytes request
-
--- these bytes may be a key
-abbrev pub is_key : List ℕ → Bool
-is_key key = nat_le 1 (length key) && nat_le (length key) KEY_MAX
-
--- these bytes may be a value
-abbrev pub is_value : List ℕ → Bool
-is_value value = nat_le (length value) VALUE_MAX
 
 -- a command that is taken so far, with sizes as they may be
 abbrev pub is_taken : Request → Bool
