@@ -1,5 +1,5 @@
 -- Numbers written into a slice.
-use Rattle.std.proofs.Common.{◌≡◌, ℕ, ◌+◌, ◌-◌, ◌^◌, ◌<◌, ◌≤◌, List, ◌++◌, [], length, get_or, take, drop, refl, sym, ap, ◌∙◌, append_assoc, length-drop, length-take, inl, inr, arith, Some, None, true, false, nat_le}
+use Rattle.std.proofs.Common.{◌≡◌, ℕ, ◌+◌, ◌-◌, ◌^◌, ◌<◌, ◌≤◌, List, ◌++◌, [], length, get_or, take, drop, refl, sym, ap, ◌∙◌, append_assoc, length-drop, length-take, inl, inr, arith, Some, None, true, false, nat_le, ◌∷◌, ◌*◌, ◌%◌}
 use Rattle.std.proofs.lemmas.List.{drop-drop, drop_all, take_all, append-nil, get_or-take, get_or-drop, get_or_past}
 use Rattle.std.proofs.lemmas.Bool.{cases_lt, lt-leb, le-leb}
 use Rattle.std.proofs.lemmas.Nat.{be_bytes_2, be_bytes_4, be_bytes_8}
@@ -80,3 +80,9 @@ number_at_some k bytes at n e =
       | inl short ↦ let no : nat_le (at + k) (length bytes) ≡ false = lt-leb _ _ short in absurd (let f : Some n ≡ None = rw no at e in cc)
       | inr long ↦ let yes : nat_le (at + k) (length bytes) ≡ true = le-leb _ _ long in (long, let f : Some n ≡ Some (number k (drop at bytes)) = rw yes at e in cc)
     ]
+
+-- one byte is that of the number in it
+pub be-number_1 : (bytes : List ℕ) → 1 ≤ length bytes → AreBytes bytes → be 1 (number 1 bytes) ≡ take 1 bytes
+unfolding be number
+be-number_1 [] long fits = absurd (omega arith)
+be-number_1 (b ∷ bytes) long fits = let h : b < 256 = fits 0 in let e : (b * 1 + 0) % 256 ≡ b = omega arith in rw e refl

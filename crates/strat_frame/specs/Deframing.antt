@@ -18,12 +18,12 @@ abbrev pub Takes : Next → Deframing → Deframing → Type 0
 Takes next.Frame old new = (old.held ≡ frame new.body ++ new.held) × IsBody new.body
 Takes next.NotYet old new = (is_partial old.held ≡ true) × (new.held ≡ old.held)
 Takes (next.TooLong length) old new =
-  (is_too_long old.held ≡ true) × (length ≡ number 4 old.held) × (new.held ≡ old.held)
+    (is_too_long old.held ≡ true) × (length ≡ number 4 old.held) × (new.held ≡ old.held)
 
 -- what bytes begin with
 abbrev pub BeginsWith : Front → List ℕ → Type 0
 BeginsWith (front.Whole n) held =
-  (held ≡ frame (take n (drop 4 held)) ++ drop (4 + n) held) × (n ≤ BODY_MAX) × (4 + n ≤ length held)
+    (held ≡ frame (take n (drop 4 held)) ++ drop (4 + n) held) × (n ≤ BODY_MAX) × (4 + n ≤ length held)
 BeginsWith front.Part held = is_partial held ≡ true
 BeginsWith (front.TooLong n) held = (is_too_long held ≡ true) × (n ≡ number 4 held)
 

@@ -1,1 +1,3 @@
 pub mod Deframing
+pub mod Fields
+pub mod Faults

@@ -39,8 +39,8 @@ impl Model for Deframer {
     ghost Value = { Deframing };
 
     ghost view = { λ d. record {
-        held = drop d.start d.bytes.items;
-        body = take d.body_len (drop d.body_at d.bytes.items)
+      held = drop d.start d.bytes.items;
+      body = take d.body_len (drop d.body_at d.bytes.items);
     } };
 
     ghost invariant = { λ d. IsCut d.bytes.items (vec_capacity d.bytes) d.start d.body_at d.body_len };

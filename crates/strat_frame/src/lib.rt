@@ -13,13 +13,11 @@
 //! `0000000f 00000007 01 00000000 0001 61 0001 31`, and its reply `00000005 00000007 00`.
 #![tactic(auto)]
 
-
+mod commands;
 mod deframer;
-
+mod fields;
 mod out;
 
-
-
+pub use commands::{BodyFault, parse_command};
 pub use deframer::{Deframer, Next};
 pub use out::OutBuf;
-

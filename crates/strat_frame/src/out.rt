@@ -107,5 +107,4 @@ impl OutBuf {
         self.put_u16(bytes.len() as u16);
         self.put(bytes);
     }
-
 }
