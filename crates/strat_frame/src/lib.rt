@@ -18,6 +18,6 @@ mod deframer;
 mod fields;
 mod out;
 
-pub use commands::{BodyFault, parse_command};
+pub use commands::{BodyFault, parse_command, write_command};
 pub use deframer::{Deframer, Next};
 pub use out::OutBuf;
