@@ -12,9 +12,14 @@ use Rattle.strat_model.specs.Spelling.{counted, command_bytes, command_body, is_
 use Rattle.strat_frame.specs.Fields.{number_then, counted_then, whole, put_in, get_in, request_in, command_in}
 
 -- the value of a step that found one
-bind_some : {A B : Type 0} (f : A → Option B) (o : Option A) (y : B) → option_and_then f o ≡ Some y → (x : A) × (o ≡ Some x) × (f x ≡ Some y)
+pub bind_some : {A B : Type 0} (f : A → Option B) (o : Option A) (y : B) → option_and_then f o ≡ Some y → (x : A) × (o ≡ Some x) × (f x ≡ Some y)
 bind_some f None y e = absurd cc
 bind_some f (Some x) y e = (x, refl, e)
+
+-- the arm of a choice that found a value
+pub chosen : {A : Type 0} (b : Bool) (o p : Option A) (y : A) → cond b o p ≡ Some y → ((b ≡ true) × (o ≡ Some y)) ⊎ ((b ≡ false) × (p ≡ Some y))
+chosen true o p y e = inl (refl, e)
+chosen false o p y e = inr (refl, e)
 
 -- what a reader took from the front
 pub record Takes (bytes text rest : List ℕ) : Type 0 where
@@ -25,7 +30,7 @@ pub record Takes (bytes text rest : List ℕ) : Type 0 where
 abbrev pub IsWide : ℕ → Type 0
 IsWide k = (bytes : List ℕ) → k ≤ length bytes → AreBytes bytes → be k (number k bytes) ≡ take k bytes
 
-number_takes : (k : ℕ) → IsWide k → (bytes : List ℕ) (n : ℕ) (rest : List ℕ) → AreBytes bytes → number_then k bytes ≡ Some (n, rest) → Takes bytes (be k n) rest × (n < 256 ^ k)
+pub number_takes : (k : ℕ) → IsWide k → (bytes : List ℕ) (n : ℕ) (rest : List ℕ) → AreBytes bytes → number_then k bytes ≡ Some (n, rest) → Takes bytes (be k n) rest × (n < 256 ^ k)
 number_takes k wide bytes n rest fits e =
     let g = cond_some (leb k (length bytes)) (number k bytes, drop k bytes) (n, rest) e in
     let long : k ≤ length bytes = leb-true k (length bytes) g.0 in
@@ -33,12 +38,12 @@ number_takes k wide bytes n rest fits e =
     (record { parts = sym (take-append-drop k bytes) ∙ ap (λ (x : List ℕ). x ++ drop k bytes) (sym (wide bytes long fits)); rest_fits = AreBytes-drop k bytes fits }, number-lt k bytes fits) in
     subst (λ (x : ℕ × List ℕ). Takes bytes (be k x.0) x.1 × (x.0 < 256 ^ k)) g.1 made
 
-number_again : (k n : ℕ) (rest : List ℕ) → n < 256 ^ k → number_then k (be k n ++ rest) ≡ Some (n, rest)
+pub number_again : (k n : ℕ) (rest : List ℕ) → n < 256 ^ k → number_then k (be k n ++ rest) ≡ Some (n, rest)
 number_again k n rest fits =
     let long : leb k (length (be k n ++ rest)) ≡ true = le-leb k (length (be k n ++ rest)) (omega (arith, length-append (be k n) rest, length-be k n)) in
     rw (long, number-be k n rest fits, drop_at (be k n) rest k (length-be k n)) refl
 
-counted_takes : (bytes text rest : List ℕ) → AreBytes bytes → counted_then bytes ≡ Some (text, rest) → Takes bytes (counted text) rest
+pub counted_takes : (bytes text rest : List ℕ) → AreBytes bytes → counted_then bytes ≡ Some (text, rest) → Takes bytes (counted text) rest
 unfolding counted_then
 counted_takes bytes text rest fits e =
     let b = bind_some (λ (n : ℕ × List ℕ). cond (leb n.0 (length n.1)) (Some (take n.0 n.1, drop n.0 n.1)) None) (number_then 2 bytes) (text, rest) e in
@@ -53,7 +58,7 @@ counted_takes bytes text rest fits e =
     } in
     subst (λ (x : List ℕ × List ℕ). Takes bytes (counted x.0) x.1) g.1 made
 
-counted_again : (text rest : List ℕ) → length text < 65536 → counted_then (counted text ++ rest) ≡ Some (text, rest)
+pub counted_again : (text rest : List ℕ) → length text < 65536 → counted_then (counted text ++ rest) ≡ Some (text, rest)
 unfolding counted_then
 counted_again text rest short =
     let regrouped : counted text ++ rest ≡ be 2 (length text) ++ (text ++ rest) = append_assoc (be 2 (length text)) text rest in
@@ -117,10 +122,6 @@ request_takes opcode fields request fits e =
         | inr none ↦ absurd (let h : None ≡ Some request = none.1 in cc)
       ]
     ]
-  where
-    chosen : (b : Bool) (o p : Option Request) (y : Request) → cond b o p ≡ Some y → ((b ≡ true) × (o ≡ Some y)) ⊎ ((b ≡ false) × (p ≡ Some y))
-    chosen true o p y e = inl (refl, e)
-    chosen false o p y e = inr (refl, e)
 
 -- what is read is spelled so
 pub command_takes : (body : List ℕ) (tag : ℕ) (request : Request) → AreBytes body → command_in body ≡ Some (tag, request) → Spells body tag request

@@ -1,8 +1,13 @@
 -- Reading the fields of a body from left to right.
 use Rattle.std.specs.Prelude.{◌≡◌, ℕ, ◌==◌, nat_le, ◌&&◌, Bool, true, false, if◌then◌else◌, List, [], ◌∷◌, length, take, drop, Option, Some, None}
-use Rattle.std.specs.Option.{option_and_then}
+use Rattle.std.specs.Option.{option_and_then, option_map}
 use Rattle.strat_base.specs.Numbers.{number}
 use Rattle.strat_model.specs.Request.{Request, Put, Get}
+use Rattle.strat_base.specs.Sizes.{is_value}
+use Rattle.strat_model.specs.declared.replies.Reply.{Reply}
+use Rattle.strat_model.specs.declared.replies.Reply.TheVariants as reply
+use Rattle.strat_model.specs.declared.replies.Refusal.TheVariants as why
+use Rattle.strat_model.specs.Answer.{Answer, plain}
 use Rattle.strat_model.specs.Spelling.{is_taken}
 
 -- what a function found is what reading finds, seen by view
@@ -52,3 +57,35 @@ command_in body =
     option_and_then (λ opcode.
     option_and_then (λ request. Some (tag.0, request))
     (request_in opcode.0 opcode.1)) (number_then 1 tag.1)) (number_then 4 body)
+
+-- a reply without fields, by its status byte
+unfoldable pub simple_reply : ℕ → Option Reply
+simple_reply status =
+    if status == 0 then Some reply.Done else
+    if status == 2 then Some reply.Absent else
+    if status == 16 then Some (reply.Refused why.UnknownVersion) else
+    if status == 20 then Some (reply.Refused why.ChangeLimit) else
+    if status == 22 then Some (reply.Refused why.Malformed) else
+    if status == 26 then Some (reply.Refused why.FrameTooLong) else
+    if status == 32 then Some (reply.Refused why.NoMemory) else None
+
+-- the value of a reply to a look-up, all of the fields
+unfoldable pub value_in : List ℕ → Option (List ℕ)
+value_in fields = option_and_then
+    (λ value. if length value.1 == 0 then (if is_value value.0 then Some value.0 else None) else None)
+    (counted_then fields)
+
+-- a status byte and its fields, all of the bytes
+unfoldable pub answer_in : ℕ → List ℕ → Option Answer
+answer_in status fields =
+    if status == 1 then
+    option_map (λ value. record { reply = reply.Found; pairs = (63 ∷ [], value) ∷ [] }) (value_in fields)
+    else if length fields == 0 then option_map plain (simple_reply status) else None
+
+-- a tag and a reply, all of the bytes
+unfoldable pub reply_in : List ℕ → Option (ℕ × Answer)
+reply_in body =
+    option_and_then (λ tag.
+    option_and_then (λ status.
+    option_and_then (λ a. Some (tag.0, a))
+    (answer_in status.0 status.1)) (number_then 1 tag.1)) (number_then 4 body)

@@ -17,7 +17,9 @@ mod commands;
 mod deframer;
 mod fields;
 mod out;
+mod replies;
 
 pub use commands::{BodyFault, parse_command, write_command};
 pub use deframer::{Deframer, Next};
 pub use out::OutBuf;
+pub use replies::{parse_reply, write_reply};

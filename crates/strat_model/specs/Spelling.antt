@@ -146,3 +146,27 @@ reply_fields _ pairs = []
 -- the body of a reply
 abbrev pub reply_body : ℕ → Answer → List ℕ
 reply_body tag a = be 4 tag ++ status_byte a.reply ∷ reply_fields a.reply a.pairs
+
+-- a reply that is given so far
+abbrev pub is_given : Reply → Bool
+is_given reply.Done = true
+is_given reply.Found = true
+is_given reply.Absent = true
+is_given (reply.Refused why.UnknownVersion) = true
+is_given (reply.Refused why.ChangeLimit) = true
+is_given (reply.Refused why.Malformed) = true
+is_given (reply.Refused why.FrameTooLong) = true
+is_given (reply.Refused why.NoMemory) = true
+is_given _ = false
+
+-- the pairs beside a reply as a client reads it, who knows the key that was asked for and sees a question mark for it
+abbrev pub FitsReply : Reply → Pairs → Type 0
+FitsReply reply.Found pairs = (value : List ℕ) × (pairs ≡ (63 ∷ [], value) ∷ []) × (is_value value ≡ true)
+FitsReply _ pairs = pairs ≡ []
+
+-- a body is a reply that is given
+pub record SpellsReply (body : List ℕ) (tag : ℕ) (a : Answer) : Type 0 where
+  pub text : body ≡ reply_body tag a
+  pub tag_fits : tag < 2 ^ 32
+  pub given : is_given a.reply ≡ true
+  pub pairs_fit : FitsReply a.reply a.pairs
