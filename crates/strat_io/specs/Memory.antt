@@ -1,0 +1,23 @@
+-- Sources and sinks in memory, which fail at the calls that they are told to fail at.
+use Rattle.std.specs.Prelude.{ℕ, ◌+◌, ◌-◌, ◌^◌, min, List}
+
+-- a source: its bytes still to give, the most that one call gives, the numbers of the calls that fail,
+-- how many calls there were, and how many of them failed
+pub record Feed : Type 0 where
+  pub left : List ℕ
+  pub piece : ℕ
+  pub failing : List ℕ
+  pub calls : ℕ
+  pub faults : ℕ
+
+-- a sink: the bytes it took, the most that one call takes, and its calls as those of a source
+pub record Store : Type 0 where
+  pub held : List ℕ
+  pub most : ℕ
+  pub failing : List ℕ
+  pub calls : ℕ
+  pub faults : ℕ
+
+-- a count after one more; at the last number of 64 bits it stands still
+abbrev pub one_more : ℕ → ℕ
+one_more n = min (n + 1) (2 ^ 64 - 1)
