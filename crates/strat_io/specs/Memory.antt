@@ -3,7 +3,7 @@ use Rattle.std.specs.Prelude.{ℕ, ◌+◌, ◌-◌, ◌^◌, min, List}
 
 -- a source: its bytes still to give, the most that one call gives, the numbers of the calls that fail,
 -- how many calls there were, and how many of them failed
-pub record Feed : Type 0 where
+pub record Playback : Type 0 where
   pub left : List ℕ
   pub piece : ℕ
   pub failing : List ℕ
@@ -11,7 +11,7 @@ pub record Feed : Type 0 where
   pub faults : ℕ
 
 -- a sink: the bytes it took, the most that one call takes, and its calls as those of a source
-pub record Store : Type 0 where
+pub record Recording : Type 0 where
   pub held : List ℕ
   pub most : ℕ
   pub failing : List ℕ

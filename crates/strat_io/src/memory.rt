@@ -52,7 +52,7 @@ impl Calls {
 }
 
 /// A source that gives bytes of memory, at most so many a call, and fails at the calls whose numbers it
-/// is given, counted from 1. It is seen as a `Feed`.
+/// is given, counted from 1. It is seen as a `Playback`.
 #[derive(Drop)]
 pub struct MemSource {
     bytes: Vec<u8>,
@@ -63,9 +63,9 @@ pub struct MemSource {
 
 impl Model for MemSource {
     ghost use Rattle.std.specs.Prelude.{◌≤◌, ◌<◌, length, drop, vec_len};
-    ghost use Rattle.strat_io.specs.Memory.{Feed};
+    ghost use Rattle.strat_io.specs.Memory.{Playback};
 
-    ghost Value = { Feed };
+    ghost Value = { Playback };
 
     ghost view = { λ s. record {
       left = drop s.at s.bytes.items;
@@ -145,7 +145,7 @@ impl Source for MemSource {
 }
 
 /// A sink that keeps what it is given in memory, takes at most so many bytes a call, and fails at the
-/// calls whose numbers it is given, counted from 1, and where it finds no memory. It is seen as a `Store`.
+/// calls whose numbers it is given, counted from 1, and where it finds no memory. It is seen as a `Recording`.
 #[derive(Drop)]
 pub struct MemSink {
     bytes: Vec<u8>,
@@ -155,9 +155,9 @@ pub struct MemSink {
 
 impl Model for MemSink {
     ghost use Rattle.std.specs.Prelude.{◌<◌};
-    ghost use Rattle.strat_io.specs.Memory.{Store};
+    ghost use Rattle.strat_io.specs.Memory.{Recording};
 
-    ghost Value = { Store };
+    ghost Value = { Recording };
 
     ghost view = { λ s. record {
       held = s.bytes.items;
