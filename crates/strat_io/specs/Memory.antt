@@ -1,8 +1,7 @@
 -- Sources and sinks in memory, which fail at the calls that they are told to fail at.
 use Rattle.std.specs.Prelude.{ℕ, ◌+◌, ◌-◌, ◌^◌, min, List}
 
--- a source: its bytes still to give, the most that one call gives, the numbers of the calls that fail,
--- how many calls there were, and how many of them failed
+-- a source: its bytes still to give, the most a call gives, the calls that fail, and counts of calls and faults
 pub record Playback : Type 0 where
   pub left : List ℕ
   pub piece : ℕ
@@ -10,7 +9,7 @@ pub record Playback : Type 0 where
   pub calls : ℕ
   pub faults : ℕ
 
--- a sink: the bytes it took, the most that one call takes, and its calls as those of a source
+-- a sink: the bytes it took, the most a call takes, the calls that fail, and counts of calls and faults
 pub record Recording : Type 0 where
   pub held : List ℕ
   pub most : ℕ
