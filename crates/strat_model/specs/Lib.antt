@@ -9,3 +9,4 @@ pub mod Spelling
 pub mod Stream
 pub mod Run
 pub mod Plain
+pub mod PlainView

@@ -1,6 +1,6 @@
 -- What a table that finds memory for each change as it comes says of a command.
 use Rattle.std.specs.Prelude.{◌≡◌, ◌≤◌, ℕ, ◌==◌, Bool, true, false, not, if◌then◌else◌, List, length, Option, Some, None, ◌⊎◌}
-use Rattle.strat_base.specs.declared.limits.TheConstants.{KEY_MAX, PAIRS_MAX, CHANGES_MAX, VERSIONS_MAX, CURSORS_MAX}
+use Rattle.strat_base.specs.declared.limits.TheConstants.{KEY_MAX, PAIRS_MAX, CURSORS_MAX}
 use Rattle.strat_base.specs.PairBuf.{IsPair}
 use Rattle.strat_model.specs.declared.replies.Reply.{Reply}
 use Rattle.strat_model.specs.declared.replies.Refusal.{Refusal}
@@ -10,6 +10,7 @@ use Rattle.strat_model.specs.Request.{Request, Put, Delete, Get, Clone, Scan, In
 use Rattle.strat_model.specs.Table.{Table}
 use Rattle.strat_model.specs.Answer.{refusal, accepts}
 use Rattle.strat_model.specs.Step.{step, is_known, is_frozen}
+use Rattle.strat_model.specs.Run.{takes_memory}
 
 -- a key has a size as it may be
 pub record IsKey (key : List ℕ) : Type 0 where
@@ -34,7 +35,7 @@ IsLawful (NextPairs cursor limit) = IsLimit limit
 IsLawful (CloseCursor cursor) = Unit {0}
 IsLawful Stat = Unit {0}
 
--- a command makes the table larger
+-- a command makes a table larger
 abbrev pub grows : Request → Bool
 grows (Put version key value) = true
 grows (Clone version) = true
@@ -46,9 +47,9 @@ pub record IsStep (before : Table) (request : Request) (reply : Reply) (pairs : 
   pub answer : record { reply = reply; pairs = pairs } ≡ (step before request).answer
   pub table : after ≡ (step before request).table
 
--- a command that makes the table larger would have been accepted, found no memory, and changed nothing
+-- a command that the step accepts found no memory, and changed nothing
 pub record IsShort (before : Table) (request : Request) (reply : Reply) (pairs : Pairs) (after : Table) : Type 0 where
-  pub grows : grows request ≡ true
+  pub takes : takes_memory request ≡ true
   pub accepted : accepts (step before request).answer.reply ≡ true
   pub answer : record { reply = reply; pairs = pairs } ≡ refusal why.NoMemory
   pub same : after ≡ before
@@ -65,11 +66,15 @@ update_refusal t v =
     if is_frozen t v then Some why.Frozen else
     if t.changes == t.changes_max then Some why.ChangeLimit else None
 
--- a table is within its limits, and its limits within those of any table
-pub record IsWithin (t : Table) : Type 0 where
-  pub changes_max : t.changes_max ≤ CHANGES_MAX
-  pub versions_max : t.versions_max ≤ VERSIONS_MAX
-  pub rows : length t.rows ≤ t.versions_max
-  pub changes : t.changes ≤ t.changes_max
-  pub updates : t.updates ≤ t.changes
-  pub cursors : length t.cursors ≤ CURSORS_MAX
+-- why a clone of a version is refused, if it is
+abbrev pub clone_refusal : Table → ℕ → Option Refusal
+clone_refusal t v =
+    if not (is_known t v) then Some why.UnknownVersion else
+    if length t.rows == t.versions_max then Some why.VersionLimit else
+    if t.changes == t.changes_max then Some why.ChangeLimit else None
+
+-- why a cursor over a version is refused, if it is
+abbrev pub cursor_refusal : Table → ℕ → Option Refusal
+cursor_refusal t v =
+    if not (is_known t v) then Some why.UnknownVersion else
+    if length t.cursors == CURSORS_MAX then Some why.CursorLimit else None

@@ -68,7 +68,11 @@ impl PlainPair {
     fn copy(&self) -> Result<PlainPair, NoMemory>
         ensures ok { IfOk result (λ pair. pair ≡ self.now) }
     {
-        PlainPair::new(*self.key.allocator(), self.key.as_slice(), self.value.as_slice())
+        PlainPair::new(
+            *self.key.allocator(),
+            self.key.as_slice(),
+            self.value.as_slice(),
+        )
     }
 }
 
@@ -112,14 +116,10 @@ impl PlainPairs {
 
     /// Where the pair of a key is.
     fn find(&self, key: &[u8]) -> Option<usize>
-        ensures found {
-            IfSome result (λ i. (i < length self.now)
-                × (value_of self.now key.now ≡ Some (slice_index_or self.now i ([], [])).1)
-                × (unset key.now self.now ≡ remove self.now i))
-        }
-        ensures none {
-            IfNone result ((value_of self.now key.now ≡ None) × (unset key.now self.now ≡ self.now))
-        }
+        ensures found { IfSome result (λ i. (i < length self.now)
+            × (value_of self.now key.now ≡ Some (slice_index_or self.now i ([], [])).1)
+            × (unset key.now self.now ≡ remove self.now i)) }
+        ensures none { IfNone result ((value_of self.now key.now ≡ None) × (unset key.now self.now ≡ self.now)) }
     {
         for (i, pair) in self.pairs.iter().enumerate() {
             if key.cmp(pair.key()) == Ordering::Equal {
@@ -140,13 +140,11 @@ impl PlainPairs {
 
     /// Where the pair of a key is, or else where it would stand.
     fn search(&self, key: &[u8]) -> Result<usize, usize>
-        ensures ok {
-            MatchResult result
-                (λ i. (i < length self.now) × ((value : List ℕ) → set key.now value self.now
-                    ≡ slice_set self.now i ((slice_index_or self.now i ([], [])).0, value)))
-                (λ i. (i ≤ length self.now) × ((value : List ℕ) → set key.now value self.now
-                    ≡ insert self.now i (key.now, value)))
-        }
+        ensures ok { MatchResult result
+            (λ i. (i < length self.now) × ((value : List ℕ) → set key.now value self.now
+            ≡ slice_set self.now i ((slice_index_or self.now i ([], [])).0, value)))
+            (λ i. (i ≤ length self.now) × ((value : List ℕ) → set key.now value self.now
+            ≡ insert self.now i (key.now, value))) }
     {
         for (i, pair) in self.pairs.iter().enumerate() {
             match key.cmp(pair.key()) {

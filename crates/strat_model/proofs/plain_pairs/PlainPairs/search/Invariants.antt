@@ -1,4 +1,4 @@
-use Rattle.std.proofs.Common.{◌≡◌, ◌≤◌, ℕ, List, ◌++◌, length, take, drop}
+use Rattle.std.proofs.Common.{◌≡◌, ℕ, List, ◌++◌, take, drop}
 use Rattle.strat_model.specs.Pairs.{set}
 use Rattle.strat_model.proofs.plain_pairs.PlainPairs.search.Given as goal
 
