@@ -1,1 +1,4 @@
+pub mod ImageLemmas
+pub mod MomentLemmas
 pub mod NumberLemmas
+pub mod TrailLemmas

@@ -1,0 +1,12 @@
+-- Counts of the faults of a source, a sink or a disk.
+use Rattle.std.specs.Prelude.{◌≡◌, ◌≤◌, ℕ, ◌+◌, ◌-◌, ◌^◌, min, Result, OnOk, OnErr}
+
+-- a count rose, or stands at the end of its type
+abbrev pub Rose : ℕ → ℕ → Type 0
+Rose before now = min (before + 1) (2 ^ 64 - 1) ≤ now
+
+-- a call counts a fault where it fails, and none where it succeeds
+pub record Counts {T E : Type 0} (before now : ℕ) (result : Result T E) : Type 0 where
+  pub later : before ≤ now
+  pub ok : OnOk result (now ≡ before)
+  pub err : OnErr result (Rose before now)

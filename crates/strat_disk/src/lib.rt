@@ -1,0 +1,6 @@
+//! Disks whose crashes are part of their contract: what a crash at any moment may leave is named by clauses.
+#![tactic(auto)]
+
+mod disk;
+
+pub use disk::{Disk, write_through};
