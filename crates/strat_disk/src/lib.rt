@@ -2,5 +2,6 @@
 #![tactic(auto)]
 
 mod disk;
+mod plane;
 
 pub use disk::{Disk, write_through};
