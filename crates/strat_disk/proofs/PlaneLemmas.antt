@@ -97,3 +97,14 @@ whole_written at bytes m whole new = record {
     | above is ↦ over_above at (length bytes) _ m.content i is ∙ whole.same i (sym (over_above at (length bytes) _ m.pending i is) ∙ quiet)
   ];
 }
+
+-- where nothing is pending a sync changes nothing
+pub settled_quiet : (m : Medium) → IsWhole m → ((i : ℕ) → m.pending i ≡ false) → m ≡ settled m
+settled_quiet m whole quiet = λ j. record { content = m.content; durable = λ i. sym (whole.same i (quiet i)) j; pending = λ i. quiet i j }
+
+pub over_both : {A : Type 0} (at n : ℕ) (f g : ℕ → A) (x : A) → ((i : ℕ) → f i ≡ x) → ((i : ℕ) → g i ≡ x) → (i : ℕ) → over at n f g i ≡ x
+over_both at n f g x in_it out_of_it i = elim (lies at n i) [
+  | below is ↦ over_below at n f g i is ∙ out_of_it i
+  | inside from to ↦ over_inside at n f g i from to ∙ in_it i
+  | above is ↦ over_above at n f g i is ∙ out_of_it i
+]

@@ -2,6 +2,10 @@
 #![tactic(auto)]
 
 mod disk;
+mod event;
+mod log;
+mod memory;
 mod plane;
 
 pub use disk::{Disk, write_through};
+pub use memory::MemDisk;

@@ -1,7 +1,8 @@
 //! The bytes of a disk in memory: as they read, as the last sync left them, and which of them are pending.
-ghost use Rattle.std.specs.Prelude.{◌≡◌, ◌≤◌, ◌<◌, ℕ, ◌+◌, ◌-◌, ◌++◌, length, vec_len, vec_capacity, take, drop, max, slice_index, IfOk, OnOk, OnErr, [], replicate, true, false};
+ghost use Rattle.std.specs.Prelude.{◌≡◌, ◌≤◌, ◌<◌, ℕ, ◌+◌, ◌-◌, ◌++◌, ◌==◌, ◌^◌, if◌then◌else◌, length, vec_len, vec_capacity, take, drop, max, slice_index, IfOk, OnOk, OnErr, [], replicate, true, false};
+ghost use Rattle.strat_base.specs.Image.{window};
 ghost use Rattle.strat_base.specs.Numbers.{placed};
-ghost use Rattle.strat_disk.specs.Medium.{shown, at_rest, written, settled, altered, IsWhole};
+ghost use Rattle.strat_disk.specs.Medium.{shown, at_rest, written, settled, altered, crashed, IsWhole};
 
 use std::alloc::{AllocError, Global};
 
@@ -17,7 +18,7 @@ pub struct Plane {
 }
 
 impl Plane {
-    ghost use Rattle.strat_disk.specs.PlaneView.{plane_of};
+    ghost use Rattle.strat_disk.specs.PlaneView.{plane_of, HasRoom};
 
     /// No bytes.
     pub fn new(alloc: Global) -> Plane
@@ -45,23 +46,51 @@ impl Plane {
         })
     }
 
-    /// Makes it at least so long, by zeros.
-    pub fn grow(&mut self, len: usize) -> Result<(), AllocError>
-        ensures same { plane_of self.new ≡ plane_of self.old }
-        ensures ok { OnOk result (length self.new.bytes.items ≡ max (length self.old.bytes.items) len) }
-        ensures err { OnErr result (length self.new.bytes.items ≡ length self.old.bytes.items) }
+    /// Fills `into` with the bytes from `at` on, and with zeros behind the last of them.
+    pub fn read(&self, at: usize, into: &mut [u8])
+        requires { at + length into.old < 2 ^ 64 }
+        ensures { into.new ≡ window (plane_of self.now).content at (length into.old) }
     {
-        if len <= self.bytes.len() {
-            return Ok(());
+        fill(&self.bytes, at, into);
+    }
+
+    /// What a crash leaves: the pending bytes are the old ones, the new ones, or 0xa7.
+    pub fn crash(&self, alloc: Global, choice: u8) -> Result<Vec<u8>, AllocError>
+        ensures len { IfOk result (λ v. length v.items ≡ length self.now.bytes.items) }
+        ensures bytes { IfOk result (λ v. slice_index v.items ≡ crashed choice (plane_of self.now)) }
+    {
+        let mut left = Vec::with_capacity(alloc, self.bytes.len())?;
+        for i in 0..self.bytes.len() {
+            left.push(left_at(choice, self.pending[i], self.durable[i], self.bytes[i]))?;
         }
-        let more = len - self.bytes.len();
+        Ok(left)
+    }
+
+    /// Takes the memory for so many bytes.
+    pub fn reserve(&mut self, len: usize) -> Result<(), AllocError>
+        ensures room { OnOk result (HasRoom self.new len) }
+        ensures same { plane_of self.new ≡ plane_of self.old }
+        ensures len { length self.new.bytes.items ≡ length self.old.bytes.items }
+    {
+        let more = len.saturating_sub(self.bytes.len());
         self.bytes.reserve(more)?;
         self.durable.reserve(more)?;
         self.pending.reserve(more)?;
+        Ok(())
+    }
+
+    /// Makes it at least so long, by zeros.
+    pub fn lengthen(&mut self, len: usize)
+        requires { HasRoom self.old len }
+        ensures same { plane_of self.new ≡ plane_of self.old }
+        ensures len { length self.new.bytes.items ≡ max (length self.old.bytes.items) len }
+    {
+        if len <= self.bytes.len() {
+            return;
+        }
         lengthen(&mut self.bytes, len);
         lengthen(&mut self.durable, len);
         lengthen_marks(&mut self.pending, len);
-        Ok(())
     }
 
     /// Writes these bytes, which are pending from then on.
@@ -103,6 +132,26 @@ impl Plane {
         copy(&mut self.bytes, &other.bytes);
         copy(&mut self.durable, &other.durable);
         copy_marks(&mut self.pending, &other.pending);
+    }
+}
+
+fn left_at(choice: u8, pending: bool, old: u8, new: u8) -> u8
+    ensures { result ≡ (if pending then (if choice == 0 then old else if choice == 1 then new else 0xa7) else old) }
+{
+    match (pending, choice) {
+        (false, _) => old,
+        (true, 0) => old,
+        (true, 1) => new,
+        _ => 0xa7,
+    }
+}
+
+fn fill(bytes: &Vec<u8>, at: usize, into: &mut [u8])
+    requires { at + length into.old < 2 ^ 64 }
+    ensures { into.new ≡ window (slice_index bytes.now.items) at (length into.old) }
+{
+    for (i, b) in into.iter_mut().enumerate() {
+        *b = bytes.get(at + i).copied().unwrap_or(0);
     }
 }
 
