@@ -1,2 +1,5 @@
+pub mod ImageLemmas
+pub mod MomentLemmas
 pub mod NumberLemmas
 pub mod PairLemmas
+pub mod TrailLemmas
