@@ -1,5 +1,5 @@
 -- The versions of a store as a tree: each has at most one parent, which was made before it.
-use Rattle.std.specs.Prelude.{◌≡◌, ◌<◌, ℕ, zero, suc, ◌-◌, ◌==◌, Bool, false, nat_lt, List, [], ◌∷◌, length, Option, Some, None, slice_get, find, unwrap_or, option_and_then}
+use Rattle.std.specs.Prelude.{◌≡◌, ◌<◌, ℕ, zero, suc, ◌-◌, ◌==◌, Bool, false, nat_lt, List, [], ◌∷◌, ◌++◌, length, Option, Some, None, slice_get, find, unwrap_or, option_and_then}
 use Rattle.std.specs.Option.{option_map_or}
 use Rattle.std.specs.List.{list_any}
 
@@ -31,6 +31,10 @@ is_ancestor parents u v = list_any (λ w. w == u) (path parents v)
 -- the nearest of v and its ancestors that is numbered below h
 abbrev pub below : Parents → ℕ → ℕ → ℕ
 below parents v h = unwrap_or (find (λ u. nat_lt u h) (path parents v)) 0
+
+-- the tree with one more version, a child of p
+abbrev pub with_child : Parents → ℕ → Parents
+with_child parents p = parents ++ Some p ∷ []
 
 -- how many ancestors a version has
 abbrev pub depth : Parents → ℕ → ℕ

@@ -3,6 +3,7 @@
 
 mod entries;
 mod failures;
+pub mod laws;
 pub mod limits;
 mod numbers;
 
