@@ -1,3 +1,5 @@
 pub mod NumberLemmas
 pub mod ListFacts
 pub mod TreeLemmas
+pub mod EntryLemmas
+pub mod LiveLemmas

@@ -1,5 +1,5 @@
 -- Numbers written into a slice.
-use Rattle.std.proofs.Common.{◌≡◌, ℕ, ◌+◌, ◌-◌, ◌≤◌, List, ◌++◌, [], length, take, drop, sym, ap, ◌∙◌, append_assoc, length-drop, arith}
+use Rattle.std.proofs.Common.{◌≡◌, ℕ, ◌+◌, ◌-◌, ◌≤◌, List, ◌++◌, [], length, take, drop, refl, sym, ap, ◌∙◌, append_assoc, length-drop, arith}
 use Rattle.std.proofs.lemmas.List.{drop-drop, drop_all, take_all, append-nil}
 use Rattle.strat_base.specs.Numbers.{placed}
 use borrow.Rule.Slice.PartMut.{put_mid}

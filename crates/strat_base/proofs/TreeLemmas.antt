@@ -83,17 +83,17 @@ module _ (parents : Parents) (tree : IsTree parents) where
   pub along_path : (P : ℕ → Type 0) → ((v : ℕ) → parent_of parents v ≡ None → P v) → ((v p : ℕ) → parent_of parents v ≡ Some p → P p → P v) → (v : ℕ) → P v
   along_path P root up v = walk P root up v v (omega arith)
 
-  on_root : (u v : ℕ) → parent_of parents v ≡ None → Among u (path parents v) → u ≡ v
+  pub on_root : (u v : ℕ) → parent_of parents v ≡ None → Among u (path parents v) → u ≡ v
   on_root u v none among = go (subst (Among u) (path_root v none) among)
     where
       go : Among u (v ∷ []) → u ≡ v
       go (inl here) = here
       go (inr there) = absurd there
 
-  on_path : (u v p : ℕ) → parent_of parents v ≡ Some p → Among u (path parents v) → (u ≡ v) ⊎ Among u (path parents p)
+  pub on_path : (u v p : ℕ) → parent_of parents v ≡ Some p → Among u (path parents v) → (u ≡ v) ⊎ Among u (path parents p)
   on_path u v p some among = subst (Among u) (path_up v p some) among
 
-  from_path : (u v p : ℕ) → parent_of parents v ≡ Some p → (u ≡ v) ⊎ Among u (path parents p) → Among u (path parents v)
+  pub from_path : (u v p : ℕ) → parent_of parents v ≡ Some p → (u ≡ v) ⊎ Among u (path parents p) → Among u (path parents v)
   from_path u v p some among = let P : List ℕ → Type 0 = Among u in subst P (sym (path_up v p some)) among
 
   pub self_on_path : (v : ℕ) → Among v (path parents v)

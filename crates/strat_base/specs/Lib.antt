@@ -1,3 +1,5 @@
+pub mod Entries
+pub mod Live
 pub mod Numbers
 pub mod Order
 pub mod Tree
