@@ -3,3 +3,4 @@ pub mod Live
 pub mod Numbers
 pub mod Order
 pub mod Tree
+pub mod PairBuf

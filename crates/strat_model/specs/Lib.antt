@@ -1,0 +1,10 @@
+pub mod Ended
+pub mod Pairs
+pub mod Request
+pub mod Table
+pub mod Step
+pub mod Command
+pub mod Answer
+pub mod Spelling
+pub mod Stream
+pub mod Run

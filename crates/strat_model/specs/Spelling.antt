@@ -1,0 +1,134 @@
+-- The bytes of commands and replies. A body begins with the tag by which a client knows its reply.
+use Rattle.std.specs.Prelude.{◌≡◌, ◌<◌, ℕ, ◌^◌, ◌&&◌, Bool, true, false, nat_le, if◌then◌else◌, List, [], ◌∷◌, ◌++◌, length, Option, Some, None}
+use Rattle.std.specs.List.{flat_map}
+use Rattle.strat_base.specs.Numbers.{be, number}
+use Rattle.strat_base.specs.declared.limits.TheConstants.{KEY_MAX, VALUE_MAX}
+use Rattle.strat_model.specs.declared.replies.Reply.{Reply}
+use Rattle.strat_model.specs.declared.replies.Reply.TheVariants as reply
+use Rattle.strat_model.specs.declared.replies.Refusal.TheVariants as why
+use Rattle.strat_model.specs.Pairs.{Pairs}
+use Rattle.strat_model.specs.Request.{Request, Put, Delete, Get, Clone, Scan, Info, OpenCursor, NextPairs, CloseCursor, Stat}
+use Rattle.strat_model.specs.Answer.{Answer}
+
+-- a length in two bytes, and so many bytes
+abbrev pub counted : List ℕ → List ℕ
+counted bytes = be 2 (length bytes) ++ bytes
+
+-- the byte by which a command is known, and its fields
+abbrev pub command_bytes : Request → List ℕ
+command_bytes (Put version key value) = 1 ∷ be 4 version ++ counted key ++ counted value
+command_bytes (Delete version key) = 2 ∷ be 4 version ++ counted key
+command_bytes (Get version key) = 3 ∷ be 4 version ++ counted key
+command_bytes (Clone version) = 4 ∷ be 4 version
+command_bytes (Scan version lo hi limit) = 5 ∷ be 4 version ++ counted lo ++ counted hi ++ be 2 limit
+command_bytes (Info version) = 6 ∷ be 4 version
+command_bytes (OpenCursor version lo hi) = 7 ∷ be 4 version ++ counted lo ++ counted hi
+command_bytes (NextPairs cursor limit) = 8 ∷ be 8 cursor ++ be 2 limit
+command_bytes (CloseCursor cursor) = 9 ∷ be 8 cursor
+command_bytes Stat = 10 ∷ []
+
+-- the body of a command
+abbrev pub command_body : ℕ → Request → List ℕ
+command_body tag request = be 4 tag ++ command_bytes request
+
+-- these bytes may be a key
+abbrev pub is_key : List ℕ → Bool
+is_key key = nat_le 1 (length key) && nat_le (length key) KEY_MAX
+
+-- these bytes may be a value
+abbrev pub is_value : List ℕ → Bool
+is_value value = nat_le (length value) VALUE_MAX
+
+-- a command that is taken so far, with sizes as they may be
+abbrev pub is_taken : Request → Bool
+is_taken (Put version key value) = is_key key && is_value value
+is_taken (Get version key) = is_key key
+is_taken _ = false
+
+-- the numbers of a command fit their fields
+abbrev pub FitsFields : Request → Type 0
+FitsFields (Put version key value) = version < 2 ^ 32
+FitsFields (Delete version key) = version < 2 ^ 32
+FitsFields (Get version key) = version < 2 ^ 32
+FitsFields (Clone version) = version < 2 ^ 32
+FitsFields (Scan version lo hi limit) = (version < 2 ^ 32) × (limit < 2 ^ 16)
+FitsFields (Info version) = version < 2 ^ 32
+FitsFields (OpenCursor version lo hi) = version < 2 ^ 32
+FitsFields (NextPairs cursor limit) = (cursor < 2 ^ 64) × (limit < 2 ^ 16)
+FitsFields (CloseCursor cursor) = cursor < 2 ^ 64
+FitsFields Stat = Unit {0}
+
+-- a body is a command that is taken
+pub record Spells (body : List ℕ) (tag : ℕ) (request : Request) : Type 0 where
+  pub text : body ≡ command_body tag request
+  pub tag_fits : tag < 2 ^ 32
+  pub fits : FitsFields request
+  pub taken : is_taken request ≡ true
+
+-- the tag of a body: its first four bytes, or 0 where it has fewer
+abbrev pub tag_of : List ℕ → ℕ
+tag_of body = if nat_le 4 (length body) then number 4 body else 0
+
+-- a body is no command that is taken
+pub record IsMalformed (body : List ℕ) (tag : ℕ) : Type 0 where
+  pub tag_is : tag ≡ tag_of body
+  pub none : (other : ℕ) (request : Request) → Spells body other request → ⊥
+
+-- the byte by which a reply is known
+abbrev pub status_byte : Reply → ℕ
+status_byte reply.Done = 0
+status_byte reply.Found = 1
+status_byte reply.Absent = 2
+status_byte (reply.Pairs more) = 3
+status_byte (reply.Made version) = 4
+status_byte (reply.Info parent depth frozen) = 5
+status_byte (reply.Opened cursor) = 6
+status_byte (reply.Stat versions updates changes cursors) = 7
+status_byte (reply.Refused why.UnknownVersion) = 16
+status_byte (reply.Refused why.Frozen) = 17
+status_byte (reply.Refused why.UnknownCursor) = 18
+status_byte (reply.Refused why.VersionLimit) = 19
+status_byte (reply.Refused why.ChangeLimit) = 20
+status_byte (reply.Refused why.CursorLimit) = 21
+status_byte (reply.Refused why.Malformed) = 22
+status_byte (reply.Refused why.KeySize) = 23
+status_byte (reply.Refused why.ValueSize) = 24
+status_byte (reply.Refused why.ScanSize) = 25
+status_byte (reply.Refused why.FrameTooLong) = 26
+status_byte (reply.Refused why.NoMemory) = 32
+status_byte (reply.Refused why.DeviceFault) = 33
+status_byte (reply.Refused (why.Damaged block)) = 34
+
+-- a yes or no in one byte
+abbrev pub flag : Bool → ℕ
+flag b = if b then 1 else 0
+
+-- the value of the pair that was found
+abbrev pub found_bytes : Pairs → List ℕ
+found_bytes [] = []
+found_bytes (pair ∷ pairs) = counted pair.1
+
+-- pairs one after the other
+abbrev pub pair_bytes : Pairs → List ℕ
+pair_bytes pairs = flat_map (λ pair. counted pair.0 ++ counted pair.1) pairs
+
+-- a parent's number, or the greatest number where there is none
+abbrev pub parent_bytes : Option ℕ → List ℕ
+parent_bytes None = be 4 4294967295
+parent_bytes (Some parent) = be 4 parent
+
+-- what follows the status byte
+abbrev pub reply_fields : Reply → Pairs → List ℕ
+reply_fields reply.Found pairs = found_bytes pairs
+reply_fields (reply.Pairs more) pairs = flag more ∷ be 2 (length pairs) ++ pair_bytes pairs
+reply_fields (reply.Made version) pairs = be 4 version
+reply_fields (reply.Info parent depth frozen) pairs = parent_bytes parent ++ be 4 depth ++ flag frozen ∷ []
+reply_fields (reply.Opened cursor) pairs = be 8 cursor
+reply_fields (reply.Stat versions updates changes cursors) pairs =
+    be 4 versions ++ be 4 updates ++ be 4 changes ++ be 4 cursors
+reply_fields (reply.Refused (why.Damaged block)) pairs = be 4 block
+reply_fields _ pairs = []
+
+-- the body of a reply
+abbrev pub reply_body : ℕ → Answer → List ℕ
+reply_body tag a = be 4 tag ++ status_byte a.reply ∷ reply_fields a.reply a.pairs
