@@ -3,4 +3,6 @@ pub mod PairLemmas
 pub mod ListFacts
 pub mod TreeLemmas
 pub mod EntryLemmas
+pub mod FieldLemmas
+pub mod ChangeLemmas
 pub mod LiveLemmas

@@ -1,14 +1,14 @@
 -- The entry that decides a key at a version, and the entries live there.
-use Rattle.std.proofs.Common.{◌≡◌, ◌<◌, ◌≤◌, ℕ, zero, suc, Bool, true, false, cond, eqb, ltb, ◌&&◌, not, ◌⊎◌, inl, inr, List, [], ◌∷◌, length, filter, Option, Some, None, refl, sym, ap, ◌∙◌, subst, arith, true≢false}
+use Rattle.std.proofs.Common.{◌≡◌, ◌<◌, ◌≤◌, ℕ, Bool, true, false, cond, ltb, ◌&&◌, not, inl, inr, List, [], ◌∷◌, length, filter, Some, None, refl, sym, ap, ◌∙◌, subst, arith, true≢false}
 use Rattle.std.specs.List.{list_any, find}
 use Rattle.std.specs.Option.{option_or}
-use Rattle.std.proofs.lemmas.Bool.{eqb-true, ltb-true, lt-ltb, and_parts, and_from, cases_order, cases_Bool, not-true, not_from_false, false_from_ne_true}
+use Rattle.std.proofs.lemmas.Bool.{ltb-true, lt-ltb, and_parts, and_from, cases_order, not-true, not_from_false, false_from_ne_true}
 use Rattle.strat_base.specs.Tree.{Parents, parent_of, path, is_ancestor, IsTree}
 use Rattle.strat_base.specs.Entries.{Entry, is_of, is_at, is_single}
 use Rattle.strat_base.specs.Live.{is_hidden_by, is_live, live, first_some, deciding}
-use Rattle.strat_base.proofs.ListFacts.{Among, any_among, any_from, none_at, find_some, find_none}
-use Rattle.strat_base.proofs.EntryLemmas.{bytes_same, same_bytes, is_of_key, is_at_key, is_at_version, at_key_version, single_same}
-use Rattle.strat_base.proofs.TreeLemmas.{option_cases, parent_older, path_root, path_up, along_path, on_root, on_path, from_path, self_on_path, path_le, ancestor_among, among_ancestor}
+use Rattle.strat_base.proofs.ListFacts.{Among, any_among, any_from, find_some, find_none}
+use Rattle.strat_base.proofs.EntryLemmas.{same_bytes, is_of_key, is_at_key, is_at_version, at_key_version, single_same}
+use Rattle.strat_base.proofs.TreeLemmas.{option_cases, path_root, path_up, along_path, on_root, on_path, from_path, self_on_path, path_le, ancestor_among, among_ancestor}
 
 pub filter_among : {X : Type 0} (p : X → Bool) (xs : List X) (x : X) → Among x (filter p xs) → Among x xs × (p x ≡ true)
 filter_among p [] x among = absurd among

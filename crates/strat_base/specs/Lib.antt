@@ -1,6 +1,8 @@
+pub mod Change
 pub mod Entries
+pub mod Fields
 pub mod Live
 pub mod Numbers
 pub mod Order
-pub mod Tree
 pub mod PairBuf
+pub mod Tree

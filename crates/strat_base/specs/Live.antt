@@ -1,5 +1,5 @@
 -- Which entries of a set are live at a version.
-use Rattle.std.specs.Prelude.{ℕ, nat_lt, ◌&&◌, not, Bool, List, [], ◌∷◌, Option, Some, None, filter, find}
+use Rattle.std.specs.Prelude.{ℕ, nat_lt, ◌&&◌, not, Bool, List, [], ◌∷◌, Option, None, filter, find}
 use Rattle.std.specs.List.{list_any}
 use Rattle.std.specs.Option.{option_or}
 use Rattle.strat_base.specs.Tree.{Parents, path, is_ancestor}
