@@ -1,6 +1,8 @@
 -- Entries: what versions say of keys.
-use Rattle.std.specs.Prelude.{ℕ, ◌==◌, ◌&&◌, not, Bool, true, false, List, [], ◌∷◌, Option, Some, None, filter, bytes_eq}
+use Rattle.std.specs.Prelude.{ℕ, ◌==◌, ◌&&◌, not, if◌then◌else◌, Bool, true, false, List, [], ◌∷◌, Option, Some, None, filter, bytes_eq}
 use Rattle.std.specs.List.{list_any, list_all}
+use Rattle.std.specs.Ordering.{is_lt}
+use Rattle.strat_base.specs.Order.{entry_cmp}
 
 -- what a version says of a key: its value from this version on, or nothing where the key is gone
 pub record Entry : Type 0 where
@@ -44,6 +46,16 @@ is_single (e ∷ entries) = not (list_any (is_at e.key e.version) entries) && is
 abbrev pub is_tagged : List ℕ → ℕ → Bool
 is_tagged tag v = list_any (λ w. w == v) tag
 
--- the lead entries of an array: those whose own version is in its tag
-abbrev pub leads : List ℕ → List Entry → List Entry
-leads tag entries = filter (λ e. is_tagged tag e.version) entries
+-- the lead entries of a tag: those whose own version is in it
+abbrev pub lead_entries : List ℕ → List Entry → List Entry
+lead_entries tag entries = filter (λ e. is_tagged tag e.version) entries
+
+-- entries ascend strictly: keys ascending, and of one key the greater version first
+abbrev pub is_ascending : List Entry → Bool
+is_ascending [] = true
+is_ascending (e ∷ entries) = list_all (λ later. is_lt (entry_cmp e.key e.version later.key later.version)) entries && is_ascending entries
+
+-- the last entry of each key and version
+abbrev pub latest : List Entry → List Entry
+latest [] = []
+latest (e ∷ entries) = if list_any (is_at e.key e.version) entries then latest entries else e ∷ latest entries

@@ -1,8 +1,13 @@
+pub mod Breach
 pub mod Change
 pub mod Entries
 pub mod Fields
+pub mod Level
 pub mod Live
 pub mod Numbers
 pub mod Order
 pub mod PairBuf
+pub mod Reading
+pub mod Sound
+pub mod State
 pub mod Tree
