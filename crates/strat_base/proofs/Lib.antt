@@ -5,4 +5,6 @@ pub mod TreeLemmas
 pub mod EntryLemmas
 pub mod FieldLemmas
 pub mod ChangeLemmas
+pub mod ReadingLemmas
+pub mod LevelLemmas
 pub mod LiveLemmas

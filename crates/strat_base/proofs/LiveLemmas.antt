@@ -6,25 +6,9 @@ use Rattle.std.proofs.lemmas.Bool.{ltb-true, lt-ltb, and_parts, and_from, cases_
 use Rattle.strat_base.specs.Tree.{Parents, parent_of, path, is_ancestor, IsTree}
 use Rattle.strat_base.specs.Entries.{Entry, is_of, is_at, is_single}
 use Rattle.strat_base.specs.Live.{is_hidden_by, is_live, live, first_some, deciding}
-use Rattle.strat_base.proofs.ListFacts.{Among, any_among, any_from, find_some, find_none}
+use Rattle.strat_base.proofs.ListFacts.{filter_among, among_filter, Among, any_among, any_from, find_some, find_none}
 use Rattle.strat_base.proofs.EntryLemmas.{same_bytes, is_of_key, is_at_key, is_at_version, at_key_version, single_same}
 use Rattle.strat_base.proofs.TreeLemmas.{option_cases, path_root, path_up, along_path, on_root, on_path, from_path, self_on_path, path_le, ancestor_among, among_ancestor}
-
-pub filter_among : {X : Type 0} (p : X → Bool) (xs : List X) (x : X) → Among x (filter p xs) → Among x xs × (p x ≡ true)
-filter_among p [] x among = absurd among
-filter_among p (y ∷ ys) x among =
-    elim (p y) as (λ b. p y ≡ b → Among x (cond b (y ∷ filter p ys) (filter p ys)) → Among x (y ∷ ys) × (p x ≡ true)) [
-      | true ↦ λ is here. elim here [ inl same ↦ (inl same, ap p same ∙ is) | inr there ↦ let found = filter_among p ys x there in (inr found.0, found.1) ]
-      | false ↦ λ is there. let found = filter_among p ys x there in (inr found.0, found.1)
-    ] refl among
-
-pub among_filter : {X : Type 0} (p : X → Bool) (xs : List X) (x : X) → Among x xs → p x ≡ true → Among x (filter p xs)
-among_filter p [] x among passes = absurd among
-among_filter p (y ∷ ys) x among passes =
-    elim (p y) as (λ b. p y ≡ b → Among x (cond b (y ∷ filter p ys) (filter p ys))) [
-      | true ↦ λ is. elim among [ inl same ↦ inl same | inr there ↦ inr (among_filter p ys x there passes) ]
-      | false ↦ λ is. elim among [ inl same ↦ absurd (true≢false (sym passes ∙ ap p same ∙ is)) | inr there ↦ among_filter p ys x there passes ]
-    ] refl
 
 -- e decides a key at v: it stands on the path, and no entry of the key nearer to v
 pub record Decides (parents : Parents) (entries : List Entry) (key : List ℕ) (v : ℕ) (e : Entry) : Type 0 where
