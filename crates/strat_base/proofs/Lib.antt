@@ -3,3 +3,11 @@ pub mod MomentLemmas
 pub mod NumberLemmas
 pub mod PairLemmas
 pub mod TrailLemmas
+pub mod ListFacts
+pub mod TreeLemmas
+pub mod EntryLemmas
+pub mod FieldLemmas
+pub mod ChangeLemmas
+pub mod ReadingLemmas
+pub mod LevelLemmas
+pub mod LiveLemmas

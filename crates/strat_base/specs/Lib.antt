@@ -7,3 +7,12 @@ pub mod Trail
 pub mod Tree
 pub mod PairBuf
 pub mod Sizes
+pub mod Breach
+pub mod Change
+pub mod Entries
+pub mod Fields
+pub mod Level
+pub mod Live
+pub mod Reading
+pub mod Sound
+pub mod State
