@@ -1,4 +1,3 @@
-<<<<<<< HEAD
 -- Counts of faults: how often a source, a sink or a disk has failed.
 use Rattle.std.specs.Prelude.{◌≡◌, ◌≤◌, ℕ, ◌+◌, ◌-◌, ◌^◌, min, Result, OnOk, OnErr}
 
@@ -7,16 +6,6 @@ abbrev pub Rose : ℕ → ℕ → Type 0
 Rose before now = min (before + 1) (2 ^ 64 - 1) ≤ now
 
 -- over a call a count of faults never falls, stays where the call succeeds, and rises where it fails
-=======
--- Counts of the faults of a source, a sink or a disk.
-use Rattle.std.specs.Prelude.{◌≡◌, ◌≤◌, ℕ, ◌+◌, ◌-◌, ◌^◌, min, Result, OnOk, OnErr}
-
--- a count rose, or stands at the end of its type
-abbrev pub Rose : ℕ → ℕ → Type 0
-Rose before now = min (before + 1) (2 ^ 64 - 1) ≤ now
-
--- a call counts a fault where it fails, and none where it succeeds
->>>>>>> e0908c2e2152aa673e5f2c68ab7590d066753fe9
 pub record Counts {T E : Type 0} (before now : ℕ) (result : Result T E) : Type 0 where
   pub later : before ≤ now
   pub ok : OnOk result (now ≡ before)
