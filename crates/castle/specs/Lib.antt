@@ -1,0 +1,3 @@
+pub mod Batch
+pub mod Refusals
+pub mod Session
