@@ -119,8 +119,7 @@ class Wrong(Exception):
 
 def expect(name, got, want):
     if got != want:
-        shown = [x.hex(" ") if isinstance(x, bytes) and len(x) < 80 else repr(x)[:200] for x in (got, want)]
-        raise Wrong(f"{name}: got {shown[0]}, wanted {shown[1]}")
+        raise Wrong(f"{name}: got {repr(got)[:120]}, wanted {repr(want)[:120]}")
 
 
 def complaint(status):
@@ -137,6 +136,16 @@ def wait_until_read(child):
             return
         os.sched_yield()
     raise Wrong("the program doesn't read its input")
+
+
+def read_exactly(pipe, count):
+    got = b""
+    while len(got) < count:
+        more = pipe.read(count - len(got))
+        if not more:
+            raise Wrong("the program ended, or held a reply back")
+        got += more
+    return got
 
 
 def serve(pieces, words=(b"serve", b"store.bin"), program=PROGRAM):
@@ -258,20 +267,20 @@ def each_reply_comes_before_the_next_frame_is_sent():
                              stdout=subprocess.PIPE, bufsize=0)
     guard = threading.Timer(DEADLINE, child.kill)
     guard.start()
-    for i in range(50):
-        for sent, want in ((put(i, b"k", b"%d" % i), reply(i, DONE)), (get(i, b"k"), reply(i, FOUND, sized(b"%d" % i)))):
-            child.stdin.write(sent)
-            got = b""
-            while len(got) < len(want):
-                more = child.stdout.read(len(want) - len(got))
-                if not more:
-                    raise Wrong("the program ended, or held a reply back")
-                got += more
-            expect(f"round {i}", got, want)
-    child.stdin.close()
-    expect("status", child.wait(DEADLINE), 0)
-    guard.cancel()
-    child.stdout.close()
+    try:
+        for i in range(50):
+            value = b"%d" % i
+            for sent, want in ((put(i, b"k", value), reply(i, DONE)), (get(i, b"k"), reply(i, FOUND, sized(value)))):
+                child.stdin.write(sent)
+                expect(f"round {i}", read_exactly(child.stdout, len(want)), want)
+        child.stdin.close()
+        expect("status", child.wait(DEADLINE), 0)
+    finally:
+        guard.cancel()
+        child.kill()
+        child.wait()
+        child.stdin.close()
+        child.stdout.close()
 
 
 def thousands_of_frames_are_answered_as_the_model_does():
@@ -402,7 +411,7 @@ def is_built():
             sys.stderr.buffer.write(line)
             sys.stderr.flush()
     child.stderr.close()
-    return child.wait() == 1
+    return child.wait() not in (126, 127)
 
 
 def main():
