@@ -6,6 +6,7 @@ ghost use Rattle.strat_base.specs.declared.limits.TheConstants.{CHANGES_MAX, VER
 ghost use Rattle.strat_base.specs.PairBuf.{IsPair};
 ghost use Rattle.strat_base.specs.Tree.{parent_of, depth};
 ghost use Rattle.strat_model.specs.Command.{request_of};
+ghost use Rattle.strat_model.specs.declared.replies.Reply.TheVariants as reply;
 ghost use Rattle.strat_model.specs.Request.{Put, Delete, Get, Clone, Scan, Info, OpenCursor, NextPairs, CloseCursor, Stat};
 ghost use Rattle.strat_model.specs.Pairs.{range};
 ghost use Rattle.strat_model.specs.Table.{fresh, parents_of};
@@ -67,7 +68,8 @@ impl PlainTable {
         })
     }
 
-    /// Carries out one command. The pairs of its answer are in `out`, from which all others are gone.
+    /// Carries out one command. Fewer than 2^63 cursors may have been opened before it. The pairs of its answer are in `out`, from which all others are gone.
+    #[tactic(auto, using(crate::proofs::PlainLemmas::next_cursor_after))]
     pub fn step(&mut self, command: &Command<'_>, out: &mut PairBuf) -> Reply
         requires fits { IsLawful (request_of command.now) }
         requires room { self.old.next_cursor < 2 ^ 63 }
@@ -132,6 +134,19 @@ impl PlainTable {
         }
     }
 
+    fn count_update(&mut self) -> Reply
+        requires room { self.old.changes < self.old.changes_max }
+        ensures done { result ≡ reply.Done }
+        ensures ok { self.new ≡ record self.old {
+          updates = self.old.updates + 1;
+          changes = self.old.changes + 1;
+        } }
+    {
+        self.updates += 1;
+        self.changes += 1;
+        Reply::Done
+    }
+
     fn put(&mut self, version: Version, key: &[u8], value: &[u8]) -> Reply
         requires fits { IsPair (key.now, value.now) }
         ensures ok { IsStepOrShort self.old (Put version key.now value.now) result [] self.new }
@@ -142,9 +157,7 @@ impl PlainTable {
         if self.rows[version as usize].set(key, value).is_err() {
             return Reply::Refused(Refusal::NoMemory);
         }
-        self.updates += 1;
-        self.changes += 1;
-        Reply::Done
+        self.count_update()
     }
 
     fn delete(&mut self, version: Version, key: &[u8]) -> Reply
@@ -154,9 +167,7 @@ impl PlainTable {
             return Reply::Refused(refusal);
         }
         self.rows[version as usize].unset(key);
-        self.updates += 1;
-        self.changes += 1;
-        Reply::Done
+        self.count_update()
     }
 
     fn get(&self, version: Version, key: &[u8], out: &mut PairBuf) -> Reply
