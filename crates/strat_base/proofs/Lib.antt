@@ -1,2 +1,13 @@
+pub mod ImageLemmas
+pub mod MomentLemmas
 pub mod NumberLemmas
 pub mod PairLemmas
+pub mod TrailLemmas
+pub mod ListFacts
+pub mod TreeLemmas
+pub mod EntryLemmas
+pub mod FieldLemmas
+pub mod ChangeLemmas
+pub mod ReadingLemmas
+pub mod LevelLemmas
+pub mod LiveLemmas

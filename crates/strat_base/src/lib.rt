@@ -3,9 +3,11 @@
 
 mod entries;
 mod failures;
+pub mod laws;
 pub mod limits;
 mod numbers;
 mod pairs;
+pub mod spellings;
 
 pub use entries::{Entry, Val, Version, entry_order, key_ok, value_ok};
 pub use failures::{Failed, Fault, NoMemory, Trouble};

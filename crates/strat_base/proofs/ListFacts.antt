@@ -1,0 +1,110 @@
+-- Elements of a list, and what tests and searches say of them.
+use Rattle.std.proofs.Common.{◌≡◌, ◌≤◌, ◌<◌, ◌+◌, ℕ, zero, suc, Bool, true, false, cond, ◌&&◌, ◌||◌, ◌⊎◌, inl, inr, List, [], ◌∷◌, ◌++◌, reverse, filter, Option, Some, None, refl, sym, ap, ◌∙◌, subst, true≢false, arith}
+use Rattle.std.specs.List.{list_any, list_all, find, flat_map, range_with_len, AllByRecursion}
+use Rattle.std.proofs.lemmas.Bool.{or_cases, or_left, or_right, and_parts, and_from, cases_Bool, cases_eq}
+use Rattle.std.proofs.lemmas.List.{reverse-append}
+
+-- x is an element of the list
+abbrev pub Among : {X : Type 0} → X → List X → Type 0
+Among x [] = ⊥
+Among x (y ∷ ys) = (x ≡ y) ⊎ Among x ys
+
+-- an element that passes, as a test of the whole list found it
+pub any_among : {X : Type 0} (p : X → Bool) (xs : List X) → list_any p xs ≡ true → (x : X) × Among x xs × (p x ≡ true)
+any_among p [] e = absurd (true≢false (sym e))
+any_among p (x ∷ xs) e =
+    elim (or_cases (p x) (list_any p xs) e) [
+      | inl here ↦ (x, inl refl, here)
+      | inr there ↦ let found = any_among p xs there in (found.0, inr found.1, found.2)
+    ]
+
+pub any_from : {X : Type 0} (p : X → Bool) (x : X) (xs : List X) → Among x xs → p x ≡ true → list_any p xs ≡ true
+any_from p x [] among e = absurd among
+any_from p x (y ∷ ys) (inl here) e = or_left (p y) (list_any p ys) (ap p (sym here) ∙ e)
+any_from p x (y ∷ ys) (inr there) e = or_right (p y) (list_any p ys) (any_from p x ys there e)
+
+pub none_at : {X : Type 0} (p : X → Bool) (x : X) (xs : List X) → list_any p xs ≡ false → Among x xs → p x ≡ false
+none_at p x xs e among = elim (cases_Bool (p x)) [ inl yes' ↦ absurd (true≢false (sym (any_from p x xs among yes') ∙ e)) | inr no' ↦ no' ]
+
+pub all_at : {X : Type 0} (p : X → Bool) (x : X) (xs : List X) → list_all p xs ≡ true → Among x xs → p x ≡ true
+all_at p x [] e among = absurd among
+all_at p x (y ∷ ys) e (inl here) = ap p here ∙ (and_parts (p y) (list_all p ys) e).0
+all_at p x (y ∷ ys) e (inr there) = all_at p x ys (and_parts (p y) (list_all p ys) e).1 there
+
+pub all_from : {X : Type 0} (p : X → Bool) (xs : List X) → ((x : X) → Among x xs → p x ≡ true) → list_all p xs ≡ true
+all_from p [] each = refl
+all_from p (x ∷ xs) each = and_from (p x) (list_all p xs) (each x (inl refl)) (all_from p xs (λ y among. each y (inr among)))
+
+-- what a search found passes and stands in the list
+pub find_some : {X : Type 0} (p : X → Bool) (xs : List X) (x : X) → find p xs ≡ Some x → Among x xs × (p x ≡ true)
+find_some p [] x e = absurd (cc)
+find_some p (y ∷ ys) x e =
+    elim (p y) as (λ b. p y ≡ b → Among x (y ∷ ys) × (p x ≡ true)) [
+      | true ↦ λ is. let same : x ≡ y = cc in (inl same, ap p same ∙ is)
+      | false ↦ λ is. let rest : find p ys ≡ Some x = cc in let found = find_some p ys x rest in (inr found.0, found.1)
+    ] refl
+
+pub find_none : {X : Type 0} (p : X → Bool) (xs : List X) (x : X) → find p xs ≡ None → Among x xs → p x ≡ false
+find_none p [] x e among = absurd among
+find_none p (y ∷ ys) x e among =
+    elim (p y) as (λ b. p y ≡ b → p x ≡ false) [
+      | true ↦ λ is. absurd (cc)
+      | false ↦ λ is. let rest : find p ys ≡ None = cc in elim among [ inl here ↦ ap p here ∙ is | inr there ↦ find_none p ys x rest there ]
+    ] refl
+
+pub among_left : {X : Type 0} (xs ys : List X) (x : X) → Among x xs → Among x (xs ++ ys)
+among_left [] ys x among = absurd among
+among_left (y ∷ xs) ys x (inl here) = inl here
+among_left (y ∷ xs) ys x (inr there) = inr (among_left xs ys x there)
+
+pub among_right : {X : Type 0} (xs ys : List X) (x : X) → Among x ys → Among x (xs ++ ys)
+among_right [] ys x among = among
+among_right (y ∷ xs) ys x among = inr (among_right xs ys x among)
+
+pub among_split : {X : Type 0} (xs ys : List X) (x : X) → Among x (xs ++ ys) → Among x xs ⊎ Among x ys
+among_split [] ys x among = inr among
+among_split (y ∷ xs) ys x (inl here) = inl (inl here)
+among_split (y ∷ xs) ys x (inr there) = elim (among_split xs ys x there) [ inl first ↦ inl (inr first) | inr second ↦ inr second ]
+
+pub among_flat : {X Y : Type 0} (f : X → List Y) (xs : List X) (y : Y) → Among y (flat_map f xs) → (x : X) × Among x xs × Among y (f x)
+among_flat f [] y among = absurd among
+among_flat f (x ∷ xs) y among =
+    elim (among_split (f x) (flat_map f xs) y among) [
+      inl here ↦ (x, inl refl, here)
+    | inr there ↦ let found = among_flat f xs y there in (found.0, inr found.1, found.2) ]
+
+pub among_in_flat : {X Y : Type 0} (f : X → List Y) (xs : List X) (x : X) (y : Y) → Among x xs → Among y (f x) → Among y (flat_map f xs)
+among_in_flat f [] x y among there = absurd among
+among_in_flat {Y = Y} f (z ∷ zs) x y (inl here) there = among_left (f z) (flat_map f zs) y (subst (λ w. Among y (f w)) here there)
+among_in_flat f (z ∷ zs) x y (inr among) there = among_right (f z) (flat_map f zs) y (among_in_flat f zs x y among there)
+
+pub among_filter : {X : Type 0} (p : X → Bool) (xs : List X) (x : X) → Among x xs → p x ≡ true → Among x (filter p xs)
+among_filter p [] x among passes = absurd among
+among_filter p (y ∷ ys) x among passes =
+    elim (p y) as (λ b. p y ≡ b → Among x (cond b (y ∷ filter p ys) (filter p ys))) [
+      true ↦ λ is. elim among [ inl same ↦ inl same | inr there ↦ inr (among_filter p ys x there passes) ]
+    | false ↦ λ is. elim among [ inl same ↦ absurd (true≢false (sym passes ∙ ap p same ∙ is)) | inr there ↦ among_filter p ys x there passes ] ] refl
+
+pub filter_among : {X : Type 0} (p : X → Bool) (xs : List X) (x : X) → Among x (filter p xs) → Among x xs × (p x ≡ true)
+filter_among p [] x among = absurd among
+filter_among p (y ∷ ys) x among =
+    elim (p y) as (λ b. p y ≡ b → Among x (cond b (y ∷ filter p ys) (filter p ys)) → Among x (y ∷ ys) × (p x ≡ true)) [
+      true ↦ λ is here. elim here [ inl same ↦ (inl same, ap p same ∙ is) | inr there ↦ let found = filter_among p ys x there in (inr found.0, found.1) ]
+    | false ↦ λ is there. let found = filter_among p ys x there in (inr found.0, found.1) ] refl among
+
+pub each_of : {X : Type 0} (P : X → Type 0) (xs : List X) (x : X) → AllByRecursion P xs → Among x xs → P x
+each_of P [] x each among = absurd among
+each_of P (y ∷ ys) x each (inl here) = subst P (sym here) each.0
+each_of P (y ∷ ys) x each (inr there) = each_of P ys x each.1 there
+
+pub among_reverse : {X : Type 0} (xs : List X) (x : X) → Among x xs → Among x (reverse xs)
+among_reverse [] x among = absurd among
+among_reverse (y ∷ ys) x (inl here) = subst (Among x) (sym (reverse-append (y ∷ []) ys)) (among_right (reverse ys) (y ∷ []) x (inl here))
+among_reverse (y ∷ ys) x (inr there) = subst (Among x) (sym (reverse-append (y ∷ []) ys)) (among_left (reverse ys) (y ∷ []) x (among_reverse ys x there))
+
+pub among_range : (a n c : ℕ) → a ≤ c → c < a + n → Among c (range_with_len a n)
+among_range a zero c le lt = absurd (omega arith)
+among_range a (suc n) c le lt =
+    elim (cases_eq c a) [
+      inl here ↦ inl here
+    | inr apart ↦ inr (among_range (a + 1) n c (omega arith) (omega arith)) ]
