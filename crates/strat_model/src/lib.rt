@@ -12,3 +12,6 @@ pub use commands::Command;
 pub use ended::Ended;
 pub use plain_table::PlainTable;
 pub use replies::{Refusal, Reply};
+
+#[cfg(test)]
+mod tests;
