@@ -68,12 +68,14 @@ impl PlainTable {
         })
     }
 
-    /// Carries out one command. Fewer than 2^63 cursors may have been opened before it. The pairs of its answer are in `out`, from which all others are gone.
+    /// Carries out one command. The pairs of its answer are in `out`, from which all others are gone.
+    /// Fewer than 2^63 cursors may have been opened before.
     #[tactic(auto, using(crate::proofs::PlainLemmas::next_cursor_after))]
     pub fn step(&mut self, command: &Command<'_>, out: &mut PairBuf) -> Reply
         requires fits { is_lawful (request_of command.now) ≡ true }
         requires room { self.old.next_cursor < 2 ^ 63 }
         ensures ok { IsStepOrShort self.old (request_of command.now) result out.new self.new }
+        ensures next { self.new.next_cursor ≤ self.old.next_cursor + 1 }
         ensures none { grows (request_of command.now) ≡ false
             → IsStep self.old (request_of command.now) result out.new self.new }
     {
