@@ -10,3 +10,4 @@ pub mod Stream
 pub mod Run
 pub mod Plain
 pub mod PlainView
+pub mod Examples
