@@ -11,3 +11,4 @@ pub mod Run
 pub mod Plain
 pub mod PlainView
 pub mod Examples
+pub mod Kept
