@@ -1,10 +1,10 @@
 -- Every step keeps what a table keeps.
-use Rattle.std.proofs.Common.{◌≡◌, ◌<◌, ◌≤◌, ℕ, zero, suc, ◌+◌, ◌==◌, Bool, true, false, not, if◌then◌else◌, List, [], ◌∷◌, ◌++◌, Option, Some, None, length, map, get_or, drop, filter, refl, sym, ap, subst, arith, zero-add}
+use Rattle.std.proofs.Common.{◌≡◌, ◌≢◌, ◌<◌, ◌≤◌, ℕ, zero, suc, ◌+◌, ◌==◌, Bool, true, false, not, if◌then◌else◌, List, [], ◌∷◌, ◌++◌, Option, Some, None, length, map, get_or, drop, filter, refl, sym, ap, ◌∙◌, subst, arith, zero-add}
 use Rattle.std.specs.List.{All, find, list_any, slice_get}
 use Rattle.std.specs.List.Sorted.{IsStrictlySortedBy}
 use Rattle.std.specs.Option.{option_map_or}
 use Rattle.std.proofs.lemmas.Bool.{ltb-true, eqb-false}
-use Rattle.std.proofs.lemmas.List.{length-set, length-map, map_push, length_push}
+use Rattle.std.proofs.lemmas.List.{length-set, length-map, map_push, length_push, get_or-set_other, get_or_append_left, get_or_push}
 use Rattle.std.proofs.lemmas.List.Sums.{length-filter, count_by-le-length}
 use Rattle.std.proofs.lemmas.List.Elements.{All-set, All-push, All-map, All-weaker, All-filter, All-nil, All-cons}
 use Rattle.strat_base.specs.declared.limits.TheConstants.{CHANGES_MAX, VERSIONS_MAX, CURSORS_MAX}
@@ -14,7 +14,8 @@ use Rattle.strat_model.specs.Pairs.{Pairs, set, unset, range, is_between}
 use Rattle.strat_model.specs.Request.{Request, Put, Delete, Get, Clone, Scan, Info, OpenCursor, NextPairs, CloseCursor, Stat}
 use Rattle.strat_model.specs.Table.{Row, Cursor, Table, fresh, parents_of}
 use Rattle.strat_model.specs.Step.{Outcome, step, update, is_known, is_frozen, no_row, pairs_at, with_pairs, clone, start_cursor, page, refuses, advanced}
-use Rattle.strat_model.specs.Kept.{IsMap, IsTable}
+use Rattle.strat_model.specs.Answer.{accepts}
+use Rattle.strat_model.specs.Kept.{IsMap, IsTable, updated}
 use Rattle.strat_model.proofs.MapLemmas.{set_keeps_map, unset_keeps_map, filter_keeps_map, drop_keeps_map}
 
 -- what holds of each side where it is chosen holds of the one that is chosen
@@ -192,3 +193,63 @@ fresh_is_table changes_max versions_max changes some versions = record {
   tree = record { some = omega arith; older = root_is_older };
   within = record { changes_max = changes; versions_max = versions; rows = some; changes = omega arith; updates = omega arith; cursors = omega arith };
 }
+
+-- an update leaves the map of another version, and that of a frozen one
+update_leaves : (t : Table) (v : ℕ) (pairs : Pairs) (w : ℕ) → (is_frozen t v ≡ false → w ≢ v) → pairs_at (update t v pairs).table w ≡ pairs_at t w
+update_leaves t v pairs w apart =
+    let Same : Outcome → Type 0 = λ o. pairs_at o.table w ≡ pairs_at t w in
+    chosen Same (not (is_known t v)) _ _ (λ _. refl) (λ _.
+    chosen Same (is_frozen t v) _ _ (λ _. refl) (λ unfrozen.
+    chosen Same (t.changes == t.changes_max) _ _ (λ _. refl) (λ _.
+    ap (λ (row : Row). row.pairs) (get_or-set_other t.rows v w _ no_row (apart unfrozen)))))
+
+-- a clone leaves the maps of all versions
+clone_leaves : (t : Table) (v w : ℕ) → w < length t.rows → pairs_at (clone t v).table w ≡ pairs_at t w
+clone_leaves t v w there =
+    let Same : Outcome → Type 0 = λ o. pairs_at o.table w ≡ pairs_at t w in
+    chosen Same (not (is_known t v)) _ _ (λ _. refl) (λ _.
+    chosen Same (length t.rows == t.versions_max) _ _ (λ _. refl) (λ _.
+    chosen Same (t.changes == t.changes_max) _ _ (λ _. refl) (λ _.
+    ap (λ (row : Row). row.pairs) (get_or_append_left t.rows (record { parent = Some v; pairs = pairs_at t v } ∷ []) no_row w there))))
+
+-- a step leaves the map of a version that it does not update, or that is frozen
+step_leaves : (t : Table) (request : Request) (w : ℕ) → w < length t.rows
+    → ((v : ℕ) → updated request ≡ Some v → is_frozen t v ≡ false → w ≢ v) → pairs_at (step t request).table w ≡ pairs_at t w
+step_leaves t request w there apart = by_command request apart
+  where
+    Same : Outcome → Type 0
+    Same o = pairs_at o.table w ≡ pairs_at t w
+    next : (n limit : ℕ) (found : Option Cursor)
+        → Same (option_map_or (λ c. record { answer = page c.left limit; table = record t { cursors = advanced t.cursors n limit } }) found (refuses t why.UnknownCursor))
+    next n limit None = refl
+    next n limit (Some c) = refl
+    by_command : (r : Request) → ((v : ℕ) → updated r ≡ Some v → is_frozen t v ≡ false → w ≢ v) → Same (step t r)
+    by_command (Put v key value) apart = update_leaves t v _ w (apart v refl)
+    by_command (Delete v key) apart = update_leaves t v _ w (apart v refl)
+    by_command (Get v key) apart = chosen Same (is_known t v) _ _ (λ _. refl) (λ _. refl)
+    by_command (Clone v) apart = clone_leaves t v w there
+    by_command (Scan v lo hi limit) apart = chosen Same (is_known t v) _ _ (λ _. refl) (λ _. refl)
+    by_command (Info v) apart = chosen Same (is_known t v) _ _ (λ _. refl) (λ _. refl)
+    by_command (OpenCursor v lo hi) apart =
+        chosen Same (not (is_known t v)) _ _ (λ _. refl) (λ _. chosen Same (length t.cursors == CURSORS_MAX) _ _ (λ _. refl) (λ _. refl))
+    by_command (NextPairs n limit) apart = next n limit (find (λ c. c.number == n) t.cursors)
+    by_command (CloseCursor n) apart = chosen Same (list_any (λ c. c.number == n) t.cursors) _ _ (λ _. refl) (λ _. refl)
+    by_command Stat apart = refl
+
+-- a step leaves the map of a version that it does not update
+pub step_leaves_others : (t : Table) (request : Request) (w : ℕ) → w < length t.rows → updated request ≢ Some w → pairs_at (step t request).table w ≡ pairs_at t w
+step_leaves_others t request w there other = step_leaves t request w there (λ v says _ same. other (says ∙ ap Some (sym same)))
+
+-- a step leaves the map of a frozen version
+pub step_leaves_frozen : (t : Table) (request : Request) (w : ℕ) → w < length t.rows → is_frozen t w ≡ true → pairs_at (step t request).table w ≡ pairs_at t w
+step_leaves_frozen t request w there frozen =
+    step_leaves t request w there (λ v says unfrozen same. let twice : is_frozen t v ≡ true = ap (is_frozen t) (sym same) ∙ frozen in cc)
+
+-- a clone has the map that it was made from
+pub clone_has_map : (t : Table) (v : ℕ) → accepts (step t (Clone v)).answer.reply ≡ true → pairs_at (step t (Clone v)).table (length t.rows) ≡ pairs_at t v
+clone_has_map t v =
+    let Has : Outcome → Type 0 = λ o. accepts o.answer.reply ≡ true → pairs_at o.table (length t.rows) ≡ pairs_at t v in
+    chosen Has (not (is_known t v)) _ _ (λ _ h. cc) (λ _.
+    chosen Has (length t.rows == t.versions_max) _ _ (λ _ h. cc) (λ _.
+    chosen Has (t.changes == t.changes_max) _ _ (λ _ h. cc) (λ _ h.
+    ap (λ (row : Row). row.pairs) (get_or_push t.rows (record { parent = Some v; pairs = pairs_at t v }) no_row (length t.rows) refl))))
