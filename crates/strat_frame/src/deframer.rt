@@ -1,6 +1,7 @@
 //! Cutting a stream into frames, whatever the pieces in which it comes.
 
 ghost use Rattle.std.specs.Prelude.{◌≡◌, ◌+◌, ◌-◌, ◌≤◌, [], ◌++◌, length, IfOk};
+ghost use Rattle.strat_base.specs.Numbers.{AreBytes};
 ghost use Rattle.strat_frame.specs.Deframing.{Deframing, Takes, BeginsWith};
 
 use std::alloc::Global;
@@ -34,6 +35,7 @@ pub struct Deframer {
 
 impl Model for Deframer {
     ghost use Rattle.std.specs.Prelude.{take, drop, vec_capacity};
+    ghost use Rattle.strat_base.specs.Numbers.{AreBytes};
     ghost use Rattle.strat_frame.specs.Deframing.{Deframing, IsCut};
 
     ghost Value = { Deframing };
@@ -58,7 +60,8 @@ enum Front {
 
 /// What these bytes begin with.
 fn look_at(held: &[u8]) -> Front
-    ensures { BeginsWith result held.now }
+    ensures ok { BeginsWith result held.now }
+    ensures bytes { AreBytes held.now }
 {
     let Some(length) = get_u32(held, 0) else {
         return Front::Part;
@@ -118,7 +121,8 @@ impl Deframer {
 
     /// Takes the next frame, if one is whole. A frame that is too long stays, and is found again.
     pub fn next(&mut self) -> Next
-        ensures { Takes result self.old self.new }
+        ensures ok { Takes result self.old self.new }
+        ensures bytes { AreBytes self.new.held }
     {
         match look_at(&self.bytes[self.start..]) {
             Front::Whole(body_len) => {
