@@ -7,4 +7,5 @@ pub mod FieldLemmas
 pub mod ChangeLemmas
 pub mod ReadingLemmas
 pub mod LevelLemmas
+pub mod SoundLemmas
 pub mod LiveLemmas

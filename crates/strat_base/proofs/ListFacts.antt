@@ -1,5 +1,5 @@
 -- Elements of a list, and what tests and searches say of them.
-use Rattle.std.proofs.Common.{◌≡◌, ◌≤◌, ◌<◌, ◌+◌, ℕ, zero, suc, Bool, true, false, cond, ◌&&◌, ◌||◌, ◌⊎◌, inl, inr, List, [], ◌∷◌, ◌++◌, reverse, filter, Option, Some, None, refl, sym, ap, ◌∙◌, subst, true≢false, arith}
+use Rattle.std.proofs.Common.{◌≡◌, ◌≤◌, ◌<◌, ◌+◌, ℕ, zero, suc, Bool, true, false, cond, ◌⊎◌, inl, inr, List, [], ◌∷◌, ◌++◌, reverse, filter, Some, None, refl, sym, ap, ◌∙◌, subst, true≢false, arith}
 use Rattle.std.specs.List.{list_any, list_all, find, flat_map, range_with_len, AllByRecursion}
 use Rattle.std.proofs.lemmas.Bool.{or_cases, or_left, or_right, and_parts, and_from, cases_Bool, cases_eq}
 use Rattle.std.proofs.lemmas.List.{reverse-append}
@@ -70,8 +70,9 @@ pub among_flat : {X Y : Type 0} (f : X → List Y) (xs : List X) (y : Y) → Amo
 among_flat f [] y among = absurd among
 among_flat f (x ∷ xs) y among =
     elim (among_split (f x) (flat_map f xs) y among) [
-      inl here ↦ (x, inl refl, here)
-    | inr there ↦ let found = among_flat f xs y there in (found.0, inr found.1, found.2) ]
+      | inl here ↦ (x, inl refl, here)
+      | inr there ↦ let found = among_flat f xs y there in (found.0, inr found.1, found.2)
+    ]
 
 pub among_in_flat : {X Y : Type 0} (f : X → List Y) (xs : List X) (x : X) (y : Y) → Among x xs → Among y (f x) → Among y (flat_map f xs)
 among_in_flat f [] x y among there = absurd among
@@ -82,15 +83,17 @@ pub among_filter : {X : Type 0} (p : X → Bool) (xs : List X) (x : X) → Among
 among_filter p [] x among passes = absurd among
 among_filter p (y ∷ ys) x among passes =
     elim (p y) as (λ b. p y ≡ b → Among x (cond b (y ∷ filter p ys) (filter p ys))) [
-      true ↦ λ is. elim among [ inl same ↦ inl same | inr there ↦ inr (among_filter p ys x there passes) ]
-    | false ↦ λ is. elim among [ inl same ↦ absurd (true≢false (sym passes ∙ ap p same ∙ is)) | inr there ↦ among_filter p ys x there passes ] ] refl
+      | true ↦ λ is. elim among [ inl same ↦ inl same | inr there ↦ inr (among_filter p ys x there passes) ]
+      | false ↦ λ is. elim among [ inl same ↦ absurd (true≢false (sym passes ∙ ap p same ∙ is)) | inr there ↦ among_filter p ys x there passes ]
+    ] refl
 
 pub filter_among : {X : Type 0} (p : X → Bool) (xs : List X) (x : X) → Among x (filter p xs) → Among x xs × (p x ≡ true)
 filter_among p [] x among = absurd among
 filter_among p (y ∷ ys) x among =
     elim (p y) as (λ b. p y ≡ b → Among x (cond b (y ∷ filter p ys) (filter p ys)) → Among x (y ∷ ys) × (p x ≡ true)) [
-      true ↦ λ is here. elim here [ inl same ↦ (inl same, ap p same ∙ is) | inr there ↦ let found = filter_among p ys x there in (inr found.0, found.1) ]
-    | false ↦ λ is there. let found = filter_among p ys x there in (inr found.0, found.1) ] refl among
+      | true ↦ λ is here. elim here [ inl same ↦ (inl same, ap p same ∙ is) | inr there ↦ let found = filter_among p ys x there in (inr found.0, found.1) ]
+      | false ↦ λ is there. let found = filter_among p ys x there in (inr found.0, found.1)
+    ] refl among
 
 pub each_of : {X : Type 0} (P : X → Type 0) (xs : List X) (x : X) → AllByRecursion P xs → Among x xs → P x
 each_of P [] x each among = absurd among
@@ -106,5 +109,6 @@ pub among_range : (a n c : ℕ) → a ≤ c → c < a + n → Among c (range_wit
 among_range a zero c le lt = absurd (omega arith)
 among_range a (suc n) c le lt =
     elim (cases_eq c a) [
-      inl here ↦ inl here
-    | inr apart ↦ inr (among_range (a + 1) n c (omega arith) (omega arith)) ]
+      | inl here ↦ inl here
+      | inr apart ↦ inr (among_range (a + 1) n c (omega arith) (omega arith))
+    ]

@@ -77,10 +77,10 @@ has_single_leads level = is_single (level_leads level)
 
 -- a level is stratified
 pub record IsStratified (parents : Parents) (level : Level) : Type 0 where
-  pub disjoint : IsTrue (has_disjoint_tags level)                        -- a
-  pub tagged : IsTrue (has_live_tagged parents level)                    -- b
-  pub agreeing : IsTrue (list_all (agrees parents level) level.arrays)   -- c
-  pub dense : IsTrue (list_all (is_dense parents) level.arrays)          -- d
-  pub led : IsTrue (list_all is_led level.arrays)                        -- e
-  pub drawn : IsTrue (list_all (is_drawn level) level.arrays)            -- f
-  pub single : IsTrue (has_single_leads level)                           -- g
+  pub disjoint : IsTrue (has_disjoint_tags level)  -- a
+  pub tagged : IsTrue (has_live_tagged parents level)  -- b
+  pub agreeing : IsTrue (list_all (agrees parents level) level.arrays)  -- c
+  pub dense : IsTrue (list_all (is_dense parents) level.arrays)  -- d
+  pub led : IsTrue (list_all is_led level.arrays)  -- e
+  pub drawn : IsTrue (list_all (is_drawn level) level.arrays)  -- f
+  pub single : IsTrue (has_single_leads level)  -- g

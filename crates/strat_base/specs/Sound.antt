@@ -1,10 +1,10 @@
 -- When a state is sound.
-use Rattle.std.specs.Prelude.{ℕ, suc, ◌+◌, ◌*◌, ◌^◌, ◌==◌, nat_lt, nat_le, ◌&&◌, not, Bool, true, false, List, [], ◌∷◌, ◌++◌, length, sum_by, filter, flat_map, Option, Some, None, IsTrue}
+use Rattle.std.specs.Prelude.{ℕ, suc, ◌*◌, ◌^◌, ◌==◌, nat_lt, nat_le, ◌&&◌, not, Bool, true, false, List, [], ◌∷◌, ◌++◌, length, sum_by, filter, flat_map, Some, None, IsTrue}
 use Rattle.std.specs.Option.{option_map_or}
 use Rattle.std.specs.List.{list_any, list_all, range_with_len, AllByRecursion}
 use Rattle.strat_base.specs.declared.limits.TheConstants.{LEVELS}
 use Rattle.strat_base.specs.Tree.{Parents, is_known, parent_of, has_child}
-use Rattle.strat_base.specs.Entries.{Entry, is_ascending}
+use Rattle.strat_base.specs.Entries.{is_ascending}
 use Rattle.strat_base.specs.Change.{Change, Put, Delete, Clone}
 use Rattle.strat_base.specs.Level.{TaggedArray, Level, own_leads, least_live, level_leads, IsStratified}
 use Rattle.strat_base.specs.State.{State, versions_of, is_living, journal_updates, tree_after}
@@ -77,12 +77,12 @@ are_accepted s parents changes (change ∷ journal) =
 pub record IsSound (s : State) : Type 0 where
   pub tree : IsTrue (is_tree s.parents)
   pub numbered : IsTrue (is_numbered_from 1 s.levels)
-  pub stratified : AllByRecursion (IsStratified (versions_of s)) s.levels                              -- a to g
-  pub roomy : IsTrue (list_all (has_room s) s.levels)                                                  -- h
-  pub old : IsTrue (list_all (has_old_horizon s) s.levels)                                             -- i
-  pub settled : IsTrue (list_all (is_above_frozen s) s.levels)                                         -- j
-  pub described : IsTrue (list_all (λ level. list_all (is_described s) level.arrays) s.levels)         -- k
-  pub few : IsTrue (has_few_leads s)                                                                   -- l
-  pub ascending : IsTrue (list_all (λ level. list_all has_ascending_entries level.arrays) s.levels)    -- m
+  pub stratified : AllByRecursion (IsStratified (versions_of s)) s.levels  -- a to g
+  pub roomy : IsTrue (list_all (has_room s) s.levels)  -- h
+  pub old : IsTrue (list_all (has_old_horizon s) s.levels)  -- i
+  pub settled : IsTrue (list_all (is_above_frozen s) s.levels)  -- j
+  pub described : IsTrue (list_all (λ level. list_all (is_described s) level.arrays) s.levels)  -- k
+  pub few : IsTrue (has_few_leads s)  -- l
+  pub ascending : IsTrue (list_all (λ level. list_all has_ascending_entries level.arrays) s.levels)  -- m
   pub accepted : IsTrue (are_accepted s s.parents s.changes s.journal)
   pub fits : IsTrue (nat_le (length s.journal) s.mem)

@@ -1,12 +1,12 @@
 -- The state of a store, as its disk says it, and what it says of keys at versions.
-use Rattle.std.specs.Prelude.{◌≡◌, ℕ, ◌+◌, ◌*◌, ◌-◌, ◌^◌, ◌==◌, nat_le, nat_lt, ◌||◌, Bool, true, false, List, [], ◌∷◌, ◌++◌, length, reverse, sum_by, flat_map, filter_map, find, fold, Option, Some, None, unwrap_or, option_and_then, IsTrue}
+use Rattle.std.specs.Prelude.{ℕ, ◌+◌, ◌*◌, ◌-◌, ◌^◌, ◌==◌, nat_le, ◌||◌, Bool, true, List, [], ◌++◌, length, reverse, sum_by, flat_map, filter_map, find, fold, Option, Some, None, unwrap_or, option_and_then, IsTrue}
 use Rattle.std.specs.List.{list_all, range_with_len}
 use Rattle.std.specs.BTreeMap.{insert_entry}
 use Rattle.strat_base.specs.Order.{key_cmp}
 use Rattle.strat_base.specs.Tree.{Parents, with_child}
 use Rattle.strat_base.specs.Entries.{Entry}
 use Rattle.strat_base.specs.Live.{deciding}
-use Rattle.strat_base.specs.Level.{TaggedArray, Level, level_leads}
+use Rattle.strat_base.specs.Level.{Level, level_leads}
 use Rattle.strat_base.specs.Change.{Change, Put, Delete, Clone}
 
 -- a state: the limits, what the manifest says, and the changes in the journal

@@ -1,10 +1,13 @@
 //! Laws that tie the definitions of a store's structure together. Each is the contract of a function
 //! that does nothing.
 
-ghost use Rattle.std.specs.Prelude.{◌≡◌, ℕ, ◌<◌, ◌≤◌, List, ◌∷◌, length, filter, find, Some, IsTrue};
+ghost use Rattle.std.specs.Prelude.{◌≡◌, ℕ, ◌<◌, ◌≤◌, List, ◌∷◌, length, filter, find, Some, option_and_then, IsTrue};
 ghost use Rattle.std.specs.List.{list_any};
 ghost use Rattle.strat_base.specs.Entries.{Entry, is_of, is_single};
 ghost use Rattle.strat_base.specs.Live.{live, deciding};
+ghost use Rattle.strat_base.specs.Reading.{read_at};
+ghost use Rattle.strat_base.specs.Sound.{IsSound};
+ghost use Rattle.strat_base.specs.State.{State, versions_of, sources, value_at};
 ghost use Rattle.strat_base.specs.Tree.{Parents, parent_of, path, is_ancestor, below, with_child, IsTree};
 
 /// A new child has itself and its parent's ancestors; no older version's ancestors change.
@@ -40,4 +43,14 @@ pub fn live_keys_stay_live()
     ensures { (parents : Parents) (entries : List Entry) (key : List ℕ) (v child : ℕ) → IsTree parents
         → parent_of parents child ≡ Some v → IsTrue (list_any (is_of key) (live parents entries v))
         → IsTrue (list_any (is_of key) (live parents entries child)) }
+{}
+
+/// In a sound state the first place that has an entry of a key live at a version decides the key
+/// there. The places are the journal, and then of each level, the shallowest first, the one array that
+/// is for the version.
+pub fn the_first_place_decides()
+    ensures entry { (s : State) (v : ℕ) (key : List ℕ) → IsSound s → v < length (versions_of s)
+        → read_at s v key ≡ deciding (versions_of s) (sources s) key v }
+    ensures value { (s : State) (v : ℕ) (key : List ℕ) → IsSound s → v < length (versions_of s)
+        → option_and_then (λ e. e.value) (read_at s v key) ≡ value_at s v key }
 {}
