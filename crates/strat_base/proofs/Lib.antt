@@ -8,4 +8,5 @@ pub mod ChangeLemmas
 pub mod ReadingLemmas
 pub mod LevelLemmas
 pub mod SoundLemmas
+pub mod BreachLemmas
 pub mod LiveLemmas

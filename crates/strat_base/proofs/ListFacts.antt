@@ -112,3 +112,25 @@ among_range a (suc n) c le lt =
       | inl here ↦ inl here
       | inr apart ↦ inr (among_range (a + 1) n c (omega arith) (omega arith))
     ]
+
+pub each_from : {X : Type 0} (P : X → Type 0) (xs : List X) → ((x : X) → Among x xs → P x) → AllByRecursion P xs
+each_from P [] each = tt
+each_from P (x ∷ xs) each = (each x (inl refl), each_from P xs (λ y among. each y (inr among)))
+
+pub empty_parts : {X : Type 0} (xs ys : List X) → xs ++ ys ≡ [] → (xs ≡ []) × (ys ≡ [])
+empty_parts [] ys e = (refl, e)
+empty_parts (x ∷ xs) ys e = absurd (cc)
+
+pub empty_both : {X : Type 0} (xs ys : List X) → xs ≡ [] → ys ≡ [] → xs ++ ys ≡ []
+empty_both [] ys e f = f
+empty_both (x ∷ xs) ys e f = absurd (cc)
+
+-- what is made of each element is nothing
+pub flat_empty : {X Y : Type 0} (f : X → List Y) (xs : List X) → ((x : X) → Among x xs → f x ≡ []) → flat_map f xs ≡ []
+flat_empty f [] each = refl
+flat_empty f (x ∷ xs) each = empty_both (f x) (flat_map f xs) (each x (inl refl)) (flat_empty f xs (λ y among. each y (inr among)))
+
+pub empty_each : {X Y : Type 0} (f : X → List Y) (xs : List X) (x : X) → flat_map f xs ≡ [] → Among x xs → f x ≡ []
+empty_each f [] x e among = absurd among
+empty_each f (y ∷ ys) x e (inl here) = ap f here ∙ (empty_parts (f y) (flat_map f ys) e).0
+empty_each f (y ∷ ys) x e (inr there) = empty_each f ys x (empty_parts (f y) (flat_map f ys) e).1 there

@@ -33,6 +33,14 @@ least_live parents a = least_of a.tag
     least_of (v ∷ []) = length (live parents a.content v)
     least_of (v ∷ w ∷ vs) = min (length (live parents a.content v)) (least_of (w ∷ vs))
 
+-- the density of an array: the least number live at a version of its tag, of all its entries
+abbrev pub density : Parents → TaggedArray → ℕ × ℕ
+density parents a = (least_live parents a, length a.content)
+
+-- the lead fraction of an array: its leads, of all its entries
+abbrev pub lead_fraction : TaggedArray → ℕ × ℕ
+lead_fraction a = (length (own_leads a), length a.content)
+
 -- the leads of a level: those of all its arrays
 abbrev pub level_leads : Level → List Entry
 level_leads level = flat_map own_leads level.arrays

@@ -11,3 +11,4 @@ pub mod Reading
 pub mod Sound
 pub mod State
 pub mod Tree
+pub mod Worked

@@ -73,16 +73,20 @@ are_accepted s parents changes [] = true
 are_accepted s parents changes (change ∷ journal) =
     is_accepted s parents changes change && are_accepted s (tree_after parents change) (suc changes) journal
 
--- a state is sound
-pub record IsSound (s : State) : Type 0 where
+-- what an opening tests of a state
+pub record IsOpenable (s : State) : Type 0 where
   pub tree : IsTrue (is_tree s.parents)
   pub numbered : IsTrue (is_numbered_from 1 s.levels)
-  pub stratified : AllByRecursion (IsStratified (versions_of s)) s.levels  -- a to g
-  pub roomy : IsTrue (list_all (has_room s) s.levels)  -- h
-  pub old : IsTrue (list_all (has_old_horizon s) s.levels)  -- i
-  pub settled : IsTrue (list_all (is_above_frozen s) s.levels)  -- j
-  pub described : IsTrue (list_all (λ level. list_all (is_described s) level.arrays) s.levels)  -- k
-  pub few : IsTrue (has_few_leads s)  -- l
-  pub ascending : IsTrue (list_all (λ level. list_all has_ascending_entries level.arrays) s.levels)  -- m
   pub accepted : IsTrue (are_accepted s s.parents s.changes s.journal)
   pub fits : IsTrue (nat_le (length s.journal) s.mem)
+
+-- a state is sound
+pub record IsSound (s : State) : Type 0 where
+  pub opens : IsOpenable s
+  pub stratified : AllByRecursion (IsStratified (versions_of s)) s.levels                              -- a to g
+  pub roomy : IsTrue (list_all (has_room s) s.levels)                                                  -- h
+  pub old : IsTrue (list_all (has_old_horizon s) s.levels)                                             -- i
+  pub settled : IsTrue (list_all (is_above_frozen s) s.levels)                                         -- j
+  pub described : IsTrue (list_all (λ level. list_all (is_described s) level.arrays) s.levels)         -- k
+  pub few : IsTrue (has_few_leads s)                                                                   -- l
+  pub ascending : IsTrue (list_all (λ level. list_all has_ascending_entries level.arrays) s.levels)    -- m

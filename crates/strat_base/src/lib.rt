@@ -8,6 +8,7 @@ pub mod limits;
 mod numbers;
 mod pairs;
 pub mod spellings;
+pub mod worked;
 
 pub use entries::{Entry, Val, Version, entry_order, key_ok, value_ok};
 pub use failures::{Failed, Fault, NoMemory, Trouble};
