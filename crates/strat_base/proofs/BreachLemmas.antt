@@ -1,11 +1,11 @@
 -- A state is sound exactly where it opens and breaks no rule.
-use Rattle.std.proofs.Common.{◌≡◌, ℕ, Bool, true, false, List, [], ◌∷◌, ◌++◌, refl, sym, ap, ◌∙◌, subst, true≢false}
-use Rattle.std.specs.List.{list_all, flat_map, AllByRecursion}
+use Rattle.std.proofs.Common.{◌≡◌, ℕ, Bool, true, false, eqb, length, List, [], ◌++◌, refl, sym, ap, ◌∙◌, true≢false}
+use Rattle.std.specs.List.{list_all, flat_map}
 use Rattle.strat_base.specs.Level.{TaggedArray, Level, IsStratified, has_disjoint_tags, has_live_tagged, agrees, is_dense, is_led, is_drawn, has_single_leads}
 use Rattle.strat_base.specs.State.{State, versions_of}
 use Rattle.strat_base.specs.Sound.{has_room, has_old_horizon, is_above_frozen, is_described, has_few_leads, has_ascending_entries, IsOpenable, IsSound}
 use Rattle.strat_base.specs.Breach.{Breach, breach_unless, level_breaches, array_breaches, breaches}
-use Rattle.strat_base.proofs.ListFacts.{Among, all_at, all_from, each_of, each_from, empty_parts, empty_both, flat_empty, empty_each}
+use Rattle.strat_base.proofs.ListFacts.{all_at, all_from, each_of, each_from, empty_parts, empty_both, flat_empty, empty_each}
 
 passes : (b : Bool) (breach : Breach) → breach_unless b breach ≡ [] → b ≡ true
 passes true breach e = refl
@@ -18,7 +18,7 @@ module _ (s : State) (rule : ℕ) where
   levels_pass : (test : Level → Bool) → level_breaches s rule test ≡ [] → list_all test s.levels ≡ true
   levels_pass test none = all_from test s.levels (λ level among.
       passes (test level) (record { rule = rule; level = level.number; array = 0 })
-        (empty_each (λ x. breach_unless (test x) (record { rule = rule; level = x.number; array = 0 })) s.levels level none among))
+      (empty_each (λ x. breach_unless (test x) (record { rule = rule; level = x.number; array = 0 })) s.levels level none among))
 
   levels_passed : (test : Level → Bool) → list_all test s.levels ≡ true → level_breaches s rule test ≡ []
   levels_passed test all = flat_empty (λ x. breach_unless (test x) (record { rule = rule; level = x.number; array = 0 })) s.levels (λ level among.
@@ -28,40 +28,52 @@ module _ (s : State) (rule : ℕ) where
   arrays_pass test none = all_from (λ level. list_all (test level) level.arrays) s.levels (λ level among.
       let here = empty_each (λ x. flat_map (λ a. breach_unless (test x a) (record { rule = rule; level = x.number; array = a.id })) x.arrays) s.levels level none among in
       all_from (test level) level.arrays (λ a inside.
-        passes (test level a) (record { rule = rule; level = level.number; array = a.id })
-          (empty_each (λ b. breach_unless (test level b) (record { rule = rule; level = level.number; array = b.id })) level.arrays a here inside)))
+      passes (test level a) (record { rule = rule; level = level.number; array = a.id })
+      (empty_each (λ b. breach_unless (test level b) (record { rule = rule; level = level.number; array = b.id })) level.arrays a here inside)))
 
   arrays_passed : (test : Level → TaggedArray → Bool) → list_all (λ level. list_all (test level) level.arrays) s.levels ≡ true → array_breaches s rule test ≡ []
   arrays_passed test all = flat_empty (λ x. flat_map (λ a. breach_unless (test x a) (record { rule = rule; level = x.number; array = a.id })) x.arrays) s.levels (λ level among.
       flat_empty (λ b. breach_unless (test level b) (record { rule = rule; level = level.number; array = b.id })) level.arrays (λ a inside.
-        passed (test level a) (record { rule = rule; level = level.number; array = a.id })
-          (all_at (test level) a level.arrays (all_at (λ x. list_all (test x) x.arrays) level s.levels all among) inside)))
+      passed (test level a) (record { rule = rule; level = level.number; array = a.id })
+      (all_at (test level) a level.arrays (all_at (λ x. list_all (test x) x.arrays) level s.levels all among) inside)))
 
 module _ (s : State) where
   m : List Breach
   m = array_breaches s 109 (λ level a. has_ascending_entries a)
+
   a : List Breach
   a = level_breaches s 97 has_disjoint_tags
+
   b : List Breach
   b = level_breaches s 98 (has_live_tagged (versions_of s))
+
   c : List Breach
   c = array_breaches s 99 (agrees (versions_of s))
+
   d : List Breach
   d = array_breaches s 100 (λ level x. is_dense (versions_of s) x)
+
   e : List Breach
   e = array_breaches s 101 (λ level x. is_led x)
+
   f : List Breach
   f = array_breaches s 102 is_drawn
+
   g : List Breach
   g = level_breaches s 103 has_single_leads
+
   h : List Breach
   h = level_breaches s 104 (has_room s)
+
   i' : List Breach
   i' = level_breaches s 105 (has_old_horizon s)
+
   j : List Breach
   j = level_breaches s 106 (is_above_frozen s)
+
   k : List Breach
   k = array_breaches s 107 (λ level x. is_described s x)
+
   l : List Breach
   l = breach_unless (has_few_leads s) (record { rule = 108; level = 0; array = 0 })
 
@@ -110,7 +122,7 @@ module _ (s : State) where
   unfolding a b c d e f g h i' j k l m
   sound_none sound =
       let of_levels : (test : Level → Bool) → ((level : Level) → IsStratified (versions_of s) level → test level ≡ true) → list_all test s.levels ≡ true =
-        λ test each. all_from test s.levels (λ level among. each level (each_of (IsStratified (versions_of s)) s.levels level sound.stratified among)) in
+      λ test each. all_from test s.levels (λ level among. each level (each_of (IsStratified (versions_of s)) s.levels level sound.stratified among)) in
       let at_a = empty_both m a (arrays_passed s 109 (λ level x. has_ascending_entries x) sound.ascending) (levels_passed s 97 has_disjoint_tags (of_levels has_disjoint_tags (λ level strat. strat.disjoint))) in
       let at_b = empty_both (m ++ a) b at_a (levels_passed s 98 (has_live_tagged (versions_of s)) (of_levels (has_live_tagged (versions_of s)) (λ level strat. strat.tagged))) in
       let at_c = empty_both (m ++ a ++ b) c at_b (arrays_passed s 99 (agrees (versions_of s)) (of_levels (λ x. list_all (agrees (versions_of s) x) x.arrays) (λ level strat. strat.agreeing))) in
@@ -123,3 +135,7 @@ module _ (s : State) where
       let at_j = empty_both (m ++ a ++ b ++ c ++ d ++ e ++ f ++ g ++ h ++ i') j at_i (levels_passed s 106 (is_above_frozen s) sound.settled) in
       let at_k = empty_both (m ++ a ++ b ++ c ++ d ++ e ++ f ++ g ++ h ++ i' ++ j) k at_j (arrays_passed s 107 (λ level x. is_described s x) sound.described) in
       empty_both (m ++ a ++ b ++ c ++ d ++ e ++ f ++ g ++ h ++ i' ++ j ++ k) l at_k (passed (has_few_leads s) (record { rule = 108; level = 0; array = 0 }) sound.few)
+
+  -- a state that breaks a rule is not sound
+  pub unsound_from_some : eqb (length (breaches s)) 0 ≡ false → IsSound s → ⊥
+  unsound_from_some some sound = true≢false (sym (ap (λ (x : List Breach). eqb (length x) 0) (sound_none sound)) ∙ some)

@@ -1,4 +1,5 @@
 pub mod Breach
+pub mod Broken
 pub mod Change
 pub mod Entries
 pub mod Fields

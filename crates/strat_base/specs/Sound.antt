@@ -83,10 +83,10 @@ pub record IsOpenable (s : State) : Type 0 where
 -- a state is sound
 pub record IsSound (s : State) : Type 0 where
   pub opens : IsOpenable s
-  pub stratified : AllByRecursion (IsStratified (versions_of s)) s.levels                              -- a to g
-  pub roomy : IsTrue (list_all (has_room s) s.levels)                                                  -- h
-  pub old : IsTrue (list_all (has_old_horizon s) s.levels)                                             -- i
-  pub settled : IsTrue (list_all (is_above_frozen s) s.levels)                                         -- j
-  pub described : IsTrue (list_all (λ level. list_all (is_described s) level.arrays) s.levels)         -- k
-  pub few : IsTrue (has_few_leads s)                                                                   -- l
-  pub ascending : IsTrue (list_all (λ level. list_all has_ascending_entries level.arrays) s.levels)    -- m
+  pub stratified : AllByRecursion (IsStratified (versions_of s)) s.levels  -- a to g
+  pub roomy : IsTrue (list_all (has_room s) s.levels)  -- h
+  pub old : IsTrue (list_all (has_old_horizon s) s.levels)  -- i
+  pub settled : IsTrue (list_all (is_above_frozen s) s.levels)  -- j
+  pub described : IsTrue (list_all (λ level. list_all (is_described s) level.arrays) s.levels)  -- k
+  pub few : IsTrue (has_few_leads s)  -- l
+  pub ascending : IsTrue (list_all (λ level. list_all has_ascending_entries level.arrays) s.levels)  -- m

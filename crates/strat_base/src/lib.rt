@@ -1,6 +1,7 @@
 //! What every crate of the store shares: limits, failures, numbers in bytes, entries and pairs.
 #![tactic(auto)]
 
+pub mod broken;
 mod entries;
 mod failures;
 pub mod laws;
