@@ -1,5 +1,8 @@
+pub mod ImageLemmas
+pub mod MomentLemmas
 pub mod NumberLemmas
 pub mod PairLemmas
+pub mod TrailLemmas
 pub mod ListFacts
 pub mod TreeLemmas
 pub mod EntryLemmas

@@ -1,10 +1,10 @@
 -- Numbers written into a slice.
-use Rattle.std.proofs.Common.{◌≡◌, ℕ, ◌+◌, ◌-◌, ◌^◌, ◌<◌, ◌≤◌, List, ◌++◌, [], length, get_or, take, drop, refl, sym, ap, ◌∙◌, append_assoc, length-drop, length-take, inl, inr, arith}
+use Rattle.std.proofs.Common.{◌≡◌, ℕ, ◌+◌, ◌-◌, ◌^◌, ◌<◌, ◌≤◌, List, ◌++◌, [], length, get_or, take, drop, refl, sym, ap, ◌∙◌, append_assoc, length-drop, length-take, inl, inr, arith, Some, None, true, false, nat_le, ◌∷◌, ◌*◌, ◌%◌}
 use Rattle.std.proofs.lemmas.List.{drop-drop, drop_all, take_all, append-nil, get_or-take, get_or-drop, get_or_past}
-use Rattle.std.proofs.lemmas.Bool.{cases_lt}
+use Rattle.std.proofs.lemmas.Bool.{cases_lt, lt-leb, le-leb}
 use Rattle.std.proofs.lemmas.Nat.{be_bytes_2, be_bytes_4, be_bytes_8}
 use Rattle.byteorder.specs.Numbers.{length-bytes_high_first, big_number-reads_back, big_from-lt, big_from-take}
-use Rattle.strat_base.specs.Numbers.{be, number, placed, AreBytes}
+use Rattle.strat_base.specs.Numbers.{be, number, number_at, placed, AreBytes}
 use borrow.Rule.Slice.PartMut.{put_mid}
 
 -- what a write at the front of the rest of a slice leaves
@@ -67,3 +67,22 @@ pub be-number_8 : (bytes : List ℕ) → 8 ≤ length bytes → AreBytes bytes �
 unfolding be number
 be-number_8 bytes long fits =
     ap (be 8) (sym (number-take 8 bytes)) ∙ be_bytes_8 (take 8 bytes) (number 8 (take 8 bytes)) (omega (arith, length-take 8 bytes)) (AreBytes-take 8 bytes fits) (omega arith)
+
+-- bytes that are written over a whole slice
+pub placed_whole : (old bytes : List ℕ) → length old ≤ length bytes → placed old 0 bytes ≡ bytes
+placed_whole old bytes short =
+    ap (λ (x : List ℕ). bytes ++ x) (drop_all (0 + length bytes) old (omega arith)) ∙ append-nil bytes
+
+-- a number that is there
+pub number_at_some : (k : ℕ) (bytes : List ℕ) (at n : ℕ) → Some n ≡ number_at k bytes at → (at + k ≤ length bytes) × (n ≡ number k (drop at bytes))
+number_at_some k bytes at n e =
+    elim (cases_lt (length bytes) (at + k)) [
+      | inl short ↦ let no : nat_le (at + k) (length bytes) ≡ false = lt-leb _ _ short in absurd (let f : Some n ≡ None = rw no at e in cc)
+      | inr long ↦ let yes : nat_le (at + k) (length bytes) ≡ true = le-leb _ _ long in (long, let f : Some n ≡ Some (number k (drop at bytes)) = rw yes at e in cc)
+    ]
+
+-- one byte is that of the number in it
+pub be-number_1 : (bytes : List ℕ) → 1 ≤ length bytes → AreBytes bytes → be 1 (number 1 bytes) ≡ take 1 bytes
+unfolding be number
+be-number_1 [] long fits = absurd (omega arith)
+be-number_1 (b ∷ bytes) long fits = let h : b < 256 = fits 0 in let e : (b * 1 + 0) % 256 ≡ b = omega arith in rw e refl

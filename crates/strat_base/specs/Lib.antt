@@ -1,3 +1,12 @@
+pub mod Faults
+pub mod Image
+pub mod Moments
+pub mod Numbers
+pub mod Order
+pub mod Trail
+pub mod Tree
+pub mod PairBuf
+pub mod Sizes
 pub mod Breach
 pub mod Broken
 pub mod Change
@@ -5,11 +14,7 @@ pub mod Entries
 pub mod Fields
 pub mod Level
 pub mod Live
-pub mod Numbers
-pub mod Order
-pub mod PairBuf
 pub mod Reading
 pub mod Sound
 pub mod State
-pub mod Tree
 pub mod Worked

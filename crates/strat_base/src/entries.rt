@@ -1,7 +1,8 @@
 //! Entries: what a version says of a key.
 
-ghost use Rattle.std.specs.Prelude.{◌≡◌, ◌≤◌, ◌↔◌, length, IsTrue};
+ghost use Rattle.std.specs.Prelude.{◌≡◌};
 ghost use Rattle.strat_base.specs.Order.{entry_cmp};
+ghost use Rattle.strat_base.specs.Sizes.{is_key, is_value};
 
 use crate::limits::{KEY_MAX, VALUE_MAX};
 use std::cmp::Ordering;
@@ -29,14 +30,14 @@ pub struct Entry<'a> {
 
 /// Whether these bytes may be a key.
 pub fn key_ok(key: &[u8]) -> bool
-    ensures { IsTrue result ↔ ((1 ≤ length key.now) × (length key.now ≤ KEY_MAX)) }
+    ensures { result ≡ is_key key.now }
 {
     !key.is_empty() && key.len() <= KEY_MAX
 }
 
 /// Whether these bytes may be a value.
 pub fn value_ok(value: &[u8]) -> bool
-    ensures { IsTrue result ↔ (length value.now ≤ VALUE_MAX) }
+    ensures { result ≡ is_value value.now }
 {
     value.len() <= VALUE_MAX
 }

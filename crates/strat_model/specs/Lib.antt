@@ -8,3 +8,5 @@ pub mod Answer
 pub mod Spelling
 pub mod Stream
 pub mod Run
+pub mod Plain
+pub mod PlainView

@@ -2,7 +2,7 @@
 use Rattle.std.specs.Prelude.{◌≡◌, ◌<◌, ℕ, ◌^◌, ◌&&◌, Bool, true, false, nat_le, if◌then◌else◌, List, [], ◌∷◌, ◌++◌, length, Option, Some, None}
 use Rattle.std.specs.List.{flat_map}
 use Rattle.strat_base.specs.Numbers.{be, number}
-use Rattle.strat_base.specs.declared.limits.TheConstants.{KEY_MAX, VALUE_MAX}
+use Rattle.strat_base.specs.Sizes.{is_key, is_value}
 use Rattle.strat_model.specs.declared.replies.Reply.{Reply}
 use Rattle.strat_model.specs.declared.replies.Reply.TheVariants as reply
 use Rattle.strat_model.specs.declared.replies.Refusal.TheVariants as why
@@ -30,14 +30,6 @@ command_bytes Stat = 10 ∷ []
 -- the body of a command
 abbrev pub command_body : ℕ → Request → List ℕ
 command_body tag request = be 4 tag ++ command_bytes request
-
--- these bytes may be a key
-abbrev pub is_key : List ℕ → Bool
-is_key key = nat_le 1 (length key) && nat_le (length key) KEY_MAX
-
--- these bytes may be a value
-abbrev pub is_value : List ℕ → Bool
-is_value value = nat_le (length value) VALUE_MAX
 
 -- a command that is taken so far, with sizes as they may be
 abbrev pub is_taken : Request → Bool
@@ -132,3 +124,27 @@ reply_fields _ pairs = []
 -- the body of a reply
 abbrev pub reply_body : ℕ → Answer → List ℕ
 reply_body tag a = be 4 tag ++ status_byte a.reply ∷ reply_fields a.reply a.pairs
+
+-- a reply that is given so far
+abbrev pub is_given : Reply → Bool
+is_given reply.Done = true
+is_given reply.Found = true
+is_given reply.Absent = true
+is_given (reply.Refused why.UnknownVersion) = true
+is_given (reply.Refused why.ChangeLimit) = true
+is_given (reply.Refused why.Malformed) = true
+is_given (reply.Refused why.FrameTooLong) = true
+is_given (reply.Refused why.NoMemory) = true
+is_given _ = false
+
+-- the pairs beside a reply as a client reads it, who knows the key that was asked for and sees a question mark for it
+abbrev pub FitsReply : Reply → Pairs → Type 0
+FitsReply reply.Found pairs = (value : List ℕ) × (pairs ≡ (63 ∷ [], value) ∷ []) × (is_value value ≡ true)
+FitsReply _ pairs = pairs ≡ []
+
+-- a body is a reply that is given
+pub record SpellsReply (body : List ℕ) (tag : ℕ) (a : Answer) : Type 0 where
+  pub text : body ≡ reply_body tag a
+  pub tag_fits : tag < 2 ^ 32
+  pub given : is_given a.reply ≡ true
+  pub pairs_fit : FitsReply a.reply a.pairs

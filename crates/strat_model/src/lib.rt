@@ -3,8 +3,12 @@
 
 mod commands;
 mod ended;
+mod plain_pairs;
+mod plain_rows;
+mod plain_table;
 mod replies;
 
 pub use commands::Command;
 pub use ended::Ended;
+pub use plain_table::PlainTable;
 pub use replies::{Refusal, Reply};

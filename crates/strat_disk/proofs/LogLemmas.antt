@@ -1,0 +1,42 @@
+-- The events of a disk in memory, one after the other.
+use Rattle.std.proofs.Common.{◌≡◌, ◌≤◌, ◌<◌, ℕ, suc, ◌+◌, List, [], ◌∷◌, ◌++◌, length, take, refl, sym, ◌∙◌, ap, subst, arith, inl, inr, length-append}
+use Rattle.std.proofs.lemmas.Bool.{cases_lt}
+use Rattle.std.proofs.lemmas.List.{take_all, take-append-le}
+use Rattle.strat_disk.specs.Medium.{Medium, written}
+use Rattle.strat_disk.specs.History.{step, replay, at_moment, Continues}
+use Rattle.strat_disk.specs.declared.event.Event.{Event}
+
+pub replay_more : (m : Medium) (events : List Event) (event : Event) → replay m (events ++ event ∷ []) ≡ step event (replay m events)
+unfolding replay
+replay_more m [] event = refl
+replay_more m (e ∷ events) event = replay_more (step e m) events event
+
+-- one event more, from an equal start
+pub replays_more : (old new : Medium) (events new_events : List Event) (event : Event) (before after : Medium) → new ≡ old
+    → new_events ≡ events ++ event ∷ [] → replay old events ≡ before → after ≡ step event before → replay new new_events ≡ after
+replays_more old new events new_events event before after same more replays is =
+    ap (λ (m : Medium). replay m new_events) same ∙ ap (λ (l : List Event). replay old l) more ∙ replay_more old events event ∙ ap (λ (m : Medium). step event m) replays ∙ sym is
+
+pub replays_same : (old new : Medium) (events new_events : List Event) (before after : Medium) → new ≡ old → new_events ≡ events
+    → replay old events ≡ before → after ≡ before → replay new new_events ≡ after
+replays_same old new events new_events before after same more replays is =
+    ap (λ (m : Medium). replay m new_events) same ∙ ap (λ (l : List Event). replay old l) more ∙ replays ∙ sym is
+
+pub continues_more : (old new : Medium) (events new_events : List Event) (event : Event) → new ≡ old → new_events ≡ events ++ event ∷ [] → Continues old events new new_events
+continues_more old new events new_events event same more = record {
+  later = let e = ap length more in omega (arith, length-append events (event ∷ []), e);
+  one = let e = ap length more in omega (arith, length-append events (event ∷ []), e);
+  past = λ n le. ap (λ (m : Medium). at_moment m new_events n) same ∙ ap (λ (l : List Event). at_moment old l n) more
+      ∙ ap (λ (l : List Event). replay old l) (take-append-le n events (event ∷ []) le);
+}
+
+pub continues_same : (old new : Medium) (events new_events : List Event) → new ≡ old → new_events ≡ events → Continues old events new new_events
+continues_same old new events new_events same more = record {
+  later = let e = ap length more in omega (arith, e);
+  one = let e = ap length more in omega (arith, e);
+  past = λ n le. ap (λ (m : Medium). at_moment m new_events n) same ∙ ap (λ (l : List Event). at_moment old l n) more;
+}
+
+pub replays_none : (first now : Medium) (events : List Event) → events ≡ [] → first ≡ now → replay first events ≡ now
+unfolding replay
+replays_none first now events none same = ap (λ (l : List Event). replay first l) none ∙ same

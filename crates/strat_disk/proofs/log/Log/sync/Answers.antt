@@ -1,0 +1,17 @@
+use Rattle.std.proofs.Common.{◌≡◌, ℕ, List, length, refl, sym, ◌∙◌, ap, arith, false}
+use Rattle.strat_disk.specs.Medium.{Medium, settled}
+use Rattle.strat_disk.specs.PlaneView.{plane_of}
+use Rattle.strat_disk.specs.History.{step}
+use Rattle.strat_disk.proofs.PlaneLemmas.{settled_quiet}
+use Rattle.strat_disk.proofs.LogLemmas.{replays_more, continues_same, continues_more}
+use Rattle.strat_disk.proofs.log.Log.sync.Goals as goal
+
+pub invariant_of-self-clause-same_len : goal.invariant_of-self-clause-same_len
+invariant_of-self-clause-same_len c = omega (arith, ap length c.sync.ensures.bytes, c.args.self.now.same_len)
+
+pub invariant_of-self-clause-replays : goal.invariant_of-self-clause-replays
+unfolding step
+invariant_of-self-clause-replays c = replays_more _ _ _ _ _ _ _ refl c.note.ensures.items c.args.self.now.replays c.sync.ensures.settled
+
+pub invariant_of-self-clause-quiet : goal.invariant_of-self-clause-quiet
+invariant_of-self-clause-quiet c = λ _ i. ap (λ (m : Medium). m.pending i) c.sync.ensures.settled

@@ -1,0 +1,4 @@
+pub mod History
+pub mod Medium
+pub mod Memory
+pub mod PlaneView

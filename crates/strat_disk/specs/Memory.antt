@@ -1,0 +1,57 @@
+-- What shows of a disk in memory.
+use Rattle.std.specs.Prelude.{◌≡◌, ◌≤◌, ◌==◌, ℕ, ◌+◌, ◌-◌, ◌^◌, min, Bool, List, length, Some}
+use Rattle.std.specs.List.{list_any}
+use Rattle.strat_base.specs.Moments.{View}
+use Rattle.strat_disk.specs.Medium.{Medium, Leaves}
+use Rattle.strat_disk.specs.PlaneView.{plane_of}
+use Rattle.strat_disk.specs.History.{at_moment}
+use Rattle.strat_disk.specs.declared.log.Log.{Log}
+use Rattle.strat_disk.specs.declared.memory.MemDisk.{MemDisk}
+
+-- its bytes up to the last one written
+abbrev pub bytes_of : MemDisk → List ℕ
+bytes_of d = d.log.present.bytes.items
+
+-- its bytes as they read, those of the last sync, and which of them are pending
+abbrev pub medium_of : MemDisk → Medium
+medium_of d = plane_of d.log.present
+
+-- the calls that fail, numbered from 1
+abbrev pub failing_of : MemDisk → List ℕ
+failing_of d = d.failing.items
+
+-- the calls so far
+abbrev pub calls_of : MemDisk → ℕ
+calls_of d = d.calls
+
+-- the reads among them
+abbrev pub reads_of : MemDisk → ℕ
+reads_of d = d.reads
+
+-- the faults among them
+abbrev pub faults_of : MemDisk → ℕ
+faults_of d = d.faults
+
+-- its content, and what a crash at each moment might have left
+abbrev pub log_view : Log → View
+log_view l = record {
+  content = Some (plane_of l.present).content;
+  moment = length l.events.items;
+  images_at = λ t c. Leaves (at_moment (plane_of l.first) l.events.items t) c;
+}
+
+abbrev pub view_of : MemDisk → View
+view_of d = log_view d.log
+
+-- a count that stands still at the end of its type
+abbrev pub one_more : ℕ → ℕ
+one_more n = min (n + 1) (2 ^ 64 - 1)
+
+-- the call with this number is one of those that fail
+abbrev pub is_failing : List ℕ → ℕ → Bool
+is_failing failing n = list_any (λ k. k == n) failing
+
+-- one more call was made, and the same calls are to fail
+pub record Called (old new : MemDisk) : Type 0 where
+  pub calls : calls_of new ≡ one_more (calls_of old)
+  pub failing : failing_of new ≡ failing_of old

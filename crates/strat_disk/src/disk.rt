@@ -1,0 +1,71 @@
+//! A disk as a store sees it: its content, and what a crash at each moment may leave.
+ghost use Rattle.std.specs.Prelude.{◌≡◌, ◌≤◌, ℕ, ◌+◌, ◌^◌, length, Some, IfSome, IsSomeAnd, OnOk, OnErr};
+ghost use Rattle.strat_base.specs.Faults.{Counts};
+ghost use Rattle.strat_base.specs.Image.{Image, HoldsBytes, Outside, window, patch};
+ghost use Rattle.strat_base.specs.Moments.{View, Images, Passes, TearsOnly, LeavesOld, MayTear, Settled, WritesThrough};
+
+use strat_base::Failed;
+
+/// A disk of bytes, with no end: places behind the last byte written read as 0.
+///
+/// Between two syncs a crash may leave any bytes in each range that was written, and leaves all others alone;
+/// after a sync that succeeds it leaves what a read gives. Places are counted in bytes, up to `2^44`.
+pub trait Disk {
+    /// Its content, where it tells it, and the images that a crash at each moment so far might have left.
+    ghost view: { Self → View };
+
+    /// How often it failed.
+    ghost faults: { Self → ℕ };
+
+    /// How often it was read.
+    ghost reads: { Self → ℕ };
+
+    /// Fills `into` with the bytes from `at` on. After an error `into` may hold anything.
+    fn read_at(&mut self, at: u64, into: &mut [u8]) -> Result<(), Failed>
+        requires { at + length into.old ≤ 2 ^ 44 }
+        ensures ok { OnOk result (IfSome (view self.old).content (λ f. into.new ≡ window f at (length into.old))) }
+        ensures same { (view self.new).content ≡ (view self.old).content }
+        ensures images { LeavesOld (view self.old) (view self.new) }
+        ensures time { Passes (view self.old) (view self.new) }
+        ensures cause { Counts (faults self.old) (faults self.new) result }
+        ensures fewest_reads { reads self.old ≤ reads self.new }
+        ensures most_reads { reads self.new ≤ reads self.old + 1 };
+
+    /// Writes these bytes from `at` on. Until a sync, and after an error, the range may hold anything.
+    fn write_at(&mut self, at: u64, bytes: &[u8]) -> Result<(), Failed>
+        requires { at + length bytes.now ≤ 2 ^ 44 }
+        ensures ok { OnOk result (IfSome (view self.old).content (λ f. (view self.new).content ≡ Some (patch f at bytes.now))) }
+        ensures err { OnErr result (IfSome (view self.old).content (λ f. IsSomeAnd (view self.new).content (Outside at (length bytes.now) f))) }
+        ensures images { TearsOnly (view self.old) (view self.new) at (length bytes.now) }
+        ensures torn { OnOk result (MayTear (view self.old) (view self.new) at (length bytes.now)) }
+        ensures time { Passes (view self.old) (view self.new) }
+        ensures cause { Counts (faults self.old) (faults self.new) result }
+        ensures reads { reads self.new ≡ reads self.old };
+
+    /// Waits until all that was written is there for good.
+    fn sync(&mut self) -> Result<(), Failed>
+        ensures ok { OnOk result (Settled (view self.new)) }
+        ensures same { (view self.new).content ≡ (view self.old).content }
+        ensures images { LeavesOld (view self.old) (view self.new) }
+        ensures time { Passes (view self.old) (view self.new) }
+        ensures cause { Counts (faults self.old) (faults self.new) result }
+        ensures reads { reads self.new ≡ reads self.old };
+
+    /// What the disk reads as is one of its images.
+    ghost leaves_content: { (d : Self) → IfSome (view d).content (Images (view d)) };
+
+    /// An image holds bytes.
+    ghost leaves_bytes: { (d : Self) (m : ℕ) (c : Image) → (view d).images_at m c → HoldsBytes c };
+}
+
+/// Writes these bytes from `at` on and syncs: one write and one sync.
+pub fn write_through<D: Disk>(disk: &mut D, at: u64, bytes: &[u8]) -> Result<(), Failed>
+    requires { at + length bytes.now ≤ 2 ^ 44 }
+    ensures through { WritesThrough (D.view disk.old) (D.view disk.new) at bytes.now result }
+    ensures cause { Counts (D.faults disk.old) (D.faults disk.new) result }
+    ensures reads { D.reads disk.new ≡ D.reads disk.old }
+{
+    disk.write_at(at, bytes)?;
+    disk.sync()?;
+    Ok(())
+}

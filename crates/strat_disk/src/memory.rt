@@ -1,0 +1,114 @@
+//! A disk in memory, for tests: it can fail at chosen calls, and it can crash.
+ghost use Rattle.std.specs.Prelude.{◌≡◌, ◌≤◌, ◌<◌, ℕ, ◌+◌, ◌-◌, ◌^◌, [], true, length, slice_index, Some, IfOk, IfSome, IsSomeAnd, IsErr, IsTrue, OnOk, OnErr, is_err};
+ghost use Rattle.strat_base.specs.Faults.{Counts};
+ghost use Rattle.strat_base.specs.Image.{Outside, window, patch};
+ghost use Rattle.strat_base.specs.Moments.{Images, Passes, TearsOnly, LeavesOld, MayTear, Settled};
+ghost use Rattle.strat_disk.specs.Medium.{at_rest, written, settled, altered, crashed};
+
+use crate::disk::Disk;
+use crate::log::Log;
+use std::alloc::Global;
+use strat_base::{Failed, NoMemory};
+
+/// A disk in memory that keeps each of its moments, so that it takes more memory with each write.
+#[derive(Drop)]
+pub struct MemDisk {
+    alloc: Global,
+    log: Log,
+    failing: Vec<u64>,
+    calls: u64,
+    reads: u64,
+    faults: u64,
+}
+
+impl MemDisk {
+    ghost use Rattle.strat_disk.specs.Memory.{bytes_of, medium_of, failing_of, calls_of, reads_of, faults_of, view_of, one_more, is_failing, Called};
+
+    /// An empty disk. The calls numbered in `failing`, from 1, will fail.
+    pub fn new(alloc: Global, failing: &[u64]) -> Result<MemDisk, NoMemory>
+        ensures bytes { IfOk result (λ d. bytes_of d ≡ []) }
+        ensures medium { IfOk result (λ d. medium_of d ≡ at_rest (λ _. 0)) }
+        ensures failing { IfOk result (λ d. failing_of d ≡ failing.now) }
+        ensures calls { IfOk result (λ d. calls_of d ≡ 0) }
+        ensures reads { IfOk result (λ d. reads_of d ≡ 0) }
+        ensures faults { IfOk result (λ d. faults_of d ≡ 0) }
+    {
+        let log = Log::at_rest(alloc, Vec::new(alloc))?;
+        let failing = Vec::from_slice(alloc, failing)?;
+        Ok(MemDisk {
+            alloc,
+            log,
+            failing,
+            calls: 0,
+            reads: 0,
+            faults: 0,
+        })
+    }
+
+    /// Its bytes, up to the last that was written.
+    pub fn bytes(&self) -> &[u8]
+        ensures { result.now ≡ bytes_of self.now }
+    {
+        &self.log.present.bytes
+    }
+
+    /// The calls so far: reads, writes and syncs, with those that failed.
+    pub fn calls(&self) -> u64
+        ensures { result ≡ calls_of self.now }
+    {
+        self.calls
+    }
+
+    /// The reads among the calls so far.
+    pub fn reads(&self) -> u64
+        ensures { result ≡ reads_of self.now }
+    {
+        self.reads
+    }
+
+    /// Sets one byte behind the back of its user, as if it had always been there. The moments so far are forgotten.
+    pub fn alter(&mut self, at: u64, byte: u8)
+        requires { at < length (bytes_of self.old) }
+        ensures medium { medium_of self.new ≡ altered at byte (medium_of self.old) }
+        ensures len { length (bytes_of self.new) ≡ length (bytes_of self.old) }
+        ensures failing { failing_of self.new ≡ failing_of self.old }
+        ensures calls { calls_of self.new ≡ calls_of self.old }
+        ensures reads { reads_of self.new ≡ reads_of self.old }
+        ensures faults { faults_of self.new ≡ faults_of self.old }
+    {
+        self.log.alter(at as usize, byte);
+    }
+
+    /// The disk after a crash now, with no calls that fail. Where a write was pending there are the bytes of the
+    /// last sync for choice 0, the bytes written for choice 1, and 0xa7 for any other. Linear in its length.
+    pub fn crash(&self, choice: u8) -> Result<MemDisk, NoMemory>
+        ensures left { IfOk result (λ d. medium_of d ≡ at_rest (crashed choice (medium_of self.now))) }
+        ensures image { IfOk result (λ d. Images (view_of self.now) (slice_index (bytes_of d))) }
+        ensures len { IfOk result (λ d. length (bytes_of d) ≡ length (bytes_of self.now)) }
+        ensures failing { IfOk result (λ d. failing_of d ≡ []) }
+        ensures calls { IfOk result (λ d. calls_of d ≡ 0) }
+        ensures reads { IfOk result (λ d. reads_of d ≡ 0) }
+        ensures faults { IfOk result (λ d. faults_of d ≡ 0) }
+    {
+        let bytes = self.log.present.crash(self.alloc, choice)?;
+        let log = Log::at_rest(self.alloc, bytes)?;
+        Ok(MemDisk {
+            alloc: self.alloc,
+            log,
+            failing: Vec::new(self.alloc),
+            calls: 0,
+            reads: 0,
+            faults: 0,
+        })
+    }
+
+    /// Counts a call, and says whether it is to fail.
+    fn fails(&mut self) -> bool
+        ensures called { Called self.old self.new }
+        ensures value { result ≡ is_failing (failing_of self.new) (calls_of self.new) }
+        ensures log { self.new ≡ record self.old { calls = one_more (calls_of self.old) } }
+    {
+        self.calls = self.calls.saturating_add(1);
+        self.failing.contains(&self.calls)
+    }
+}

@@ -1,0 +1,4 @@
+pub mod Deframing
+pub mod Fields
+pub mod Faults
+pub mod Replies

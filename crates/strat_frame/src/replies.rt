@@ -1,0 +1,209 @@
+//! Replies as bodies of frames.
+
+ghost use Rattle.std.specs.Prelude.{◌≡◌, ℕ, ◌+◌, ◌≤◌, [], ◌∷◌, ◌++◌, length, IfSome, IfNone};
+ghost use Rattle.strat_model.specs.Answer.{Answer};
+ghost use Rattle.strat_model.specs.Spelling.{status_byte, flag, parent_bytes, pair_bytes, reply_fields};
+ghost use Rattle.strat_model.specs.Spelling.{reply_body, SpellsReply};
+ghost use Rattle.strat_model.specs.Stream.{frame};
+ghost use Rattle.strat_frame.specs.Fields.{Finds, simple_reply, value_in, answer_in, reply_in};
+ghost use Rattle.strat_frame.specs.Replies.{as_told};
+
+use crate::fields::{counted_bytes_then, u8_then, u32_then};
+use crate::out::{OutBuf, REPLY_MAX};
+use strat_base::limits::VALUE_MAX;
+use strat_base::{PairBuf, value_ok};
+use strat_model::{Refusal, Reply};
+
+/// The status byte of a refusal.
+fn refusal_status(refusal: Refusal) -> u8
+    ensures { result ≡ status_byte (Reply.Refused refusal) }
+{
+    match refusal {
+        Refusal::UnknownVersion => 16,
+        Refusal::Frozen => 17,
+        Refusal::UnknownCursor => 18,
+        Refusal::VersionLimit => 19,
+        Refusal::ChangeLimit => 20,
+        Refusal::CursorLimit => 21,
+        Refusal::Malformed => 22,
+        Refusal::KeySize => 23,
+        Refusal::ValueSize => 24,
+        Refusal::ScanSize => 25,
+        Refusal::FrameTooLong => 26,
+        Refusal::NoMemory => 32,
+        Refusal::DeviceFault => 33,
+        Refusal::Damaged { .. } => 34,
+    }
+}
+
+/// The status byte of a reply.
+fn reply_status(reply: Reply) -> u8
+    ensures { result ≡ status_byte reply }
+{
+    match reply {
+        Reply::Done => 0,
+        Reply::Found => 1,
+        Reply::Absent => 2,
+        Reply::Pairs { .. } => 3,
+        Reply::Made { .. } => 4,
+        Reply::Info { .. } => 5,
+        Reply::Opened { .. } => 6,
+        Reply::Stat { .. } => 7,
+        Reply::Refused(refusal) => refusal_status(refusal),
+    }
+}
+
+/// A yes or no in one byte.
+fn put_flag(yes: bool, out: &mut OutBuf)
+    requires room { length out.old + 1 ≤ REPLY_MAX }
+    ensures ok { out.new ≡ out.old ++ flag yes ∷ [] }
+    ensures len { length out.new ≡ length out.old + 1 }
+{
+    if yes { out.put_u8(1) } else { out.put_u8(0) }
+}
+
+/// A parent's number, or the greatest number where there is none.
+fn put_parent(parent: Option<u32>, out: &mut OutBuf)
+    requires room { length out.old + 4 ≤ REPLY_MAX }
+    ensures ok { out.new ≡ out.old ++ parent_bytes parent }
+    ensures len { length out.new ≡ length out.old + 4 }
+{
+    match parent {
+        None => out.put_u32(u32::MAX),
+        Some(parent) => out.put_u32(parent),
+    }
+}
+
+/// Pairs one after the other.
+fn put_pairs(pairs: &PairBuf, out: &mut OutBuf)
+    requires room { length out.old + 328448 ≤ REPLY_MAX }
+    ensures ok { out.new ≡ out.old ++ pair_bytes pairs.now }
+    ensures len { length out.new ≤ length out.old + 328448 }
+{
+    for i in 0..pairs.len() {
+        out.put_counted(pairs.key(i));
+        out.put_counted(pairs.value(i));
+    }
+}
+
+/// The fields of a reply.
+fn put_fields(reply: Reply, pairs: &PairBuf, out: &mut OutBuf)
+    requires found { reply ≡ Reply.Found → length pairs.now ≡ 1 }
+    requires room { length out.old + 328451 ≤ REPLY_MAX }
+    ensures ok { out.new ≡ out.old ++ reply_fields reply pairs.now }
+    ensures len { length out.new ≤ length out.old + 328451 }
+{
+    match reply {
+        Reply::Found => out.put_counted(pairs.value(0)),
+        Reply::Pairs { more } => {
+            put_flag(more, out);
+            out.put_u16(pairs.len() as u16);
+            put_pairs(pairs, out);
+        }
+        Reply::Made { version } => out.put_u32(version),
+        Reply::Info {
+            parent,
+            depth,
+            frozen,
+        } => {
+            put_parent(parent, out);
+            out.put_u32(depth);
+            put_flag(frozen, out);
+        }
+        Reply::Opened { cursor } => out.put_u64(cursor),
+        Reply::Stat {
+            versions,
+            updates,
+            changes,
+            cursors,
+        } => {
+            out.put_u32(versions);
+            out.put_u32(updates);
+            out.put_u32(changes);
+            out.put_u32(cursors);
+        }
+        Reply::Refused(Refusal::Damaged { block }) => out.put_u32(block),
+        _ => {}
+    }
+}
+
+/// Writes a reply's frame: the spelling of these and no others. Takes no memory, and copies each pair once.
+pub fn write_reply(tag: u32, reply: &Reply, pairs: &PairBuf, out: &mut OutBuf)
+    requires empty { out.old ≡ [] }
+    requires found { reply.now ≡ Reply.Found → length pairs.now ≡ 1 }
+    ensures ok { out.new ≡ frame (reply_body tag (as_told reply.now pairs.now)) }
+{
+    out.begin(tag);
+    out.put_u8(reply_status(*reply));
+    put_fields(*reply, pairs, out);
+    out.end();
+}
+
+/// A reply without fields, by its status byte.
+#[tactic(auto, unfolding(crate::specs::Fields::simple_reply))]
+fn simple_of(status: u8) -> Option<Reply>
+    ensures { result ≡ simple_reply status }
+{
+    match status {
+        0 => Some(Reply::Done),
+        2 => Some(Reply::Absent),
+        16 => Some(Reply::Refused(Refusal::UnknownVersion)),
+        20 => Some(Reply::Refused(Refusal::ChangeLimit)),
+        22 => Some(Reply::Refused(Refusal::Malformed)),
+        26 => Some(Reply::Refused(Refusal::FrameTooLong)),
+        32 => Some(Reply::Refused(Refusal::NoMemory)),
+        _ => None,
+    }
+}
+
+/// The value of a reply to a look-up, all of the fields.
+#[tactic(auto, unfolding(crate::specs::Fields::value_in))]
+fn value_of(fields: &[u8]) -> Option<&[u8]>
+    ensures ok { Finds (λ x. x.now) result (value_in fields.now) }
+    ensures fits { IfSome result (λ x. length x.now ≤ VALUE_MAX) }
+{
+    let (value, rest) = counted_bytes_then(fields)?;
+    if !rest.is_empty() || !value_ok(value) {
+        return None;
+    }
+    Some(value)
+}
+
+/// A status byte and its fields, all of the bytes.
+#[tactic(auto, unfolding(crate::specs::Fields::answer_in))]
+fn answer_of(status: u8, fields: &[u8], pairs: &mut PairBuf) -> Option<Reply>
+    requires empty { pairs.old ≡ [] }
+    ensures ok { Finds (λ r. as_told r pairs.new) result (answer_in status fields.now) }
+{
+    if status == 1 {
+        let value = value_of(fields)?;
+        pairs.push(b"?", value);
+        return Some(Reply::Found);
+    }
+    if !fields.is_empty() {
+        return None;
+    }
+    simple_of(status)
+}
+
+/// A tag and a reply, all of the bytes.
+#[tactic(auto, unfolding(crate::specs::Fields::reply_in))]
+fn reply_of(body: &[u8], pairs: &mut PairBuf) -> Option<(u32, Reply)>
+    requires empty { pairs.old ≡ [] }
+    ensures ok { Finds (λ r. (r.0, as_told r.1 pairs.new)) result (reply_in body.now) }
+{
+    let (tag, rest) = u32_then(body)?;
+    let (status, fields) = u8_then(rest)?;
+    let reply = answer_of(status, fields, pairs)?;
+    Some((tag, reply))
+}
+
+/// The tag and the reply of a body, of those that are given so far; the value of `Found` stands in `pairs`
+/// under the key `?`. Nothing is said of the pairs where no reply has this body. Takes no memory.
+pub fn parse_reply(body: &[u8], pairs: &mut PairBuf) -> Option<(u32, Reply)>
+    ensures found { IfSome result (λ r. SpellsReply body.now r.0 (as_told r.1 pairs.new)) }
+    ensures none { IfNone result ((tag : ℕ) (a : Answer) → SpellsReply body.now tag a → ⊥) }
+{
+    pairs.clear();
+    reply_of(body, pairs)
+}

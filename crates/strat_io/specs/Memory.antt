@@ -1,0 +1,22 @@
+-- Sources and sinks in memory, which fail at the calls that they are told to fail at.
+use Rattle.std.specs.Prelude.{ℕ, ◌+◌, ◌-◌, ◌^◌, min, List}
+
+-- a source: its bytes still to give, the most a call gives, the calls that fail, and counts of calls and faults
+pub record Playback : Type 0 where
+  pub left : List ℕ
+  pub piece : ℕ
+  pub failing : List ℕ
+  pub calls : ℕ
+  pub faults : ℕ
+
+-- a sink: the bytes it took, the most a call takes, the calls that fail, and counts of calls and faults
+pub record Recording : Type 0 where
+  pub held : List ℕ
+  pub most : ℕ
+  pub failing : List ℕ
+  pub calls : ℕ
+  pub faults : ℕ
+
+-- a count after one more; at the last number of 64 bits it stands still
+abbrev pub one_more : ℕ → ℕ
+one_more n = min (n + 1) (2 ^ 64 - 1)

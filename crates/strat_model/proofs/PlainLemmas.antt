@@ -1,0 +1,61 @@
+-- One step of a pass over a plain table's pairs, cursors or versions.
+use Rattle.std.proofs.Common.{◌≡◌, ℕ, zero, suc, ◌+◌, ◌-◌, Some, None, refl, ◌<◌, ◌≤◌, List, [], ◌∷◌, ◌++◌, length, get_or, take, drop, map, sym, ap, ◌∙◌, add-one, arith}
+use Rattle.std.proofs.Math.ListN.{set as list_set}
+use Rattle.std.proofs.lemmas.List.{at_drop_more, set_split, get_or_read, get_or_at, set_at, drop_more, map_more, length-map, length-take-le, append_assoc}
+use Rattle.std.specs.Ordering.{match_ordering}
+use Rattle.std.specs.Option.{option_map_or}
+use Rattle.std.specs.declared.cmp.Ordering.{Ordering}
+use Rattle.std.specs.declared.cmp.Ordering.TheVariants as ordering
+use Rattle.strat_base.specs.Order.{key_cmp}
+use Rattle.strat_base.specs.Tree.{Parents, climb, parent_of}
+use Rattle.strat_model.specs.Pairs.{Pair, Pairs, set}
+
+-- a key's pair keeps its place when it gets another value
+pub set_here : (key value : List ℕ) (pairs : Pairs) (i : ℕ) (pair : Pair) → i < length pairs → pair ≡ get_or pairs i pair
+    → ordering.Equal ≡ key_cmp key pair.0
+    → set key value pairs ≡ take i pairs ++ set key value (drop i pairs)
+    → set key value pairs ≡ list_set pairs i ((get_or pairs i ([], [])).0, value)
+set_here key value pairs i pair lt is same so_far =
+    let read : pair ≡ get_or pairs i ([], []) = get_or_read pairs i pair lt is ([], []) in
+    let here : Ordering → Pairs =
+    λ o. match_ordering o ((key, value) ∷ pair ∷ drop (i + 1) pairs) ((pair.0, value) ∷ drop (i + 1) pairs) (pair ∷ set key value (drop (i + 1) pairs)) in
+    let step : set key value (drop i pairs) ≡ (pair.0, value) ∷ drop (i + 1) pairs =
+    at_drop_more (λ rest. set key value rest) pairs i pair lt
+    ∙ ap (λ (p : Pair). set key value (p ∷ drop (i + 1) pairs)) (sym is) ∙ ap here (sym same) in
+    so_far ∙ ap (λ rest. take i pairs ++ rest) step ∙ sym (rw (add-one i) (set_split pairs i (pair.0, value) lt))
+    ∙ ap (λ (p : Pair). list_set pairs i (p.0, value)) read
+
+-- a list of which the first items were changed, after one more was
+pub map_step : {A : Type 0} (f : A → A) (old new : List A) (i : ℕ) (d : A) → i < length old → new ≡ map f (take i old) ++ drop i old
+    → list_set new i (f (get_or new i d)) ≡ map f (take (i + 1) old) ++ drop (i + 1) old
+map_step {A} f old new i d lt so_far =
+    let front : List A = map f (take i old) in
+    let y : A = get_or old i d in
+    let rest : List A = drop (i + 1) old in
+    let within : i ≤ length old = omega arith in
+    let places : length front ≡ i = length-map (take i old) f ∙ length-take-le i old within in
+    let whole : new ≡ front ++ y ∷ rest = so_far ∙ ap (λ (l : List A). front ++ l) (drop_more old i d lt) in
+    let same : get_or new i d ≡ y = ap (λ (l : List A). get_or l i d) whole ∙ get_or_at front y rest d i places in
+    ap (λ (z : A). list_set new i (f z)) same ∙ ap (λ (l : List A). list_set l i (f y)) whole ∙ set_at front y rest (f y) i places
+    ∙ sym (append_assoc front (f y ∷ []) rest) ∙ ap (λ (l : List A). l ++ rest) (sym (map_more f old i d lt))
+
+-- the way up from a version is one longer than that from its parent
+pub climb_parent : (v step : ℕ) (parents : Parents) (at p : ℕ) → step < v → parent_of parents at ≡ Some p
+    → length (climb (v - step) parents at) ≡ length (climb (v - (step + 1)) parents p) + 1
+unfolding climb
+climb_parent v step parents at p lt is =
+    let n : ℕ = v - (step + 1) in
+    let more : v - step ≡ suc n = omega arith in
+    ap (λ m. length (climb m parents at)) more ∙ ap (λ o. suc (length (option_map_or (λ q. climb n parents q) o []))) is
+    ∙ sym (add-one (length (climb n parents p)))
+
+-- the way up from a root is the root alone
+pub climb_root : (n : ℕ) (parents : Parents) (v : ℕ) → parent_of parents v ≡ None → length (climb n parents v) ≡ 1
+unfolding climb
+climb_root zero parents v is = refl
+climb_root (suc n) parents v is = ap (λ o. suc (length (option_map_or (λ q. climb n parents q) o []))) is
+
+-- no step up leads to the version alone
+pub climb_nowhere : (n : ℕ) (parents : Parents) (v : ℕ) → n ≡ 0 → length (climb n parents v) ≡ 1
+unfolding climb
+climb_nowhere n parents v none = ap (λ m. length (climb m parents v)) none

@@ -1,0 +1,80 @@
+-- What a table that finds memory for each change as it comes says of a command.
+use Rattle.std.specs.Prelude.{◌≡◌, ◌≤◌, ℕ, ◌==◌, Bool, true, false, not, if◌then◌else◌, List, length, Option, Some, None, ◌⊎◌}
+use Rattle.strat_base.specs.declared.limits.TheConstants.{KEY_MAX, PAIRS_MAX, CURSORS_MAX}
+use Rattle.strat_base.specs.PairBuf.{IsPair}
+use Rattle.strat_model.specs.declared.replies.Reply.{Reply}
+use Rattle.strat_model.specs.declared.replies.Refusal.{Refusal}
+use Rattle.strat_model.specs.declared.replies.Refusal.TheVariants as why
+use Rattle.strat_model.specs.Pairs.{Pairs}
+use Rattle.strat_model.specs.Request.{Request, Put, Delete, Get, Clone, Scan, Info, OpenCursor, NextPairs, CloseCursor, Stat}
+use Rattle.strat_model.specs.Table.{Table}
+use Rattle.strat_model.specs.Answer.{refusal, accepts}
+use Rattle.strat_model.specs.Step.{step, is_known, is_frozen}
+use Rattle.strat_model.specs.Run.{takes_memory}
+
+-- a key has a size as it may be
+pub record IsKey (key : List ℕ) : Type 0 where
+  pub some : 1 ≤ length key
+  pub fits : length key ≤ KEY_MAX
+
+-- a scan asks for as many pairs as it may
+pub record IsLimit (limit : ℕ) : Type 0 where
+  pub some : 1 ≤ limit
+  pub fits : limit ≤ PAIRS_MAX
+
+-- the sizes in a command are as they may be
+abbrev pub IsLawful : Request → Type 0
+IsLawful (Put version key value) = IsPair (key, value)
+IsLawful (Delete version key) = IsKey key
+IsLawful (Get version key) = IsKey key
+IsLawful (Clone version) = Unit {0}
+IsLawful (Scan version lo hi limit) = (length lo ≤ KEY_MAX) × (length hi ≤ KEY_MAX) × IsLimit limit
+IsLawful (Info version) = Unit {0}
+IsLawful (OpenCursor version lo hi) = (length lo ≤ KEY_MAX) × (length hi ≤ KEY_MAX)
+IsLawful (NextPairs cursor limit) = IsLimit limit
+IsLawful (CloseCursor cursor) = Unit {0}
+IsLawful Stat = Unit {0}
+
+-- a command makes a table larger
+abbrev pub grows : Request → Bool
+grows (Put version key value) = true
+grows (Clone version) = true
+grows (OpenCursor version lo hi) = true
+grows _ = false
+
+-- a command was answered, and the table changed, as its step says
+pub record IsStep (before : Table) (request : Request) (reply : Reply) (pairs : Pairs) (after : Table) : Type 0 where
+  pub answer : record { reply = reply; pairs = pairs } ≡ (step before request).answer
+  pub table : after ≡ (step before request).table
+
+-- a command that the step accepts found no memory, and changed nothing
+pub record IsShort (before : Table) (request : Request) (reply : Reply) (pairs : Pairs) (after : Table) : Type 0 where
+  pub takes : takes_memory request ≡ true
+  pub accepted : accepts (step before request).answer.reply ≡ true
+  pub answer : record { reply = reply; pairs = pairs } ≡ refusal why.NoMemory
+  pub same : after ≡ before
+
+-- a command went as its step says, or found no memory
+abbrev pub IsStepOrShort : Table → Request → Reply → Pairs → Table → Type 0
+IsStepOrShort before request reply pairs after =
+    IsStep before request reply pairs after ⊎ IsShort before request reply pairs after
+
+-- why an update of a version is refused, if it is
+abbrev pub update_refusal : Table → ℕ → Option Refusal
+update_refusal t v =
+    if not (is_known t v) then Some why.UnknownVersion else
+    if is_frozen t v then Some why.Frozen else
+    if t.changes == t.changes_max then Some why.ChangeLimit else None
+
+-- why a clone of a version is refused, if it is
+abbrev pub clone_refusal : Table → ℕ → Option Refusal
+clone_refusal t v =
+    if not (is_known t v) then Some why.UnknownVersion else
+    if length t.rows == t.versions_max then Some why.VersionLimit else
+    if t.changes == t.changes_max then Some why.ChangeLimit else None
+
+-- why a cursor over a version is refused, if it is
+abbrev pub cursor_refusal : Table → ℕ → Option Refusal
+cursor_refusal t v =
+    if not (is_known t v) then Some why.UnknownVersion else
+    if length t.cursors == CURSORS_MAX then Some why.CursorLimit else None
