@@ -8,6 +8,7 @@ pub mod TreeLemmas
 pub mod EntryLemmas
 pub mod FieldLemmas
 pub mod ChangeLemmas
+pub mod BlockLemmas
 pub mod ReadingLemmas
 pub mod LevelLemmas
 pub mod SoundLemmas

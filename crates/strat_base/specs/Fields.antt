@@ -1,5 +1,5 @@
 -- Keys and values as fields: a length, and so many bytes.
-use Rattle.std.specs.Prelude.{ℕ, ◌+◌, nat_le, ◌&&◌, Bool, if◌then◌else◌, List, [], ◌∷◌, ◌++◌, length, take, drop, Option, Some, None}
+use Rattle.std.specs.Prelude.{ℕ, ◌+◌, nat_le, ◌&&◌, if◌then◌else◌, List, [], ◌∷◌, ◌++◌, length, take, drop, Option, Some, None}
 use Rattle.strat_base.specs.Numbers.{be, number}
 pub use Rattle.strat_base.specs.Sizes.{is_key, is_value}
 

@@ -18,3 +18,4 @@ pub mod Reading
 pub mod Sound
 pub mod State
 pub mod Worked
+pub mod Block
