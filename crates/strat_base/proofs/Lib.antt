@@ -9,6 +9,7 @@ pub mod EntryLemmas
 pub mod FieldLemmas
 pub mod ChangeLemmas
 pub mod BlockLemmas
+pub mod ManifestLemmas
 pub mod ReadingLemmas
 pub mod LevelLemmas
 pub mod SoundLemmas

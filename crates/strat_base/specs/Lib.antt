@@ -19,3 +19,4 @@ pub mod Sound
 pub mod State
 pub mod Worked
 pub mod Block
+pub mod Manifest
