@@ -1,14 +1,14 @@
 -- Manifests are read as they were written, and what is read was written so.
-use Rattle.std.proofs.Common.{◌≡◌, ◌<◌, ◌≤◌, ◌+◌, ◌-◌, ◌*◌, ◌^◌, inl, inr, ℕ, zero, suc, Bool, true, false, eqb, ltb, leb, get_or, ◌&&◌, not, map, List, [], ◌∷◌, ◌++◌, length, take, drop, Option, Some, None, cond, refl, sym, ap, ◌∙◌, subst, arith, true≢false, length-append, append_assoc, append-nil}
-use Rattle.std.specs.List.{list_all, flat_map}
-use Rattle.std.specs.Option.{option_map, option_and_then}
+use Rattle.std.proofs.Common.{◌≡◌, ◌<◌, ◌≤◌, ◌+◌, ◌-◌, ◌^◌, inl, inr, ℕ, zero, suc, Bool, true, ltb, leb, get_or, ◌&&◌, List, [], ◌∷◌, ◌++◌, length, drop, Some, None, cond, refl, sym, ap, ◌∙◌, subst, arith, length-append, append_assoc, append-nil}
+use Rattle.std.specs.List.{flat_map}
+use Rattle.std.specs.Option.{option_and_then}
 use Rattle.std.specs.Str.{bytes_eq}
-use Rattle.std.proofs.lemmas.Bool.{eqb-true, ltb-true, lt-ltb, leb-true, le-leb, and_parts, and_from, cond-true}
+use Rattle.std.proofs.lemmas.Bool.{ltb-true, leb-true, le-leb, and_parts, and_from, cond-true}
 use Rattle.std.proofs.lemmas.Bool.Decides.{nat_tests}
 use Rattle.std.proofs.lemmas.Option.{cond_some}
 use Rattle.std.proofs.lemmas.List.{drop_at}
 use Rattle.strat_base.specs.Numbers.{be, number}
-use Rattle.strat_base.specs.Manifest.{Extent, ArrayDesc, LevelDesc, Manifest, versions_in, is_rising, is_lawful_extent, are_apart, is_counted, is_lawful_array, first_version, is_lawful_level, are_older, is_lawful_manifest, list_bytes, extent_bytes, array_bytes, level_bytes, manifest_bytes, Spells, Read, next, all_pass, read_number, read_items, read_list, read_extent, read_array, read_level, read_manifest, manifest_in}
+use Rattle.strat_base.specs.Manifest.{Extent, ArrayDesc, LevelDesc, Manifest, versions_in, is_lawful_extent, is_counted, is_lawful_array, is_lawful_level, are_older, is_lawful_manifest, list_bytes, extent_bytes, array_bytes, level_bytes, manifest_bytes, Spells, Read, next, all_pass, read_number, read_items, read_list, read_extent, read_array, read_level, read_manifest, manifest_in}
 use Rattle.strat_base.proofs.ListFacts.{Among, all_at}
 use Rattle.strat_base.proofs.EntryLemmas.{bytes_same, same_bytes}
 use Rattle.strat_base.proofs.NumberLemmas.{length-be, number-be}
@@ -22,7 +22,7 @@ pub read_number-be : (k x : ℕ) (rest : List ℕ) → x < 256 ^ k → read_numb
 unfolding read_number
 read_number-be k x rest fits =
     cond-true (leb k (length (be k x ++ rest))) (got (number k (be k x ++ rest)) (drop k (be k x ++ rest))) None
-      (le-leb k (length (be k x ++ rest)) (omega (arith, length-append (be k x) rest, length-be k x)))
+    (le-leb k (length (be k x ++ rest)) (omega (arith, length-append (be k x) rest, length-be k x)))
     ∙ (λ i. got (number-be k x rest fits i) (drop_at (be k x) rest k (length-be k x) i))
 
 module _ {B : Type 0} where
@@ -83,22 +83,22 @@ module _ (a : ArrayDesc) (rest : List ℕ) where
       let versions = pass_at _ 10 lawful in
       ap read_array array_split
       ∙ next_number 8 a.id (be 4 a.entries ++ (be 4 a.leads ++ (be 4 a.least ++ behind_numbers))) (λ id b. next (read_number 4 b) (λ entries c. next (read_number 4 c) (λ leads d.
-          next (read_number 4 d) (λ least e. next (read_list read_extent e) (λ extents f. next (read_list (read_number 4) f) (λ versions g.
-          got (record { id = id; entries = entries; leads = leads; least = least; extents = extents; versions = versions }) g)))))) (omega arith)
+      next (read_number 4 d) (λ least e. next (read_list read_extent e) (λ extents f. next (read_list (read_number 4) f) (λ versions g.
+      got (record { id = id; entries = entries; leads = leads; least = least; extents = extents; versions = versions }) g)))))) (omega arith)
       ∙ next_number 4 a.entries (be 4 a.leads ++ (be 4 a.least ++ behind_numbers)) (λ entries c. next (read_number 4 c) (λ leads d.
-          next (read_number 4 d) (λ least e. next (read_list read_extent e) (λ extents f. next (read_list (read_number 4) f) (λ versions g.
-          got (record { id = a.id; entries = entries; leads = leads; least = least; extents = extents; versions = versions }) g))))) (omega arith)
+      next (read_number 4 d) (λ least e. next (read_list read_extent e) (λ extents f. next (read_list (read_number 4) f) (λ versions g.
+      got (record { id = a.id; entries = entries; leads = leads; least = least; extents = extents; versions = versions }) g))))) (omega arith)
       ∙ next_number 4 a.leads (be 4 a.least ++ behind_numbers) (λ leads d.
-          next (read_number 4 d) (λ least e. next (read_list read_extent e) (λ extents f. next (read_list (read_number 4) f) (λ versions g.
-          got (record { id = a.id; entries = a.entries; leads = leads; least = least; extents = extents; versions = versions }) g)))) (omega arith)
+      next (read_number 4 d) (λ least e. next (read_list read_extent e) (λ extents f. next (read_list (read_number 4) f) (λ versions g.
+      got (record { id = a.id; entries = a.entries; leads = leads; least = least; extents = extents; versions = versions }) g)))) (omega arith)
       ∙ next_number 4 a.least behind_numbers (λ least e. next (read_list read_extent e) (λ extents f. next (read_list (read_number 4) f) (λ versions g.
-          got (record { id = a.id; entries = a.entries; leads = a.leads; least = least; extents = extents; versions = versions }) g))) (omega arith)
+      got (record { id = a.id; entries = a.entries; leads = a.leads; least = least; extents = extents; versions = versions }) g))) (omega arith)
       ∙ ap (λ (r : Read (List Extent)). next r (λ extents f. next (read_list (read_number 4) f) (λ versions g.
-          got (record { id = a.id; entries = a.entries; leads = a.leads; least = a.least; extents = extents; versions = versions }) g)))
-          (read_list-bytes read_extent extent_bytes a.extents behind_extents (counted_below a.extents (pass_at _ 6 lawful)) (λ x end among. read_extent-bytes x end (all_at is_lawful_extent x a.extents extents among)))
+      got (record { id = a.id; entries = a.entries; leads = a.leads; least = a.least; extents = extents; versions = versions }) g)))
+      (read_list-bytes read_extent extent_bytes a.extents behind_extents (counted_below a.extents (pass_at _ 6 lawful)) (λ x end among. read_extent-bytes x end (all_at is_lawful_extent x a.extents extents among)))
       ∙ ap (λ (r : Read (List ℕ)). next r (λ versions g.
-          got (record { id = a.id; entries = a.entries; leads = a.leads; least = a.least; extents = a.extents; versions = versions }) g))
-          (read_list-bytes (read_number 4) (be 4) a.versions rest (counted_below a.versions (pass_at _ 9 lawful)) (λ v end among. read_number-be 4 v end (ltb-true v (2 ^ 32) (all_at (λ w. ltb w (2 ^ 32)) v a.versions versions among))))
+      got (record { id = a.id; entries = a.entries; leads = a.leads; least = a.least; extents = a.extents; versions = versions }) g))
+      (read_list-bytes (read_number 4) (be 4) a.versions rest (counted_below a.versions (pass_at _ 9 lawful)) (λ v end among. read_number-be 4 v end (ltb-true v (2 ^ 32) (all_at (λ w. ltb w (2 ^ 32)) v a.versions versions among))))
 
 module _ (level : LevelDesc) (rest : List ℕ) where
   behind_horizon : List ℕ
@@ -109,7 +109,7 @@ module _ (level : LevelDesc) (rest : List ℕ) where
   level_split =
       append_assoc (be 1 level.number) (be 4 level.horizon ++ list_bytes array_bytes level.arrays) rest
       ∙ ap (λ (x : List ℕ). be 1 level.number ++ x) (append_assoc (be 4 level.horizon) (list_bytes array_bytes level.arrays) rest
-        ∙ ap (λ (x : List ℕ). be 4 level.horizon ++ x) (append_assoc (be 4 (length level.arrays)) (flat_map array_bytes level.arrays) rest))
+      ∙ ap (λ (x : List ℕ). be 4 level.horizon ++ x) (append_assoc (be 4 (length level.arrays)) (flat_map array_bytes level.arrays) rest))
 
   read_level-bytes : (versions next_array : ℕ) → versions ≤ 16384 → next_array < 2 ^ 64 → is_lawful_level versions next_array level ≡ true → read_level (level_bytes level ++ rest) ≡ got level rest
   unfolding read_level behind_horizon
@@ -119,11 +119,11 @@ module _ (level : LevelDesc) (rest : List ℕ) where
       let arrays = pass_at _ 5 lawful in
       ap read_level level_split
       ∙ next_number 1 level.number (be 4 level.horizon ++ behind_horizon) (λ number b. next (read_number 4 b) (λ horizon c. next (read_list read_array c) (λ arrays d.
-          got (record { number = number; horizon = horizon; arrays = arrays }) d))) (omega arith)
+      got (record { number = number; horizon = horizon; arrays = arrays }) d))) (omega arith)
       ∙ next_number 4 level.horizon behind_horizon (λ horizon c. next (read_list read_array c) (λ arrays d.
-          got (record { number = level.number; horizon = horizon; arrays = arrays }) d)) (omega arith)
+      got (record { number = level.number; horizon = horizon; arrays = arrays }) d)) (omega arith)
       ∙ ap (λ (r : Read (List ArrayDesc)). next r (λ arrays d. got (record { number = level.number; horizon = level.horizon; arrays = arrays }) d))
-          (read_list-bytes read_array array_bytes level.arrays rest (counted_below level.arrays (pass_at _ 4 lawful)) (λ a end among. read_array-bytes a end next_array small (all_at (is_lawful_array next_array) a level.arrays arrays among)))
+      (read_list-bytes read_array array_bytes level.arrays rest (counted_below level.arrays (pass_at _ 4 lawful)) (λ a end among. read_array-bytes a end next_array small (all_at (is_lawful_array next_array) a level.arrays arrays among)))
 
 older_below : (v : ℕ) (parents : List ℕ) (p : ℕ) → are_older v parents ≡ true → Among p parents → p < v + length parents
 older_below v [] p h among = absurd among
@@ -151,37 +151,37 @@ module _ (m : Manifest) where
       let count = leb-true (length m.levels) 22 (pass_at _ 7 lawful) in
       let levels = pass_at _ 8 lawful in
       next_number 4 m.changes (be 4 m.updates ++ (be 8 m.written ++ (be 8 m.next_array ++ (be 4 (versions_in m) ++ behind_versions)))) (λ changes b. next (read_number 4 b) (λ updates c. next (read_number 8 c) (λ written d.
-          next (read_number 8 d) (λ next_array e. next (read_number 4 e) (λ versions f. next (read_items (read_number 4) (versions - 1) f) (λ parents g.
-          next (read_number 1 g) (λ count h. next (read_items read_level count h) (λ levels i.
-          got (record { changes = changes; updates = updates; written = written; next_array = next_array; parents = parents; levels = levels }) i)))))))) changes
+      next (read_number 8 d) (λ next_array e. next (read_number 4 e) (λ versions f. next (read_items (read_number 4) (versions - 1) f) (λ parents g.
+      next (read_number 1 g) (λ count h. next (read_items read_level count h) (λ levels i.
+      got (record { changes = changes; updates = updates; written = written; next_array = next_array; parents = parents; levels = levels }) i)))))))) changes
       ∙ next_number 4 m.updates (be 8 m.written ++ (be 8 m.next_array ++ (be 4 (versions_in m) ++ behind_versions))) (λ updates c. next (read_number 8 c) (λ written d.
-          next (read_number 8 d) (λ next_array e. next (read_number 4 e) (λ versions f. next (read_items (read_number 4) (versions - 1) f) (λ parents g.
-          next (read_number 1 g) (λ count h. next (read_items read_level count h) (λ levels i.
-          got (record { changes = m.changes; updates = updates; written = written; next_array = next_array; parents = parents; levels = levels }) i))))))) (omega arith)
+      next (read_number 8 d) (λ next_array e. next (read_number 4 e) (λ versions f. next (read_items (read_number 4) (versions - 1) f) (λ parents g.
+      next (read_number 1 g) (λ count h. next (read_items read_level count h) (λ levels i.
+      got (record { changes = m.changes; updates = updates; written = written; next_array = next_array; parents = parents; levels = levels }) i))))))) (omega arith)
       ∙ next_number 8 m.written (be 8 m.next_array ++ (be 4 (versions_in m) ++ behind_versions)) (λ written d.
-          next (read_number 8 d) (λ next_array e. next (read_number 4 e) (λ versions f. next (read_items (read_number 4) (versions - 1) f) (λ parents g.
-          next (read_number 1 g) (λ count h. next (read_items read_level count h) (λ levels i.
-          got (record { changes = m.changes; updates = m.updates; written = written; next_array = next_array; parents = parents; levels = levels }) i)))))) (omega arith)
+      next (read_number 8 d) (λ next_array e. next (read_number 4 e) (λ versions f. next (read_items (read_number 4) (versions - 1) f) (λ parents g.
+      next (read_number 1 g) (λ count h. next (read_items read_level count h) (λ levels i.
+      got (record { changes = m.changes; updates = m.updates; written = written; next_array = next_array; parents = parents; levels = levels }) i)))))) (omega arith)
       ∙ next_number 8 m.next_array (be 4 (versions_in m) ++ behind_versions) (λ next_array e. next (read_number 4 e) (λ versions f. next (read_items (read_number 4) (versions - 1) f) (λ parents g.
-          next (read_number 1 g) (λ count h. next (read_items read_level count h) (λ levels i.
-          got (record { changes = m.changes; updates = m.updates; written = m.written; next_array = next_array; parents = parents; levels = levels }) i))))) (omega arith)
+      next (read_number 1 g) (λ count h. next (read_items read_level count h) (λ levels i.
+      got (record { changes = m.changes; updates = m.updates; written = m.written; next_array = next_array; parents = parents; levels = levels }) i))))) (omega arith)
       ∙ next_number 4 (versions_in m) behind_versions (λ versions f. next (read_items (read_number 4) (versions - 1) f) (λ parents g.
-          next (read_number 1 g) (λ count h. next (read_items read_level count h) (λ levels i.
-          got (record { changes = m.changes; updates = m.updates; written = m.written; next_array = m.next_array; parents = parents; levels = levels }) i)))) (omega arith)
+      next (read_number 1 g) (λ count h. next (read_items read_level count h) (λ levels i.
+      got (record { changes = m.changes; updates = m.updates; written = m.written; next_array = m.next_array; parents = parents; levels = levels }) i)))) (omega arith)
       ∙ ap (λ (n : ℕ). next (read_items (read_number 4) n behind_versions) (λ parents g.
-          next (read_number 1 g) (λ count h. next (read_items read_level count h) (λ levels i.
-          got (record { changes = m.changes; updates = m.updates; written = m.written; next_array = m.next_array; parents = parents; levels = levels }) i)))) one_less
+      next (read_number 1 g) (λ count h. next (read_items read_level count h) (λ levels i.
+      got (record { changes = m.changes; updates = m.updates; written = m.written; next_array = m.next_array; parents = parents; levels = levels }) i)))) one_less
       ∙ ap (λ (r : Read (List ℕ)). next r (λ parents g.
-          next (read_number 1 g) (λ count h. next (read_items read_level count h) (λ levels i.
-          got (record { changes = m.changes; updates = m.updates; written = m.written; next_array = m.next_array; parents = parents; levels = levels }) i))))
-          (read_items-bytes (read_number 4) (be 4) m.parents behind_parents (λ p end among. read_number-be 4 p end (let lt = older_below 1 m.parents p older among in omega (arith, lt, versions))))
+      next (read_number 1 g) (λ count h. next (read_items read_level count h) (λ levels i.
+      got (record { changes = m.changes; updates = m.updates; written = m.written; next_array = m.next_array; parents = parents; levels = levels }) i))))
+      (read_items-bytes (read_number 4) (be 4) m.parents behind_parents (λ p end among. read_number-be 4 p end (let lt = older_below 1 m.parents p older among in omega (arith, lt, versions))))
       ∙ next_number 1 (length m.levels) (flat_map level_bytes m.levels) (λ count h. next (read_items read_level count h) (λ levels i.
-          got (record { changes = m.changes; updates = m.updates; written = m.written; next_array = m.next_array; parents = m.parents; levels = levels }) i)) (omega arith)
+      got (record { changes = m.changes; updates = m.updates; written = m.written; next_array = m.next_array; parents = m.parents; levels = levels }) i)) (omega arith)
       ∙ ap (λ (x : List ℕ). next (read_items read_level (length m.levels) x) (λ levels i.
-          got (record { changes = m.changes; updates = m.updates; written = m.written; next_array = m.next_array; parents = m.parents; levels = levels }) i)) (sym (append-nil (flat_map level_bytes m.levels)))
+      got (record { changes = m.changes; updates = m.updates; written = m.written; next_array = m.next_array; parents = m.parents; levels = levels }) i)) (sym (append-nil (flat_map level_bytes m.levels)))
       ∙ ap (λ (r : Read (List LevelDesc)). next r (λ levels i.
-          got (record { changes = m.changes; updates = m.updates; written = m.written; next_array = m.next_array; parents = m.parents; levels = levels }) i))
-          (read_items-bytes read_level level_bytes m.levels [] (λ level end among. read_level-bytes level end (versions_in m) m.next_array versions small (all_at (is_lawful_level (versions_in m) m.next_array) level m.levels levels among)))
+      got (record { changes = m.changes; updates = m.updates; written = m.written; next_array = m.next_array; parents = m.parents; levels = levels }) i))
+      (read_items-bytes read_level level_bytes m.levels [] (λ level end among. read_level-bytes level end (versions_in m) m.next_array versions small (all_at (is_lawful_level (versions_in m) m.next_array) level m.levels levels among)))
     where
       one_less : versions_in m - 1 ≡ length m.parents
       one_less = omega arith
@@ -197,9 +197,10 @@ module _ (m : Manifest) where
   unfolding manifest_in
   manifest_in-some bytes is =
       elim (option_cases (read_manifest bytes)) [
-        inl none ↦ absurd (cc)
-      | inr found ↦
-          let some = ap (λ (r : Read Manifest). option_and_then (λ x. cond (is_lawful_manifest x.0 && bytes_eq bytes (manifest_bytes x.0)) (Some x.0) None) r) (sym found.1) ∙ is in
-          let both = cond_some (is_lawful_manifest found.0.0 && bytes_eq bytes (manifest_bytes found.0.0)) found.0.0 m some in
-          let parts = and_parts (is_lawful_manifest found.0.0) (bytes_eq bytes (manifest_bytes found.0.0)) both.0 in
-          subst (Spells bytes) both.1 (record { lawful = parts.0; text = bytes_same bytes (manifest_bytes found.0.0) parts.1 }) ]
+        | inl none ↦ absurd (cc)
+        | inr found ↦
+            let some = ap (λ (r : Read Manifest). option_and_then (λ x. cond (is_lawful_manifest x.0 && bytes_eq bytes (manifest_bytes x.0)) (Some x.0) None) r) (sym found.1) ∙ is in
+            let both = cond_some (is_lawful_manifest found.0.0 && bytes_eq bytes (manifest_bytes found.0.0)) found.0.0 m some in
+            let parts = and_parts (is_lawful_manifest found.0.0) (bytes_eq bytes (manifest_bytes found.0.0)) both.0 in
+            subst (Spells bytes) both.1 (record { lawful = parts.0; text = bytes_same bytes (manifest_bytes found.0.0) parts.1 })
+      ]

@@ -20,3 +20,5 @@ pub mod State
 pub mod Worked
 pub mod Block
 pub mod Manifest
+pub mod Chain
+pub mod Opened

@@ -4,6 +4,7 @@ ghost use Rattle.std.specs.Prelude.{◌≡◌, ◌↔◌, ℕ, ◌≤◌, List, 
 ghost use Rattle.strat_base.specs.Block.{fits_fields, entry_bytes, entry_in, BeginsWithEntry, fits_block, block_bytes, IsBlock, block_in};
 ghost use Rattle.strat_base.specs.Change.{Change, Put, Clone, is_lawful, change_bytes, change_in, BeginsWith};
 ghost use Rattle.strat_base.specs.Entries.{Entry};
+ghost use Rattle.strat_base.specs.Manifest.{Manifest, manifest_bytes, Spells, manifest_in};
 ghost use Rattle.strat_base.specs.Numbers.{AreBytes};
 ghost use Rattle.strat_base.specs.Worked.{says, gone};
 
@@ -54,4 +55,23 @@ pub fn bytes_of_entries()
 pub fn bytes_of_a_block()
     ensures { block_bytes (says 0x61 0 0x31 ∷ [])
         ≡ (0 ∷ 1 ∷ 0 ∷ 4 ∷ 1 ∷ 0x61 ∷ 0 ∷ 0 ∷ 0 ∷ 0 ∷ 1 ∷ 0 ∷ 1 ∷ 0x31 ∷ []) ++ replicate 4082 0 }
+{}
+
+/// A manifest is read exactly where its spelling is.
+pub fn manifests_are_read_as_written()
+    ensures { (bytes : List ℕ) (m : Manifest) → (manifest_in bytes ≡ Some m) ↔ Spells bytes m }
+{}
+
+/// The manifest of an empty store has 29 bytes.
+#[tactic(auto, unfolding(crate::specs::Numbers::be, crate::specs::Manifest::manifest_bytes))]
+pub fn bytes_of_an_empty_manifest()
+    ensures { manifest_bytes (record {
+      changes = 0;
+      updates = 0;
+      written = 0;
+      next_array = 1;
+      parents = [];
+      levels = [];
+    }) ≡ 0 ∷ 0 ∷ 0 ∷ 0 ∷ 0 ∷ 0 ∷ 0 ∷ 0 ∷ 0 ∷ 0 ∷ 0 ∷ 0 ∷ 0 ∷ 0 ∷ 0 ∷ 0
+        ∷ 0 ∷ 0 ∷ 0 ∷ 0 ∷ 0 ∷ 0 ∷ 0 ∷ 1 ∷ 0 ∷ 0 ∷ 0 ∷ 1 ∷ 0 ∷ [] }
 {}
