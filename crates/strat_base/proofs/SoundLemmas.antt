@@ -110,17 +110,22 @@ tree_from_test parents h =
       older = λ v. older_from 0 parents parts.1 v v (omega arith);
     }
 
-accepted_tree : (s : State) (journal : List Change) (parents : Parents) (changes : ℕ) → IsTree parents → are_accepted s parents changes journal ≡ true → IsTree (fold tree_after parents journal)
-accepted_tree s [] parents changes tree h = tree
-accepted_tree s (Put version key value ∷ journal) parents changes tree h =
-    accepted_tree s journal parents (suc changes) tree (and_parts (is_accepted s parents changes (Put version key value)) (are_accepted s parents (suc changes) journal) h).1
-accepted_tree s (Delete version key ∷ journal) parents changes tree h =
-    accepted_tree s journal parents (suc changes) tree (and_parts (is_accepted s parents changes (Delete version key)) (are_accepted s parents (suc changes) journal) h).1
-accepted_tree s (Clone version ∷ journal) parents changes tree h =
-    let parts = and_parts (is_accepted s parents changes (Clone version)) (are_accepted s (with_child parents version) (suc changes) journal) h in
-    let outer = and_parts (is_known parents version && not (eqb (length parents) s.versions_max)) (not (eqb changes s.changes_max)) parts.0 in
-    let inner = and_parts (is_known parents version) (not (eqb (length parents) s.versions_max)) outer.0 in
-    accepted_tree s journal (with_child parents version) (suc changes) (tree_grown parents tree version (ltb-true version (length parents) inner.0)) parts.1
+module _ (changes_max versions_max : ℕ) where
+  pub clone_known : (parents : Parents) (changes version : ℕ) → is_accepted changes_max versions_max parents changes (Clone version) ≡ true → version < length parents
+  clone_known parents changes version h =
+      let outer = and_parts (is_known parents version && not (eqb (length parents) versions_max)) (not (eqb changes changes_max)) h in
+      let inner = and_parts (is_known parents version) (not (eqb (length parents) versions_max)) outer.0 in
+      ltb-true version (length parents) inner.0
+
+  accepted_tree : (journal : List Change) (parents : Parents) (changes : ℕ) → IsTree parents → are_accepted changes_max versions_max parents changes journal ≡ true → IsTree (fold tree_after parents journal)
+  accepted_tree [] parents changes tree h = tree
+  accepted_tree (Put version key value ∷ journal) parents changes tree h =
+      accepted_tree journal parents (suc changes) tree (and_parts (is_accepted changes_max versions_max parents changes (Put version key value)) (are_accepted changes_max versions_max parents (suc changes) journal) h).1
+  accepted_tree (Delete version key ∷ journal) parents changes tree h =
+      accepted_tree journal parents (suc changes) tree (and_parts (is_accepted changes_max versions_max parents changes (Delete version key)) (are_accepted changes_max versions_max parents (suc changes) journal) h).1
+  accepted_tree (Clone version ∷ journal) parents changes tree h =
+      let parts = and_parts (is_accepted changes_max versions_max parents changes (Clone version)) (are_accepted changes_max versions_max (with_child parents version) (suc changes) journal) h in
+      accepted_tree journal (with_child parents version) (suc changes) (tree_grown parents tree version (clone_known parents changes version parts.0)) parts.1
 
 numbered_parts : (least : ℕ) (first : Level) (levels : List Level) → is_numbered_from least (first ∷ levels) ≡ true → (least ≤ first.number) × (is_numbered_from (suc first.number) levels ≡ true)
 numbered_parts least first levels h =
@@ -131,7 +136,7 @@ numbered_parts least first levels h =
 
 module _ (s : State) (sound : IsSound s) where
   pub sound_tree : IsTree (versions_of s)
-  sound_tree = accepted_tree s s.journal s.parents s.changes (tree_from_test s.parents sound.opens.tree) sound.opens.accepted
+  sound_tree = accepted_tree s.changes_max s.versions_max s.journal s.parents s.changes (tree_from_test s.parents sound.opens.tree) sound.opens.accepted
 
   -- no lead of a level is nearer than an entry of a place above it
   settled_order : (level : Level) → Among level s.levels → (e d : Entry) → Among e (journal_updates s ++ flat_map level_leads (shallower s level)) → Among d (level_leads level)

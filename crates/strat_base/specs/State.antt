@@ -1,5 +1,5 @@
 -- The state of a store, as its disk says it, and what it says of keys at versions.
-use Rattle.std.specs.Prelude.{ℕ, ◌+◌, ◌*◌, ◌-◌, ◌^◌, ◌==◌, nat_le, ◌||◌, Bool, true, List, [], ◌++◌, length, reverse, sum_by, flat_map, filter_map, find, fold, Option, Some, None, unwrap_or, option_and_then, IsTrue}
+use Rattle.std.specs.Prelude.{ℕ, ◌+◌, ◌*◌, ◌-◌, ◌^◌, ◌==◌, nat_le, ◌||◌, Bool, true, List, [], ◌∷◌, ◌++◌, length, reverse, sum_by, flat_map, filter_map, find, fold, Option, Some, None, unwrap_or, option_and_then, IsTrue}
 use Rattle.std.specs.List.{list_all, range_with_len}
 use Rattle.std.specs.BTreeMap.{insert_entry}
 use Rattle.strat_base.specs.Order.{key_cmp}
@@ -73,6 +73,10 @@ updates_of s = s.updates + length (journal_updates s)
 
 abbrev pub changes_of : State → ℕ
 changes_of s = s.changes + length s.journal
+
+-- a state with one more change in its journal
+abbrev pub appended : State → Change → State
+appended s change = record s { journal = s.journal ++ change ∷ [] }
 
 -- how many entries a state stores
 abbrev pub stored : State → ℕ
