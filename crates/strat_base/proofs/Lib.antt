@@ -13,5 +13,6 @@ pub mod ManifestLemmas
 pub mod ReadingLemmas
 pub mod LevelLemmas
 pub mod SoundLemmas
+pub mod AppendedLemmas
 pub mod BreachLemmas
 pub mod LiveLemmas

@@ -1,6 +1,6 @@
 -- Elements of a list, and what tests and searches say of them.
-use Rattle.std.proofs.Common.{◌≡◌, ◌≤◌, ◌<◌, ◌+◌, ℕ, zero, suc, Bool, true, false, cond, ◌⊎◌, inl, inr, List, [], ◌∷◌, ◌++◌, reverse, filter, Some, None, refl, sym, ap, ◌∙◌, subst, true≢false, arith}
-use Rattle.std.specs.List.{list_any, list_all, find, flat_map, range_with_len, AllByRecursion}
+use Rattle.std.proofs.Common.{◌≡◌, ◌≤◌, ◌<◌, ◌+◌, ℕ, zero, suc, map, Bool, true, false, cond, ◌&&◌, ◌||◌, Option, ◌⊎◌, inl, inr, List, [], ◌∷◌, ◌++◌, reverse, filter, Some, None, refl, sym, ap, ◌∙◌, subst, true≢false, arith}
+use Rattle.std.specs.List.{list_any, list_all, find, flat_map, fold, filter_map, cons_option, slice_get, range_with_len, AllByRecursion}
 use Rattle.std.proofs.lemmas.Bool.{or_cases, or_left, or_right, and_parts, and_from, cases_Bool, cases_eq}
 use Rattle.std.proofs.lemmas.List.{reverse-append}
 
@@ -134,3 +134,37 @@ pub empty_each : {X Y : Type 0} (f : X → List Y) (xs : List X) (x : X) → fla
 empty_each f [] x e among = absurd among
 empty_each f (y ∷ ys) x e (inl here) = ap f here ∙ (empty_parts (f y) (flat_map f ys) e).0
 empty_each f (y ∷ ys) x e (inr there) = empty_each f ys x (empty_parts (f y) (flat_map f ys) e).1 there
+
+pub range_among : (a n c : ℕ) → Among c (range_with_len a n) → (a ≤ c) × (c < a + n)
+range_among a zero c among = absurd among
+range_among a (suc n) c (inl here) = (omega arith, omega arith)
+range_among a (suc n) c (inr there) = let found = range_among (a + 1) n c there in (omega (arith, found.0), omega (arith, found.1))
+
+-- tests that agree on a list find the same
+pub any_same : {X : Type 0} (p q : X → Bool) (xs : List X) → ((x : X) → Among x xs → p x ≡ q x) → list_any p xs ≡ list_any q xs
+any_same p q [] each = refl
+any_same p q (x ∷ xs) each = λ i. each x (inl refl) i || any_same p q xs (λ y among. each y (inr among)) i
+
+pub all_same : {X : Type 0} (p q : X → Bool) (xs : List X) → ((x : X) → Among x xs → p x ≡ q x) → list_all p xs ≡ list_all q xs
+all_same p q [] each = refl
+all_same p q (x ∷ xs) each = λ i. each x (inl refl) i && all_same p q xs (λ y among. each y (inr among)) i
+
+pub map_same : {X Y : Type 0} (f g : X → Y) (xs : List X) → ((x : X) → Among x xs → f x ≡ g x) → map f xs ≡ map g xs
+map_same f g [] each = refl
+map_same f g (x ∷ xs) each = λ i. each x (inl refl) i ∷ map_same f g xs (λ y among. each y (inr among)) i
+
+pub get_among : {X : Type 0} (xs : List X) (i : ℕ) (x : X) → slice_get xs i ≡ Some x → Among x xs
+get_among [] i x e = absurd (cc)
+get_among (y ∷ ys) zero x e = inl (cc)
+get_among (y ∷ ys) (suc i) x e = inr (get_among ys i x e)
+
+pub fold-push : {X Y : Type 0} (f : Y → X → Y) (a : Y) (xs : List X) (x : X) → fold f a (xs ++ x ∷ []) ≡ f (fold f a xs) x
+fold-push f a [] x = refl
+fold-push f a (y ∷ ys) x = fold-push f (f a y) ys x
+
+pub filter_map-append : {X Y : Type 0} (f : X → Option Y) (xs ys : List X) → filter_map f (xs ++ ys) ≡ filter_map f xs ++ filter_map f ys
+filter_map-append f [] ys = refl
+filter_map-append {Y = Y} f (x ∷ xs) ys =
+    elim (f x) as (λ o. cons_option o (filter_map f (xs ++ ys)) ≡ cons_option o (filter_map f xs) ++ filter_map f ys) [
+      None ↦ filter_map-append f xs ys
+    | Some y ↦ ap (λ (r : List Y). y ∷ r) (filter_map-append f xs ys) ]
