@@ -14,5 +14,6 @@ pub mod ReadingLemmas
 pub mod LevelLemmas
 pub mod SoundLemmas
 pub mod AppendedLemmas
+pub mod StepLemmas
 pub mod BreachLemmas
 pub mod LiveLemmas

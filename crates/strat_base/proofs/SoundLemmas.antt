@@ -42,7 +42,7 @@ latest_single (d ∷ entries) =
           (latest_single entries)
     ] refl
 
-among_back : {X : Type 0} (xs : List X) (x : X) → Among x (reverse xs) → Among x xs
+pub among_back : {X : Type 0} (xs : List X) (x : X) → Among x (reverse xs) → Among x xs
 among_back [] x among = among
 among_back (y ∷ ys) x among =
     elim (among_split (reverse ys) (y ∷ []) x (subst (Among x) (reverse-append (y ∷ []) ys) among)) [
