@@ -15,5 +15,7 @@ pub mod LevelLemmas
 pub mod SoundLemmas
 pub mod AppendedLemmas
 pub mod StepLemmas
+pub mod MapLemmas
+pub mod StepMaps
 pub mod BreachLemmas
 pub mod LiveLemmas

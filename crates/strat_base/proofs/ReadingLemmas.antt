@@ -59,7 +59,7 @@ module _ (parents : Parents) (tree : IsTree parents) (key : List ℕ) where
       ∙ sym (ap (λ (o : Option Entry). option_or o (deciding parents ys key v)) (deciding_up parents tree xs key v p some)
       ∙ ap (option_or (option_or (find (is_at key v) xs) (deciding parents xs key p))) (deciding_up parents tree ys key v p some))) v ordered
 
-  find_below : (entries : List Entry) (h v : ℕ) → ((e : Entry) → Among e entries → e.version < h) → h ≤ v → find (is_at key v) entries ≡ None
+  pub find_below : (entries : List Entry) (h v : ℕ) → ((e : Entry) → Among e entries → e.version < h) → h ≤ v → find (is_at key v) entries ≡ None
   find_below entries h v low le =
       elim (option_cases (find (is_at key v) entries)) [
         | inl none ↦ none

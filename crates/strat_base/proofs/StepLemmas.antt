@@ -77,10 +77,10 @@ module _ (s : State) (c : Change) where
 -- a change that writes an entry
 module _ (s : State) (sound : IsSound s) (c : Change) (e : Entry) (writes : filter_map entry_of (c ∷ []) ≡ e ∷ []) (stays : tree_after (versions_of s) c ≡ versions_of s)
     (accepted : accepts_change s c ≡ true) (childless : has_child (versions_of s) e.version ≡ false) (room : length s.journal < s.mem) where
-  update_versions : versions_of (appended s c) ≡ versions_of s
+  pub update_versions : versions_of (appended s c) ≡ versions_of s
   update_versions = versions-appended s c ∙ stays
 
-  update_sound : IsSound (appended s c)
+  pub update_sound : IsSound (appended s c)
   update_sound = sound_appended s sound c accepted room
       (λ v lt. ap (λ (p : Parents). path p v) update_versions)
       (λ v lt. ap (λ (p : Parents). parent_of p v) update_versions)
@@ -98,7 +98,7 @@ module _ (s : State) (sound : IsSound s) (c : Change) (e : Entry) (writes : filt
   update_deciding u key = λ i. deciding (update_versions i) (update_sources i) key u
 
   -- the key has what the change wrote at its version, and every other value stays
-  update_value : (u : ℕ) (key : List ℕ) → value_at (appended s c) u key ≡ cond (eqb u e.version && bytes_eq e.key key) e.value (value_at s u key)
+  pub update_value : (u : ℕ) (key : List ℕ) → value_at (appended s c) u key ≡ cond (eqb u e.version && bytes_eq e.key key) e.value (value_at s u key)
   update_value u key =
       let value : Option Entry → Option (List ℕ) = λ o. option_and_then (λ d. d.value) o in
       ap value (update_deciding u key)
