@@ -1,19 +1,18 @@
 -- A sound state with one more accepted change in its journal.
-use Rattle.std.proofs.Common.{◌≡◌, ◌≢◌, ◌<◌, ◌≤◌, ◌+◌, ◌*◌, ℕ, zero, suc, map, Bool, true, false, cond, eqb, ltb, leb, ◌&&◌, ◌||◌, not, ◌⊎◌, inl, inr, List, [], ◌∷◌, ◌++◌, length, filter, Option, Some, None, refl, sym, ap, ◌∙◌, subst, arith, true≢false, length-append}
-use Rattle.std.specs.List.{list_any, list_all, find, flat_map, filter_map, fold, range_with_len, AllByRecursion, slice_get}
-use Rattle.std.specs.Option.{option_or, option_and_then, option_map_or}
-use Rattle.std.proofs.lemmas.Bool.{eqb-true, eq-eqb, ltb-true, lt-ltb, leb-true, le-leb, and_parts, and_from, not-true, not_from_false, false_from_ne_true, cases_Bool}
-use Rattle.strat_base.specs.Tree.{Parents, parent_of, path, is_known, has_child, is_ancestor, with_child, IsTree}
+use Rattle.std.proofs.Common.{◌≡◌, ◌<◌, ◌≤◌, ◌+◌, ◌*◌, ℕ, suc, true, false, eqb, ltb, leb, ◌&&◌, ◌||◌, not, ◌⊎◌, inl, inr, List, [], ◌∷◌, ◌++◌, length, filter, Option, Some, None, refl, sym, ap, ◌∙◌, subst, arith, true≢false, length-append}
+use Rattle.std.specs.List.{list_any, list_all, flat_map, fold, range_with_len, slice_get}
+use Rattle.std.specs.Option.{option_and_then, option_map_or}
+use Rattle.std.proofs.lemmas.Bool.{leb-true, le-leb, and_parts, and_from, false_from_ne_true}
+use Rattle.strat_base.specs.Tree.{Parents, parent_of, path, has_child, with_child, IsTree}
 use Rattle.strat_base.specs.Entries.{Entry, is_of, are_same}
 use Rattle.strat_base.specs.Change.{Change, Put, Delete, Clone}
 use Rattle.strat_base.specs.Live.{live}
-use Rattle.strat_base.specs.Level.{TaggedArray, Level, own_leads, level_leads, tagged_versions, least, least_live, has_live_tagged, agrees, is_dense, IsStratified}
-use Rattle.strat_base.specs.State.{State, versions_of, tree_after, entry_of, is_living, journal_updates, changes_of, appended}
-use Rattle.strat_base.specs.Sound.{has_child_below, shallower, has_old_horizon, is_above_frozen, is_described, is_accepted, are_accepted, accepts_change, IsOpenable, IsSound}
-use Rattle.strat_base.proofs.ListFacts.{Among, any_among, any_from, none_at, all_at, all_from, among_split, among_left, among_right, among_in_flat, among_range, range_among, any_same, all_same, map_same, each_of, each_from, get_among, fold-push, filter_map-append}
-use Rattle.strat_base.proofs.TreeLemmas.{option_cases, path_kept, parent_kept}
+use Rattle.strat_base.specs.Level.{TaggedArray, Level, own_leads, level_leads, tagged_versions, least, least_live, agrees, is_dense, IsStratified}
+use Rattle.strat_base.specs.State.{State, versions_of, tree_after, is_living, journal_updates, appended}
+use Rattle.strat_base.specs.Sound.{has_child_below, shallower, has_old_horizon, is_above_frozen, is_described, is_accepted, are_accepted, accepts_change, IsSound}
+use Rattle.strat_base.proofs.ListFacts.{Among, any_among, any_from, all_at, all_from, among_split, among_left, among_right, among_in_flat, range_among, any_same, all_same, map_same, each_of, each_from, get_among}
 use Rattle.strat_base.proofs.LevelLemmas.{tagged_below}
-use Rattle.strat_base.proofs.SoundLemmas.{sound_tree, clone_known}
+use Rattle.strat_base.proofs.SoundLemmas.{sound_tree}
 
 pub length-grown : (parents : Parents) (journal : List Change) → length parents ≤ length (fold tree_after parents journal)
 length-grown parents [] = omega arith
@@ -28,7 +27,7 @@ accepted-push changes_max versions_max parents n [] c all last =
 accepted-push changes_max versions_max parents n (d ∷ journal) c all last =
     let parts = and_parts (is_accepted changes_max versions_max parents n d) (are_accepted changes_max versions_max (tree_after parents d) (suc n) journal) all in
     and_from (is_accepted changes_max versions_max parents n d) (are_accepted changes_max versions_max (tree_after parents d) (suc n) (journal ++ c ∷ [])) parts.0
-      (accepted-push changes_max versions_max (tree_after parents d) (suc n) journal c parts.1 (subst (λ (k : ℕ). is_accepted changes_max versions_max (fold tree_after (tree_after parents d) journal) k c ≡ true) (omega arith) last))
+    (accepted-push changes_max versions_max (tree_after parents d) (suc n) journal c parts.1 (subst (λ (k : ℕ). is_accepted changes_max versions_max (fold tree_after (tree_after parents d) journal) k c ≡ true) (omega arith) last))
 
 -- two trees with the same paths below a bound
 module _ (old new : Parents) (bound : ℕ) (same : (v : ℕ) → v < bound → path new v ≡ path old v) where
@@ -44,19 +43,19 @@ module _ (old new : Parents) (bound : ℕ) (same : (v : ℕ) → v < bound → p
     stratified_kept = record {
       disjoint = strat.disjoint;
       tagged =
-        all_same (λ v. list_any (λ w. eqb w v) (tagged_versions level) || eqb (length (live new (level_leads level) v)) 0) (λ v. list_any (λ w. eqb w v) (tagged_versions level) || eqb (length (live old (level_leads level) v)) 0) (range_with_len 0 level.horizon)
+          all_same (λ v. list_any (λ w. eqb w v) (tagged_versions level) || eqb (length (live new (level_leads level) v)) 0) (λ v. list_any (λ w. eqb w v) (tagged_versions level) || eqb (length (live old (level_leads level) v)) 0) (range_with_len 0 level.horizon)
           (λ v among. let lt = range_among 0 level.horizon v among in ap (λ (x : List Entry). list_any (λ w. eqb w v) (tagged_versions level) || eqb (length x) 0) (live_kept (level_leads level) v (omega (arith, lt.1))))
-        ∙ strat.tagged;
+          ∙ strat.tagged;
       agreeing =
-        all_same (agrees new level) (agrees old level) level.arrays (λ a here.
+          all_same (agrees new level) (agrees old level) level.arrays (λ a here.
           all_same (λ v. are_same (live new a.content v) (live new (level_leads level) v)) (λ v. are_same (live old a.content v) (live old (level_leads level) v)) a.tag
-            (λ v among i. are_same (live_kept a.content v (tag_below a here v among) i) (live_kept (level_leads level) v (tag_below a here v among) i)))
-        ∙ strat.agreeing;
+          (λ v among i. are_same (live_kept a.content v (tag_below a here v among) i) (live_kept (level_leads level) v (tag_below a here v among) i)))
+          ∙ strat.agreeing;
       dense =
-        all_same (is_dense new) (is_dense old) level.arrays (λ a here.
+          all_same (is_dense new) (is_dense old) level.arrays (λ a here.
           all_same (λ v. leb (length a.content) (3 * length (live new a.content v))) (λ v. leb (length a.content) (3 * length (live old a.content v))) a.tag
-            (λ v among. ap (λ (x : List Entry). leb (length a.content) (3 * length x)) (live_kept a.content v (tag_below a here v among))))
-        ∙ strat.dense;
+          (λ v among. ap (λ (x : List Entry). leb (length a.content) (3 * length x)) (live_kept a.content v (tag_below a here v among))))
+          ∙ strat.dense;
       led = strat.led;
       drawn = strat.drawn;
       single = strat.single;
@@ -80,14 +79,14 @@ module _ (s : State) (sound : IsSound s) (c : Change) (accepted : accepts_change
     child_below_kept : (h v : ℕ) → h ≤ length (versions_of s) → has_child_below (appended s c) h v ≡ has_child_below s h v
     child_below_kept h v low =
         any_same (λ x. option_map_or (λ p. eqb p v) (parent_of (versions_of (appended s c)) x) false && is_living (appended s c) x) (λ x. option_map_or (λ p. eqb p v) (parent_of (versions_of s) x) false && is_living s x) (range_with_len 0 h)
-          (λ x among. let lt = range_among 0 h x among in ap (λ (o : Option ℕ). option_map_or (λ p. eqb p v) o false && true) (parents x (omega (arith, lt.1))))
+        (λ x among. let lt = range_among 0 h x among in ap (λ (o : Option ℕ). option_map_or (λ p. eqb p v) o false && true) (parents x (omega (arith, lt.1))))
 
     childless_below : (h v : ℕ) → has_child (versions_of s) v ≡ false → has_child_below s h v ≡ false
     childless_below h v none =
         false_from_ne_true (has_child_below s h v) (λ some.
-          let found = any_among (λ x. option_map_or (λ p. eqb p v) (parent_of (versions_of s) x) false && is_living s x) (range_with_len 0 h) some in
-          let child = (and_parts (option_map_or (λ p. eqb p v) (parent_of (versions_of s) found.0) false) (is_living s found.0) found.2).0 in
-          child_there found.0 (slice_get (versions_of s) found.0) refl child)
+        let found = any_among (λ x. option_map_or (λ p. eqb p v) (parent_of (versions_of s) x) false && is_living s x) (range_with_len 0 h) some in
+        let child = (and_parts (option_map_or (λ p. eqb p v) (parent_of (versions_of s) found.0) false) (is_living s found.0) found.2).0 in
+        child_there found.0 (slice_get (versions_of s) found.0) refl child)
       where
         child_there : (x : ℕ) (o : Option (Option ℕ)) → slice_get (versions_of s) x ≡ o → option_map_or (λ p. eqb p v) (option_and_then (λ parent. parent) o) false ≡ true → ⊥
         child_there x None is e = true≢false (sym e)
@@ -102,27 +101,29 @@ module _ (s : State) (sound : IsSound s) (c : Change) (accepted : accepts_change
         fits = le-leb (length (s.journal ++ c ∷ [])) s.mem (omega (arith, length-append s.journal (c ∷ [])));
       };
       stratified = each_from (IsStratified (versions_of (appended s c))) s.levels (λ level here.
-        stratified_kept (versions_of s) (versions_of (appended s c)) (length (versions_of s)) same level (sound_tree s sound) (each_of (IsStratified (versions_of s)) s.levels level sound.stratified here) (horizon_low level here));
+          stratified_kept (versions_of s) (versions_of (appended s c)) (length (versions_of s)) same level (sound_tree s sound) (each_of (IsStratified (versions_of s)) s.levels level sound.stratified here) (horizon_low level here));
       roomy = sound.roomy;
       old = sound.old;
       settled = all_from (is_above_frozen (appended s c)) s.levels (λ level here.
-        all_from (λ e. not (has_child_below (appended s c) level.horizon e.version)) (journal_updates (appended s c) ++ flat_map level_leads (shallower s level)) (λ e among.
+          all_from (λ e. not (has_child_below (appended s c) level.horizon e.version)) (journal_updates (appended s c) ++ flat_map level_leads (shallower s level)) (λ e among.
           let before = all_at (is_above_frozen s) level s.levels sound.settled here in
           let kept = child_below_kept level.horizon e.version (horizon_low level here) in
           let still : Among e (journal_updates s ++ flat_map level_leads (shallower s level)) → not (has_child_below (appended s c) level.horizon e.version) ≡ true =
-            λ there. ap not kept ∙ all_at (λ x. not (has_child_below s level.horizon x.version)) e (journal_updates s ++ flat_map level_leads (shallower s level)) before there in
+          λ there. ap not kept ∙ all_at (λ x. not (has_child_below s level.horizon x.version)) e (journal_updates s ++ flat_map level_leads (shallower s level)) before there in
           elim (among_split (journal_updates (appended s c)) (flat_map level_leads (shallower s level)) e among) [
-            inr lead ↦ still (among_right (journal_updates s) (flat_map level_leads (shallower s level)) e lead)
-          | inl update ↦
-              elim (updates e update) [
-                inl older ↦ still (among_left (journal_updates s) (flat_map level_leads (shallower s level)) e older)
-              | inr childless ↦ ap not (kept ∙ childless_below level.horizon e.version childless) ] ]));
+            | inr lead ↦ still (among_right (journal_updates s) (flat_map level_leads (shallower s level)) e lead)
+            | inl update ↦
+                elim (updates e update) [
+                  | inl older ↦ still (among_left (journal_updates s) (flat_map level_leads (shallower s level)) e older)
+                  | inr childless ↦ ap not (kept ∙ childless_below level.horizon e.version childless)
+                ]
+          ]));
       described =
-        all_same (λ level. list_all (is_described (appended s c)) level.arrays) (λ level. list_all (is_described s) level.arrays) s.levels (λ level here.
+          all_same (λ level. list_all (is_described (appended s c)) level.arrays) (λ level. list_all (is_described s) level.arrays) s.levels (λ level here.
           all_same (is_described (appended s c)) (is_described s) level.arrays (λ a inside.
-            ap (λ (n : ℕ). (eqb a.entries (length a.content) && eqb a.leads (length (own_leads a))) && eqb a.least n)
-              (least_kept (versions_of s) (versions_of (appended s c)) (length (versions_of s)) same level (sound_tree s sound) (each_of (IsStratified (versions_of s)) s.levels level sound.stratified here) (horizon_low level here) a inside)))
-        ∙ sound.described;
+          ap (λ (n : ℕ). (eqb a.entries (length a.content) && eqb a.leads (length (own_leads a))) && eqb a.least n)
+          (least_kept (versions_of s) (versions_of (appended s c)) (length (versions_of s)) same level (sound_tree s sound) (each_of (IsStratified (versions_of s)) s.levels level sound.stratified here) (horizon_low level here) a inside)))
+          ∙ sound.described;
       few = sound.few;
       ascending = sound.ascending;
     }

@@ -1,23 +1,23 @@
 -- A stratified level is read through one of its arrays.
-use Rattle.std.proofs.Common.{◌≡◌, ◌<◌, ℕ, true, eqb, ltb, ◌||◌, not, inl, inr, List, [], ◌∷◌, length, Some, refl, sym, ap, ◌∙◌, subst, arith, true≢false}
+use Rattle.std.proofs.Common.{◌≡◌, ◌<◌, ℕ, Bool, ◌++◌, flat_map, filter, true, eqb, ltb, ◌||◌, not, inl, inr, List, [], ◌∷◌, length, Some, refl, sym, ap, ◌∙◌, subst, arith, true≢false}
 use Rattle.std.specs.List.{list_any, list_all, range_with_len}
 use Rattle.std.specs.Option.{option_and_then}
 use Rattle.std.specs.Ordering.{is_lt, nat_cmp, ordering_then}
 use Rattle.std.specs.declared.cmp.Ordering.{Ordering}
 use Rattle.std.specs.declared.cmp.Ordering.TheVariants.{Equal}
 use Rattle.std.proofs.lemmas.Option.{none-some}
-use Rattle.std.proofs.lemmas.Bool.{eqb-true, eq-eqb, ltb-true, and_parts, and_from, or_cases, not_from_false, false_from_ne_true}
+use Rattle.std.proofs.lemmas.Bool.{not-true, eqb-true, eq-eqb, ltb-true, and_parts, and_from, or_cases, not_from_false, false_from_ne_true}
 use Rattle.std.proofs.lemmas.Cmp.{tied_itself, nat_list_cmp_total, nat_cmp_total}
 use Rattle.strat_base.specs.Order.{entry_cmp}
 use Rattle.strat_base.specs.Tree.{Parents, below, IsTree}
 use Rattle.strat_base.specs.Entries.{Entry, is_at, is_single, is_ascending, is_tagged, holds_entry, are_same}
 use Rattle.strat_base.specs.Live.{is_live, live, deciding}
 use Rattle.strat_base.specs.Reading.{live_of, array_for, found_in}
-use Rattle.strat_base.specs.Level.{TaggedArray, Level, own_leads, level_leads, tagged_versions, is_distinct, IsStratified, agrees, is_drawn}
-use Rattle.strat_base.proofs.ListFacts.{Among, any_among, any_from, all_at, find_some, find_none, among_flat, among_in_flat, among_filter, filter_among, among_range}
+use Rattle.strat_base.specs.Level.{TaggedArray, Level, own_leads, level_leads, tagged_versions, is_distinct, IsStratified, agrees, is_drawn, has_disjoint_tags, has_single_leads}
+use Rattle.strat_base.proofs.ListFacts.{Among, any_among, any_from, all_at, find_some, find_none, among_flat, among_in_flat, among_filter, filter_among, among_range, among_split, among_right}
 use Rattle.strat_base.proofs.EntryLemmas.{is_at_key, is_at_version, held_among}
 use Rattle.strat_base.proofs.TreeLemmas.{option_cases, below_found}
-use Rattle.strat_base.proofs.LiveLemmas.{deciding_some, deciding_found, decides_live, live_one, deciding_live}
+use Rattle.strat_base.proofs.LiveLemmas.{deciding_some, deciding_found, decides_live, live_one, deciding_live, single_filter}
 use Rattle.strat_base.proofs.ReadingLemmas.{deciding_below}
 
 pub tagged_among : (tag : List ℕ) (v : ℕ) → is_tagged tag v ≡ true → Among v tag
@@ -140,3 +140,52 @@ module _ (parents : Parents) (tree : IsTree parents) (level : Level) (strat : Is
                   ]
             ])
       ]
+
+-- arrays in order with disjoint tags have one lead per key and version
+
+filter_single : (p : Entry → Bool) (entries : List Entry) → is_single entries ≡ true → is_single (filter p entries) ≡ true
+filter_single p entries single = single_filter p entries single
+
+append_single : (xs ys : List Entry) → is_single xs ≡ true → is_single ys ≡ true → ((e d : Entry) → Among e xs → Among d ys → is_at e.key e.version d ≡ true → ⊥) → is_single (xs ++ ys) ≡ true
+append_single [] ys one two apart = two
+append_single (e ∷ xs) ys one two apart =
+    let parts = and_parts (not (list_any (is_at e.key e.version) xs)) (is_single xs) one in
+    and_from (not (list_any (is_at e.key e.version) (xs ++ ys))) (is_single (xs ++ ys))
+    (not_from_false (list_any (is_at e.key e.version) (xs ++ ys)) (false_from_ne_true (list_any (is_at e.key e.version) (xs ++ ys)) (λ any.
+    let found = any_among (is_at e.key e.version) (xs ++ ys) any in
+    elim (among_split xs ys found.0 found.1) [
+      | inl left ↦ true≢false (sym (any_from (is_at e.key e.version) found.0 xs left found.2) ∙ not-true (list_any (is_at e.key e.version) xs) parts.0)
+      | inr right ↦ apart e found.0 (inl refl) right found.2
+    ])))
+    (append_single xs ys parts.1 two (λ d f a b at. apart d f (inr a) b at))
+
+-- a version of one list stands in no other where all are distinct
+distinct_apart : (xs ys : List ℕ) (v : ℕ) → is_distinct (xs ++ ys) ≡ true → Among v xs → Among v ys → ⊥
+distinct_apart [] ys v h a b = a
+distinct_apart (x ∷ xs) ys v h (inl here) b =
+    let parts = and_parts (not (is_tagged (xs ++ ys) x)) (is_distinct (xs ++ ys)) h in
+    true≢false (sym (among_tagged (xs ++ ys) x (among_right xs ys x (subst (λ (w : ℕ). Among w ys) here b))) ∙ not-true (is_tagged (xs ++ ys) x) parts.0)
+distinct_apart (x ∷ xs) ys v h (inr there) b = distinct_apart xs ys v (and_parts (not (is_tagged (xs ++ ys) x)) (is_distinct (xs ++ ys)) h).1 there b
+
+distinct_behind : (xs ys : List ℕ) → is_distinct (xs ++ ys) ≡ true → is_distinct ys ≡ true
+distinct_behind [] ys h = h
+distinct_behind (x ∷ xs) ys h = distinct_behind xs ys (and_parts (not (is_tagged (xs ++ ys) x)) (is_distinct (xs ++ ys)) h).1
+
+arrays_single : (arrays : List TaggedArray) → list_all (λ a. is_ascending a.content) arrays ≡ true → is_distinct (flat_map (λ a. a.tag) arrays) ≡ true → is_single (flat_map own_leads arrays) ≡ true
+arrays_single [] up apart = refl
+arrays_single (a ∷ arrays) up apart =
+    let parts = and_parts (is_ascending a.content) (list_all (λ x. is_ascending x.content) arrays) up in
+    append_single (own_leads a) (flat_map own_leads arrays)
+    (filter_single (λ e. is_tagged a.tag e.version) a.content (ascending_single a.content parts.0))
+    (arrays_single arrays parts.1 (distinct_behind a.tag (flat_map (λ x. x.tag) arrays) apart))
+    (λ e d one other at.
+    let here = filter_among (λ x. is_tagged a.tag x.version) a.content e one in
+    let found = among_flat own_leads arrays d other in
+    let there = filter_among (λ x. is_tagged found.0.tag x.version) found.0.content d found.2 in
+    let same : d.version ≡ e.version = is_at_version e.key e.version d at in
+    distinct_apart a.tag (flat_map (λ x. x.tag) arrays) e.version apart (tagged_among a.tag e.version here.1)
+    (among_in_flat (λ x. x.tag) arrays found.0 e.version found.1 (subst (λ (w : ℕ). Among w found.0.tag) same (tagged_among found.0.tag d.version there.1))))
+
+pub ordered_single : (level : Level) → list_all (λ a. is_ascending a.content) level.arrays ≡ true → has_disjoint_tags level ≡ true → has_single_leads level ≡ true
+ordered_single level up disjoint =
+    arrays_single level.arrays up (and_parts (is_distinct (tagged_versions level)) (list_all (λ v. ltb v level.horizon) (tagged_versions level)) disjoint).0

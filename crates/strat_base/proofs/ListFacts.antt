@@ -166,5 +166,6 @@ pub filter_map-append : {X Y : Type 0} (f : X → Option Y) (xs ys : List X) →
 filter_map-append f [] ys = refl
 filter_map-append {Y = Y} f (x ∷ xs) ys =
     elim (f x) as (λ o. cons_option o (filter_map f (xs ++ ys)) ≡ cons_option o (filter_map f xs) ++ filter_map f ys) [
-      None ↦ filter_map-append f xs ys
-    | Some y ↦ ap (λ (r : List Y). y ∷ r) (filter_map-append f xs ys) ]
+      | None ↦ filter_map-append f xs ys
+      | Some y ↦ ap (λ (r : List Y). y ∷ r) (filter_map-append f xs ys)
+    ]

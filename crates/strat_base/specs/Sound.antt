@@ -1,5 +1,5 @@
 -- When a state is sound.
-use Rattle.std.specs.Prelude.{ℕ, suc, ◌*◌, ◌^◌, ◌==◌, nat_lt, nat_le, ◌&&◌, not, Bool, true, false, List, [], ◌∷◌, ◌++◌, length, sum_by, filter, flat_map, Some, None, IsTrue}
+use Rattle.std.specs.Prelude.{◌<◌, ℕ, suc, ◌*◌, ◌^◌, ◌==◌, nat_lt, nat_le, ◌&&◌, not, Bool, true, false, List, [], ◌∷◌, ◌++◌, length, sum_by, filter, flat_map, Some, None, IsTrue}
 use Rattle.std.specs.Option.{option_map_or}
 use Rattle.std.specs.List.{list_any, list_all, range_with_len, AllByRecursion}
 use Rattle.strat_base.specs.declared.limits.TheConstants.{LEVELS}
@@ -98,3 +98,9 @@ pub record IsSound (s : State) : Type 0 where
   pub described : IsTrue (list_all (λ level. list_all (is_described s) level.arrays) s.levels)  -- k
   pub few : IsTrue (has_few_leads s)  -- l
   pub ascending : IsTrue (list_all (λ level. list_all has_ascending_entries level.arrays) s.levels)  -- m
+
+-- a sound state accepts a change, and has room for it in its journal
+pub record Takes (s : State) (change : Change) : Type 0 where
+  pub sound : IsSound s
+  pub accepted : IsTrue (accepts_change s change)
+  pub room : length s.journal < s.mem
