@@ -17,5 +17,6 @@ pub mod AppendedLemmas
 pub mod StepLemmas
 pub mod MapLemmas
 pub mod StepMaps
+pub mod SpaceLemmas
 pub mod BreachLemmas
 pub mod LiveLemmas

@@ -1,10 +1,9 @@
 -- Maps as lists of pairs in the order of their keys.
-use Rattle.std.proofs.Common.{◌≡◌, ◌≢◌, ℕ, zero, suc, Bool, true, false, cond, T, ◌&&◌, not, ◌⊎◌, inl, inr, List, [], ◌∷◌, Option, Some, None, refl, sym, ap, ◌∙◌, subst, true≢false}
-use Rattle.std.specs.List.{list_any, fold}
+use Rattle.std.proofs.Common.{◌≡◌, ℕ, Bool, true, false, cond, T, ◌&&◌, List, [], ◌∷◌, Option, Some, None, refl, sym, ap, ◌∙◌, subst, true≢false}
 use Rattle.std.specs.Str.{bytes_eq}
 use Rattle.std.specs.Map.{lookup, remove_entry}
 use Rattle.std.specs.BTreeMap.{insert_entry}
-use Rattle.std.specs.Ordering.{is_eq, is_lt, match_ordering, eq_by_cmp}
+use Rattle.std.specs.Ordering.{is_eq, is_lt, match_ordering}
 use Rattle.std.specs.FinMap.{slice_cmp-IsAntisymmetric, nat_cmp-IsAntisymmetric}
 use Rattle.std.specs.FinMap.Entries.{by_order, put, find, below_all, is_sorted, is_sorted-put, find-put, same_entries}
 use Rattle.std.specs.declared.cmp.Ordering.{Ordering}
@@ -21,9 +20,10 @@ insert_put : (pairs : Pairs) (key value : List ℕ) → insert_entry key_cmp pai
 insert_put [] key value = refl
 insert_put (e ∷ es) key value =
     elim (key_cmp key e.0) as (λ o. match_ordering o ((key, value) ∷ e ∷ es) ((e.0, value) ∷ es) (e ∷ insert_entry key_cmp es key value) ≡ by_order o ((key, value) ∷ e ∷ es) ((e.0, value) ∷ es) (e ∷ put key_cmp key value es)) [
-      Less ↦ refl
-    | Equal ↦ refl
-    | Greater ↦ ap (λ (x : Pairs). e ∷ x) (insert_put es key value) ]
+      | Less ↦ refl
+      | Equal ↦ refl
+      | Greater ↦ ap (λ (x : Pairs). e ∷ x) (insert_put es key value)
+    ]
 
 -- a map is in order
 abbrev pub InOrder : Pairs → Type 0
@@ -71,9 +71,10 @@ above_apart : (q : List ℕ) (es : Pairs) → T (below_all key_cmp q es) → val
 above_apart q [] h = refl
 above_apart q (e ∷ es) h =
     elim (key_cmp q e.0) as (λ o. T (is_lt o) → cond (is_eq o) (Some e.1) (value_in q es) ≡ None) [
-      Less ↦ λ lt. above_apart q es (and_second (is_lt (key_cmp q e.0)) (below_all key_cmp q es) h)
-    | Equal ↦ λ lt. absurd lt
-    | Greater ↦ λ lt. absurd lt ] (and_first (is_lt (key_cmp q e.0)) (below_all key_cmp q es) h)
+      | Less ↦ λ lt. above_apart q es (and_second (is_lt (key_cmp q e.0)) (below_all key_cmp q es) h)
+      | Equal ↦ λ lt. absurd lt
+      | Greater ↦ λ lt. absurd lt
+    ] (and_first (is_lt (key_cmp q e.0)) (below_all key_cmp q es) h)
 
 below_remove : (x key : List ℕ) (es : Pairs) → T (below_all key_cmp x es) → T (below_all key_cmp x (remove_entry (λ k. is_eq (key_cmp key k)) es))
 below_remove x key [] h = tt
@@ -81,8 +82,9 @@ below_remove x key (e ∷ es) h =
     let first = and_first (is_lt (key_cmp x e.0)) (below_all key_cmp x es) h in
     let rest = and_second (is_lt (key_cmp x e.0)) (below_all key_cmp x es) h in
     elim (is_eq (key_cmp key e.0)) as (λ b. T (below_all key_cmp x (cond b es (e ∷ remove_entry (λ k. is_eq (key_cmp key k)) es)))) [
-      true ↦ rest
-    | false ↦ and_both (is_lt (key_cmp x e.0)) (below_all key_cmp x (remove_entry (λ k. is_eq (key_cmp key k)) es)) first (below_remove x key es rest) ]
+      | true ↦ rest
+      | false ↦ and_both (is_lt (key_cmp x e.0)) (below_all key_cmp x (remove_entry (λ k. is_eq (key_cmp key k)) es)) first (below_remove x key es rest)
+    ]
 
 pub InOrder-remove : (pairs : Pairs) (key : List ℕ) → InOrder pairs → InOrder (remove_entry (λ k. is_eq (key_cmp key k)) pairs)
 InOrder-remove [] key h = tt
@@ -90,8 +92,9 @@ InOrder-remove (e ∷ es) key h =
     let first = and_first (below_all key_cmp e.0 es) (is_sorted key_cmp es) h in
     let rest = and_second (below_all key_cmp e.0 es) (is_sorted key_cmp es) h in
     elim (is_eq (key_cmp key e.0)) as (λ b. InOrder (cond b es (e ∷ remove_entry (λ k. is_eq (key_cmp key k)) es))) [
-      true ↦ rest
-    | false ↦ and_both (below_all key_cmp e.0 (remove_entry (λ k. is_eq (key_cmp key k)) es)) (is_sorted key_cmp (remove_entry (λ k. is_eq (key_cmp key k)) es)) (below_remove e.0 key es first) (InOrder-remove es key rest) ]
+      | true ↦ rest
+      | false ↦ and_both (below_all key_cmp e.0 (remove_entry (λ k. is_eq (key_cmp key k)) es)) (is_sorted key_cmp (remove_entry (λ k. is_eq (key_cmp key k)) es)) (below_remove e.0 key es first) (InOrder-remove es key rest)
+    ]
 
 is_equal : (o : Ordering) → is_eq o ≡ true → o ≡ Equal
 is_equal Less e = absurd (true≢false (sym e))
@@ -111,17 +114,21 @@ value_in-remove (e ∷ es) key q h =
     let rest = and_second (below_all key_cmp e.0 es) (is_sorted key_cmp es) h in
     let removed : Pairs = remove_entry (λ k. is_eq (key_cmp key k)) es in
     elim (is_eq (key_cmp key e.0)) as (λ b. is_eq (key_cmp key e.0) ≡ b → value_in q (cond b es (e ∷ removed)) ≡ cond (is_eq (key_cmp q key)) None (value_in q (e ∷ es))) [
-      true ↦ λ hit.
-        let k : key ≡ e.0 = key_test key e.0 hit in
-        elim (is_eq (key_cmp q key)) as (λ b. is_eq (key_cmp q key) ≡ b → value_in q es ≡ cond b None (value_in q (e ∷ es))) [
-          true ↦ λ same. let at : q ≡ e.0 = key_test q key same ∙ k in ap (λ (x : List ℕ). value_in x es) at ∙ above_apart e.0 es above
-        | false ↦ λ other. sym (ap (λ (b : Bool). cond b (Some e.1) (value_in q es)) (ap (λ (x : List ℕ). is_eq (key_cmp q x)) (sym k) ∙ other)) ] refl
-    | false ↦ λ miss.
-        let ih = value_in-remove es key q rest in
-        elim (is_eq (key_cmp q e.0)) as (λ b. is_eq (key_cmp q e.0) ≡ b → cond b (Some e.1) (value_in q removed) ≡ cond (is_eq (key_cmp q key)) None (cond b (Some e.1) (value_in q es))) [
-          true ↦ λ here.
-            let at : q ≡ e.0 = key_test q e.0 here in
-            elim (is_eq (key_cmp q key)) as (λ b. is_eq (key_cmp q key) ≡ b → Some e.1 ≡ cond b None (Some e.1)) [
-              true ↦ λ same. absurd (true≢false (sym (ap (λ (x : List ℕ). is_eq (key_cmp x e.0)) (sym (key_test q key same) ∙ at) ∙ test_key e.0) ∙ miss))
-            | false ↦ λ other. refl ] refl
-        | false ↦ λ there. ih ] refl ] refl
+      | true ↦ λ hit.
+          let k : key ≡ e.0 = key_test key e.0 hit in
+          elim (is_eq (key_cmp q key)) as (λ b. is_eq (key_cmp q key) ≡ b → value_in q es ≡ cond b None (value_in q (e ∷ es))) [
+            | true ↦ λ same. let at : q ≡ e.0 = key_test q key same ∙ k in ap (λ (x : List ℕ). value_in x es) at ∙ above_apart e.0 es above
+            | false ↦ λ other. sym (ap (λ (b : Bool). cond b (Some e.1) (value_in q es)) (ap (λ (x : List ℕ). is_eq (key_cmp q x)) (sym k) ∙ other))
+          ] refl
+      | false ↦ λ miss.
+          let ih = value_in-remove es key q rest in
+          elim (is_eq (key_cmp q e.0)) as (λ b. is_eq (key_cmp q e.0) ≡ b → cond b (Some e.1) (value_in q removed) ≡ cond (is_eq (key_cmp q key)) None (cond b (Some e.1) (value_in q es))) [
+            | true ↦ λ here.
+                let at : q ≡ e.0 = key_test q e.0 here in
+                elim (is_eq (key_cmp q key)) as (λ b. is_eq (key_cmp q key) ≡ b → Some e.1 ≡ cond b None (Some e.1)) [
+                  | true ↦ λ same. absurd (true≢false (sym (ap (λ (x : List ℕ). is_eq (key_cmp x e.0)) (sym (key_test q key same) ∙ at) ∙ test_key e.0) ∙ miss))
+                  | false ↦ λ other. refl
+                ] refl
+            | false ↦ λ there. ih
+          ] refl
+    ] refl

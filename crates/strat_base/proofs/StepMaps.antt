@@ -1,25 +1,24 @@
 -- What one more change in the journal of a sound state does to the maps.
-use Rattle.std.proofs.Common.{◌≡◌, ◌≢◌, ◌<◌, ◌≤◌, ◌+◌, ℕ, zero, suc, Bool, true, false, cond, eqb, ltb, leb, ◌&&◌, ◌||◌, not, ◌⊎◌, inl, inr, List, [], ◌∷◌, ◌++◌, length, reverse, Option, Some, None, refl, sym, ap, ◌∙◌, subst, arith, true≢false, length-append, append-nil}
+use Rattle.std.proofs.Common.{◌≡◌, ◌<◌, ℕ, suc, Bool, true, false, cond, eqb, leb, ◌&&◌, ◌||◌, not, ◌⊎◌, inl, inr, List, [], ◌∷◌, ◌++◌, length, reverse, Option, Some, None, refl, sym, ap, ◌∙◌, subst, arith, true≢false, append-nil}
 use Rattle.std.specs.List.{list_any, list_all, find, flat_map, filter_map, fold}
 use Rattle.std.specs.Option.{option_or, option_and_then, option_map_or}
 use Rattle.std.specs.Str.{bytes_eq}
 use Rattle.std.specs.Map.{remove_entry}
 use Rattle.std.specs.BTreeMap.{insert_entry}
 use Rattle.std.specs.Ordering.{is_eq}
-use Rattle.std.proofs.lemmas.Bool.{eqb-true, eq-eqb, ne_eqb, ltb-true, leb-true, and_parts, not-true, cases_Bool, cases_eq}
+use Rattle.std.proofs.lemmas.Bool.{ltb-true, leb-true, and_parts, not-true, cases_Bool}
 use Rattle.std.proofs.lemmas.Map.Text.{is_eq-slice_cmp}
-use Rattle.std.proofs.lemmas.Slice.Eq.{bytes_eq-Decides}
 use Rattle.strat_base.specs.Order.{key_cmp}
 use Rattle.strat_base.specs.Tree.{Parents, parent_of, path, is_known, has_child, with_child, IsTree}
 use Rattle.strat_base.specs.Entries.{Entry, is_of, is_at}
 use Rattle.strat_base.specs.Change.{Change, Put, Delete, Clone}
 use Rattle.strat_base.specs.Live.{first_some, deciding}
-use Rattle.strat_base.specs.Level.{Level, level_leads, IsStratified}
+use Rattle.strat_base.specs.Level.{level_leads, IsStratified}
 use Rattle.strat_base.specs.State.{State, versions_of, tree_after, entry_of, journal_updates, sources, value_at, with_value, map_at, changes_of, appended}
 use Rattle.strat_base.specs.Sound.{has_old_horizon, shallower, is_accepted, are_accepted, accepts_change, IsSound}
 use Rattle.strat_base.proofs.ListFacts.{Among, any_from, all_at, among_split, among_flat, each_of}
-use Rattle.strat_base.proofs.EntryLemmas.{bytes_same, same_bytes, is_at_version}
-use Rattle.strat_base.proofs.TreeLemmas.{option_cases, path_kept, parent_kept, path_child, tree_grown}
+use Rattle.strat_base.proofs.EntryLemmas.{bytes_same, same_bytes}
+use Rattle.strat_base.proofs.TreeLemmas.{option_cases, path_kept, parent_kept, path_child}
 use Rattle.strat_base.proofs.LiveLemmas.{deciding_some}
 use Rattle.strat_base.proofs.ReadingLemmas.{find_below}
 use Rattle.strat_base.proofs.LevelLemmas.{lead_below}
@@ -31,11 +30,13 @@ use Rattle.strat_base.proofs.MapLemmas.{Pairs, InOrder, value_in, InOrder-insert
 bytes_eq_back : (x y : List ℕ) → bytes_eq x y ≡ bytes_eq y x
 bytes_eq_back x y =
     elim (cases_Bool (bytes_eq y x)) [
-      inl yes' ↦ same_bytes x y (sym (bytes_same y x yes')) ∙ sym yes'
-    | inr no' ↦
-        elim (cases_Bool (bytes_eq x y)) [
-          inl some ↦ absurd (true≢false (sym (same_bytes y x (sym (bytes_same x y some))) ∙ no'))
-        | inr none ↦ none ∙ sym no' ] ]
+      | inl yes' ↦ same_bytes x y (sym (bytes_same y x yes')) ∙ sym yes'
+      | inr no' ↦
+          elim (cases_Bool (bytes_eq x y)) [
+            | inl some ↦ absurd (true≢false (sym (same_bytes y x (sym (bytes_same x y some))) ∙ no'))
+            | inr none ↦ none ∙ sym no'
+          ]
+    ]
 
 -- the map of a version has the values that decide
 module _ (s : State) (v : ℕ) where
@@ -43,37 +44,40 @@ module _ (s : State) (v : ℕ) where
   with_same pairs key q same before =
       let k : key ≡ q = bytes_same key q same in
       elim (option_cases (value_at s v key)) [
-        inl none ↦
-          let none' : value_at s v q ≡ None = ap (value_at s v) (sym k) ∙ none in
-          ap (λ (o : Option (List ℕ)). value_in q (option_map_or (λ value. insert_entry key_cmp pairs key value) o pairs)) none
-          ∙ elim before [ inl nothing ↦ nothing ∙ sym none' | inr already ↦ already ]
-      | inr some ↦
-          ap (λ (o : Option (List ℕ)). value_in q (option_map_or (λ value. insert_entry key_cmp pairs key value) o pairs)) some.1
-          ∙ value_in-insert pairs key some.0 q
-          ∙ ap (λ (b : Bool). cond b (Some some.0) (value_in q pairs)) (same_bytes q key (sym k))
-          ∙ sym some.1 ∙ ap (value_at s v) k ]
+        | inl none ↦
+            let none' : value_at s v q ≡ None = ap (value_at s v) (sym k) ∙ none in
+            ap (λ (o : Option (List ℕ)). value_in q (option_map_or (λ value. insert_entry key_cmp pairs key value) o pairs)) none
+            ∙ elim before [ inl nothing ↦ nothing ∙ sym none' | inr already ↦ already ]
+        | inr some ↦
+            ap (λ (o : Option (List ℕ)). value_in q (option_map_or (λ value. insert_entry key_cmp pairs key value) o pairs)) some.1
+            ∙ value_in-insert pairs key some.0 q
+            ∙ ap (λ (b : Bool). cond b (Some some.0) (value_in q pairs)) (same_bytes q key (sym k))
+            ∙ sym some.1 ∙ ap (value_at s v) k
+      ]
 
   with_other : (pairs : Pairs) (key q : List ℕ) → bytes_eq key q ≡ false → value_in q (with_value s v pairs key) ≡ value_in q pairs
   with_other pairs key q other =
       elim (option_cases (value_at s v key)) [
-        inl none ↦ ap (λ (o : Option (List ℕ)). value_in q (option_map_or (λ value. insert_entry key_cmp pairs key value) o pairs)) none
-      | inr some ↦
-          ap (λ (o : Option (List ℕ)). value_in q (option_map_or (λ value. insert_entry key_cmp pairs key value) o pairs)) some.1
-          ∙ value_in-insert pairs key some.0 q
-          ∙ ap (λ (b : Bool). cond b (Some some.0) (value_in q pairs)) (bytes_eq_back q key ∙ other) ]
+        | inl none ↦ ap (λ (o : Option (List ℕ)). value_in q (option_map_or (λ value. insert_entry key_cmp pairs key value) o pairs)) none
+        | inr some ↦
+            ap (λ (o : Option (List ℕ)). value_in q (option_map_or (λ value. insert_entry key_cmp pairs key value) o pairs)) some.1
+            ∙ value_in-insert pairs key some.0 q
+            ∙ ap (λ (b : Bool). cond b (Some some.0) (value_in q pairs)) (bytes_eq_back q key ∙ other)
+      ]
 
   fold_value : (entries : List Entry) (pairs : Pairs) (q : List ℕ) → (value_in q pairs ≡ None) ⊎ (value_in q pairs ≡ value_at s v q)
       → value_in q (fold (λ ps e. with_value s v ps e.key) pairs entries) ≡ cond (list_any (is_of q) entries) (value_at s v q) (value_in q pairs)
   fold_value [] pairs q before = refl
   fold_value (e ∷ entries) pairs q before =
       elim (bytes_eq e.key q) as (λ b. bytes_eq e.key q ≡ b → value_in q (fold (λ ps d. with_value s v ps d.key) (with_value s v pairs e.key) entries) ≡ cond (b || list_any (is_of q) entries) (value_at s v q) (value_in q pairs)) [
-        true ↦ λ same.
-          let now = with_same pairs e.key q same before in
-          fold_value entries (with_value s v pairs e.key) q (inr now) ∙ both (list_any (is_of q) entries) (value_at s v q) (value_in q (with_value s v pairs e.key)) now
-      | false ↦ λ other.
-          let now = with_other pairs e.key q other in
-          fold_value entries (with_value s v pairs e.key) q (elim before [ inl none ↦ inl (now ∙ none) | inr already ↦ inr (now ∙ already) ])
-          ∙ ap (λ (o : Option (List ℕ)). cond (list_any (is_of q) entries) (value_at s v q) o) now ] refl
+        | true ↦ λ same.
+            let now = with_same pairs e.key q same before in
+            fold_value entries (with_value s v pairs e.key) q (inr now) ∙ both (list_any (is_of q) entries) (value_at s v q) (value_in q (with_value s v pairs e.key)) now
+        | false ↦ λ other.
+            let now = with_other pairs e.key q other in
+            fold_value entries (with_value s v pairs e.key) q (elim before [ inl none ↦ inl (now ∙ none) | inr already ↦ inr (now ∙ already) ])
+            ∙ ap (λ (o : Option (List ℕ)). cond (list_any (is_of q) entries) (value_at s v q) o) now
+      ] refl
     where
       both : (b : Bool) (x y : Option (List ℕ)) → y ≡ x → cond b x y ≡ x
       both true x y e = refl
@@ -94,13 +98,15 @@ module _ (s : State) (v : ℕ) where
   map_value tree q =
       fold_value (sources s) [] q (inl refl)
       ∙ elim (list_any (is_of q) (sources s)) as (λ b. list_any (is_of q) (sources s) ≡ b → cond b (value_at s v q) None ≡ value_at s v q) [
-          true ↦ λ some. refl
+        | true ↦ λ some. refl
         | false ↦ λ none.
             elim (option_cases (deciding (versions_of s) (sources s) q v)) [
-              inl nothing ↦ sym (ap (λ (o : Option Entry). option_and_then (λ e. e.value) o) nothing)
-            | inr d ↦
-                let decides = deciding_some (versions_of s) tree (sources s) q v d.0 d.1 in
-                absurd (true≢false (sym (any_from (is_of q) d.0 (sources s) decides.among (same_bytes d.0.key q decides.of_key)) ∙ none)) ] ] refl
+              | inl nothing ↦ sym (ap (λ (o : Option Entry). option_and_then (λ e. e.value) o) nothing)
+              | inr d ↦
+                  let decides = deciding_some (versions_of s) tree (sources s) q v d.0 d.1 in
+                  absurd (true≢false (sym (any_from (is_of q) d.0 (sources s) decides.among (same_bytes d.0.key q decides.of_key)) ∙ none))
+            ]
+      ] refl
 
 -- what a sound state speaks of are its versions
 known_updates : (changes_max versions_max : ℕ) (journal : List Change) (parents : Parents) (n : ℕ) → are_accepted changes_max versions_max parents n journal ≡ true
@@ -129,14 +135,15 @@ module _ (s : State) (sound : IsSound s) where
   pub known_sources : (e : Entry) → Among e (sources s) → e.version < length (versions_of s)
   known_sources e among =
       elim (among_split (reverse (journal_updates s)) (flat_map level_leads s.levels) e among) [
-        inl update ↦ known_updates s.changes_max s.versions_max s.journal s.parents s.changes sound.opens.accepted e (among_back (journal_updates s) e update)
-      | inr lead ↦
-          let at = among_flat level_leads s.levels e lead in
-          let low = lead_below (versions_of s) (sound_tree s sound) at.0 (each_of (IsStratified (versions_of s)) s.levels at.0 sound.stratified at.1) e at.2 in
-          let old = and_parts (leb at.0.horizon (length s.parents)) (list_all (λ other. leb at.0.horizon other.horizon) (shallower s at.0)) (all_at (has_old_horizon s) at.0 s.levels sound.old at.1) in
-          let le = leb-true at.0.horizon (length s.parents) old.0 in
-          let more = length-grown s.parents s.journal in
-          omega (arith, low, le, more) ]
+        | inl update ↦ known_updates s.changes_max s.versions_max s.journal s.parents s.changes sound.opens.accepted e (among_back (journal_updates s) e update)
+        | inr lead ↦
+            let at = among_flat level_leads s.levels e lead in
+            let low = lead_below (versions_of s) (sound_tree s sound) at.0 (each_of (IsStratified (versions_of s)) s.levels at.0 sound.stratified at.1) e at.2 in
+            let old = and_parts (leb at.0.horizon (length s.parents)) (list_all (λ other. leb at.0.horizon other.horizon) (shallower s at.0)) (all_at (has_old_horizon s) at.0 s.levels sound.old at.1) in
+            let le = leb-true at.0.horizon (length s.parents) old.0 in
+            let more = length-grown s.parents s.journal in
+            omega (arith, low, le, more)
+      ]
 
 -- a put
 module _ (s : State) (sound : IsSound s) (v : ℕ) (key value : List ℕ) (accepted : accepts_change s (Put v key value) ≡ true) (room : length s.journal < s.mem) where
@@ -163,18 +170,19 @@ module _ (s : State) (sound : IsSound s) (v : ℕ) (key value : List ℕ) (accep
   put_map u =
       let new : State = appended s (Put v key value) in
       let read : (q : List ℕ) → value_in q (map_at new u) ≡ cond (eqb u v && bytes_eq key q) (Some value) (value_at s u q) =
-        λ q. map_value new u (sound_tree new put_sound) q ∙ put_value u q in
+      λ q. map_value new u (sound_tree new put_sound) q ∙ put_value u q in
       elim (eqb u v) as (λ b. eqb u v ≡ b → map_at new u ≡ cond b (insert_entry key_cmp (map_at s u) key value) (map_at s u)) [
-        true ↦ λ here.
-          same_map (map_at new u) (insert_entry key_cmp (map_at s u) key value) (map_order new u) (InOrder-insert (map_at s u) key value (map_order s u)) (λ q.
+        | true ↦ λ here.
+            same_map (map_at new u) (insert_entry key_cmp (map_at s u) key value) (map_order new u) (InOrder-insert (map_at s u) key value (map_order s u)) (λ q.
             read q
             ∙ ap (λ (b : Bool). cond (b && bytes_eq key q) (Some value) (value_at s u q)) here
             ∙ ap (λ (b : Bool). cond b (Some value) (value_at s u q)) (bytes_eq_back key q)
             ∙ ap (λ (o : Option (List ℕ)). cond (bytes_eq q key) (Some value) o) (sym (map_value s u (sound_tree s sound) q))
             ∙ sym (value_in-insert (map_at s u) key value q))
-      | false ↦ λ there.
-          same_map (map_at new u) (map_at s u) (map_order new u) (map_order s u) (λ q.
-            read q ∙ ap (λ (b : Bool). cond (b && bytes_eq key q) (Some value) (value_at s u q)) there ∙ sym (map_value s u (sound_tree s sound) q)) ] refl
+        | false ↦ λ there.
+            same_map (map_at new u) (map_at s u) (map_order new u) (map_order s u) (λ q.
+            read q ∙ ap (λ (b : Bool). cond (b && bytes_eq key q) (Some value) (value_at s u q)) there ∙ sym (map_value s u (sound_tree s sound) q))
+      ] refl
 
 -- a deletion
 module _ (s : State) (sound : IsSound s) (v : ℕ) (key : List ℕ) (accepted : accepts_change s (Delete v key) ≡ true) (room : length s.journal < s.mem) where
@@ -201,18 +209,19 @@ module _ (s : State) (sound : IsSound s) (v : ℕ) (key : List ℕ) (accepted : 
   delete_map u =
       let new : State = appended s (Delete v key) in
       let read : (q : List ℕ) → value_in q (map_at new u) ≡ cond (eqb u v && bytes_eq key q) None (value_at s u q) =
-        λ q. map_value new u (sound_tree new delete_sound) q ∙ delete_value u q in
+      λ q. map_value new u (sound_tree new delete_sound) q ∙ delete_value u q in
       elim (eqb u v) as (λ b. eqb u v ≡ b → map_at new u ≡ cond b (remove_entry (λ k. is_eq (key_cmp key k)) (map_at s u)) (map_at s u)) [
-        true ↦ λ here.
-          same_map (map_at new u) (remove_entry (λ k. is_eq (key_cmp key k)) (map_at s u)) (map_order new u) (InOrder-remove (map_at s u) key (map_order s u)) (λ q.
+        | true ↦ λ here.
+            same_map (map_at new u) (remove_entry (λ k. is_eq (key_cmp key k)) (map_at s u)) (map_order new u) (InOrder-remove (map_at s u) key (map_order s u)) (λ q.
             read q
             ∙ ap (λ (b : Bool). cond (b && bytes_eq key q) None (value_at s u q)) here
             ∙ ap (λ (b : Bool). cond b None (value_at s u q)) (bytes_eq_back key q ∙ sym (is_eq-slice_cmp q key))
             ∙ ap (λ (o : Option (List ℕ)). cond (is_eq (key_cmp q key)) None o) (sym (map_value s u (sound_tree s sound) q))
             ∙ sym (value_in-remove (map_at s u) key q (map_order s u)))
-      | false ↦ λ there.
-          same_map (map_at new u) (map_at s u) (map_order new u) (map_order s u) (λ q.
-            read q ∙ ap (λ (b : Bool). cond (b && bytes_eq key q) None (value_at s u q)) there ∙ sym (map_value s u (sound_tree s sound) q)) ] refl
+        | false ↦ λ there.
+            same_map (map_at new u) (map_at s u) (map_order new u) (map_order s u) (λ q.
+            read q ∙ ap (λ (b : Bool). cond (b && bytes_eq key q) None (value_at s u q)) there ∙ sym (map_value s u (sound_tree s sound) q))
+      ] refl
 
 -- a clone
 module _ (s : State) (sound : IsSound s) (p : ℕ) (accepted : accepts_change s (Clone p) ≡ true) (room : length s.journal < s.mem) where
@@ -245,17 +254,17 @@ module _ (s : State) (sound : IsSound s) (p : ℕ) (accepted : accepts_change s 
       let way : path (versions_of (appended s (Clone p))) n ≡ n ∷ path (versions_of s) p = ap (λ (x : Parents). path x n) clone_versions ∙ path_child (versions_of s) (sound_tree s sound) p clone_parent in
       (λ i. option_and_then (λ e. e.value) (first_some (λ w. find (is_at q w) (clone_sources i)) (way i)))
       ∙ ap (λ (o : Option Entry). option_and_then (λ e. e.value) (option_or o (deciding (versions_of s) (sources s) q p)))
-          (find_below (versions_of s) (sound_tree s sound) q (sources s) n n (known_sources s sound) (omega arith))
+      (find_below (versions_of s) (sound_tree s sound) q (sources s) n n (known_sources s sound) (omega arith))
 
   pub clone_map : (u : ℕ) → u < length (versions_of s) → map_at (appended s (Clone p)) u ≡ map_at s u
   clone_map u lt =
       let new : State = appended s (Clone p) in
       same_map (map_at new u) (map_at s u) (map_order new u) (map_order s u) (λ q.
-        map_value new u (sound_tree new clone_sound) q ∙ clone_value u lt q ∙ sym (map_value s u (sound_tree s sound) q))
+      map_value new u (sound_tree new clone_sound) q ∙ clone_value u lt q ∙ sym (map_value s u (sound_tree s sound) q))
 
   pub clone_map_new : map_at (appended s (Clone p)) (length (versions_of s)) ≡ map_at s p
   clone_map_new =
       let new : State = appended s (Clone p) in
       let n : ℕ = length (versions_of s) in
       same_map (map_at new n) (map_at s p) (map_order new n) (map_order s p) (λ q.
-        map_value new n (sound_tree new clone_sound) q ∙ clone_value_new q ∙ sym (map_value s p (sound_tree s sound) q))
+      map_value new n (sound_tree new clone_sound) q ∙ clone_value_new q ∙ sym (map_value s p (sound_tree s sound) q))

@@ -24,6 +24,21 @@ pub record State : Type 0 where
   pub levels : List Level
   pub journal : List Change
 
+-- the state of a new store: version 0 alone, and nothing else
+abbrev pub fresh_state : ℕ → ℕ → ℕ → State
+fresh_state mem changes_max versions_max = record {
+  mem = mem;
+  changes_max = changes_max;
+  versions_max = versions_max;
+  parents = None ∷ [];
+  changes = 0;
+  updates = 0;
+  written = 0;
+  next_array = 1;
+  levels = [];
+  journal = [];
+}
+
 -- the tree of versions after a change
 abbrev pub tree_after : Parents → Change → Parents
 tree_after parents (Put version key value) = parents

@@ -5,16 +5,16 @@ ghost use Rattle.std.specs.BTreeMap.{insert_entry};
 ghost use Rattle.std.specs.List.{list_any, list_all};
 ghost use Rattle.std.specs.Map.{lookup, remove_entry};
 ghost use Rattle.std.specs.Ordering.{is_eq};
-ghost use Rattle.std.specs.Prelude.{◌≡◌, ◌↔◌, ◌==◌, if◌then◌else◌, ℕ, ◌+◌, ◌<◌, ◌≤◌, List, [], ◌∷◌, length, filter, find, Some, option_and_then, IsTrue};
+ghost use Rattle.std.specs.Prelude.{◌≡◌, ◌↔◌, ◌==◌, if◌then◌else◌, ℕ, ◌+◌, ◌*◌, ◌^◌, ◌<◌, ◌≤◌, List, [], ◌∷◌, length, filter, find, Some, option_and_then, IsTrue};
 ghost use Rattle.strat_base.specs.Breach.{breaches};
-ghost use Rattle.strat_base.specs.Change.{Put, Delete, Clone};
+ghost use Rattle.strat_base.specs.Change.{Change, Put, Delete, Clone};
 ghost use Rattle.strat_base.specs.Entries.{Entry, is_of, is_single};
 ghost use Rattle.strat_base.specs.Level.{Level, has_disjoint_tags, has_single_leads};
 ghost use Rattle.strat_base.specs.Live.{live, deciding};
 ghost use Rattle.strat_base.specs.Order.{key_cmp};
 ghost use Rattle.strat_base.specs.Reading.{read_at};
 ghost use Rattle.strat_base.specs.Sound.{has_ascending_entries, IsOpenable, IsSound, Takes};
-ghost use Rattle.strat_base.specs.State.{State, versions_of, sources, value_at, map_at, updates_of, changes_of, appended};
+ghost use Rattle.strat_base.specs.State.{State, fresh_state, versions_of, sources, value_at, map_at, updates_of, changes_of, appended, stored, deep, IsPaid};
 ghost use Rattle.strat_base.specs.Tree.{Parents, parent_of, path, is_ancestor, below, with_child, IsTree};
 
 /// A new child has itself and its parent's ancestors; no older version's ancestors change.
@@ -115,4 +115,30 @@ pub fn a_clone_copies_a_map()
         → map_at (appended s (Clone p)) (length (versions_of s)) ≡ map_at s p }
     ensures counts { (s : State) (p : ℕ) → (updates_of (appended s (Clone p)) ≡ updates_of s)
         × (changes_of (appended s (Clone p)) ≡ changes_of s + 1) }
+{}
+
+/// A new store is sound, has paid, stores nothing and has the empty map at its one version.
+pub fn a_new_store_is_sound()
+    ensures sound { (mem changes_max versions_max : ℕ) → IsSound (fresh_state mem changes_max versions_max) }
+    ensures paid { (mem changes_max versions_max : ℕ) → IsPaid (fresh_state mem changes_max versions_max) }
+    ensures empty { (mem changes_max versions_max : ℕ)
+        → (stored (fresh_state mem changes_max versions_max) ≡ 0)
+        × (map_at (fresh_state mem changes_max versions_max) 0 ≡ []) }
+{}
+
+/// A sound state stores at most two entries for each update that was accepted.
+pub fn a_sound_state_stores_two_entries_per_update()
+    ensures { (s : State) → IsSound s → stored s ≤ 2 * updates_of s }
+{}
+
+/// `deep` is the least level, from 1 on, that has room for so many leads.
+pub fn deep_is_the_least_level_with_room()
+    ensures first { (mem n : ℕ) → 0 < mem → 1 ≤ deep mem n }
+    ensures room { (mem n : ℕ) → 0 < mem → n ≤ mem * 2 ^ deep mem n }
+    ensures least { (mem n d : ℕ) → 0 < mem → 1 ≤ d → n ≤ mem * 2 ^ d → deep mem n ≤ d }
+{}
+
+/// One more change in the journal leaves a state as paid as it was.
+pub fn a_change_in_the_journal_costs_nothing()
+    ensures { (s : State) (change : Change) → IsPaid s → IsPaid (appended s change) }
 {}

@@ -1,18 +1,17 @@
 //! States worked out by the definitions. Each is the contract of a function that does nothing.
 
-#![tactic(auto, unfolding(crate::specs::Tree::climb), using(crate::proofs::BreachLemmas::sound_from_none))]
+#![tactic(auto, unfolding(crate::specs::Tree::climb, crate::specs::State::deep), using(crate::proofs::BreachLemmas::sound_from_none))]
 
 ghost use Rattle.std.specs.Prelude.{◌≡◌, ℕ, List, [], ◌∷◌, map, flat_map, Some, None};
-ghost use Rattle.strat_base.specs.Breach.{breaches};
 ghost use Rattle.strat_base.specs.Level.{density, lead_fraction};
 ghost use Rattle.strat_base.specs.Sound.{IsSound};
-ghost use Rattle.strat_base.specs.State.{versions_of, value_at, map_at, stored, updates_of, changes_of};
+ghost use Rattle.strat_base.specs.State.{versions_of, value_at, map_at, stored, updates_of, changes_of, IsPaid};
 ghost use Rattle.strat_base.specs.Worked.{chain, fan, child_with_more, deleted_below};
 
 /// A chain of clones with one key at its second version: one array for the versions that see the key.
 pub fn chain_of_clones()
     ensures sound { IsSound chain }
-    ensures none { breaches chain ≡ [] }
+    ensures paid { IsPaid chain }
     ensures densities { flat_map (λ level. map (density (versions_of chain)) level.arrays) chain.levels
         ≡ (1, 1) ∷ [] }
     ensures leads { flat_map (λ level. map lead_fraction level.arrays) chain.levels ≡ (1, 1) ∷ [] }
@@ -25,6 +24,7 @@ pub fn chain_of_clones()
 /// Three children of one version, of which each writes one key: two arrays, since one would be sparse.
 pub fn fan_of_clones()
     ensures sound { IsSound fan }
+    ensures paid { IsPaid fan }
     ensures densities { flat_map (λ level. map (density (versions_of fan)) level.arrays) fan.levels
         ≡ (2, 3) ∷ (3, 4) ∷ [] }
     ensures leads { flat_map (λ level. map lead_fraction level.arrays) fan.levels ≡ (3, 3) ∷ (2, 4) ∷ [] }
@@ -47,6 +47,7 @@ pub fn parts_of_parent_and_child()
 /// A key that is gone at a child while its parent still has it: the mark stays in the child's array.
 pub fn deletion_below_a_value()
     ensures sound { IsSound deleted_below }
+    ensures paid { IsPaid deleted_below }
     ensures densities { flat_map (λ level. map (density (versions_of deleted_below)) level.arrays)
         deleted_below.levels ≡ (1, 1) ∷ (1, 2) ∷ [] }
     ensures leads { flat_map (λ level. map lead_fraction level.arrays) deleted_below.levels
