@@ -99,17 +99,20 @@ is_lawful_manifest m = all_pass (
 abbrev pub list_bytes : {A : Type 0} → (A → List ℕ) → List A → List ℕ
 list_bytes item_bytes xs = be 4 (length xs) ++ flat_map item_bytes xs
 
--- the bytes of an extent, an array, a level and a manifest
+-- the bytes of an extent
 abbrev pub extent_bytes : Extent → List ℕ
 extent_bytes x = be 4 x.start ++ be 4 x.len
 
+-- the bytes of an array's descriptor
 abbrev pub array_bytes : ArrayDesc → List ℕ
 array_bytes a =
     be 8 a.id ++ (be 4 a.entries ++ (be 4 a.leads ++ (be 4 a.least ++ (list_bytes extent_bytes a.extents ++ list_bytes (be 4) a.versions))))
 
+-- the bytes of a level's descriptor
 abbrev pub level_bytes : LevelDesc → List ℕ
 level_bytes level = be 1 level.number ++ (be 4 level.horizon ++ list_bytes array_bytes level.arrays)
 
+-- the bytes of a manifest
 unfoldable pub manifest_bytes : Manifest → List ℕ
 manifest_bytes m =
     be 4 m.changes ++ (be 4 m.updates ++ (be 8 m.written ++ (be 8 m.next_array
@@ -142,22 +145,25 @@ read_items read (suc n) bytes = next (read bytes) (λ x rest. next (read_items r
 abbrev pub read_list : {A : Type 0} → (List ℕ → Read A) → List ℕ → Read (List A)
 read_list read bytes = next (read_number 4 bytes) (λ n rest. read_items read n rest)
 
--- an extent, an array, a level and a manifest
+-- an extent, read from the front of bytes
 unfoldable pub read_extent : List ℕ → Read Extent
 read_extent bytes =
     next (read_number 4 bytes) (λ start b. next (read_number 4 b) (λ len c. Some (record { start = start; len = len }, c)))
 
+-- an array's descriptor, read from the front of bytes
 unfoldable pub read_array : List ℕ → Read ArrayDesc
 read_array bytes =
     next (read_number 8 bytes) (λ id b. next (read_number 4 b) (λ entries c. next (read_number 4 c) (λ leads d.
     next (read_number 4 d) (λ least e. next (read_list read_extent e) (λ extents f. next (read_list (read_number 4) f) (λ versions g.
     Some (record { id = id; entries = entries; leads = leads; least = least; extents = extents; versions = versions }, g)))))))
 
+-- a level's descriptor, read from the front of bytes
 unfoldable pub read_level : List ℕ → Read LevelDesc
 read_level bytes =
     next (read_number 1 bytes) (λ number b. next (read_number 4 b) (λ horizon c. next (read_list read_array c) (λ arrays d.
     Some (record { number = number; horizon = horizon; arrays = arrays }, d))))
 
+-- the fields of a manifest, read from the front of bytes
 unfoldable pub read_manifest : List ℕ → Read Manifest
 read_manifest bytes =
     next (read_number 4 bytes) (λ changes b. next (read_number 4 b) (λ updates c. next (read_number 8 c) (λ written d.

@@ -79,10 +79,11 @@ with_value s v pairs key = option_map_or (λ value. insert_entry key_cmp pairs k
 abbrev pub map_at : State → ℕ → List (List ℕ × List ℕ)
 map_at s v = fold (λ pairs e. with_value s v pairs e.key) [] (sources s)
 
--- how many updates and changes were accepted
+-- how many updates were accepted
 abbrev pub updates_of : State → ℕ
 updates_of s = s.updates + length (journal_updates s)
 
+-- how many changes were accepted
 abbrev pub changes_of : State → ℕ
 changes_of s = s.changes + length s.journal
 
