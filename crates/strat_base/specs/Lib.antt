@@ -8,6 +8,7 @@ pub mod Tree
 pub mod PairBuf
 pub mod Sizes
 pub mod Breach
+pub mod Broken
 pub mod Change
 pub mod Entries
 pub mod Fields
@@ -16,3 +17,8 @@ pub mod Live
 pub mod Reading
 pub mod Sound
 pub mod State
+pub mod Worked
+pub mod Block
+pub mod Manifest
+pub mod Chain
+pub mod Opened

@@ -1,6 +1,7 @@
 //! What every crate of the store shares: limits, failures, numbers in bytes, entries and pairs.
 #![tactic(auto)]
 
+pub mod broken;
 mod entries;
 mod failures;
 pub mod laws;
@@ -8,6 +9,7 @@ pub mod limits;
 mod numbers;
 mod pairs;
 pub mod spellings;
+pub mod worked;
 
 pub use entries::{Entry, Val, Version, entry_order, key_ok, value_ok};
 pub use failures::{Failed, Fault, NoMemory, Trouble};
