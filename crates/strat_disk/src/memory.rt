@@ -1,12 +1,13 @@
 //! A disk in memory, for tests: it can fail at chosen calls, and it can crash.
 ghost use Rattle.std.specs.Prelude.{◌≡◌, ◌≤◌, ◌<◌, ℕ, ◌+◌, ◌-◌, ◌^◌, [], true, length, slice_index, Some, IfOk, IfSome, IsSomeAnd, IsErr, IsTrue, OnOk, OnErr, is_err};
-ghost use Rattle.strat_base.specs.Faults.{Rose, Counts};
+ghost use Rattle.strat_base.specs.Faults.{Counts};
 ghost use Rattle.strat_base.specs.Image.{Outside, window, patch};
 ghost use Rattle.strat_base.specs.Moments.{Images, Passes, TearsOnly, LeavesOld, MayTear, Settled};
 ghost use Rattle.strat_disk.specs.Counts.{one_more, is_failing};
 ghost use Rattle.strat_disk.specs.Medium.{at_rest, written, settled, altered, crashed};
 
 use crate::disk::Disk;
+use crate::faults::fault;
 use crate::log::Log;
 use std::alloc::Global;
 use strat_base::{Failed, NoMemory};
@@ -111,16 +112,6 @@ fn fails(calls: &mut u64, failing: &Vec<u64>) -> bool
 {
     *calls = calls.saturating_add(1);
     failing.contains(calls)
-}
-
-/// Counts a fault.
-fn fault(faults: &mut u64) -> Failed
-    ensures faults { faults.new ≡ one_more faults.old }
-    ensures later { faults.old ≤ faults.new }
-    ensures rose { Rose faults.old faults.new }
-{
-    *faults = faults.saturating_add(1);
-    Failed
 }
 
 impl Disk for MemDisk {
