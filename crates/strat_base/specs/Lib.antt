@@ -1,7 +1,9 @@
+pub mod Causes
 pub mod Faults
 pub mod Image
 pub mod Moments
 pub mod Numbers
 pub mod Order
+pub mod SuperBlock
 pub mod Trail
 pub mod Tree

@@ -15,3 +15,6 @@ pub use disk::{Disk, write_through};
 pub use file::FileDisk;
 pub use fuse::FuseDisk;
 pub use memory::MemDisk;
+
+#[cfg(test)]
+mod tests;
