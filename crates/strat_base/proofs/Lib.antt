@@ -1,4 +1,5 @@
 pub mod ImageLemmas
 pub mod MomentLemmas
 pub mod NumberLemmas
+pub mod SuperBlockLemmas
 pub mod TrailLemmas
