@@ -1,8 +1,10 @@
 //! What no clause says: that the calls succeed where memory is ample, what the definitions come to at their
 //! edges, and the printed texts.
 
-use crate::{Entry, Fault, PairBuf, Trouble, Val, entry_order, key_ok, value_ok};
-use crate::{get_u8, get_u16, get_u32, get_u64, put_u16, put_u32, put_u64};
+use crate::{
+    Entry, Fault, PairBuf, Trouble, Val, entry_order, get_u8, get_u16, get_u32, get_u64, key_ok,
+    put_u16, put_u32, put_u64, value_ok,
+};
 use std::cmp::Ordering;
 use std::process::Abort;
 use std::test::Fail;
@@ -125,7 +127,11 @@ fn entries_go_by_key_and_then_the_newest_first(rt: HostRuntime) {
             version: other_version,
             val: Val::Gone,
         };
-        assert_eq!(rt; entry_order(&first, &second), want, "{key} {version} {other} {other_version}");
+        assert_eq!(rt;
+            entry_order(&first, &second),
+            want,
+            "{key} {version} {other} {other_version}"
+        );
     }
 }
 
