@@ -1,7 +1,8 @@
 //! Examples that the definitions compute, and laws that they have. Each is a call that does nothing, and
 //! its clause is what it says.
 
-ghost use Rattle.std.specs.Prelude.{◌≡◌};
+ghost use Rattle.std.specs.Prelude.{◌≡◌, ℕ, List};
+ghost use Rattle.strat_model.specs.Stream.{Splits};
 ghost use Rattle.strat_model.specs.Table.{fresh};
 ghost use Rattle.strat_model.specs.Examples.{answers, branching, branched, scanning, scanned, growing, grown, filling, filled, paging, paged, staging, staged};
 
@@ -34,4 +35,11 @@ pub fn cursors_keep_their_moment()
 /// Two clones of one version change apart from it and from each other.
 pub fn clones_change_apart()
     ensures ok { answers (fresh 100000 100) staging ≡ staged }
+{}
+
+/// Two readings of one stream as frames and a rest are the same reading.
+pub fn streams_have_one_reading()
+    ensures { (stream : List ℕ) (bodies others : List (List ℕ)) (rest others_rest : List ℕ)
+        → Splits stream bodies rest → Splits stream others others_rest
+        → (bodies ≡ others) × (rest ≡ others_rest) }
 {}
