@@ -123,6 +123,49 @@ fn hear(rt: &impl Abort, deframer: &mut Deframer, piece: &[u8], bodies: &[Vec<u8
     bodies.len()
 }
 
+/// Looks at what is found behind the last frame, and finds it again.
+fn ends(rt: &impl Abort, deframer: &mut Deframer, stream: &Stream) {
+    assert_eq!(rt; deframer.next(), stream.end, "{}", stream.bytes);
+    assert_eq!(rt; deframer.held(), stream.held, "{}", stream.bytes);
+    assert_eq!(rt; deframer.next(), stream.end, "{}", stream.bytes);
+}
+
+/// Hears a stream in two pieces.
+fn hear_in_two(
+    rt: &impl Abort,
+    alloc: Global,
+    stream: &Stream,
+    front: &[u8],
+    back: &[u8],
+    bodies: &[Vec<u8>],
+) -> Result<(), NoMemory> {
+    let mut deframer = Deframer::new(alloc)?;
+    let n = hear(rt, &mut deframer, front, bodies);
+    let m = hear(rt, &mut deframer, back, &bodies[n..]);
+    assert_eq!(rt; m, bodies.len() - n, "{}", stream.bytes);
+    ends(rt, &mut deframer, stream);
+    Ok(())
+}
+
+/// Hears a stream byte by byte.
+fn hear_by_bytes(
+    rt: &impl Abort,
+    alloc: Global,
+    stream: &Stream,
+    bytes: &[u8],
+    bodies: &[Vec<u8>],
+) -> Result<(), NoMemory> {
+    let mut deframer = Deframer::new(alloc)?;
+    let mut n = 0;
+    for byte in bytes {
+        assert!(rt; n <= bodies.len());
+        n += hear(rt, &mut deframer, &[*byte], &bodies[n..]);
+    }
+    assert_eq!(rt; n, bodies.len(), "{}", stream.bytes);
+    ends(rt, &mut deframer, stream);
+    Ok(())
+}
+
 #[test]
 fn frames_are_found_wherever_a_stream_is_cut(rt: HostRuntime) -> Result<(), Fail> {
     for stream in &STREAMS {
@@ -133,39 +176,9 @@ fn frames_are_found_wherever_a_stream_is_cut(rt: HostRuntime) -> Result<(), Fail
         }
         for cut in 0..=bytes.len() {
             let (front, back) = bytes.split_at(cut);
-            let mut deframer = Deframer::new(rt.alloc())?;
-            let n = hear(&rt, &mut deframer, front, &bodies);
-            let m = hear(&rt, &mut deframer, back, &bodies[n..]);
-            assert_eq!(rt; m, bodies.len() - n, "{} cut at {cut}", stream.bytes);
-            assert_eq!(rt;
-                deframer.next(),
-                stream.end,
-                "{} cut at {cut}",
-                stream.bytes
-            );
-            assert_eq!(rt;
-                deframer.held(),
-                stream.held,
-                "{} cut at {cut}",
-                stream.bytes
-            );
-            assert_eq!(rt;
-                deframer.next(),
-                stream.end,
-                "{} cut at {cut}",
-                stream.bytes
-            );
+            hear_in_two(&rt, rt.alloc(), stream, front, back, &bodies)?;
         }
-        let mut deframer = Deframer::new(rt.alloc())?;
-        assert_eq!(rt; deframer.body().len(), 0);
-        let mut n = 0;
-        for at in 0..bytes.len() {
-            assert!(rt; n <= bodies.len());
-            n += hear(&rt, &mut deframer, &bytes[at..at + 1], &bodies[n..]);
-        }
-        assert_eq!(rt; n, bodies.len());
-        assert_eq!(rt; deframer.next(), stream.end, "{} by bytes", stream.bytes);
-        assert_eq!(rt; deframer.held(), stream.held, "{} by bytes", stream.bytes);
+        hear_by_bytes(&rt, rt.alloc(), stream, &bytes, &bodies)?;
     }
     Ok(())
 }
@@ -173,6 +186,7 @@ fn frames_are_found_wherever_a_stream_is_cut(rt: HostRuntime) -> Result<(), Fail
 #[test]
 fn a_deframer_holds_the_largest_frame_and_a_piece(rt: HostRuntime) -> Result<(), Fail> {
     let mut deframer = Deframer::new(rt.alloc())?;
+    assert_eq!(rt; deframer.body().len(), 0);
     assert_eq!(rt; deframer.room(), 6148);
     deframer.feed(&[0, 0, 8, 0]);
     deframer.feed(&[7; 2047]);
@@ -182,10 +196,9 @@ fn a_deframer_holds_the_largest_frame_and_a_piece(rt: HostRuntime) -> Result<(),
     assert_eq!(rt; deframer.room(), 0);
     assert_eq!(rt; deframer.next(), Next::Frame);
     assert_eq!(rt; deframer.held(), 4096);
-    let body = deframer.body();
-    assert_eq!(rt; body.len(), 2048);
-    assert_eq!(rt; &body[..2047], [7; 2047].as_slice());
-    assert_eq!(rt; body[2047], 8);
+    let mut want = [7; 2048];
+    want[2047] = 8;
+    assert_eq!(rt; deframer.body(), want.as_slice());
     Ok(())
 }
 
@@ -220,6 +233,21 @@ fn sizes_ok(command: &Command<'_>) -> bool
         | Command::CloseCursor { .. }
         | Command::Stat => true,
     }
+}
+
+/// Writes a command, and looks at the bytes.
+fn look_at_command(
+    rt: &impl Abort,
+    alloc: Global,
+    tag: u32,
+    command: &Command<'_>,
+    want: &[u8],
+) -> Result<(), NoMemory> {
+    assert!(rt; sizes_ok(command));
+    let mut out = OutBuf::new(alloc)?;
+    write_command(tag, command, &mut out);
+    assert_eq!(rt; out.bytes(), want);
+    Ok(())
 }
 
 #[test]
@@ -282,12 +310,14 @@ fn commands_are_written_field_by_field(rt: HostRuntime) -> Result<(), Fail> {
         ),
         (Command::Stat, "00000005 01020304 0a"),
     ];
-    let mut out = OutBuf::new(rt.alloc())?;
     for (command, want) in table {
-        assert!(rt; sizes_ok(&command));
-        out.clear();
-        write_command(0x01020304, &command, &mut out);
-        assert_eq!(rt; out.bytes(), hex(rt.alloc(), want)?.as_slice(), "{want}");
+        look_at_command(
+            &rt,
+            rt.alloc(),
+            0x01020304,
+            &command,
+            &hex(rt.alloc(), want)?,
+        )?;
     }
     Ok(())
 }
@@ -351,13 +381,9 @@ fn the_largest_put_is_read_and_no_larger_one(rt: HostRuntime) -> Result<(), Fail
         value: &[0x76; 1024],
     };
     assert_eq!(rt; parse_command(&body), Ok((7, command)));
-    assert!(rt; sizes_ok(&command));
-    let mut out = OutBuf::new(rt.alloc())?;
-    write_command(7, &command, &mut out);
-    let frame = out.bytes();
-    assert_eq!(rt; frame.len(), 1296);
-    assert_eq!(rt; &frame[..4], [0, 0, 5, 12].as_slice());
-    assert_eq!(rt; &frame[4..], body.as_slice());
+    let mut frame = hex(rt.alloc(), "0000050c")?;
+    frame.extend_from_slice(&body)?;
+    look_at_command(&rt, rt.alloc(), 7, &command, &frame)?;
     let larger = large_put(rt.alloc(), 1025)?;
     assert_eq!(rt; parse_command(&larger), Err((7, BodyFault::Malformed)));
     Ok(())
