@@ -1,5 +1,5 @@
 //! A disk that stops working after some calls, for tests.
-ghost use Rattle.std.specs.Prelude.{◌≡◌, ◌≤◌, ◌<◌, ℕ, ◌+◌, ◌-◌, ◌^◌, length, Some, IfSome, IsSomeAnd, OnOk, OnErr};
+ghost use Rattle.std.specs.Prelude.{◌≡◌, ◌≤◌, ◌<◌, ℕ, ◌+◌, ◌-◌, ◌^◌, nat_lt, length, Some, IfSome, IsSomeAnd, OnOk, OnErr};
 ghost use Rattle.strat_base.specs.Faults.{Counts};
 ghost use Rattle.strat_base.specs.Image.{Outside, window, patch};
 ghost use Rattle.strat_base.specs.Moments.{Passes, TearsOnly, LeavesOld, MayTear, Settled};
@@ -64,10 +64,9 @@ impl<D: Disk> Disk for FuseDisk<D> {
         ensures most_reads { D.reads (inner_of self.new) ≤ D.reads (inner_of self.old) + 1 }
         ensures fuse { Fused D.faults self.old self.new result }
     {
-        if self.left == 0 {
+        if !passes(&mut self.left) {
             return Err(fault(&mut self.faults));
         }
-        self.left -= 1;
         self.inner.read_at(at, into)
     }
 
@@ -82,10 +81,9 @@ impl<D: Disk> Disk for FuseDisk<D> {
         ensures reads { D.reads (inner_of self.new) ≡ D.reads (inner_of self.old) }
         ensures fuse { Fused D.faults self.old self.new result }
     {
-        if self.left == 0 {
+        if !passes(&mut self.left) {
             return Err(fault(&mut self.faults));
         }
-        self.left -= 1;
         self.inner.write_at(at, bytes)
     }
 
@@ -98,14 +96,23 @@ impl<D: Disk> Disk for FuseDisk<D> {
         ensures reads { D.reads (inner_of self.new) ≡ D.reads (inner_of self.old) }
         ensures fuse { Fused D.faults self.old self.new result }
     {
-        if self.left == 0 {
+        if !passes(&mut self.left) {
             return Err(fault(&mut self.faults));
         }
-        self.left -= 1;
         self.inner.sync()
     }
 
     ghost leaves_content = { λ f. D.leaves_content f.inner };
 
     ghost leaves_bytes = { λ f. D.leaves_bytes f.inner };
+}
+
+/// Uses up a call, and says whether one was left.
+fn passes(left: &mut u64) -> bool
+    ensures left { left.new ≡ left.old - 1 }
+    ensures value { result ≡ nat_lt 0 left.old }
+{
+    let passed = *left > 0;
+    *left = left.saturating_sub(1);
+    passed
 }

@@ -3,7 +3,7 @@ ghost use Rattle.std.specs.Prelude.{◌≡◌, ◌≤◌, ◌<◌, ◌*◌, ◌+
 ghost use Rattle.strat_base.specs.Causes.{HasCause};
 ghost use Rattle.strat_base.specs.Faults.{Counts};
 ghost use Rattle.strat_base.specs.Image.{Image, patch};
-ghost use Rattle.strat_base.specs.Moments.{Images, Since, Passes, TearsOnly, LeavesOld, WritesThrough};
+ghost use Rattle.strat_base.specs.Moments.{Images, Since, Passes, TearsOnly, LeavesOld, Settled, WritesThrough};
 ghost use Rattle.strat_base.specs.SuperBlock.{IsLawful, body, slot_in, newer, verdict, newest_in};
 ghost use Rattle.strat_base.specs.declared.failures.Fault.TheVariants.{Damaged};
 ghost use Rattle.strat_gate.specs.SuperView.{super_of, seen, slot_seen};
@@ -82,6 +82,7 @@ pub fn lay<D: Disk>(disk: &mut D, slot: u8, sb: &SuperBlock) -> Result<(), Faile
         → OnOk result ((c : Image) → Images (D.view disk.new) c → newest_in c ≡ Ok (Some (slot, super_of sb.now))) }
     ensures ok { OnOk result ((f : Image) → (D.view disk.old).content ≡ Some f
         → (D.view disk.new).content ≡ Some (patch f (4096 * slot) (0xa7 ∷ body (super_of sb.now)))) }
+    ensures settled { OnOk result (Settled (D.view disk.new)) }
     ensures images { TearsOnly (D.view disk.old) (D.view disk.new) (4096 * slot) 4096 }
     ensures time { Passes (D.view disk.old) (D.view disk.new) }
     ensures cause { Counts (D.faults disk.old) (D.faults disk.new) result }
