@@ -87,13 +87,13 @@ fn a_field_out_of_range_is_damage(rt: HostRuntime) -> Result<(), Fail> {
         (36, [0, 0, 64, 0], true),
         (36, [0, 0, 64, 1], false),
     ] {
-        assert!(rt; at < 40);
         for slot in 0..2u8 {
             let mut disk = MemDisk::new(rt.alloc(), &[])?;
             let start = 4096 * (slot as u64);
             disk.write_at(start, &EXAMPLE)?;
             // A manifest in a block behind the largest regions.
             disk.write_at(start + 19, &[0, 0, 19, 136])?;
+            assert!(rt; at < 40);
             disk.write_at(start + at, &bytes)?;
             let found = newest(&mut disk);
             let damaged = found
