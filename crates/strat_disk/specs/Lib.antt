@@ -1,3 +1,5 @@
+pub mod Counts
+pub mod Fuse
 pub mod History
 pub mod Medium
 pub mod Memory

@@ -3,9 +3,12 @@
 
 mod disk;
 mod event;
+mod faults;
+mod fuse;
 mod log;
 mod memory;
 mod plane;
 
 pub use disk::{Disk, write_through};
+pub use fuse::FuseDisk;
 pub use memory::MemDisk;
