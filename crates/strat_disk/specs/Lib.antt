@@ -4,3 +4,4 @@ pub mod History
 pub mod Medium
 pub mod Memory
 pub mod PlaneView
+pub mod Untold
