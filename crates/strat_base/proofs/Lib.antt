@@ -11,3 +11,6 @@ pub mod ChangeLemmas
 pub mod ReadingLemmas
 pub mod LevelLemmas
 pub mod LiveLemmas
+pub mod PlacedLemmas
+pub mod SizeLemmas
+pub mod FoundLemmas

@@ -18,3 +18,6 @@ pub mod Live
 pub mod Reading
 pub mod Sound
 pub mod State
+pub mod ChangeView
+pub mod Finds
+pub mod Layout
