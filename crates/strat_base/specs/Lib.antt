@@ -21,3 +21,4 @@ pub mod State
 pub mod ChangeView
 pub mod Finds
 pub mod Layout
+pub mod Troubles

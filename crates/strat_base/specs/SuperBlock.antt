@@ -57,6 +57,10 @@ in_range s = s.format == 1
     && nat_le 1 s.sb.changes_max && nat_le s.sb.changes_max 16777216
     && nat_le 1 s.sb.versions_max && nat_le s.sb.versions_max 16384
 
+-- n zero bytes
+unfoldable pub zeros : ℕ → List ℕ
+zeros n = replicate n 0
+
 -- numbers of so many bytes each, one after the other
 abbrev pub spelled : List (ℕ × ℕ) → List ℕ
 spelled [] = []
@@ -69,7 +73,7 @@ fields sb = (8, magic) ∷ (2, 1) ∷ (8, sb.generation) ∷ (4, sb.manifest) �
 
 -- the bytes of a slot behind its gate: the fields, and zeros to the block's end
 abbrev pub body : Super → List ℕ
-body sb = spelled (fields sb) ++ replicate 4056 0
+body sb = spelled (fields sb) ++ zeros 4056
 
 -- what the first 40 bytes of a block hold, where the gate is open and the magic stands there
 unfoldable pub slot_of : List ℕ → Option Slot

@@ -10,6 +10,7 @@ pub mod limits;
 mod numbers;
 mod pairs;
 pub mod spellings;
+mod troubles;
 
 pub use changes::{Change, OwnedChange, change_size, get_change, put_change};
 pub use entries::{Entry, Val, Version, entry_order, key_ok, value_ok};
