@@ -15,6 +15,14 @@ pub record Log : Type 0 where
   pub list : List Change
   pub batch : List Change
 
+-- the place of the first closed gate behind the list
+abbrev pub gate_of : Log → ℕ
+gate_of log = region_at log.mem log.active + length (records_bytes log.list)
+
+-- the batch is in the list, and the next one is empty
+abbrev pub batch_joined : Log → Log
+batch_joined log = record log { list = log.list ++ log.batch; batch = [] }
+
 -- a change and those of the records behind it
 abbrev pub change_then : (List ℕ → List Change) → List ℕ → Option Change → List Change
 change_then later bytes None = []

@@ -2,5 +2,9 @@
 #![tactic(auto)]
 
 mod journal;
+mod layout;
+mod raising;
+mod text;
 
 pub use journal::{Journal, Logged};
+pub use layout::{RECORD_MAX, region_at, region_blocks, region_first};
