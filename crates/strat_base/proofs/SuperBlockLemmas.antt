@@ -1,11 +1,13 @@
 -- Numbers one after the other, written and read back.
-use Rattle.std.proofs.Common.{◌≡◌, ◌≤◌, ◌<◌, ◌==◌, ◌&&◌, ℕ, zero, suc, ◌+◌, ◌-◌, ◌^◌, Bool, true, if◌then◌else◌, List, [], ◌∷◌, ◌++◌, length, take, drop, get_or, Option, Some, None, refl, sym, ◌∙◌, ap, subst, arith, append_assoc, length-append, slice_index, lit<}
-use Rattle.std.proofs.lemmas.Bool.{cond-true, and_from, eq-eqb}
+use Rattle.std.proofs.Common.{◌≡◌, ◌≤◌, ◌<◌, ◌==◌, ◌&&◌, ℕ, zero, suc, ◌+◌, ◌-◌, ◌^◌, Bool, true, if◌then◌else◌, List, [], ◌∷◌, ◌++◌, length, take, drop, get_or, Option, Some, None, refl, sym, ◌∙◌, ap, subst, arith, append_assoc, length-append, slice_index, lit<, ◌≢◌, IfSome, inl, inr}
+use Rattle.std.proofs.lemmas.Bool.{cond-true, cond-false, and_from, and_left, eq-eqb, ne_eqb, le-leb, lt-ltb, le-ltb, cases_lt}
 use Rattle.std.proofs.Math.Seq.{drop-append-add}
 use Rattle.std.proofs.lemmas.List.{drop-drop, drop_at, take_at, append-nil, length-replicate}
 use Rattle.byteorder.specs.Numbers.{big_number-reads_back, length-bytes_high_first}
+use Rattle.strat_base.specs.Image.{Image, window, SameIn}
 use Rattle.strat_base.specs.Numbers.{be, number, placed}
-use Rattle.strat_base.specs.SuperBlock.{Super, Slot, IsLawful, magic, spelled, fields, zeros, body, slot_of}
+use Rattle.strat_base.specs.SuperBlock.{Super, Slot, IsLawful, magic, spelled, fields, zeros, body, first_free, in_range, slot_of, slot_in, newer}
+use Rattle.strat_base.proofs.ImageLemmas.{window_at, window_same}
 
 pub length-be : (k x : ℕ) → length (be k x) ≡ k
 unfolding be
@@ -45,7 +47,7 @@ spelled_next fs k x m =
     let front : take (width fs) old ≡ spelled fs = take_at (spelled fs) (zeros (k + m)) (width fs) (length-spelled fs) in
     let behind_fields : drop (width fs) old ≡ zeros (k + m) = drop_at (spelled fs) (zeros (k + m)) (width fs) (length-spelled fs) in
     let end : drop (width fs + length (be k x)) old ≡ zeros m =
-        ap (λ (n : ℕ). drop (width fs + n) old) (length-be k x) ∙ sym (drop-drop k (width fs) old) ∙ ap (λ (l : List ℕ). drop k l) behind_fields ∙ drop-zeros k m in
+    ap (λ (n : ℕ). drop (width fs + n) old) (length-be k x) ∙ sym (drop-drop k (width fs) old) ∙ ap (λ (l : List ℕ). drop k l) behind_fields ∙ drop-zeros k m in
     let last : be k x ++ [] ≡ be k x = append-nil (be k x) in
     (λ j. front j ++ be k x ++ end j)
     ∙ ap (λ (l : List ℕ). spelled fs ++ l ++ zeros m) (sym last)
@@ -58,9 +60,9 @@ field_read [] gs k x tail fits =
 field_read (f ∷ fs) gs k x tail fits =
     let rest = spelled (fs ++ (k, x) ∷ gs) in
     let whole : drop (f.0 + width fs) ((be f.0 f.1 ++ rest) ++ tail) ≡ drop (width fs) (rest ++ tail) =
-        ap (λ (l : List ℕ). drop (f.0 + width fs) l) (append_assoc (be f.0 f.1) rest tail)
-        ∙ ap (λ (n : ℕ). drop (n + width fs) (be f.0 f.1 ++ (rest ++ tail))) (sym (length-be f.0 f.1))
-        ∙ drop-append-add (be f.0 f.1) (rest ++ tail) (width fs)
+    ap (λ (l : List ℕ). drop (f.0 + width fs) l) (append_assoc (be f.0 f.1) rest tail)
+    ∙ ap (λ (n : ℕ). drop (n + width fs) (be f.0 f.1 ++ (rest ++ tail))) (sym (length-be f.0 f.1))
+    ∙ drop-append-add (be f.0 f.1) (rest ++ tail) (width fs)
     in
     ap (λ (l : List ℕ). number k l) whole ∙ field_read fs gs k x tail fits
 
@@ -71,6 +73,10 @@ gate_first rest = refl
 -- the gate and the fields of a superblock, with their numbers of bytes
 abbrev pub open_fields : Super → List (ℕ × ℕ)
 open_fields sb = (1, 0xa7) ∷ fields sb
+
+pub open_rest : (sb : Super) (j : ℕ) → get_or (spelled (open_fields sb)) (suc j) 0 ≡ get_or (spelled (fields sb)) j 0
+unfolding be
+open_rest sb j = refl
 
 -- what a slot's block begins with is read back
 pub slot_read : (sb : Super) (tail : List ℕ) → IsLawful sb → slot_of (spelled (open_fields sb) ++ tail) ≡ Some (record { format = 1; sb = sb })
@@ -100,3 +106,73 @@ slot_read sb tail lawful =
         versions_max = versions j;
       };
     }))
+
+pub length-body : (sb : Super) → length (body sb) ≡ 4095
+length-body sb = omega (arith, length-append (spelled (fields sb)) (zeros 4056), length-spelled (fields sb), length-zeros 4056)
+
+pub lawful_in_range : (sb : Super) → IsLawful sb → in_range (record { format = 1; sb = sb }) ≡ true
+lawful_in_range sb lawful =
+    and_from _ _ (and_from _ _ (and_from _ _ (and_from _ _ (and_from _ _ (and_from _ _ (and_from _ _ (and_from _ _ (and_from _ _ (and_from _ _ (and_from _ _ refl
+    (le-leb 1 sb.generation lawful.generation_least))
+    (le-leb 4 sb.mem lawful.mem_least)) (le-leb sb.mem 4096 lawful.mem_most))
+    (le-leb (first_free sb.mem) sb.manifest lawful.manifest_least)) (lt-ltb sb.manifest 4294967295 lawful.manifest_most))
+    (le-leb 29 sb.length lawful.length_least))
+    (le-leb sb.region 1 lawful.region_most))
+    (le-leb 1 sb.changes_max lawful.changes_least)) (le-leb sb.changes_max 16777216 lawful.changes_most))
+    (le-leb 1 sb.versions_max lawful.versions_least)) (le-leb sb.versions_max 16384 lawful.versions_most)
+
+-- a slot whose gate is not open holds nothing
+pub slot_closed : (c : Image) (at : ℕ) → c at ≢ 0xa7 → slot_in c at ≡ None
+unfolding slot_in slot_of
+slot_closed c at shut =
+    let e : at + 0 ≡ at = omega arith in
+    let byte : get_or (window c at 40) 0 0 ≡ c at = window_at c at 40 0 (omega arith) ∙ ap c e in
+    cond-false {A = Option Slot} _ _ None (and_left _ _ (ne_eqb _ 0xa7 (λ is. shut (sym byte ∙ is))))
+
+-- the same bytes hold the same
+pub slot_same : (c d : Image) (at : ℕ) → SameIn at 40 c d → slot_in d at ≡ slot_in c at
+unfolding slot_in
+slot_same c d at same = ap slot_of (window_same c d at 40 same)
+
+-- an open slot with a superblock's bytes holds that superblock
+pub slot_laid : (c : Image) (at : ℕ) (sb : Super) → IsLawful sb → window c at 40 ≡ spelled (open_fields sb) → slot_in c at ≡ Some (record { format = 1; sb = sb })
+unfolding slot_in
+slot_laid c at sb lawful is = ap slot_of (is ∙ sym (append-nil (spelled (open_fields sb)))) ∙ slot_read sb [] lawful
+
+-- what the other slot holds counts where this one's does not
+pub newer_first_gone : (s x : Option Slot) (P : ℕ × Slot → Type 0) → IfSome (newer s x) (λ p. (p.0 ≢ 0) × P p) → newer None x ≡ newer s x
+newer_first_gone None x P other = refl
+newer_first_gone (Some s) None P other = absurd (other.0 refl)
+newer_first_gone (Some s) (Some t) P other = elim (cases_lt s.sb.generation t.sb.generation) [
+  | inl less ↦ sym (cond-true _ (Some (1, t)) (Some (0, s)) (lt-ltb s.sb.generation t.sb.generation less))
+  | inr most ↦
+      let e : newer (Some s) (Some t) ≡ Some (0, s) = cond-false _ (Some (1, t)) (Some (0, s)) (le-ltb s.sb.generation t.sb.generation most) in
+      absurd ((subst (λ (o : Option (ℕ × Slot)). IfSome o (λ p. (p.0 ≢ 0) × P p)) e other).0 refl)
+]
+
+pub newer_second_gone : (x s : Option Slot) (P : ℕ × Slot → Type 0) → IfSome (newer x s) (λ p. (p.0 ≢ 1) × P p) → newer x None ≡ newer x s
+newer_second_gone x None P other = refl
+newer_second_gone None (Some s) P other = absurd (other.0 refl)
+newer_second_gone (Some t) (Some s) P other = elim (cases_lt t.sb.generation s.sb.generation) [
+  | inl less ↦
+      let e : newer (Some t) (Some s) ≡ Some (1, s) = cond-true _ (Some (1, s)) (Some (0, t)) (lt-ltb t.sb.generation s.sb.generation less) in
+      absurd ((subst (λ (o : Option (ℕ × Slot)). IfSome o (λ p. (p.0 ≢ 1) × P p)) e other).0 refl)
+  | inr most ↦ sym (cond-false _ (Some (1, s)) (Some (0, t)) (le-ltb t.sb.generation s.sb.generation most))
+]
+
+-- the greatest generation counts
+pub newer_first : (new : Slot) (s x : Option Slot) → IfSome (newer s x) (λ p. (p.0 ≢ 0) × (p.1.sb.generation < new.sb.generation)) → newer (Some new) x ≡ Some (0, new)
+newer_first new s None other = refl
+newer_first new None (Some t) other = cond-false _ (Some (1, t)) (Some (0, new)) (le-ltb new.sb.generation t.sb.generation (omega (arith, other.1)))
+newer_first new (Some s) (Some t) other =
+    let e : newer None (Some t) ≡ newer (Some s) (Some t) = newer_first_gone (Some s) (Some t) (λ p. p.1.sb.generation < new.sb.generation) other in
+    let mine = subst (λ (o : Option (ℕ × Slot)). IfSome o (λ p. (p.0 ≢ 0) × (p.1.sb.generation < new.sb.generation))) (sym e) other in
+    cond-false _ (Some (1, t)) (Some (0, new)) (le-ltb new.sb.generation t.sb.generation (omega (arith, mine.1)))
+
+pub newer_second : (new : Slot) (x s : Option Slot) → IfSome (newer x s) (λ p. (p.0 ≢ 1) × (p.1.sb.generation < new.sb.generation)) → newer x (Some new) ≡ Some (1, new)
+newer_second new None s other = refl
+newer_second new (Some t) None other = cond-true _ (Some (1, new)) (Some (0, t)) (lt-ltb t.sb.generation new.sb.generation other.1)
+newer_second new (Some t) (Some s) other =
+    let e : newer (Some t) None ≡ newer (Some t) (Some s) = newer_second_gone (Some t) (Some s) (λ p. p.1.sb.generation < new.sb.generation) other in
+    let mine = subst (λ (o : Option (ℕ × Slot)). IfSome o (λ p. (p.0 ≢ 1) × (p.1.sb.generation < new.sb.generation))) (sym e) other in
+    cond-true _ (Some (1, new)) (Some (0, t)) (lt-ltb t.sb.generation new.sb.generation mine.1)

@@ -63,7 +63,11 @@ fn an_altered_byte_is_in_every_image(rt: HostRuntime) -> Result<(), Fail> {
     assert!(rt; disk.bytes().len() == 2);
     disk.alter(1, 9);
     for (choice, left) in [(0, [1, 9]), (1, [3, 9]), (2, [0xa7, 9])] {
-        assert_eq!(rt; disk.crash(choice)?.bytes(), left.as_slice(), "choice {choice}");
+        assert_eq!(rt;
+            disk.crash(choice)?.bytes(),
+            left.as_slice(),
+            "choice {choice}"
+        );
     }
     disk.sync()?;
     assert_eq!(rt; disk.crash(0)?.bytes(), [3, 9].as_slice());
@@ -95,7 +99,10 @@ fn a_file_is_a_disk(rt: HostRuntime) -> Result<(), Fail> {
     again.read_at(90, &mut into)?;
     assert_eq!(rt; into, [0; 5]);
     store(&mut again, 5, &[7, 8, 9], &mut into)?;
-    assert_eq!(rt; fs::read(&rt, name)?.as_slice(), [0, 0, 0, 0, 1, 7, 8, 9].as_slice());
+    assert_eq!(rt;
+        fs::read(&rt, name)?.as_slice(),
+        [0, 0, 0, 0, 1, 7, 8, 9].as_slice()
+    );
     fs::remove_file(&rt, name)?;
     Ok(())
 }

@@ -14,6 +14,11 @@ super_of sb = record {
   versions_max = sb.versions_max;
 }
 
+-- a format with the fields behind it
+abbrev pub slot_seen : Option (ℕ × SuperBlock) → Option Slot
+slot_seen None = None
+slot_seen (Some found) = Some (record { format = found.0; sb = super_of found.1 })
+
 -- a slot's number with its superblock
 abbrev pub seen : Option (ℕ × SuperBlock) → Option (ℕ × Super)
 seen None = None

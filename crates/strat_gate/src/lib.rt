@@ -2,9 +2,9 @@
 #![tactic(auto)]
 
 mod gate;
-
+mod slots;
 mod superblock;
 
 pub use gate::{gate_close, gate_raise, gate_shut, gate_up};
-
+pub use slots::{lay, newest};
 pub use superblock::SuperBlock;
