@@ -9,8 +9,17 @@ pub mod TreeLemmas
 pub mod EntryLemmas
 pub mod FieldLemmas
 pub mod ChangeLemmas
+pub mod BlockLemmas
+pub mod ManifestLemmas
 pub mod ReadingLemmas
 pub mod LevelLemmas
+pub mod SoundLemmas
+pub mod AppendedLemmas
+pub mod StepLemmas
+pub mod MapLemmas
+pub mod StepMaps
+pub mod SpaceLemmas
+pub mod BreachLemmas
 pub mod LiveLemmas
 pub mod PlacedLemmas
 pub mod SizeLemmas

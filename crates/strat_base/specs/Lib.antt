@@ -10,6 +10,7 @@ pub mod Tree
 pub mod PairBuf
 pub mod Sizes
 pub mod Breach
+pub mod Broken
 pub mod Change
 pub mod Entries
 pub mod Fields
@@ -22,3 +23,8 @@ pub mod ChangeView
 pub mod Finds
 pub mod Layout
 pub mod Troubles
+pub mod Worked
+pub mod Block
+pub mod Manifest
+pub mod Chain
+pub mod Opened

@@ -2,6 +2,7 @@
 #![tactic(auto)]
 
 mod changes;
+pub mod broken;
 mod entries;
 mod failures;
 mod fields;
@@ -11,6 +12,7 @@ mod numbers;
 mod pairs;
 pub mod spellings;
 mod troubles;
+pub mod worked;
 
 pub use changes::{Change, OwnedChange, change_size, get_change, put_change};
 pub use entries::{Entry, Val, Version, entry_order, key_ok, value_ok};

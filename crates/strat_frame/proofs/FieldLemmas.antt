@@ -8,8 +8,7 @@ use Rattle.strat_base.specs.Numbers.{be, number, AreBytes}
 use Rattle.strat_base.specs.Sizes.{is_key, is_value}
 use Rattle.strat_base.proofs.NumberLemmas.{length-be, number-be, number-lt, AreBytes-drop, be-number_1, be-number_2, be-number_4}
 use Rattle.strat_model.specs.Request.{Request, Put, Delete, Get, Clone, Scan, Info, OpenCursor, NextPairs, CloseCursor, Stat}
-use Rattle.strat_model.specs.Plain.{IsKey, IsLawful}
-use Rattle.strat_model.specs.Spelling.{counted, command_bytes, command_body, is_taken, FitsFields, Spells}
+use Rattle.strat_model.specs.Spelling.{counted, command_bytes, command_body, is_lawful, is_taken, FitsFields, Spells}
 use Rattle.strat_frame.specs.Fields.{number_then, counted_then, whole, put_in, get_in, request_in, command_in}
 
 -- the value of a step that found one
@@ -197,18 +196,10 @@ pub or_zero : (b : Bool) (n : ℕ) → unwrap_or (cond b (Some n) None) 0 ≡ co
 or_zero true n = refl
 or_zero false n = refl
 
-is_one_key : (key : List ℕ) → is_key key ≡ true → IsKey key
-is_one_key key is =
-    let both = and_parts (leb 1 (length key)) (leb (length key) 255) is in
-    record { some = leb-true 1 (length key) both.0; fits = leb-true (length key) 255 both.1 }
-
 -- a command that is taken has sizes as they may be
-pub taken_is_lawful : (request : Request) → is_taken request ≡ true → IsLawful request
-taken_is_lawful (Put version key value) taken =
-    let both = and_parts (is_key key) (is_value value) taken in
-    let k = is_one_key key both.0 in
-    record { key_some = k.some; key = k.fits; value = leb-true (length value) 1024 both.1 }
-taken_is_lawful (Get version key) taken = is_one_key key taken
+pub taken_is_lawful : (request : Request) → is_taken request ≡ true → is_lawful request ≡ true
+taken_is_lawful (Put version key value) taken = taken
+taken_is_lawful (Get version key) taken = taken
 taken_is_lawful (Delete version key) taken = absurd cc
 taken_is_lawful (Clone version) taken = absurd cc
 taken_is_lawful (Scan version lo hi limit) taken = absurd cc

@@ -1,14 +1,20 @@
 -- One step of a pass over a plain table's pairs, cursors or versions.
-use Rattle.std.proofs.Common.{◌≡◌, ℕ, zero, suc, ◌+◌, ◌-◌, Some, None, refl, ◌<◌, ◌≤◌, List, [], ◌∷◌, ◌++◌, length, get_or, take, drop, map, sym, ap, ◌∙◌, add-one, arith}
+use Rattle.std.proofs.Common.{◌≡◌, ℕ, zero, suc, ◌+◌, ◌-◌, ◌==◌, Bool, true, false, not, if◌then◌else◌, Option, Some, None, refl, ◌<◌, ◌≤◌, List, [], ◌∷◌, ◌++◌, length, get_or, take, drop, map, sym, ap, ◌∙◌, add-one, arith}
 use Rattle.std.proofs.Math.ListN.{set as list_set}
 use Rattle.std.proofs.lemmas.List.{at_drop_more, set_split, get_or_read, get_or_at, set_at, drop_more, map_more, length-map, length-take-le, append_assoc}
 use Rattle.std.specs.Ordering.{match_ordering}
+use Rattle.std.specs.List.{find, list_any}
 use Rattle.std.specs.Option.{option_map_or}
 use Rattle.std.specs.declared.cmp.Ordering.{Ordering}
 use Rattle.std.specs.declared.cmp.Ordering.TheVariants as ordering
 use Rattle.strat_base.specs.Order.{key_cmp}
 use Rattle.strat_base.specs.Tree.{Parents, climb, parent_of}
-use Rattle.strat_model.specs.Pairs.{Pair, Pairs, set}
+use Rattle.strat_base.specs.declared.limits.TheConstants.{CURSORS_MAX}
+use Rattle.strat_model.specs.declared.replies.Refusal.TheVariants as why
+use Rattle.strat_model.specs.Pairs.{Pair, Pairs, set, unset}
+use Rattle.strat_model.specs.Request.{Request, Put, Delete, Get, Clone, Scan, Info, OpenCursor, NextPairs, CloseCursor, Stat}
+use Rattle.strat_model.specs.Table.{Table, Cursor}
+use Rattle.strat_model.specs.Step.{Outcome, step, update, is_known, is_frozen, pairs_at, page, refuses, advanced}
 
 -- a key's pair keeps its place when it gets another value
 pub set_here : (key value : List ℕ) (pairs : Pairs) (i : ℕ) (pair : Pair) → i < length pairs → pair ≡ get_or pairs i pair
@@ -59,3 +65,40 @@ climb_root (suc n) parents v is = ap (λ o. suc (length (option_map_or (λ q. cl
 pub climb_nowhere : (n : ℕ) (parents : Parents) (v : ℕ) → n ≡ 0 → length (climb n parents v) ≡ 1
 unfolding climb
 climb_nowhere n parents v none = ap (λ m. length (climb m parents v)) none
+
+-- what holds of both sides holds of the one that is chosen
+either : {A : Type 0} (P : A → Type 0) (b : Bool) (x y : A) → P x → P y → P (if b then x else y)
+either P true x y at_x at_y = at_x
+either P false x y at_x at_y = at_y
+
+-- an outcome opens one cursor at most
+abbrev OpensOne : Table → Outcome → Type 0
+OpensOne t outcome = outcome.table.next_cursor ≤ t.next_cursor + 1
+
+-- an update opens none
+opens_by_update : (t : Table) (v : ℕ) (pairs : Pairs) → OpensOne t (update t v pairs)
+opens_by_update t v pairs =
+    either (OpensOne t) (not (is_known t v)) _ _ (omega arith)
+    (either (OpensOne t) (is_frozen t v) _ _ (omega arith) (either (OpensOne t) (t.changes == t.changes_max) _ _ (omega arith) (omega arith)))
+
+-- the next pairs of a cursor open none
+opens_by_next : (t : Table) (n limit : ℕ) (found : Option Cursor)
+    → OpensOne t (option_map_or (λ c. record { answer = page c.left limit; table = record t { cursors = advanced t.cursors n limit } }) found (refuses t why.UnknownCursor))
+opens_by_next t n limit None = omega arith
+opens_by_next t n limit (Some c) = omega arith
+
+-- a step opens one cursor at most
+pub next_cursor_after : (t : Table) (request : Request) → (step t request).table.next_cursor ≤ t.next_cursor + 1
+next_cursor_after t (Put v key value) = opens_by_update t v (set key value (pairs_at t v))
+next_cursor_after t (Delete v key) = opens_by_update t v (unset key (pairs_at t v))
+next_cursor_after t (Get v key) = either (OpensOne t) (is_known t v) _ _ (omega arith) (omega arith)
+next_cursor_after t (Clone v) =
+    either (OpensOne t) (not (is_known t v)) _ _ (omega arith)
+    (either (OpensOne t) (length t.rows == t.versions_max) _ _ (omega arith) (either (OpensOne t) (t.changes == t.changes_max) _ _ (omega arith) (omega arith)))
+next_cursor_after t (Scan v lo hi limit) = either (OpensOne t) (is_known t v) _ _ (omega arith) (omega arith)
+next_cursor_after t (Info v) = either (OpensOne t) (is_known t v) _ _ (omega arith) (omega arith)
+next_cursor_after t (OpenCursor v lo hi) =
+    either (OpensOne t) (not (is_known t v)) _ _ (omega arith) (either (OpensOne t) (length t.cursors == CURSORS_MAX) _ _ (omega arith) (omega arith))
+next_cursor_after t (NextPairs n limit) = opens_by_next t n limit (find (λ c. c.number == n) t.cursors)
+next_cursor_after t (CloseCursor n) = either (OpensOne t) (list_any (λ c. c.number == n) t.cursors) _ _ (omega arith) (omega arith)
+next_cursor_after t Stat = omega arith

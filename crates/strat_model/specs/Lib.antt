@@ -10,3 +10,5 @@ pub mod Stream
 pub mod Run
 pub mod Plain
 pub mod PlainView
+pub mod Examples
+pub mod Kept

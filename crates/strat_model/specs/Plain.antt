@@ -1,39 +1,15 @@
 -- What a table that finds memory for each change as it comes says of a command.
-use Rattle.std.specs.Prelude.{◌≡◌, ◌≤◌, ℕ, ◌==◌, Bool, true, false, not, if◌then◌else◌, List, length, Option, Some, None, ◌⊎◌}
-use Rattle.strat_base.specs.declared.limits.TheConstants.{KEY_MAX, PAIRS_MAX, CURSORS_MAX}
-use Rattle.strat_base.specs.PairBuf.{IsPair}
+use Rattle.std.specs.Prelude.{◌≡◌, ℕ, ◌==◌, Bool, true, false, not, if◌then◌else◌, length, Option, Some, None, ◌⊎◌}
+use Rattle.strat_base.specs.declared.limits.TheConstants.{CURSORS_MAX}
 use Rattle.strat_model.specs.declared.replies.Reply.{Reply}
 use Rattle.strat_model.specs.declared.replies.Refusal.{Refusal}
 use Rattle.strat_model.specs.declared.replies.Refusal.TheVariants as why
 use Rattle.strat_model.specs.Pairs.{Pairs}
-use Rattle.strat_model.specs.Request.{Request, Put, Delete, Get, Clone, Scan, Info, OpenCursor, NextPairs, CloseCursor, Stat}
+use Rattle.strat_model.specs.Request.{Request, Put, Clone, OpenCursor}
 use Rattle.strat_model.specs.Table.{Table}
 use Rattle.strat_model.specs.Answer.{refusal, accepts}
 use Rattle.strat_model.specs.Step.{step, is_known, is_frozen}
 use Rattle.strat_model.specs.Run.{takes_memory}
-
--- a key has a size as it may be
-pub record IsKey (key : List ℕ) : Type 0 where
-  pub some : 1 ≤ length key
-  pub fits : length key ≤ KEY_MAX
-
--- a scan asks for as many pairs as it may
-pub record IsLimit (limit : ℕ) : Type 0 where
-  pub some : 1 ≤ limit
-  pub fits : limit ≤ PAIRS_MAX
-
--- the sizes in a command are as they may be
-abbrev pub IsLawful : Request → Type 0
-IsLawful (Put version key value) = IsPair (key, value)
-IsLawful (Delete version key) = IsKey key
-IsLawful (Get version key) = IsKey key
-IsLawful (Clone version) = Unit {0}
-IsLawful (Scan version lo hi limit) = (length lo ≤ KEY_MAX) × (length hi ≤ KEY_MAX) × IsLimit limit
-IsLawful (Info version) = Unit {0}
-IsLawful (OpenCursor version lo hi) = (length lo ≤ KEY_MAX) × (length hi ≤ KEY_MAX)
-IsLawful (NextPairs cursor limit) = IsLimit limit
-IsLawful (CloseCursor cursor) = Unit {0}
-IsLawful Stat = Unit {0}
 
 -- a command makes a table larger
 abbrev pub grows : Request → Bool

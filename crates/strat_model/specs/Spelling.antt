@@ -3,6 +3,7 @@ use Rattle.std.specs.Prelude.{◌≡◌, ◌<◌, ℕ, ◌^◌, ◌&&◌, Bool, 
 use Rattle.std.specs.List.{flat_map}
 use Rattle.strat_base.specs.Numbers.{be, number}
 use Rattle.strat_base.specs.Sizes.{is_key, is_value}
+use Rattle.strat_base.specs.declared.limits.TheConstants.{KEY_MAX, PAIRS_MAX}
 use Rattle.strat_model.specs.declared.replies.Reply.{Reply}
 use Rattle.strat_model.specs.declared.replies.Reply.TheVariants as reply
 use Rattle.strat_model.specs.declared.replies.Refusal.TheVariants as why
@@ -31,10 +32,31 @@ command_bytes Stat = 10 ∷ []
 abbrev pub command_body : ℕ → Request → List ℕ
 command_body tag request = be 4 tag ++ command_bytes request
 
+-- a bound of a range has a size as it may be
+abbrev pub is_bound : List ℕ → Bool
+is_bound bound = nat_le (length bound) KEY_MAX
+
+-- as many pairs may be asked for
+abbrev pub is_limit : ℕ → Bool
+is_limit limit = nat_le 1 limit && nat_le limit PAIRS_MAX
+
+-- the sizes of a command are as they may be
+abbrev pub is_lawful : Request → Bool
+is_lawful (Put version key value) = is_key key && is_value value
+is_lawful (Delete version key) = is_key key
+is_lawful (Get version key) = is_key key
+is_lawful (Clone version) = true
+is_lawful (Scan version lo hi limit) = is_bound lo && (is_bound hi && is_limit limit)
+is_lawful (Info version) = true
+is_lawful (OpenCursor version lo hi) = is_bound lo && is_bound hi
+is_lawful (NextPairs cursor limit) = is_limit limit
+is_lawful (CloseCursor cursor) = true
+is_lawful Stat = true
+
 -- a command that is taken so far, with sizes as they may be
 abbrev pub is_taken : Request → Bool
-is_taken (Put version key value) = is_key key && is_value value
-is_taken (Get version key) = is_key key
+is_taken (Put version key value) = is_lawful (Put version key value)
+is_taken (Get version key) = is_lawful (Get version key)
 is_taken _ = false
 
 -- the numbers of a command fit their fields

@@ -3,6 +3,7 @@
 
 mod commands;
 mod ended;
+pub mod laws;
 mod plain_pairs;
 mod plain_rows;
 mod plain_table;
@@ -12,3 +13,6 @@ pub use commands::Command;
 pub use ended::Ended;
 pub use plain_table::PlainTable;
 pub use replies::{Refusal, Reply};
+
+#[cfg(test)]
+mod tests;

@@ -1,16 +1,17 @@
 //! A plain table: each version has a map of its own, and a clone copies it.
 
-ghost use Rattle.std.specs.Prelude.{◌≡◌, ◌<◌, ◌≤◌, ◌^◌, ◌+◌, ◌==◌, ◌∷◌, ◌++◌, [], length, false, find, Some, IfOk, OnOk, OnErr};
+ghost use Rattle.std.specs.Prelude.{◌≡◌, ◌<◌, ◌≤◌, ◌^◌, ◌+◌, ◌==◌, ◌∷◌, ◌++◌, [], length, true, false, find, Some, IfOk, OnOk, OnErr};
 ghost use Rattle.std.specs.Option.{option_copied};
 ghost use Rattle.strat_base.specs.declared.limits.TheConstants.{CHANGES_MAX, VERSIONS_MAX, CURSORS_MAX};
-ghost use Rattle.strat_base.specs.PairBuf.{IsPair};
 ghost use Rattle.strat_base.specs.Tree.{parent_of, depth};
 ghost use Rattle.strat_model.specs.Command.{request_of};
+ghost use Rattle.strat_model.specs.declared.replies.Reply.TheVariants as reply;
 ghost use Rattle.strat_model.specs.Request.{Put, Delete, Get, Clone, Scan, Info, OpenCursor, NextPairs, CloseCursor, Stat};
 ghost use Rattle.strat_model.specs.Pairs.{range};
 ghost use Rattle.strat_model.specs.Table.{fresh, parents_of};
 ghost use Rattle.strat_model.specs.Step.{is_known, is_frozen, pairs_at};
-ghost use Rattle.strat_model.specs.Plain.{IsKey, IsLimit, IsLawful, IsStep, IsStepOrShort, grows, update_refusal, clone_refusal, cursor_refusal};
+ghost use Rattle.strat_model.specs.Spelling.{is_lawful};
+ghost use Rattle.strat_model.specs.Plain.{IsStep, IsStepOrShort, grows, update_refusal, clone_refusal, cursor_refusal};
 
 use crate::commands::Command;
 use crate::plain_rows::{PlainCursor, PlainRow, advance, close, has_cursor};
@@ -39,7 +40,8 @@ impl Model for PlainTable {
 
     ghost Value = { Table };
 
-    ghost use Rattle.strat_model.specs.PlainView.{table_of, IsWithin};
+    ghost use Rattle.strat_model.specs.PlainView.{table_of};
+    ghost use Rattle.strat_model.specs.Kept.{IsWithin};
 
     ghost view = { table_of };
 
@@ -68,10 +70,13 @@ impl PlainTable {
     }
 
     /// Carries out one command. The pairs of its answer are in `out`, from which all others are gone.
+    /// Fewer than 2^63 cursors may have been opened before.
+    #[tactic(auto, using(crate::proofs::PlainLemmas::next_cursor_after))]
     pub fn step(&mut self, command: &Command<'_>, out: &mut PairBuf) -> Reply
-        requires fits { IsLawful (request_of command.now) }
+        requires fits { is_lawful (request_of command.now) ≡ true }
         requires room { self.old.next_cursor < 2 ^ 63 }
         ensures ok { IsStepOrShort self.old (request_of command.now) result out.new self.new }
+        ensures next { self.new.next_cursor ≤ self.old.next_cursor + 1 }
         ensures none { grows (request_of command.now) ≡ false
             → IsStep self.old (request_of command.now) result out.new self.new }
     {
@@ -132,8 +137,21 @@ impl PlainTable {
         }
     }
 
+    fn count_update(&mut self) -> Reply
+        requires room { self.old.changes < self.old.changes_max }
+        ensures done { result ≡ reply.Done }
+        ensures ok { self.new ≡ record self.old {
+          updates = self.old.updates + 1;
+          changes = self.old.changes + 1;
+        } }
+    {
+        self.updates += 1;
+        self.changes += 1;
+        Reply::Done
+    }
+
     fn put(&mut self, version: Version, key: &[u8], value: &[u8]) -> Reply
-        requires fits { IsPair (key.now, value.now) }
+        requires fits { is_lawful (Put version key.now value.now) ≡ true }
         ensures ok { IsStepOrShort self.old (Put version key.now value.now) result [] self.new }
     {
         if let Some(refusal) = self.update_refusal(version) {
@@ -142,9 +160,7 @@ impl PlainTable {
         if self.rows[version as usize].set(key, value).is_err() {
             return Reply::Refused(Refusal::NoMemory);
         }
-        self.updates += 1;
-        self.changes += 1;
-        Reply::Done
+        self.count_update()
     }
 
     fn delete(&mut self, version: Version, key: &[u8]) -> Reply
@@ -154,13 +170,11 @@ impl PlainTable {
             return Reply::Refused(refusal);
         }
         self.rows[version as usize].unset(key);
-        self.updates += 1;
-        self.changes += 1;
-        Reply::Done
+        self.count_update()
     }
 
     fn get(&self, version: Version, key: &[u8], out: &mut PairBuf) -> Reply
-        requires fits { IsKey key.now }
+        requires fits { is_lawful (Get version key.now) ≡ true }
         requires empty { out.old ≡ [] }
         ensures ok { IsStep self.now (Get version key.now) result out.new self.now }
     {
@@ -208,7 +222,7 @@ impl PlainTable {
     }
 
     fn scan(&self, version: Version, lo: &[u8], hi: &[u8], limit: u16, out: &mut PairBuf) -> Reply
-        requires fits { IsLimit limit }
+        requires fits { is_lawful (Scan version lo.now hi.now limit) ≡ true }
         requires empty { out.old ≡ [] }
         ensures ok { IsStep self.now (Scan version lo.now hi.now limit) result out.new self.now }
     {
@@ -297,7 +311,7 @@ impl PlainTable {
     }
 
     fn next_pairs(&mut self, number: u64, limit: u16, out: &mut PairBuf) -> Reply
-        requires fits { IsLimit limit }
+        requires fits { is_lawful (NextPairs number limit) ≡ true }
         requires empty { out.old ≡ [] }
         ensures ok { IsStep self.old (NextPairs number limit) result out.new self.new }
     {

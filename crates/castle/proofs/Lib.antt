@@ -1,0 +1,4 @@
+pub mod AnswerLemmas
+pub mod BatchLemmas
+pub mod SessionLemmas
+pub mod StreamLemmas
