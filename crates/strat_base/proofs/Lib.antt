@@ -2,6 +2,7 @@ pub mod ImageLemmas
 pub mod MomentLemmas
 pub mod NumberLemmas
 pub mod PairLemmas
+pub mod SuperBlockLemmas
 pub mod TrailLemmas
 pub mod ListFacts
 pub mod TreeLemmas

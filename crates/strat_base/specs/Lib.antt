@@ -1,8 +1,10 @@
+pub mod Causes
 pub mod Faults
 pub mod Image
 pub mod Moments
 pub mod Numbers
 pub mod Order
+pub mod SuperBlock
 pub mod Trail
 pub mod Tree
 pub mod PairBuf

@@ -43,8 +43,8 @@ get_or-marked xs at n fits i =
     let len : length (replicate n true) ≡ n = length-replicate n true in
     let placed = get_or-placed xs (replicate n true) at false (omega arith) i in
     let e : get_or (take at xs ++ replicate n true ++ drop (at + n) xs) i false
-        ≡ over at n (λ k. get_or (replicate n true) (k - at) false) (λ k. get_or xs k false) i =
-        subst (λ (m : ℕ). get_or (take at xs ++ replicate n true ++ drop (at + m) xs) i false ≡ over at m (λ k. get_or (replicate n true) (k - at) false) (λ k. get_or xs k false) i) len placed in
+    ≡ over at n (λ k. get_or (replicate n true) (k - at) false) (λ k. get_or xs k false) i =
+    subst (λ (m : ℕ). get_or (take at xs ++ replicate n true ++ drop (at + m) xs) i false ≡ over at m (λ k. get_or (replicate n true) (k - at) false) (λ k. get_or xs k false) i) len placed in
     e ∙ elim (lies at n i) [
       | below is ↦ over_below at n _ _ i is ∙ sym (over_below at n _ (λ k. get_or xs k false) i is)
       | inside from to ↦ over_inside at n _ _ i from to ∙ get_or-replicate n (i - at) true false (omega arith) ∙ sym (over_inside at n (λ _. true) _ i from to)

@@ -91,7 +91,12 @@ impl Log {
     }
 }
 
-fn make_room(first: &mut Plane, present: &mut Plane, events: &mut Vec<Event>, len: usize) -> Result<(), AllocError>
+fn make_room(
+    first: &mut Plane,
+    present: &mut Plane,
+    events: &mut Vec<Event>,
+    len: usize,
+) -> Result<(), AllocError>
     ensures first { SameWith first.old first.new len result }
     ensures present { SameWith present.old present.new len result }
     ensures events { events.new.items ≡ events.old.items }
