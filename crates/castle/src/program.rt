@@ -2,8 +2,9 @@
 
 ghost use Rattle.std.specs.Prelude.{◌≡◌, map, string_bytes, IsSome, None};
 ghost use Rattle.std.specs.Option.{option_copied};
+ghost use Rattle.strat_base.specs.Faults.{Rose};
 ghost use Rattle.castle.specs.Words.{path_in};
-ghost use Rattle.castle.specs.Job.{ServesFrames, StatusHasCause, text_of};
+ghost use Rattle.castle.specs.Job.{ServesFrames, StatusHasCause, EndsAsInput, text_of};
 
 use crate::serving::serve;
 use std::alloc::Global;
@@ -38,6 +39,10 @@ pub fn run<S: Source, K: Sink>(alloc: Global, words: &[String], source: &mut S, 
     ensures cause { IsSome (path_in (map string_bytes words.now))
         → StatusHasCause result (S.faults source.old) (S.faults source.new)
         (K.faults sink.old) (K.faults sink.new) }
+    ensures complete { IsSome (path_in (map string_bytes words.now))
+        → ¬ Rose (S.faults source.old) (S.faults source.new)
+        → ¬ Rose (K.faults sink.old) (K.faults sink.new) → EndsAsInput result }
+    ensures unread { result ≡ 8 → (source.new ≡ source.old) × (sink.new ≡ sink.old) }
 {
     match path_of(words) {
         None => Ended::Usage.status(),
