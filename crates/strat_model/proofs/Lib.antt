@@ -1,3 +1,4 @@
 pub mod PlainLemmas
 pub mod MapLemmas
 pub mod TableLemmas
+pub mod StateTableLemmas
