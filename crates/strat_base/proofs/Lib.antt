@@ -21,3 +21,6 @@ pub mod StepMaps
 pub mod SpaceLemmas
 pub mod BreachLemmas
 pub mod LiveLemmas
+pub mod PlacedLemmas
+pub mod SizeLemmas
+pub mod FoundLemmas

@@ -19,6 +19,10 @@ pub mod Live
 pub mod Reading
 pub mod Sound
 pub mod State
+pub mod ChangeView
+pub mod Finds
+pub mod Layout
+pub mod Troubles
 pub mod Worked
 pub mod Block
 pub mod Manifest
