@@ -19,3 +19,6 @@ pub use entries::{Entry, Val, Version, entry_order, key_ok, value_ok};
 pub use failures::{Failed, Fault, NoMemory, Trouble};
 pub use numbers::{get_u8, get_u16, get_u32, get_u64, put_u16, put_u32, put_u64};
 pub use pairs::PairBuf;
+
+#[cfg(test)]
+mod tests;

@@ -31,4 +31,5 @@ BeginsWith (front.TooLong n) held = (is_too_long held ≡ true) × (n ≡ number
 pub record IsCut (bytes : List ℕ) (capacity start body_at body_len : ℕ) : Type 0 where
   pub rest : start ≤ length bytes
   pub body : body_at + body_len ≤ length bytes
+  pub few : length bytes ≤ 6148
   pub room : 6148 ≤ capacity

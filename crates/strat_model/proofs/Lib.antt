@@ -1,4 +1,5 @@
 pub mod PlainLemmas
 pub mod MapLemmas
 pub mod TableLemmas
+pub mod StreamLemmas
 pub mod StateTableLemmas
