@@ -8,9 +8,9 @@ ghost use Rattle.strat_base.specs.Sound.{accepts_change, IsSound, Takes};
 ghost use Rattle.strat_base.specs.State.{State, fresh_state, versions_of, appended};
 ghost use Rattle.strat_model.specs.Answer.{accepts};
 ghost use Rattle.strat_model.specs.Pairs.{value_of};
-ghost use Rattle.strat_model.specs.StateTable.{table_of, request_for};
+ghost use Rattle.strat_model.specs.StateTable.{table_of, request_for, answer_for};
 ghost use Rattle.strat_model.specs.Step.{step, pairs_at};
-ghost use Rattle.strat_model.specs.Table.{fresh};
+ghost use Rattle.strat_model.specs.Table.{Table, fresh, bare};
 
 /// A new store means a new table.
 pub fn new_stores_mean_new_tables()
@@ -19,13 +19,20 @@ pub fn new_stores_mean_new_tables()
 {}
 
 /// A table takes a change exactly where the state that it comes from accepts it. Where the journal
-/// has room the change goes there, and the table after it is that of the state after it.
+/// has room the change goes there, and the table after it is that of the state after it, whatever
+/// cursors stand beside it.
 pub fn changes_in_the_journal_are_steps()
     ensures accepted { (s : State) (c : Change)
         → accepts (step (table_of s) (request_for c)).answer.reply ≡ accepts_change s c }
     ensures kept { (s : State) (c : Change) → Takes s c → IsSound (appended s c) }
     ensures table { (s : State) (c : Change) → Takes s c
         → (step (table_of s) (request_for c)).table ≡ table_of (appended s c) }
+    ensures answer { (s : State) (c : Change) → Takes s c
+        → (step (table_of s) (request_for c)).answer ≡ answer_for s c }
+    ensures bare { (t : Table) (s : State) (c : Change) → Takes s c → bare t ≡ table_of s
+        → bare (step t (request_for c)).table ≡ table_of (appended s c) }
+    ensures same { (t : Table) (s : State) (c : Change) → Takes s c → bare t ≡ table_of s
+        → (step t (request_for c)).answer ≡ answer_for s c }
 {}
 
 /// Reading a sound state place by place finds what its table has.
