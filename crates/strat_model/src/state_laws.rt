@@ -1,12 +1,14 @@
 //! Laws that tie the states of a store to the tables that they mean. Each is a call that does
 //! nothing, and its clauses are what it says.
 
-ghost use Rattle.std.specs.Prelude.{◌≡◌, ℕ, ◌<◌, List, length, option_and_then};
+ghost use Rattle.std.specs.Prelude.{◌≡◌, ℕ, ◌<◌, List, length, fold, option_and_then};
 ghost use Rattle.strat_base.specs.Change.{Change};
 ghost use Rattle.strat_base.specs.Reading.{read_at};
 ghost use Rattle.strat_base.specs.Sound.{accepts_change, IsSound, Takes};
 ghost use Rattle.strat_base.specs.State.{State, fresh_state, versions_of, appended};
 ghost use Rattle.strat_model.specs.Answer.{accepts};
+ghost use Rattle.strat_model.specs.Examples.{staging};
+ghost use Rattle.strat_model.specs.Settings.{settings};
 ghost use Rattle.strat_model.specs.Pairs.{value_of};
 ghost use Rattle.strat_model.specs.StateTable.{table_of, request_for, answer_for};
 ghost use Rattle.strat_model.specs.Step.{step, pairs_at};
@@ -40,4 +42,13 @@ pub fn reading_finds_the_tables_value()
     ensures ok { (s : State) (v : ℕ) (key : List ℕ) → IsSound s → v < length (versions_of s)
         → value_of (pairs_at (table_of s) v) key
         ≡ option_and_then (λ e. e.value) (read_at s v key) }
+{}
+
+/// Two settings, two clones of them, and a change in each: the state is sound, and it means the
+/// table after the commands.
+#[tactic(auto, unfolding(strat_base::specs::Tree::climb), using(strat_base::proofs::BreachLemmas::sound_from_none))]
+pub fn settings_mean_their_table()
+    ensures sound { IsSound settings }
+    ensures table { fold (λ t request. (step t request).table) (fresh 100000 100) staging
+        ≡ table_of settings }
 {}
