@@ -20,14 +20,14 @@ use Rattle.strat_base.proofs.StepLemmas.{updates-appended}
 use Rattle.strat_base.proofs.StepMaps.{map_value, put_sound, put_versions, put_map, delete_sound, delete_versions, delete_map, clone_sound, clone_versions, clone_map, clone_map_new}
 use Rattle.strat_model.specs.Pairs.{Pairs, value_of}
 use Rattle.strat_model.specs.Pairs as pairs
-use Rattle.strat_model.specs.Table.{Row, Table}
+use Rattle.strat_model.specs.Table.{Row, Table, bare}
 use Rattle.strat_model.specs.declared.replies.Reply.TheVariants as reply
 use Rattle.strat_model.specs.declared.replies.Refusal.TheVariants as why
 use Rattle.strat_model.specs.declared.replies.Refusal.{Refusal}
-use Rattle.strat_model.specs.Answer.{plain, accepts}
+use Rattle.strat_model.specs.Answer.{Answer, plain, accepts}
 use Rattle.strat_model.specs.Request.{Put, Delete, Clone}
 use Rattle.strat_model.specs.Step.{Outcome, refuses, step, update, clone, is_known, is_frozen, no_row, pairs_at, with_pairs}
-use Rattle.strat_model.specs.StateTable.{rows_from, table_of, request_for}
+use Rattle.strat_model.specs.StateTable.{rows_from, table_of, request_for, answer_for}
 
 pub length-rows_from : (s : State) (v : ℕ) (parents : Parents) → length (rows_from s v parents) ≡ length parents
 length-rows_from s v [] = refl
@@ -224,6 +224,50 @@ pub steps_to : (s : State) (c : Change) → Takes s c → (step (table_of s) (re
 steps_to s (change.Put v key value) takes = ap (λ (o : Outcome). o.table) (put_steps s v key value takes)
 steps_to s (change.Delete v key) takes = ap (λ (o : Outcome). o.table) (delete_steps s v key takes)
 steps_to s (change.Clone p) takes = ap (λ (o : Outcome). o.table) (clone_steps s p takes)
+
+-- and is answered so
+pub answers_as : (s : State) (c : Change) → Takes s c → (step (table_of s) (request_for c)).answer ≡ answer_for s c
+answers_as s (change.Put v key value) takes = ap (λ (o : Outcome). o.answer) (put_steps s v key value takes)
+answers_as s (change.Delete v key) takes = ap (λ (o : Outcome). o.answer) (delete_steps s v key takes)
+answers_as s (change.Clone p) takes = ap (λ (o : Outcome). o.answer) (clone_steps s p takes)
+
+-- of three tests that refuse in turn, each leaves the cursors aside
+three_bare : (k f l : Bool) (t : Table) (a b c : Refusal) (made other : Outcome) → bare made.table ≡ other.table → made.answer ≡ other.answer
+    → (bare (if not k then refuses t a else if f then refuses t b else if l then refuses t c else made).table
+    ≡ (if not k then refuses (bare t) a else if f then refuses (bare t) b else if l then refuses (bare t) c else other).table)
+    × ((if not k then refuses t a else if f then refuses t b else if l then refuses t c else made).answer
+    ≡ (if not k then refuses (bare t) a else if f then refuses (bare t) b else if l then refuses (bare t) c else other).answer)
+three_bare false f l t a b c made other table answer = (refl, refl)
+three_bare true true l t a b c made other table answer = (refl, refl)
+three_bare true false true t a b c made other table answer = (refl, refl)
+three_bare true false false t a b c made other table answer = (table, answer)
+
+update_bare : (t : Table) (v : ℕ) (new : Pairs) → (bare (update t v new).table ≡ (update (bare t) v new).table) × ((update t v new).answer ≡ (update (bare t) v new).answer)
+update_bare t v new =
+    three_bare (is_known t v) (is_frozen t v) (eqb t.changes t.changes_max) t why.UnknownVersion why.Frozen why.ChangeLimit
+    (record { answer = plain reply.Done; table = record t { rows = with_pairs t.rows v new; updates = t.updates + 1; changes = t.changes + 1 } })
+    (record { answer = plain reply.Done; table = record (bare t) { rows = with_pairs t.rows v new; updates = t.updates + 1; changes = t.changes + 1 } })
+    refl refl
+
+clone_bare : (t : Table) (v : ℕ) → (bare (clone t v).table ≡ (clone (bare t) v).table) × ((clone t v).answer ≡ (clone (bare t) v).answer)
+clone_bare t v =
+    three_bare (is_known t v) (eqb (length t.rows) t.versions_max) (eqb t.changes t.changes_max) t why.UnknownVersion why.VersionLimit why.ChangeLimit
+    (record { answer = plain (reply.Made (length t.rows)); table = record t { rows = t.rows ++ record { parent = Some v; pairs = pairs_at t v } ∷ []; changes = t.changes + 1 } })
+    (record { answer = plain (reply.Made (length t.rows)); table = record (bare t) { rows = t.rows ++ record { parent = Some v; pairs = pairs_at t v } ∷ []; changes = t.changes + 1 } })
+    refl refl
+
+-- a change leaves the cursors aside, and they it
+change_bare : (t : Table) (c : Change)
+    → (bare (step t (request_for c)).table ≡ (step (bare t) (request_for c)).table) × ((step t (request_for c)).answer ≡ (step (bare t) (request_for c)).answer)
+change_bare t (change.Put v key value) = update_bare t v (pairs.set key value (pairs_at t v))
+change_bare t (change.Delete v key) = update_bare t v (pairs.unset key (pairs_at t v))
+change_bare t (change.Clone p) = clone_bare t p
+
+pub steps_bare : (t : Table) (s : State) (c : Change) → Takes s c → bare t ≡ table_of s → bare (step t (request_for c)).table ≡ table_of (appended s c)
+steps_bare t s c takes means = (change_bare t c).0 ∙ ap (λ (x : Table). (step x (request_for c)).table) means ∙ steps_to s c takes
+
+pub answers_bare : (t : Table) (s : State) (c : Change) → Takes s c → bare t ≡ table_of s → (step t (request_for c)).answer ≡ answer_for s c
+answers_bare t s c takes means = (change_bare t c).1 ∙ ap (λ (x : Table). (step x (request_for c)).answer) means ∙ answers_as s c takes
 
 pub stays_sound : (s : State) (c : Change) → Takes s c → IsSound (appended s c)
 stays_sound s (change.Put v key value) takes = put_sound s takes.sound v key value takes.accepted takes.room

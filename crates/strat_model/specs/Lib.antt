@@ -13,3 +13,6 @@ pub mod PlainView
 pub mod Examples
 pub mod Kept
 pub mod StateTable
+pub mod Head
+pub mod Texts
+pub mod Settings

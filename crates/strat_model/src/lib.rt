@@ -9,6 +9,7 @@ mod plain_rows;
 mod plain_table;
 mod replies;
 pub mod state_laws;
+pub mod texts;
 
 pub use commands::Command;
 pub use ended::Ended;
