@@ -13,7 +13,7 @@ ghost use Rattle.strat_base.specs.Level.{Level, has_disjoint_tags, has_single_le
 ghost use Rattle.strat_base.specs.Live.{live, deciding};
 ghost use Rattle.strat_base.specs.Order.{key_cmp};
 ghost use Rattle.strat_base.specs.Reading.{read_at};
-ghost use Rattle.strat_base.specs.Sound.{has_ascending_entries, IsOpenable, IsSound, Takes};
+ghost use Rattle.strat_base.specs.Sound.{has_ascending_entries, IsWellFormed, IsSound, Takes};
 ghost use Rattle.strat_base.specs.State.{State, fresh_state, versions_of, sources, value_at, map_at, updates_of, changes_of, appended, stored, deep, IsPaid};
 ghost use Rattle.strat_base.specs.Tree.{Parents, parent_of, path, is_ancestor, below, with_child, IsTree};
 
@@ -66,9 +66,9 @@ pub fn the_first_place_decides()
         ≡ lookup (λ k. is_eq (key_cmp key k)) (map_at s v) }
 {}
 
-/// A sound state is one that opens and breaks no rule.
+/// A sound state is one that is well formed and breaks no rule.
 pub fn soundness_is_no_breach()
-    ensures { (s : State) → IsSound s ↔ (IsOpenable s × (breaches s ≡ [])) }
+    ensures { (s : State) → IsSound s ↔ (IsWellFormed s × (breaches s ≡ [])) }
 {}
 
 /// Where arrays ascend and tags are disjoint, a level has one lead for each key and version.
