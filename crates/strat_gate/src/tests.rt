@@ -1,11 +1,11 @@
-ghost use Rattle.std.specs.Prelude.{◌≤◌};
+ghost use Rattle.std.specs.Prelude.{◌≤◌, ◌<◌};
 ghost use Rattle.strat_base.specs.SuperBlock.{IsLawful};
 ghost use Rattle.strat_gate.specs.SuperView.{super_of};
 
 use super::*;
 use std::alloc::Global;
 use std::test::Fail;
-use strat_base::{Fault, NoMemory};
+use strat_base::{Failed, Fault, NoMemory};
 use strat_disk::{Disk, FuseDisk, MemDisk};
 
 // What formatting with 4 changes a region, 100 changes and 10 versions lays into slot 0.
@@ -36,6 +36,16 @@ fn disk_with(alloc: Global, slots: u8) -> Result<MemDisk, NoMemory> {
         let _ = lay(&mut disk, slot, &block(u64::from(slot) + 1));
     }
     Ok(disk)
+}
+
+// The example with its manifest in a block behind the largest regions, and with these bytes at this place.
+fn poke(disk: &mut MemDisk, slot: u8, at: u64, bytes: [u8; 4]) -> Result<(), Failed>
+    requires { at < 40 }
+{
+    let start = 4096 * (slot as u64);
+    disk.write_at(start, &EXAMPLE)?;
+    disk.write_at(start + 19, &[0, 0, 19, 136])?;
+    disk.write_at(start + at, &bytes)
 }
 
 #[test]
@@ -87,14 +97,10 @@ fn a_field_out_of_range_is_damage(rt: HostRuntime) -> Result<(), Fail> {
         (36, [0, 0, 64, 0], true),
         (36, [0, 0, 64, 1], false),
     ] {
-        for slot in 0..2u8 {
-            let mut disk = MemDisk::new(rt.alloc(), &[])?;
-            let start = 4096 * (slot as u64);
-            disk.write_at(start, &EXAMPLE)?;
-            // A manifest in a block behind the largest regions.
-            disk.write_at(start + 19, &[0, 0, 19, 136])?;
+        for slot in 0..2 {
             assert!(rt; at < 40);
-            disk.write_at(start + at, &bytes)?;
+            let mut disk = MemDisk::new(rt.alloc(), &[])?;
+            poke(&mut disk, slot, at, bytes)?;
             let found = newest(&mut disk);
             let damaged = found
                 == Err(Fault::Damaged {
