@@ -4,3 +4,4 @@ pub mod RaisingLemmas
 pub mod KeepLemmas
 pub mod AppendLemmas
 pub mod TextLemmas
+pub mod FrontLemmas

@@ -1,6 +1,7 @@
 //! A journal that takes all of a batch of changes or none of it.
 #![tactic(auto)]
 
+mod front;
 mod journal;
 mod layout;
 mod raising;
