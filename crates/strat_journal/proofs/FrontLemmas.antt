@@ -177,3 +177,11 @@ block_read old new before now first size room bytes block all x place n part sho
       most = omega (arith, long, part.within, part.blocks, part.whole);
       each_once = omega (arith, long);
     }
+
+-- a change that stands behind a place ends within the bytes, and not far behind it
+pub begins_near : (bytes all : List ℕ) (at next : ℕ) (c : Change) → bytes ≡ all → BeginsWith (drop (at + 1) bytes) c → at < length bytes → next ≡ at + 1 + length (change_bytes c)
+    → (next ≤ at + 1288) × (next ≤ length all)
+begins_near bytes all at next c same begins there next_is =
+    let few = length-change_bytes c begins.lawful in
+    let size : length (drop (at + 1) bytes) ≡ length (change_bytes c) + length begins.rest = ap length begins.split ∙ length-append (change_bytes c) begins.rest in
+    (omega arith, omega (arith, size, length-drop (at + 1) bytes, ap length same))

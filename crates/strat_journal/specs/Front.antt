@@ -1,8 +1,10 @@
 -- The front of a region that was read.
-use Rattle.std.specs.Prelude.{◌≡◌, ◌≢◌, ◌⊎◌, ◌≤◌, ◌<◌, ℕ, ◌+◌, ◌-◌, ◌%◌, ◌^◌, List, length, drop, slice_index, Some, ◌*◌, IsSome, Result, OnOk}
+use Rattle.std.specs.Prelude.{◌≡◌, ◌≢◌, ◌⊎◌, ◌≤◌, ◌<◌, ℕ, ◌+◌, ◌-◌, ◌%◌, ◌^◌, List, length, drop, slice_index, Option, Some, None, ◌*◌, IsSome, Result, OnOk}
 use Rattle.strat_base.specs.Image.{Image, window}
 use Rattle.strat_base.specs.Moments.{View, Passes, LeavesOld}
-use Rattle.strat_base.specs.Change.{Change, change_in}
+use Rattle.strat_base.specs.Change.{Change, change_bytes, change_in}
+use Rattle.strat_journal.specs.declared.journal.Logged.{Logged}
+use Rattle.strat_journal.specs.Records.{block_of}
 
 -- where a region begins, how many bytes it has, and the first of them
 pub record Part : Type 0 where
@@ -50,3 +52,25 @@ pub record ReadsOn {T E : Type 0} (old new : View) (before now : ℕ) (part next
   pub fewest : before ≤ now
   pub most : 4096 * now + length part.bytes ≤ 4096 * before + part.size
   pub each_once : OnOk result (4096 * now + length part.bytes ≤ 4096 * before + length next.bytes)
+
+-- what stands at a place of the bytes read: nothing behind a closed gate, or a change and the place after it
+abbrev pub Holds : Part → ℕ → Option (Change × ℕ) → Type 0
+Holds part at None = slice_index part.bytes at ≢ 0xa7
+Holds part at (Some (change, next)) =
+    (slice_index part.bytes at ≡ 0xa7) × (change_in (drop (at + 1) part.bytes) ≡ Some change) × (next ≡ at + 1 + length (change_bytes change))
+
+-- a gate stands open at a place, and no change behind it
+abbrev pub HoldsNone : Part → ℕ → Type 0
+HoldsNone part at = (slice_index part.bytes at ≡ 0xa7) × (change_in (drop (at + 1) part.bytes) ≡ None)
+
+-- what stands at a place of a region in an image: nothing behind a closed gate, or a record and the place after it
+abbrev pub Stored : Image → Part → ℕ → Option (Logged × ℕ) → Type 0
+Stored f part at None = f (part.first + at) ≢ 0xa7
+Stored f part at (Some (l, next)) =
+    (f (part.first + at) ≡ 0xa7) × (change_in (window f (part.first + at + 1) (part.size - (at + 1))) ≡ Some l.change)
+    × (l.block ≡ block_of (part.first + at)) × (next ≡ at + 1 + length (change_bytes l.change))
+
+-- a gate stands open at a place of a region in an image, in this block, and no change behind it
+abbrev pub StoredNone : Image → Part → ℕ → ℕ → Type 0
+StoredNone f part at block =
+    (f (part.first + at) ≡ 0xa7) × (change_in (window f (part.first + at + 1) (part.size - (at + 1))) ≡ None) × (block ≡ block_of (part.first + at))
