@@ -5,3 +5,4 @@ pub mod KeepLemmas
 pub mod AppendLemmas
 pub mod TextLemmas
 pub mod FrontLemmas
+pub mod ReadLemmas

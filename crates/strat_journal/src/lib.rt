@@ -5,6 +5,7 @@ mod front;
 mod journal;
 mod layout;
 mod raising;
+mod read;
 mod text;
 
 pub use journal::{Journal, Logged};
