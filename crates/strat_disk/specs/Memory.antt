@@ -40,6 +40,7 @@ log_view l = record {
   images_at = λ t c. Leaves (at_moment (plane_of l.first) l.events.items t) c;
 }
 
+-- the same of the disk
 abbrev pub view_of : MemDisk → View
 view_of d = log_view d.log
 

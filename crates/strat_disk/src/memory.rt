@@ -1,8 +1,7 @@
 //! A disk in memory, for tests: it can fail at chosen calls, and it can crash.
 ghost use Rattle.std.specs.Prelude.{◌≡◌, ◌≤◌, ◌<◌, ℕ, ◌+◌, ◌-◌, ◌^◌, [], true, length, slice_index, Some, IfOk, IfSome, IsSomeAnd, IsErr, IsTrue, OnOk, OnErr, is_err};
 ghost use Rattle.strat_base.specs.Faults.{Counts};
-ghost use Rattle.strat_base.specs.Image.{Outside, window, patch};
-ghost use Rattle.strat_base.specs.Moments.{Images, Passes, TearsOnly, LeavesOld, MayTear, Settled};
+ghost use Rattle.strat_base.specs.Moments.{Images, Gives, Writes, Garbles, Passes, TearsOnly, LeavesOld, MayTear, Settled};
 ghost use Rattle.strat_disk.specs.Counts.{one_more, is_failing};
 ghost use Rattle.strat_disk.specs.Medium.{at_rest, written, settled, altered, crashed};
 
@@ -84,7 +83,8 @@ impl MemDisk {
     /// The disk after a crash now, with no calls that fail. Where a write was pending there are the bytes of the
     /// last sync for choice 0, the bytes written for choice 1, and 0xa7 for any other. Linear in its length.
     pub fn crash(&self, choice: u8) -> Result<MemDisk, NoMemory>
-        ensures left { IfOk result (λ d. medium_of d ≡ at_rest (crashed choice (medium_of self.now))) }
+        ensures left { IfOk result (λ d. medium_of d
+            ≡ at_rest (crashed choice (medium_of self.now))) }
         ensures image { IfOk result (λ d. Images (view_of self.now) (slice_index (bytes_of d))) }
         ensures len { IfOk result (λ d. length (bytes_of d) ≡ length (bytes_of self.now)) }
         ensures failing { IfOk result (λ d. failing_of d ≡ []) }
@@ -127,7 +127,7 @@ impl Disk for MemDisk {
 
     fn read_at(&mut self, at: u64, into: &mut [u8]) -> Result<(), Failed>
         requires { at + length into.old ≤ 2 ^ 44 }
-        ensures ok { OnOk result (IfSome (view_of self.old).content (λ f. into.new ≡ window f at (length into.old))) }
+        ensures ok { OnOk result (Gives (view_of self.old) at (length into.old) into.new) }
         ensures same { (view_of self.new).content ≡ (view_of self.old).content }
         ensures images { LeavesOld (view_of self.old) (view_of self.new) }
         ensures time { Passes (view_of self.old) (view_of self.new) }
@@ -149,14 +149,17 @@ impl Disk for MemDisk {
 
     fn write_at(&mut self, at: u64, bytes: &[u8]) -> Result<(), Failed>
         requires { at + length bytes.now ≤ 2 ^ 44 }
-        ensures ok { OnOk result (IfSome (view_of self.old).content (λ f. (view_of self.new).content ≡ Some (patch f at bytes.now))) }
-        ensures err { OnErr result (IfSome (view_of self.old).content (λ f. IsSomeAnd (view_of self.new).content (Outside at (length bytes.now) f))) }
+        ensures ok { OnOk result (Writes (view_of self.old) (view_of self.new) at bytes.now) }
+        ensures err { OnErr result (Garbles (view_of self.old) (view_of self.new)
+            at (length bytes.now)) }
         ensures images { TearsOnly (view_of self.old) (view_of self.new) at (length bytes.now) }
-        ensures torn { OnOk result (MayTear (view_of self.old) (view_of self.new) at (length bytes.now)) }
+        ensures torn { OnOk result (MayTear (view_of self.old) (view_of self.new)
+            at (length bytes.now)) }
         ensures time { Passes (view_of self.old) (view_of self.new) }
         ensures cause { Counts (faults_of self.old) (faults_of self.new) result }
         ensures reads { reads_of self.new ≡ reads_of self.old }
-        ensures written { OnOk result (medium_of self.new ≡ written at bytes.now (medium_of self.old)) }
+        ensures written { OnOk result (medium_of self.new
+            ≡ written at bytes.now (medium_of self.old)) }
         ensures unwritten { OnErr result (medium_of self.new ≡ medium_of self.old) }
         ensures called { Called self.old self.new }
         ensures fails { is_failing (failing_of self.new) (calls_of self.new) ≡ true → IsErr result }
@@ -189,7 +192,8 @@ impl Disk for MemDisk {
         Ok(())
     }
 
-    ghost leaves_content = { λ d. content_left (plane_of d.log.first) d.log.events.items (plane_of d.log.present) d.log.replays d.log.present.whole };
+    ghost leaves_content = { λ d. content_left (plane_of d.log.first) d.log.events.items
+        (plane_of d.log.present) d.log.replays d.log.present.whole };
 
     ghost leaves_bytes = { λ d m c left. left.bytes };
 }

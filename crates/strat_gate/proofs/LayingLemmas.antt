@@ -1,12 +1,12 @@
 -- What a crash leaves of the slots while a superblock is laid, phase by phase.
-use Rattle.std.proofs.Common.{◌≡◌, ◌≢◌, ◌≤◌, ◌<◌, ℕ, zero, suc, ◌+◌, ◌-◌, ◌*◌, inl, inr, ◌⊎◌, List, [], ◌∷◌, ◌++◌, length, take, get_or, Option, Some, None, Result, Ok, Err, IfSome, refl, sym, ◌∙◌, ap, subst, arith}
+use Rattle.std.proofs.Common.{◌≡◌, ◌≢◌, ◌≤◌, ◌<◌, ℕ, zero, suc, ◌+◌, ◌-◌, ◌*◌, inl, inr, ◌⊎◌, List, [], ◌∷◌, length, get_or, Some, None, Ok, Err, IfSome, refl, sym, ◌∙◌, ap, subst, arith}
 use Rattle.std.proofs.lemmas.Bool.{cases_lt, cases_eq, cond-true}
 use Rattle.std.proofs.lemmas.List.{get_or_append_left}
-use Rattle.strat_base.specs.Image.{Image, SameIn, Outside, window, over, patch}
+use Rattle.strat_base.specs.Image.{Image, SameIn, Outside, patch}
 use Rattle.strat_base.specs.Moments.{View, Images, Since, Passes, TearsOnly, LeavesOld, Settled}
-use Rattle.strat_base.specs.SuperBlock.{Super, Slot, IsLawful, spelled, fields, zeros, body, in_range, slot_in, newer, chosen_in, verdict, newest_in}
-use Rattle.strat_base.proofs.ImageLemmas.{Lies, below, inside, above, lies, is_over, over_below, over_inside, over_above, is_window, outside_patch}
-use Rattle.strat_base.proofs.MomentLemmas.{now_since, since_now, now_since_start, each_then, settled_at, at_told}
+use Rattle.strat_base.specs.SuperBlock.{Super, Slot, IsLawful, spelled, fields, zeros, body, slot_in, newer, chosen_in, verdict, newest_in}
+use Rattle.strat_base.proofs.ImageLemmas.{below, inside, above, lies, is_over, over_below, over_inside, over_above, is_window, outside_patch}
+use Rattle.strat_base.proofs.MomentLemmas.{now_since_start, each_then, settled_at, at_told}
 use Rattle.strat_base.proofs.SuperBlockLemmas.{open_fields, length-spelled, length-body, gate_first, open_rest, lawful_in_range, slot_closed, slot_same, slot_laid, newer_first_gone, newer_second_gone, newer_first, newer_second}
 use Rattle.strat_gate.specs.Gates.{Closed}
 use Rattle.strat_gate.specs.Laying.{LaysOver, OldOrNew}

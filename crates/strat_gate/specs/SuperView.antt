@@ -3,6 +3,7 @@ use Rattle.std.specs.Prelude.{ℕ, Option, Some, None}
 use Rattle.strat_base.specs.SuperBlock.{Super, Slot}
 use Rattle.strat_gate.specs.declared.superblock.SuperBlock.{SuperBlock}
 
+-- the fields of a superblock
 abbrev pub super_of : SuperBlock → Super
 super_of sb = record {
   generation = sb.generation;

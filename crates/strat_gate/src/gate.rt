@@ -34,7 +34,8 @@ pub fn gate_raise<D: Disk>(disk: &mut D, at: u64) -> Result<(), Failed>
 /// Whether the gate at this byte is open: one read.
 pub fn gate_up<D: Disk>(disk: &mut D, at: u64) -> Result<bool, Failed>
     requires { at < 2 ^ 44 }
-    ensures ok { IfOk result (λ up. (f : Image) → (D.view disk.old).content ≡ Some f → up ≡ (f at == 0xa7)) }
+    ensures ok { IfOk result (λ up. (f : Image) → (D.view disk.old).content ≡ Some f
+        → up ≡ (f at == 0xa7)) }
     ensures same { (D.view disk.new).content ≡ (D.view disk.old).content }
     ensures images { LeavesOld (D.view disk.old) (D.view disk.new) }
     ensures time { Passes (D.view disk.old) (D.view disk.new) }
@@ -49,8 +50,10 @@ pub fn gate_up<D: Disk>(disk: &mut D, at: u64) -> Result<bool, Failed>
 /// could leave it open after a crash.
 pub fn gate_close<D: Disk>(disk: &mut D, at: u64) -> Result<(), Failed>
     requires { at < 2 ^ 44 }
-    ensures ok { OnOk result ((f : Image) → (D.view disk.old).content ≡ Some f → Closed f at (D.view disk.old) (D.view disk.new)) }
-    ensures alone { (f : Image) → (D.view disk.old).content ≡ Some f → f at ≢ 0xa7 → LeavesOld (D.view disk.old) (D.view disk.new) }
+    ensures ok { OnOk result ((f : Image) → (D.view disk.old).content ≡ Some f
+        → Closed f at (D.view disk.old) (D.view disk.new)) }
+    ensures alone { (f : Image) → (D.view disk.old).content ≡ Some f → f at ≢ 0xa7
+        → LeavesOld (D.view disk.old) (D.view disk.new) }
     ensures images { TearsOnly (D.view disk.old) (D.view disk.new) at 1 }
     ensures time { Passes (D.view disk.old) (D.view disk.new) }
     ensures cause { Counts (D.faults disk.old) (D.faults disk.new) result }

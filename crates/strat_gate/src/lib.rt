@@ -8,3 +8,6 @@ mod superblock;
 pub use gate::{gate_close, gate_raise, gate_shut, gate_up};
 pub use slots::{lay, newest};
 pub use superblock::SuperBlock;
+
+#[cfg(test)]
+mod tests;

@@ -3,7 +3,7 @@ ghost use Rattle.std.specs.Prelude.{◌≡◌, ◌≤◌, ◌<◌, ◌*◌, ◌+
 ghost use Rattle.strat_base.specs.Causes.{HasCause};
 ghost use Rattle.strat_base.specs.Faults.{Counts};
 ghost use Rattle.strat_base.specs.Image.{Image, patch};
-ghost use Rattle.strat_base.specs.Moments.{Images, Since, Passes, TearsOnly, LeavesOld, WritesThrough};
+ghost use Rattle.strat_base.specs.Moments.{Images, Since, Passes, TearsOnly, LeavesOld, Settled, WritesThrough};
 ghost use Rattle.strat_base.specs.SuperBlock.{IsLawful, body, slot_in, newer, verdict, newest_in};
 ghost use Rattle.strat_base.specs.declared.failures.Fault.TheVariants.{Damaged};
 ghost use Rattle.strat_gate.specs.SuperView.{super_of, seen, slot_seen};
@@ -18,8 +18,10 @@ use strat_disk::{Disk, write_through};
 /// Of two open slots the one of greater generation counts, at a tie the first; where its fields are out of range, its
 /// block is damaged.
 pub fn newest<D: Disk>(disk: &mut D) -> Result<Option<(u8, SuperBlock)>, Fault>
-    ensures found { IfOk result (λ r. (f : Image) → (D.view disk.old).content ≡ Some f → newest_in f ≡ Ok (seen r)) }
-    ensures damaged { IfErr result (λ e. (block : ℕ) → e ≡ Damaged block → (f : Image) → (D.view disk.old).content ≡ Some f → newest_in f ≡ Err block) }
+    ensures found { IfOk result (λ r. (f : Image) → (D.view disk.old).content ≡ Some f
+        → newest_in f ≡ Ok (seen r)) }
+    ensures damaged { IfErr result (λ e. (block : ℕ) → e ≡ Damaged block
+        → (f : Image) → (D.view disk.old).content ≡ Some f → newest_in f ≡ Err block) }
     ensures cause { HasCause (D.faults disk.old) (D.faults disk.new) result }
     ensures same { (D.view disk.new).content ≡ (D.view disk.old).content }
     ensures images { LeavesOld (D.view disk.old) (D.view disk.new) }
@@ -36,7 +38,8 @@ pub fn newest<D: Disk>(disk: &mut D) -> Result<Option<(u8, SuperBlock)>, Fault>
 
 fn read_slot<D: Disk>(disk: &mut D, at: u64) -> Result<Option<(u16, SuperBlock)>, Failed>
     requires { at ≤ 4096 }
-    ensures ok { IfOk result (λ r. (f : Image) → (D.view disk.old).content ≡ Some f → slot_in f at ≡ slot_seen r) }
+    ensures ok { IfOk result (λ r. (f : Image) → (D.view disk.old).content ≡ Some f
+        → slot_in f at ≡ slot_seen r) }
     ensures same { (D.view disk.new).content ≡ (D.view disk.old).content }
     ensures images { LeavesOld (D.view disk.old) (D.view disk.new) }
     ensures time { Passes (D.view disk.old) (D.view disk.new) }
@@ -51,8 +54,10 @@ fn choose(
     first: Option<(u16, SuperBlock)>,
     second: Option<(u16, SuperBlock)>,
 ) -> Result<Option<(u8, SuperBlock)>, Fault>
-    ensures found { IfOk result (λ r. verdict (newer (slot_seen first) (slot_seen second)) ≡ Ok (seen r)) }
-    ensures damaged { IfErr result (λ e. (block : ℕ) × (e ≡ Damaged block) × (verdict (newer (slot_seen first) (slot_seen second)) ≡ Err block)) }
+    ensures found { IfOk result (λ r. verdict (newer (slot_seen first) (slot_seen second))
+        ≡ Ok (seen r)) }
+    ensures damaged { IfErr result (λ e. (block : ℕ) × (e ≡ Damaged block)
+        × (verdict (newer (slot_seen first) (slot_seen second)) ≡ Err block)) }
 {
     let (slot, format, sb) = match (first, second) {
         (None, None) => return Ok(None),
@@ -77,11 +82,15 @@ pub fn lay<D: Disk>(disk: &mut D, slot: u8, sb: &SuperBlock) -> Result<(), Faile
     requires slot { slot < 2 }
     requires lawful { IsLawful (super_of sb.now) }
     ensures any_moment { (f : Image) → LaysOver (D.view disk.old) f slot (super_of sb.now)
-        → (c : Image) → Since (D.view disk.new) (D.view disk.old).moment c → OldOrNew f slot (super_of sb.now) c }
+        → (c : Image) → Since (D.view disk.new) (D.view disk.old).moment c
+        → OldOrNew f slot (super_of sb.now) c }
     ensures laid { (f : Image) → LaysOver (D.view disk.old) f slot (super_of sb.now)
-        → OnOk result ((c : Image) → Images (D.view disk.new) c → newest_in c ≡ Ok (Some (slot, super_of sb.now))) }
+        → OnOk result ((c : Image) → Images (D.view disk.new) c
+        → newest_in c ≡ Ok (Some (slot, super_of sb.now))) }
     ensures ok { OnOk result ((f : Image) → (D.view disk.old).content ≡ Some f
-        → (D.view disk.new).content ≡ Some (patch f (4096 * slot) (0xa7 ∷ body (super_of sb.now)))) }
+        → (D.view disk.new).content
+        ≡ Some (patch f (4096 * slot) (0xa7 ∷ body (super_of sb.now)))) }
+    ensures settled { OnOk result (Settled (D.view disk.new)) }
     ensures images { TearsOnly (D.view disk.old) (D.view disk.new) (4096 * slot) 4096 }
     ensures time { Passes (D.view disk.old) (D.view disk.new) }
     ensures cause { Counts (D.faults disk.old) (D.faults disk.new) result }
@@ -95,7 +104,8 @@ pub fn lay<D: Disk>(disk: &mut D, slot: u8, sb: &SuperBlock) -> Result<(), Faile
 
 fn write_body<D: Disk>(disk: &mut D, at: u64, sb: &SuperBlock) -> Result<(), Failed>
     requires { at ≤ 4097 }
-    ensures through { WritesThrough (D.view disk.old) (D.view disk.new) at (body (super_of sb.now)) result }
+    ensures through { WritesThrough (D.view disk.old) (D.view disk.new)
+        at (body (super_of sb.now)) result }
     ensures cause { Counts (D.faults disk.old) (D.faults disk.new) result }
 {
     let mut bytes = [0; 4095];

@@ -1,6 +1,5 @@
-use Rattle.std.proofs.Common.{◌≡◌, ◌≢◌, ◌==◌, true, false, sym, ◌∙◌, inl}
+use Rattle.std.proofs.Common.{sym, ◌∙◌, inl}
 use Rattle.std.proofs.lemmas.Bool.{eqb-true, eqb-false}
-use Rattle.strat_base.specs.Image.{Image}
 use Rattle.strat_base.proofs.MomentLemmas.{leaves_then_tears}
 use Rattle.strat_gate.proofs.gate.gate_close.Goals as goal
 

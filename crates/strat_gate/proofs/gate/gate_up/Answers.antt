@@ -1,4 +1,4 @@
-use Rattle.std.proofs.Common.{◌≡◌, ◌==◌, ℕ, ◌+◌, [], ◌∷◌, List, get_or, ap, ◌∙◌, arith}
+use Rattle.std.proofs.Common.{◌≡◌, ◌==◌, ℕ, ◌+◌, List, get_or, ap, ◌∙◌, arith}
 use Rattle.strat_base.specs.Image.{Image, window}
 use Rattle.strat_base.proofs.ImageLemmas.{window_at}
 use Rattle.strat_base.proofs.MomentLemmas.{at_told}

@@ -1,4 +1,4 @@
-use Rattle.std.proofs.Common.{◌≡◌, ◌*◌, ◌+◌, [], ◌∷◌, Some, length, inl, arith, ap, ◌∙◌}
+use Rattle.std.proofs.Common.{◌≡◌, ◌*◌, ◌+◌, [], ◌∷◌, Some, length, inl, arith}
 use Rattle.strat_base.specs.Image.{Image, patch}
 use Rattle.strat_base.specs.Moments.{Since, TearsOnly}
 use Rattle.strat_base.specs.SuperBlock.{body}

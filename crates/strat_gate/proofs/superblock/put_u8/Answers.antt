@@ -1,6 +1,6 @@
-use Rattle.std.proofs.Common.{◌≡◌, ℕ, suc, ◌+◌, ◌%◌, [], ◌∷◌, ◌++◌, List, take, drop, ap, sym, ◌∙◌, append_assoc, arith}
+use Rattle.std.proofs.Common.{◌≡◌, ℕ, suc, ◌+◌, ◌%◌, [], ◌∷◌, ◌++◌, take, drop, ap, sym, ◌∙◌, append_assoc, arith}
 use Rattle.std.proofs.lemmas.List.{set_split}
-use Rattle.strat_base.specs.Numbers.{be, placed}
+use Rattle.strat_base.specs.Numbers.{be}
 use Rattle.strat_gate.proofs.superblock.put_u8.Goals as goal
 
 pub returns : goal.returns

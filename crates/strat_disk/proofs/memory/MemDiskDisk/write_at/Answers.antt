@@ -1,4 +1,4 @@
-use Rattle.std.proofs.Common.{◌≡◌, ℕ, length, ap, subst, sym}
+use Rattle.std.proofs.Common.{◌≡◌, length, ap, subst, sym}
 use Rattle.strat_base.specs.Image.{Image, Outside}
 use Rattle.strat_base.proofs.ImageLemmas.{outside_refl}
 use Rattle.strat_base.proofs.MomentLemmas.{leaves_tears}
