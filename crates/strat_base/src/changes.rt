@@ -129,6 +129,7 @@ fn change_from(bytes: &[u8]) -> Option<Change<'_>>
 pub fn get_change(bytes: &[u8], at: usize) -> Option<(Change<'_>, usize)>
     ensures ok { Finds (λ r. (change_of r.0, r.1)) result (change_at bytes.now at) }
     ensures found { IfSome result (λ r. BeginsWith (drop at bytes.now) (change_of r.0)) }
+    ensures end { IfSome result (λ r. r.1 ≡ at + length (change_bytes (change_of r.0))) }
     ensures none { (c : TheChange) → BeginsWith (drop at bytes.now) c → IsSome result }
 {
     if at > bytes.len() {

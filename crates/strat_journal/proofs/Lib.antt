@@ -4,3 +4,5 @@ pub mod RaisingLemmas
 pub mod KeepLemmas
 pub mod AppendLemmas
 pub mod TextLemmas
+pub mod FrontLemmas
+pub mod ReadLemmas

@@ -89,10 +89,10 @@ module _ (c : Image) (at : ℕ) (change : Change) (list : List Change) where
           ap (λ (n : ℕ). window c n (length (change_bytes change ++ records_bytes list))) next ∙ window_both c (at + 1) (change_bytes change) (records_bytes list) first later in
       λ i. gate i ∷ rest i
 
-open_gate : (gate : ℕ) (a b : Result (List Logged) ℕ) → gate ≡ 0xa7 → cond (is_open gate) a b ≡ a
+pub open_gate : (gate : ℕ) (a b : Result (List Logged) ℕ) → gate ≡ 0xa7 → cond (is_open gate) a b ≡ a
 open_gate gate a b e = cond-true (is_open gate) a b (eq-eqb gate 0xa7 e)
 
-shut_gate : (gate : ℕ) (a b : Result (List Logged) ℕ) → gate ≢ 0xa7 → cond (is_open gate) a b ≡ b
+pub shut_gate : (gate : ℕ) (a b : Result (List Logged) ℕ) → gate ≢ 0xa7 → cond (is_open gate) a b ≡ b
 shut_gate gate a b shut = elim (cases_Bool (is_open gate)) [
   | inl up ↦ absurd (shut (eqb-true gate 0xa7 up))
   | inr down ↦ rw down refl

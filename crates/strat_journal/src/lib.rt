@@ -1,9 +1,11 @@
 //! A journal that takes all of a batch of changes or none of it.
 #![tactic(auto)]
 
+mod front;
 mod journal;
 mod layout;
 mod raising;
+mod read;
 mod text;
 
 pub use journal::{Journal, Logged};

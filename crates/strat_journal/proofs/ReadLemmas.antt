@@ -1,0 +1,158 @@
+-- How the records of a region are read one after the other.
+use Rattle.std.proofs.Common.{◌≡◌, ◌≢◌, ◌≤◌, ◌<◌, ◌+◌, ◌-◌, ◌*◌, ◌/◌, ℕ, zero, suc, ◌⊎◌, inl, inr, List, [], ◌∷◌, ◌++◌, length, Option, Some, None, Result, Ok, Err, cond, refl, sym, ap, ◌∙◌, subst, arith, length-append, append_assoc}
+use Rattle.std.proofs.lemmas.List.{append-nil}
+use Rattle.strat_base.specs.Image.{Image, window}
+use Rattle.strat_base.specs.Moments.{View}
+use Rattle.strat_base.specs.Change.{Change, change_bytes, change_in}
+use Rattle.strat_base.specs.SuperBlock.{region_blocks}
+use Rattle.strat_base.specs.Layout.{region_first, region_at, region_size, other_region}
+use Rattle.strat_journal.specs.declared.journal.Logged.{Logged}
+use Rattle.strat_journal.specs.Records.{is_open, block_of, put_first, record_then, joined, records, region_records}
+use Rattle.strat_journal.specs.Front.{Part, Looks, Shows, ReadsOn, Stored, StoredNone}
+use Rattle.strat_journal.proofs.RecordLemmas.{open_gate, shut_gate}
+use Rattle.strat_journal.proofs.FrontLemmas.{looks_refl, looks_trans}
+
+-- the records from a place on that are still to be read
+abbrev pub left : Image → ℕ → ℕ → ℕ → ℕ → Result (List Logged) ℕ
+left f mem region n at = records f (region_at mem region + region_size mem) n (region_at mem region + at)
+
+-- after n records of a region
+pub record SoFar (old now : View) (before reads : ℕ) (mem region n at : ℕ) (part : Part) (logged : List Logged) : Type 0 where
+  pub first : part.first ≡ region_at mem region
+  pub size : part.size ≡ region_size mem
+  pub near : at ≤ length part.bytes
+  pub far : at ≤ 1288 * n
+  pub within : length part.bytes ≤ part.size
+  pub count : length logged ≡ n
+  pub looks : Looks old now
+  pub shows : (f : Image) → old.content ≡ Some f → Shows f part
+  pub found : (f : Image) → old.content ≡ Some f → region_records f mem region ≡ joined logged (left f mem region (mem - n) at)
+  pub fewest : before ≤ reads
+  pub each_once : 4096 * reads ≤ 4096 * before + length part.bytes
+
+pub joined_none : {X : Type 0} (r : Result (List X) ℕ) → joined [] r ≡ r
+joined_none (Ok xs) = refl
+joined_none (Err block) = refl
+
+pub joined_first : {X : Type 0} (xs : List X) (x : X) (r : Result (List X) ℕ) → joined xs (put_first x r) ≡ joined (xs ++ x ∷ []) r
+joined_first xs x (Ok ys) = ap (λ (zs : List _). Ok zs) (sym (append_assoc xs (x ∷ []) ys))
+joined_first xs x (Err block) = refl
+
+module _ (f : Image) (mem region : ℕ) (part : Part) (first : part.first ≡ region_at mem region) (size : part.size ≡ region_size mem) (at m : ℕ) where
+  abbrev place : ℕ
+  place = region_at mem region + at
+
+  abbrev end : ℕ
+  end = region_at mem region + region_size mem
+
+  place_is : part.first + at ≡ place
+  place_is = omega (arith, first)
+
+  behind : change_in (window f (place + 1) (end - (place + 1))) ≡ change_in (window f (part.first + at + 1) (part.size - (at + 1)))
+  behind =
+      let from : place + 1 ≡ part.first + at + 1 = omega (arith, first) in
+      let more : end - (place + 1) ≡ part.size - (at + 1) = omega (arith, size) in
+      λ i. change_in (window f (from i) (more i))
+
+  -- a record is read, and then those that follow it
+  pub left_record : (l : Logged) (next : ℕ) → Stored f part at (Some (l, next)) → left f mem region (suc m) at ≡ put_first l (left f mem region m next)
+  unfolding records
+  left_record l next stored =
+      let follows : place + 1 + length (change_bytes l.change) ≡ region_at mem region + next = omega (arith, stored.3) in
+      let block : block_of place ≡ l.block = ap block_of (sym place_is) ∙ sym stored.2 in
+      let same : ◌≡◌ {A = Logged} (record { change = l.change; block = block_of place }) l = λ i. record { change = l.change; block = block i } in
+      open_gate (f place) _ (Ok []) (ap f (sym place_is) ∙ stored.0)
+      ∙ ap (record_then place (λ n. records f end m n)) (behind ∙ stored.1)
+      ∙ (λ i. put_first (same i) (records f end m (follows i)))
+
+  pub left_shut : Stored f part at None → left f mem region (suc m) at ≡ Ok []
+  unfolding records
+  left_shut shut = shut_gate (f place) _ (Ok []) (λ up. shut (ap f place_is ∙ up))
+
+  pub left_torn : (b : ℕ) → StoredNone f part at b → left f mem region (suc m) at ≡ Err b
+  unfolding records
+  left_torn b torn =
+      let block : block_of place ≡ b = ap block_of (sym place_is) ∙ sym torn.2 in
+      open_gate (f place) _ (Ok []) (ap f (sym place_is) ∙ torn.0)
+      ∙ ap (record_then place (λ n. records f end m n)) (behind ∙ torn.1)
+      ∙ ap (λ (n : ℕ). Err n) block
+
+left_none : (f : Image) (mem region at : ℕ) → left f mem region 0 at ≡ Ok []
+unfolding records
+left_none f mem region at = refl
+
+nothing_shown : (f : Image) (at : ℕ) → [] ≡ window f at 0
+unfolding window
+nothing_shown f at = refl
+
+pub begun : (v : View) (reads mem region : ℕ) (part : Part) (logged : List Logged) → part ≡ record { first = region_at mem region; size = region_size mem; bytes = [] } → logged ≡ []
+    → SoFar v v reads reads mem region 0 0 part logged
+begun v reads mem region part logged part_is none =
+    subst (λ (p : Part). SoFar v v reads reads mem region 0 0 p logged) (sym part_is)
+    (subst (λ (xs : List Logged). SoFar v v reads reads mem region 0 0 (record { first = region_at mem region; size = region_size mem; bytes = [] }) xs) (sym none) (record {
+      first = refl;
+      size = refl;
+      near = omega arith;
+      far = omega arith;
+      within = omega arith;
+      count = refl;
+      looks = looks_refl v;
+      shows = λ f told. nothing_shown f (region_at mem region);
+      found = λ f told.
+          let all : mem ≡ mem - 0 = omega arith in
+          let start : region_at mem region ≡ region_at mem region + 0 = omega arith in
+          (λ i. records f (region_at mem region + region_size mem) (all i) (start i)) ∙ sym (joined_none (left f mem region (mem - 0) 0));
+      fewest = omega arith;
+      each_once = omega arith;
+    }))
+
+module _ (old mid new : View) (before between reads : ℕ) (mem region n at : ℕ) (part next : Part) (logged : List Logged) (sofar : SoFar old mid before between mem region n at part logged) where
+  abbrev rest : Image → Result (List Logged) ℕ
+  rest f = left f mem region (suc (mem - (n + 1))) at
+
+  found_left : n < mem → (f : Image) → old.content ≡ Some f → region_records f mem region ≡ joined logged (rest f)
+  found_left few f told = let m : mem - n ≡ suc (mem - (n + 1)) = omega arith in sofar.found f told ∙ ap (λ (k : ℕ). joined logged (left f mem region k at)) m
+
+  pub one_more : {T E : Type 0} (x : T) (l : Logged) (to : ℕ) → n < mem → ReadsOn {T = T} {E = E} mid new between reads part next (Ok x)
+      → ((f : Image) → mid.content ≡ Some f → Shows f part → Stored f part at (Some (l, to))) → (to ≤ at + 1288) × (to ≤ length next.bytes)
+      → (all : List Logged) → all ≡ logged ++ l ∷ [] → SoFar old new before reads mem region (n + 1) to next all
+  one_more x l to few on there near all all_is = record {
+    first = on.first ∙ sofar.first;
+    size = on.size ∙ sofar.size;
+    near = near.1;
+    far = omega (arith, sofar.far, near.0);
+    within = on.within;
+    count = omega (arith, ap length all_is, length-append logged (l ∷ []), sofar.count);
+    looks = looks_trans sofar.looks on.looks;
+    shows = λ f told. on.shows f (sofar.looks.same ∙ told) (sofar.shows f told);
+    found = λ f told.
+        found_left few f told
+        ∙ ap (joined logged) (left_record f mem region part sofar.first sofar.size at (mem - (n + 1)) l to (there f (sofar.looks.same ∙ told) (sofar.shows f told)))
+        ∙ joined_first logged l (left f mem region (mem - (n + 1)) to)
+        ∙ ap (λ (xs : List Logged). joined xs (left f mem region (mem - (n + 1)) to)) (sym all_is);
+    fewest = omega (arith, sofar.fewest, on.fewest);
+    each_once = omega (arith, sofar.each_once, on.each_once);
+  }
+
+  pub ends_shut : n < mem → ((f : Image) → mid.content ≡ Some f → Shows f part → Stored f part at None) → (f : Image) → old.content ≡ Some f → region_records f mem region ≡ Ok logged
+  ends_shut few there f told =
+      found_left few f told
+      ∙ ap (joined logged) (left_shut f mem region part sofar.first sofar.size at (mem - (n + 1)) (there f (sofar.looks.same ∙ told) (sofar.shows f told)))
+      ∙ ap (λ (xs : List Logged). Ok xs) (append-nil logged)
+
+  pub ends_torn : (b : ℕ) → n < mem → ((f : Image) → mid.content ≡ Some f → Shows f part → StoredNone f part at b) → (f : Image) → old.content ≡ Some f → region_records f mem region ≡ Err b
+  ends_torn b few there f told =
+      found_left few f told
+      ∙ ap (joined logged) (left_torn f mem region part sofar.first sofar.size at (mem - (n + 1)) b (there f (sofar.looks.same ∙ told) (sofar.shows f told)))
+
+  pub ends_full : mem ≤ n → (f : Image) → old.content ≡ Some f → region_records f mem region ≡ Ok logged
+  ends_full full f told =
+      let none : mem - n ≡ 0 = omega arith in
+      sofar.found f told
+      ∙ ap (λ (k : ℕ). joined logged (left f mem region k at)) none
+      ∙ ap (joined logged) (left_none f mem region at)
+      ∙ ap (λ (xs : List Logged). Ok xs) (append-nil logged)
+
+-- the error that is handed on is the one that came
+pub same_err : {T U E : Type 0} (r : Result T E) (x y z : E) → r ≡ Err x → x ≡ y → r ≡ Err z → ◌≡◌ {A = Result U E} (Err y) (Err z)
+same_err r x y z e same f = let g : Err x ≡ Err z = sym e ∙ f in let h : x ≡ z = cc in ap (λ (w : _). Err w) (sym same ∙ h)

@@ -1,0 +1,43 @@
+//! Reading a journal when a store is opened.
+
+ghost use Rattle.std.specs.Prelude.{◌≡◌, ◌≤◌, ◌<◌, ℕ, ◌+◌, length, Some, Ok, Err, IfOk, IsErrOf, vec_len};
+ghost use Rattle.strat_base.specs.Image.{Image};
+ghost use Rattle.strat_base.specs.SuperBlock as layout;
+ghost use Rattle.strat_base.specs.Troubles.{HasTrouble};
+ghost use Rattle.strat_base.specs.declared.failures.Trouble.TheVariants.{Damaged};
+ghost use Rattle.strat_journal.specs.Front.{Looks};
+ghost use Rattle.strat_journal.specs.Records.{region_records};
+
+use crate::front::Front;
+use crate::journal::Logged;
+use std::alloc::Global;
+use strat_base::Trouble;
+use strat_disk::Disk;
+
+/// The records of a region, up to its first closed gate or as many as it takes. Reads each block at most
+/// once and none behind that gate.
+fn read_region<D: Disk>(alloc: Global, disk: &mut D, mem: u32, region: u8) -> Result<Vec<Logged>, Trouble>
+    requires mem { mem ≤ 4096 }
+    requires region { region ≤ 1 }
+    ensures found { IfOk result (λ v. (f : Image) → (D.view disk.old).content ≡ Some f
+        → region_records f mem region ≡ Ok v.items) }
+    ensures few { IfOk result (λ v. vec_len v ≤ mem) }
+    ensures damaged { (b : ℕ) → IsErrOf result (Damaged b) → (f : Image)
+        → (D.view disk.old).content ≡ Some f → region_records f mem region ≡ Err b }
+    ensures looks { Looks (D.view disk.old) (D.view disk.new) }
+    ensures cause { HasTrouble (D.faults disk.old) (D.faults disk.new) result }
+    ensures fewest_reads { D.reads disk.old ≤ D.reads disk.new }
+    ensures most_reads { D.reads disk.new ≤ D.reads disk.old + layout.region_blocks mem }
+{
+    let mut front = Front::new(alloc, mem, region)?;
+    let mut logged = Vec::with_capacity(alloc, mem as usize)?;
+    let mut at = 0;
+    for _i in 0..mem {
+        let Some((record, next)) = front.next(alloc, disk, at)? else {
+            return Ok(logged);
+        };
+        logged.push(record)?;
+        at = next;
+    }
+    Ok(logged)
+}
