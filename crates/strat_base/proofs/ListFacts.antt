@@ -1,6 +1,6 @@
 -- Elements of a list, and what tests and searches say of them.
-use Rattle.std.proofs.Common.{◌≡◌, ◌≤◌, ◌<◌, ◌+◌, ℕ, zero, suc, Bool, true, false, cond, ◌&&◌, ◌||◌, ◌⊎◌, inl, inr, List, [], ◌∷◌, ◌++◌, reverse, filter, Option, Some, None, refl, sym, ap, ◌∙◌, subst, true≢false, arith}
-use Rattle.std.specs.List.{list_any, list_all, find, flat_map, range_with_len, AllByRecursion}
+use Rattle.std.proofs.Common.{◌≡◌, ◌≤◌, ◌<◌, ◌+◌, ℕ, zero, suc, map, Bool, true, false, cond, ◌&&◌, ◌||◌, Option, ◌⊎◌, inl, inr, List, [], ◌∷◌, ◌++◌, reverse, filter, Some, None, refl, sym, ap, ◌∙◌, subst, true≢false, arith}
+use Rattle.std.specs.List.{list_any, list_all, find, flat_map, fold, filter_map, cons_option, slice_get, range_with_len, AllByRecursion}
 use Rattle.std.proofs.lemmas.Bool.{or_cases, or_left, or_right, and_parts, and_from, cases_Bool, cases_eq}
 use Rattle.std.proofs.lemmas.List.{reverse-append}
 
@@ -70,8 +70,9 @@ pub among_flat : {X Y : Type 0} (f : X → List Y) (xs : List X) (y : Y) → Amo
 among_flat f [] y among = absurd among
 among_flat f (x ∷ xs) y among =
     elim (among_split (f x) (flat_map f xs) y among) [
-      inl here ↦ (x, inl refl, here)
-    | inr there ↦ let found = among_flat f xs y there in (found.0, inr found.1, found.2) ]
+      | inl here ↦ (x, inl refl, here)
+      | inr there ↦ let found = among_flat f xs y there in (found.0, inr found.1, found.2)
+    ]
 
 pub among_in_flat : {X Y : Type 0} (f : X → List Y) (xs : List X) (x : X) (y : Y) → Among x xs → Among y (f x) → Among y (flat_map f xs)
 among_in_flat f [] x y among there = absurd among
@@ -82,15 +83,17 @@ pub among_filter : {X : Type 0} (p : X → Bool) (xs : List X) (x : X) → Among
 among_filter p [] x among passes = absurd among
 among_filter p (y ∷ ys) x among passes =
     elim (p y) as (λ b. p y ≡ b → Among x (cond b (y ∷ filter p ys) (filter p ys))) [
-      true ↦ λ is. elim among [ inl same ↦ inl same | inr there ↦ inr (among_filter p ys x there passes) ]
-    | false ↦ λ is. elim among [ inl same ↦ absurd (true≢false (sym passes ∙ ap p same ∙ is)) | inr there ↦ among_filter p ys x there passes ] ] refl
+      | true ↦ λ is. elim among [ inl same ↦ inl same | inr there ↦ inr (among_filter p ys x there passes) ]
+      | false ↦ λ is. elim among [ inl same ↦ absurd (true≢false (sym passes ∙ ap p same ∙ is)) | inr there ↦ among_filter p ys x there passes ]
+    ] refl
 
 pub filter_among : {X : Type 0} (p : X → Bool) (xs : List X) (x : X) → Among x (filter p xs) → Among x xs × (p x ≡ true)
 filter_among p [] x among = absurd among
 filter_among p (y ∷ ys) x among =
     elim (p y) as (λ b. p y ≡ b → Among x (cond b (y ∷ filter p ys) (filter p ys)) → Among x (y ∷ ys) × (p x ≡ true)) [
-      true ↦ λ is here. elim here [ inl same ↦ (inl same, ap p same ∙ is) | inr there ↦ let found = filter_among p ys x there in (inr found.0, found.1) ]
-    | false ↦ λ is there. let found = filter_among p ys x there in (inr found.0, found.1) ] refl among
+      | true ↦ λ is here. elim here [ inl same ↦ (inl same, ap p same ∙ is) | inr there ↦ let found = filter_among p ys x there in (inr found.0, found.1) ]
+      | false ↦ λ is there. let found = filter_among p ys x there in (inr found.0, found.1)
+    ] refl among
 
 pub each_of : {X : Type 0} (P : X → Type 0) (xs : List X) (x : X) → AllByRecursion P xs → Among x xs → P x
 each_of P [] x each among = absurd among
@@ -106,5 +109,63 @@ pub among_range : (a n c : ℕ) → a ≤ c → c < a + n → Among c (range_wit
 among_range a zero c le lt = absurd (omega arith)
 among_range a (suc n) c le lt =
     elim (cases_eq c a) [
-      inl here ↦ inl here
-    | inr apart ↦ inr (among_range (a + 1) n c (omega arith) (omega arith)) ]
+      | inl here ↦ inl here
+      | inr apart ↦ inr (among_range (a + 1) n c (omega arith) (omega arith))
+    ]
+
+pub each_from : {X : Type 0} (P : X → Type 0) (xs : List X) → ((x : X) → Among x xs → P x) → AllByRecursion P xs
+each_from P [] each = tt
+each_from P (x ∷ xs) each = (each x (inl refl), each_from P xs (λ y among. each y (inr among)))
+
+pub empty_parts : {X : Type 0} (xs ys : List X) → xs ++ ys ≡ [] → (xs ≡ []) × (ys ≡ [])
+empty_parts [] ys e = (refl, e)
+empty_parts (x ∷ xs) ys e = absurd (cc)
+
+pub empty_both : {X : Type 0} (xs ys : List X) → xs ≡ [] → ys ≡ [] → xs ++ ys ≡ []
+empty_both [] ys e f = f
+empty_both (x ∷ xs) ys e f = absurd (cc)
+
+-- what is made of each element is nothing
+pub flat_empty : {X Y : Type 0} (f : X → List Y) (xs : List X) → ((x : X) → Among x xs → f x ≡ []) → flat_map f xs ≡ []
+flat_empty f [] each = refl
+flat_empty f (x ∷ xs) each = empty_both (f x) (flat_map f xs) (each x (inl refl)) (flat_empty f xs (λ y among. each y (inr among)))
+
+pub empty_each : {X Y : Type 0} (f : X → List Y) (xs : List X) (x : X) → flat_map f xs ≡ [] → Among x xs → f x ≡ []
+empty_each f [] x e among = absurd among
+empty_each f (y ∷ ys) x e (inl here) = ap f here ∙ (empty_parts (f y) (flat_map f ys) e).0
+empty_each f (y ∷ ys) x e (inr there) = empty_each f ys x (empty_parts (f y) (flat_map f ys) e).1 there
+
+pub range_among : (a n c : ℕ) → Among c (range_with_len a n) → (a ≤ c) × (c < a + n)
+range_among a zero c among = absurd among
+range_among a (suc n) c (inl here) = (omega arith, omega arith)
+range_among a (suc n) c (inr there) = let found = range_among (a + 1) n c there in (omega (arith, found.0), omega (arith, found.1))
+
+-- tests that agree on a list find the same
+pub any_same : {X : Type 0} (p q : X → Bool) (xs : List X) → ((x : X) → Among x xs → p x ≡ q x) → list_any p xs ≡ list_any q xs
+any_same p q [] each = refl
+any_same p q (x ∷ xs) each = λ i. each x (inl refl) i || any_same p q xs (λ y among. each y (inr among)) i
+
+pub all_same : {X : Type 0} (p q : X → Bool) (xs : List X) → ((x : X) → Among x xs → p x ≡ q x) → list_all p xs ≡ list_all q xs
+all_same p q [] each = refl
+all_same p q (x ∷ xs) each = λ i. each x (inl refl) i && all_same p q xs (λ y among. each y (inr among)) i
+
+pub map_same : {X Y : Type 0} (f g : X → Y) (xs : List X) → ((x : X) → Among x xs → f x ≡ g x) → map f xs ≡ map g xs
+map_same f g [] each = refl
+map_same f g (x ∷ xs) each = λ i. each x (inl refl) i ∷ map_same f g xs (λ y among. each y (inr among)) i
+
+pub get_among : {X : Type 0} (xs : List X) (i : ℕ) (x : X) → slice_get xs i ≡ Some x → Among x xs
+get_among [] i x e = absurd (cc)
+get_among (y ∷ ys) zero x e = inl (cc)
+get_among (y ∷ ys) (suc i) x e = inr (get_among ys i x e)
+
+pub fold-push : {X Y : Type 0} (f : Y → X → Y) (a : Y) (xs : List X) (x : X) → fold f a (xs ++ x ∷ []) ≡ f (fold f a xs) x
+fold-push f a [] x = refl
+fold-push f a (y ∷ ys) x = fold-push f (f a y) ys x
+
+pub filter_map-append : {X Y : Type 0} (f : X → Option Y) (xs ys : List X) → filter_map f (xs ++ ys) ≡ filter_map f xs ++ filter_map f ys
+filter_map-append f [] ys = refl
+filter_map-append {Y = Y} f (x ∷ xs) ys =
+    elim (f x) as (λ o. cons_option o (filter_map f (xs ++ ys)) ≡ cons_option o (filter_map f xs) ++ filter_map f ys) [
+      | None ↦ filter_map-append f xs ys
+      | Some y ↦ ap (λ (r : List Y). y ∷ r) (filter_map-append f xs ys)
+    ]

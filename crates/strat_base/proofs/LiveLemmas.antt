@@ -162,7 +162,7 @@ single_few p (e ∷ entries) single alike =
       | false ↦ λ is. single_few p entries parts.1 (λ d f a b x y. alike d f (inr a) (inr b) x y)
     ] refl
 
-single_filter : (p : Entry → Bool) (entries : List Entry) → is_single entries ≡ true → is_single (filter p entries) ≡ true
+pub single_filter : (p : Entry → Bool) (entries : List Entry) → is_single entries ≡ true → is_single (filter p entries) ≡ true
 single_filter p [] single = refl
 single_filter p (e ∷ entries) single =
     let parts = and_parts (not (list_any (is_at e.key e.version) entries)) (is_single entries) single in

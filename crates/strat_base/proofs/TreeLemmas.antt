@@ -250,7 +250,7 @@ module _ (parents : Parents) (tree : IsTree parents) (p : ℕ) (known : p < leng
         ];
   }
 
-  parent_kept : (v : ℕ) → v < length parents → parent_of (parents ++ Some p ∷ []) v ≡ parent_of parents v
+  pub parent_kept : (v : ℕ) → v < length parents → parent_of (parents ++ Some p ∷ []) v ≡ parent_of parents v
   parent_kept v older = ap (λ (o : Option (Option ℕ)). option_and_then (λ parent. parent) o) (slice_get-push parents (Some p) v older)
 
   pub path_kept : (v : ℕ) → v < length parents → path (parents ++ Some p ∷ []) v ≡ path parents v

@@ -1,7 +1,8 @@
 -- Changes of a store, and their bytes in a journal.
 use Rattle.std.specs.Prelude.{◌≡◌, ℕ, ◌+◌, ◌^◌, nat_lt, nat_le, ◌==◌, ◌&&◌, Bool, if◌then◌else◌, List, [], ◌∷◌, ◌++◌, length, drop, Option, Some, None, IsTrue, option_map, option_and_then}
 use Rattle.strat_base.specs.Numbers.{be, number}
-use Rattle.strat_base.specs.Fields.{is_key, is_value, key_field, value_field, key_in, value_in}
+use Rattle.strat_base.specs.Sizes.{is_key, is_value}
+use Rattle.strat_base.specs.Fields.{key_field, value_field, key_in, value_in}
 
 -- a change of a store: a key has a value at a version, or is gone from it, or a version has a new child
 pub data Change : Type 0 where

@@ -1,15 +1,7 @@
 -- Keys and values as fields: a length, and so many bytes.
-use Rattle.std.specs.Prelude.{ℕ, ◌+◌, nat_le, ◌&&◌, Bool, if◌then◌else◌, List, [], ◌∷◌, ◌++◌, length, take, drop, Option, Some, None}
+use Rattle.std.specs.Prelude.{ℕ, ◌+◌, nat_le, ◌&&◌, if◌then◌else◌, List, [], ◌∷◌, ◌++◌, length, take, drop, Option, Some, None}
 use Rattle.strat_base.specs.Numbers.{be, number}
-use Rattle.strat_base.specs.declared.limits.TheConstants.{KEY_MAX, VALUE_MAX}
-
--- these bytes may be a key
-abbrev pub is_key : List ℕ → Bool
-is_key key = nat_le 1 (length key) && nat_le (length key) KEY_MAX
-
--- these bytes may be a value
-abbrev pub is_value : List ℕ → Bool
-is_value value = nat_le (length value) VALUE_MAX
+pub use Rattle.strat_base.specs.Sizes.{is_key, is_value}
 
 -- a key behind its length, in one byte
 abbrev pub key_field : List ℕ → List ℕ

@@ -1,5 +1,5 @@
 -- Levels of arrays, and when a level is stratified.
-use Rattle.std.specs.Prelude.{ℕ, ◌*◌, ◌==◌, nat_lt, nat_le, ◌&&◌, ◌||◌, not, Bool, true, List, [], ◌∷◌, length, min, flat_map, IsTrue}
+use Rattle.std.specs.Prelude.{ℕ, ◌*◌, ◌==◌, nat_lt, nat_le, ◌&&◌, ◌||◌, not, Bool, true, List, [], ◌∷◌, length, min, map, flat_map, IsTrue}
 use Rattle.std.specs.List.{list_all, range_with_len}
 use Rattle.strat_base.specs.Tree.{Parents}
 use Rattle.strat_base.specs.Entries.{Entry, is_tagged, lead_entries, holds_entry, are_same, is_single}
@@ -24,14 +24,23 @@ pub record Level : Type 0 where
 abbrev pub own_leads : TaggedArray → List Entry
 own_leads a = lead_entries a.tag a.content
 
+-- the least of some numbers, or 0 of none
+abbrev pub least : List ℕ → ℕ
+least [] = 0
+least (n ∷ []) = n
+least (n ∷ m ∷ rest) = min n (least (m ∷ rest))
+
 -- the least number of keys live at a version of an array's tag
 abbrev pub least_live : Parents → TaggedArray → ℕ
-least_live parents a = least_of a.tag
-  where
-    least_of : List ℕ → ℕ
-    least_of [] = 0
-    least_of (v ∷ []) = length (live parents a.content v)
-    least_of (v ∷ w ∷ vs) = min (length (live parents a.content v)) (least_of (w ∷ vs))
+least_live parents a = least (map (λ v. length (live parents a.content v)) a.tag)
+
+-- the density of an array: the least number live at a version of its tag, of all its entries
+abbrev pub density : Parents → TaggedArray → ℕ × ℕ
+density parents a = (least_live parents a, length a.content)
+
+-- the lead fraction of an array: its leads, of all its entries
+abbrev pub lead_fraction : TaggedArray → ℕ × ℕ
+lead_fraction a = (length (own_leads a), length a.content)
 
 -- the leads of a level: those of all its arrays
 abbrev pub level_leads : Level → List Entry
@@ -77,10 +86,10 @@ has_single_leads level = is_single (level_leads level)
 
 -- a level is stratified
 pub record IsStratified (parents : Parents) (level : Level) : Type 0 where
-  pub disjoint : IsTrue (has_disjoint_tags level)                        -- a
-  pub tagged : IsTrue (has_live_tagged parents level)                    -- b
-  pub agreeing : IsTrue (list_all (agrees parents level) level.arrays)   -- c
-  pub dense : IsTrue (list_all (is_dense parents) level.arrays)          -- d
-  pub led : IsTrue (list_all is_led level.arrays)                        -- e
-  pub drawn : IsTrue (list_all (is_drawn level) level.arrays)            -- f
-  pub single : IsTrue (has_single_leads level)                           -- g
+  pub disjoint : IsTrue (has_disjoint_tags level)  -- a
+  pub tagged : IsTrue (has_live_tagged parents level)  -- b
+  pub agreeing : IsTrue (list_all (agrees parents level) level.arrays)  -- c
+  pub dense : IsTrue (list_all (is_dense parents) level.arrays)  -- d
+  pub led : IsTrue (list_all is_led level.arrays)  -- e
+  pub drawn : IsTrue (list_all (is_drawn level) level.arrays)  -- f
+  pub single : IsTrue (has_single_leads level)  -- g

@@ -1,12 +1,24 @@
 -- What a crash may leave at each moment in the life of a disk, and how a call may change that.
-use Rattle.std.specs.Prelude.{◌≡◌, ◌≤◌, ℕ, List, length, Option, Some, IfSome, Result, OnOk}
-use Rattle.strat_base.specs.Image.{Image, HoldsBytes, Outside, patch}
+use Rattle.std.specs.Prelude.{◌≡◌, ◌≤◌, ℕ, List, length, Option, Some, IfSome, IsSomeAnd, Result, OnOk}
+use Rattle.strat_base.specs.Image.{Image, HoldsBytes, Outside, window, patch}
 
--- a disk as its users see it: its content where it tells it, the moment, and the images that a crash at each moment up to this one might have left
+-- a disk as its users see it: its content where told, the moment, and what a crash at each moment so far might have left
 pub record View : Type 1 where
   pub content : Option Image
   pub moment : ℕ
   pub images_at : ℕ → Image → Type 0
+
+-- a content that is told has these n bytes from a place on
+abbrev pub Gives : View → ℕ → ℕ → List ℕ → Type 0
+Gives v at n bytes = IfSome v.content (λ f. bytes ≡ window f at n)
+
+-- a content that was told is told with these bytes written over it
+abbrev pub Writes : View → View → ℕ → List ℕ → Type 0
+Writes old new at bytes = IfSome old.content (λ f. new.content ≡ Some (patch f at bytes))
+
+-- a content that was told is told as before, but for n bytes from a place on
+abbrev pub Garbles : View → View → ℕ → ℕ → Type 0
+Garbles old new at n = IfSome old.content (λ f. IsSomeAnd new.content (Outside at n f))
 
 -- what a crash may leave now
 abbrev pub Images : View → Image → Type 0
@@ -41,9 +53,9 @@ pub record MayTear (old new : View) (at n : ℕ) : Type 0 where
 abbrev pub Settled : View → Type 0
 Settled v = IfSome v.content (λ f. (c : Image) → Images v c → c ≡ f)
 
--- after a write and a sync of it: until the sync the range may be torn, after it a crash leaves the bytes as written
+-- after a write and a sync: until then the range may be torn, from then on a crash leaves the bytes as written
 pub record WritesThrough {T E : Type 0} (old new : View) (at : ℕ) (bytes : List ℕ) (result : Result T E) : Type 0 where
   pub images : TearsOnly old new at (length bytes)
   pub time : Passes old new
-  pub content : OnOk result (IfSome old.content (λ f. new.content ≡ Some (patch f at bytes)))
+  pub content : OnOk result (Writes old new at bytes)
   pub settled : OnOk result (Settled new)

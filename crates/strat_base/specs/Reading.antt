@@ -1,5 +1,5 @@
 -- How a key is read at a version: place by place, the newest first.
-use Rattle.std.specs.Prelude.{ℕ, List, [], ◌∷◌, find, Option, Some, None, option_and_then}
+use Rattle.std.specs.Prelude.{ℕ, List, [], ◌∷◌, find, Option, None, option_and_then}
 use Rattle.std.specs.Option.{option_or}
 use Rattle.strat_base.specs.Tree.{Parents, below}
 use Rattle.strat_base.specs.Entries.{Entry, is_of, is_tagged, latest}

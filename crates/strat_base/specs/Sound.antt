@@ -1,13 +1,13 @@
 -- When a state is sound.
-use Rattle.std.specs.Prelude.{ℕ, suc, ◌+◌, ◌*◌, ◌^◌, ◌==◌, nat_lt, nat_le, ◌&&◌, not, Bool, true, false, List, [], ◌∷◌, ◌++◌, length, sum_by, filter, flat_map, Option, Some, None, IsTrue}
+use Rattle.std.specs.Prelude.{◌<◌, ℕ, suc, ◌*◌, ◌^◌, ◌==◌, nat_lt, nat_le, ◌&&◌, not, Bool, true, false, List, [], ◌∷◌, ◌++◌, length, sum_by, filter, flat_map, Some, None, IsTrue}
 use Rattle.std.specs.Option.{option_map_or}
 use Rattle.std.specs.List.{list_any, list_all, range_with_len, AllByRecursion}
 use Rattle.strat_base.specs.declared.limits.TheConstants.{LEVELS}
 use Rattle.strat_base.specs.Tree.{Parents, is_known, parent_of, has_child}
-use Rattle.strat_base.specs.Entries.{Entry, is_ascending}
+use Rattle.strat_base.specs.Entries.{is_ascending}
 use Rattle.strat_base.specs.Change.{Change, Put, Delete, Clone}
 use Rattle.strat_base.specs.Level.{TaggedArray, Level, own_leads, least_live, level_leads, IsStratified}
-use Rattle.strat_base.specs.State.{State, versions_of, is_living, journal_updates, tree_after}
+use Rattle.strat_base.specs.State.{State, versions_of, is_living, journal_updates, changes_of, tree_after}
 
 -- version 0 alone is a root, and every other parent was made before its child
 abbrev pub is_tree_from : ℕ → Parents → Bool
@@ -61,28 +61,46 @@ has_few_leads s = nat_le (sum_by (λ level. length (level_leads level)) s.levels
 abbrev pub has_ascending_entries : TaggedArray → Bool
 has_ascending_entries a = is_ascending a.content
 
--- a change is accepted by a tree and a number of changes, within the limits of a state
-abbrev pub is_accepted : State → Parents → ℕ → Change → Bool
-is_accepted s parents changes (Put version key value) = is_known parents version && not (has_child parents version) && not (changes == s.changes_max)
-is_accepted s parents changes (Delete version key) = is_known parents version && not (has_child parents version) && not (changes == s.changes_max)
-is_accepted s parents changes (Clone version) = is_known parents version && not (length parents == s.versions_max) && not (changes == s.changes_max)
+-- a tree and a number of changes accept a change, where there may be so many changes and versions at most
+abbrev pub is_accepted : ℕ → ℕ → Parents → ℕ → Change → Bool
+is_accepted changes_max versions_max parents changes (Put version key value) =
+    is_known parents version && not (has_child parents version) && not (changes == changes_max)
+is_accepted changes_max versions_max parents changes (Delete version key) =
+    is_known parents version && not (has_child parents version) && not (changes == changes_max)
+is_accepted changes_max versions_max parents changes (Clone version) =
+    is_known parents version && not (length parents == versions_max) && not (changes == changes_max)
 
 -- each change is accepted in its turn
-abbrev pub are_accepted : State → Parents → ℕ → List Change → Bool
-are_accepted s parents changes [] = true
-are_accepted s parents changes (change ∷ journal) =
-    is_accepted s parents changes change && are_accepted s (tree_after parents change) (suc changes) journal
+abbrev pub are_accepted : ℕ → ℕ → Parents → ℕ → List Change → Bool
+are_accepted changes_max versions_max parents changes [] = true
+are_accepted changes_max versions_max parents changes (change ∷ journal) =
+    is_accepted changes_max versions_max parents changes change
+    && are_accepted changes_max versions_max (tree_after parents change) (suc changes) journal
+
+-- a state accepts one more change
+abbrev pub accepts_change : State → Change → Bool
+accepts_change s change = is_accepted s.changes_max s.versions_max (versions_of s) (changes_of s) change
+
+-- what an opening tests of a state
+pub record IsOpenable (s : State) : Type 0 where
+  pub tree : IsTrue (is_tree s.parents)
+  pub numbered : IsTrue (is_numbered_from 1 s.levels)
+  pub accepted : IsTrue (are_accepted s.changes_max s.versions_max s.parents s.changes s.journal)
+  pub fits : IsTrue (nat_le (length s.journal) s.mem)
 
 -- a state is sound
 pub record IsSound (s : State) : Type 0 where
-  pub tree : IsTrue (is_tree s.parents)
-  pub numbered : IsTrue (is_numbered_from 1 s.levels)
-  pub stratified : AllByRecursion (IsStratified (versions_of s)) s.levels                              -- a to g
-  pub roomy : IsTrue (list_all (has_room s) s.levels)                                                  -- h
-  pub old : IsTrue (list_all (has_old_horizon s) s.levels)                                             -- i
-  pub settled : IsTrue (list_all (is_above_frozen s) s.levels)                                         -- j
-  pub described : IsTrue (list_all (λ level. list_all (is_described s) level.arrays) s.levels)         -- k
-  pub few : IsTrue (has_few_leads s)                                                                   -- l
-  pub ascending : IsTrue (list_all (λ level. list_all has_ascending_entries level.arrays) s.levels)    -- m
-  pub accepted : IsTrue (are_accepted s s.parents s.changes s.journal)
-  pub fits : IsTrue (nat_le (length s.journal) s.mem)
+  pub opens : IsOpenable s
+  pub stratified : AllByRecursion (IsStratified (versions_of s)) s.levels  -- a to g
+  pub roomy : IsTrue (list_all (has_room s) s.levels)  -- h
+  pub old : IsTrue (list_all (has_old_horizon s) s.levels)  -- i
+  pub settled : IsTrue (list_all (is_above_frozen s) s.levels)  -- j
+  pub described : IsTrue (list_all (λ level. list_all (is_described s) level.arrays) s.levels)  -- k
+  pub few : IsTrue (has_few_leads s)  -- l
+  pub ascending : IsTrue (list_all (λ level. list_all has_ascending_entries level.arrays) s.levels)  -- m
+
+-- a sound state accepts a change, and has room for it in its journal
+pub record Takes (s : State) (change : Change) : Type 0 where
+  pub sound : IsSound s
+  pub accepted : IsTrue (accepts_change s change)
+  pub room : length s.journal < s.mem

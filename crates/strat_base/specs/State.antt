@@ -1,12 +1,13 @@
 -- The state of a store, as its disk says it, and what it says of keys at versions.
-use Rattle.std.specs.Prelude.{◌≡◌, ℕ, ◌+◌, ◌*◌, ◌-◌, ◌^◌, ◌==◌, nat_le, nat_lt, ◌||◌, Bool, true, false, List, [], ◌∷◌, ◌++◌, length, reverse, sum_by, flat_map, filter_map, find, fold, Option, Some, None, unwrap_or, option_and_then, IsTrue}
+use Rattle.std.specs.Prelude.{ℕ, ◌+◌, ◌*◌, ◌-◌, ◌^◌, ◌==◌, nat_le, ◌||◌, Bool, true, List, [], ◌∷◌, ◌++◌, length, reverse, sum_by, map, flat_map, filter_map, find, fold, Option, Some, None, unwrap_or, option_and_then, IsTrue}
 use Rattle.std.specs.List.{list_all, range_with_len}
+use Rattle.std.specs.Option.{option_map_or}
 use Rattle.std.specs.BTreeMap.{insert_entry}
 use Rattle.strat_base.specs.Order.{key_cmp}
 use Rattle.strat_base.specs.Tree.{Parents, with_child}
 use Rattle.strat_base.specs.Entries.{Entry}
 use Rattle.strat_base.specs.Live.{deciding}
-use Rattle.strat_base.specs.Level.{TaggedArray, Level, level_leads}
+use Rattle.strat_base.specs.Level.{Level, level_leads, density, lead_fraction}
 use Rattle.strat_base.specs.Change.{Change, Put, Delete, Clone}
 
 -- a state: the limits, what the manifest says, and the changes in the journal
@@ -22,6 +23,21 @@ pub record State : Type 0 where
   -- the levels that have arrays, the shallowest first
   pub levels : List Level
   pub journal : List Change
+
+-- the state of a new store: version 0 alone, and nothing else
+abbrev pub fresh_state : ℕ → ℕ → ℕ → State
+fresh_state mem changes_max versions_max = record {
+  mem = mem;
+  changes_max = changes_max;
+  versions_max = versions_max;
+  parents = None ∷ [];
+  changes = 0;
+  updates = 0;
+  written = 0;
+  next_array = 1;
+  levels = [];
+  journal = [];
+}
 
 -- the tree of versions after a change
 abbrev pub tree_after : Parents → Change → Parents
@@ -55,28 +71,37 @@ sources s = reverse (journal_updates s) ++ flat_map level_leads s.levels
 abbrev pub value_at : State → ℕ → List ℕ → Option (List ℕ)
 value_at s v key = option_and_then (λ e. e.value) (deciding (versions_of s) (sources s) key v)
 
--- a map with the value that a state gives a key at a version
+-- a map with the value that a state gives a key at a version, if it gives one
 abbrev pub with_value : State → ℕ → List (List ℕ × List ℕ) → List ℕ → List (List ℕ × List ℕ)
-with_value s v pairs key = added (value_at s v key)
-  where
-    added : Option (List ℕ) → List (List ℕ × List ℕ)
-    added None = pairs
-    added (Some value) = insert_entry key_cmp pairs key value
+with_value s v pairs key = option_map_or (λ value. insert_entry key_cmp pairs key value) (value_at s v key) pairs
 
 -- the map of a version: each key that a state speaks of, with its value there
 abbrev pub map_at : State → ℕ → List (List ℕ × List ℕ)
 map_at s v = fold (λ pairs e. with_value s v pairs e.key) [] (sources s)
 
--- how many updates and changes were accepted
+-- how many updates were accepted
 abbrev pub updates_of : State → ℕ
 updates_of s = s.updates + length (journal_updates s)
 
+-- how many changes were accepted
 abbrev pub changes_of : State → ℕ
 changes_of s = s.changes + length s.journal
+
+-- a state with one more change in its journal
+abbrev pub appended : State → Change → State
+appended s change = record s { journal = s.journal ++ change ∷ [] }
 
 -- how many entries a state stores
 abbrev pub stored : State → ℕ
 stored s = sum_by (λ level. sum_by (λ a. length a.content) level.arrays) s.levels + length (journal_updates s)
+
+-- the densities of all arrays, the shallowest level first
+abbrev pub densities : State → List (ℕ × ℕ)
+densities s = flat_map (λ level. map (density (versions_of s)) level.arrays) s.levels
+
+-- the lead fractions of all arrays, the shallowest level first
+abbrev pub lead_fractions : State → List (ℕ × ℕ)
+lead_fractions s = flat_map (λ level. map lead_fraction level.arrays) s.levels
 
 -- the least level from 1 on that has room for n leads
 unfoldable pub deep : ℕ → ℕ → ℕ

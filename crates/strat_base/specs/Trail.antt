@@ -9,8 +9,7 @@ At [] i P = ⊥
 At (x ∷ xs) zero P = P x
 At (x ∷ xs) (suc i) P = At xs i P
 
--- From a moment to now the images show these tables in order: there are marks, the first at that moment, and from
--- mark k on each image shows a table at place k or later.
+-- from a moment to now the images show these tables in order: from mark k on each shows one at place k or later
 pub record Trail {T : Type 0} (shows : Image → T → Type 0) (v : View) (start : ℕ) (tables : List T) (n : ℕ) : Type 0 where
   pub mark : ℕ → ℕ
   pub first : mark 0 ≡ start

@@ -1,14 +1,20 @@
 //! What every crate of the store shares: limits, failures, numbers in bytes, entries and pairs.
 #![tactic(auto)]
 
+mod changes;
+pub mod broken;
 mod entries;
 mod failures;
+mod fields;
 pub mod laws;
 pub mod limits;
 mod numbers;
 mod pairs;
 pub mod spellings;
+mod troubles;
+pub mod worked;
 
+pub use changes::{Change, OwnedChange, change_size, get_change, put_change};
 pub use entries::{Entry, Val, Version, entry_order, key_ok, value_ok};
 pub use failures::{Failed, Fault, NoMemory, Trouble};
 pub use numbers::{get_u8, get_u16, get_u32, get_u64, put_u16, put_u32, put_u64};

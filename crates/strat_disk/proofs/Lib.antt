@@ -1,3 +1,4 @@
 pub mod LogLemmas
 pub mod MemoryLemmas
 pub mod PlaneLemmas
+pub mod UntoldLemmas

@@ -1,8 +1,7 @@
 -- The events of a disk in memory, one after the other.
-use Rattle.std.proofs.Common.{◌≡◌, ◌≤◌, ◌<◌, ℕ, suc, ◌+◌, List, [], ◌∷◌, ◌++◌, length, take, refl, sym, ◌∙◌, ap, subst, arith, inl, inr, length-append}
-use Rattle.std.proofs.lemmas.Bool.{cases_lt}
-use Rattle.std.proofs.lemmas.List.{take_all, take-append-le}
-use Rattle.strat_disk.specs.Medium.{Medium, written}
+use Rattle.std.proofs.Common.{◌≡◌, List, [], ◌∷◌, ◌++◌, length, refl, sym, ◌∙◌, ap, arith, length-append}
+use Rattle.std.proofs.lemmas.List.{take-append-le}
+use Rattle.strat_disk.specs.Medium.{Medium}
 use Rattle.strat_disk.specs.History.{step, replay, at_moment, Continues}
 use Rattle.strat_disk.specs.declared.event.Event.{Event}
 

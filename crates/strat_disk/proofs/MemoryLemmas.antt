@@ -1,11 +1,11 @@
 -- What the calls of a disk in memory leave to a crash.
-use Rattle.std.proofs.Common.{◌≡◌, ◌≤◌, ◌<◌, ◌==◌, ℕ, ◌+◌, Bool, true, false, if◌then◌else◌, List, length, get_or, take, refl, sym, ◌∙◌, ap, subst, arith, inl, inr, ◌⊎◌, Some}
+use Rattle.std.proofs.Common.{◌≡◌, ◌<◌, ◌==◌, ℕ, true, List, length, refl, sym, ◌∙◌, ap, subst, arith, inl, inr, ◌⊎◌}
 use Rattle.std.proofs.lemmas.Bool.{cases_lt, cases_Bool, cond-true, cond-false}
 use Rattle.std.proofs.lemmas.List.{take_all}
-use Rattle.strat_base.specs.Image.{Image, HoldsBytes, Outside, over, patch}
-use Rattle.strat_base.specs.Moments.{View, Images, Since, Passes, TearsOnly, LeavesOld, MayTear, Settled}
-use Rattle.strat_base.proofs.ImageLemmas.{Lies, below, inside, above, lies, over_below, over_inside, over_above, same_everywhere, outside_patch}
-use Rattle.strat_disk.specs.Medium.{Medium, at_rest, written, settled, crashed, Leaves, IsWhole}
+use Rattle.strat_base.specs.Image.{Image, over}
+use Rattle.strat_base.specs.Moments.{Images, Since, Passes, TearsOnly, LeavesOld, MayTear, Settled}
+use Rattle.strat_base.proofs.ImageLemmas.{below, inside, above, lies, over_below, over_inside, over_above, same_everywhere}
+use Rattle.strat_disk.specs.Medium.{Medium, written, settled, crashed, Leaves, IsWhole}
 use Rattle.strat_disk.specs.PlaneView.{plane_of}
 use Rattle.strat_disk.specs.History.{replay, at_moment, Continues}
 use Rattle.strat_disk.specs.Memory.{log_view}
@@ -55,7 +55,7 @@ module _ (old new : Log) (time : Continues (plane_of old.first) old.events.items
     | inl before ↦
         let first : since.at ≡ length old.events.items = omega (arith, since.from, time.one) in
         let left : Leaves (at_moment (plane_of old.first) old.events.items since.at) c =
-            subst (λ (m : Medium). Leaves m c) (time.past since.at (omega arith)) since.left in
+        subst (λ (m : Medium). Leaves m c) (time.past since.at (omega arith)) since.left in
         inl (to_now old c (subst (λ (n : ℕ). Leaves (at_moment (plane_of old.first) old.events.items n) c) first left))
     | inr after ↦
         let last : since.at ≡ length new.events.items = omega (arith, since.till) in
@@ -67,7 +67,7 @@ module _ (old new : Log) (time : Continues (plane_of old.first) old.events.items
     each = λ c since. elim (either c since) [
       | inl before ↦ from_now old c before
       | inr after ↦ from_now old c (subst (λ (m : Medium). Leaves m c) same after)
-    ]
+    ];
   }
 
   pub leaves_settled : plane_of new.present ≡ settled (plane_of old.present) → LeavesOld (log_view old) (log_view new)
@@ -78,7 +78,7 @@ module _ (old new : Log) (time : Continues (plane_of old.first) old.events.items
           let now : Leaves (settled (plane_of old.present)) c = subst (λ (m : Medium). Leaves m c) is after in
           let content : (plane_of old.present).content ≡ c = same_everywhere (plane_of old.present).content c (λ i. sym (now.durable i refl)) in
           from_now old c (subst (λ (d : Image). Leaves (plane_of old.present) d) content (content_leaves (plane_of old.present) old.present.whole))
-    ]
+    ];
   }
 
   pub is_settled : plane_of new.present ≡ settled (plane_of old.present) → Settled (log_view new)
@@ -111,12 +111,15 @@ module _ (old new : Log) (time : Continues (plane_of old.first) old.events.items
       each = λ c since. elim (either c since) [
         | inl before ↦ (c, from_now old c before, record { below = λ i is. refl; above = λ i is. refl })
         | inr after ↦
-            let left : Leaves (written at bytes (plane_of old.present)) c = subst (λ (m : Medium). Leaves m c) is after in
-            (behind c, from_now old (behind c) (behind_left c left), record {
-              below = λ i is. sym (over_below at (length bytes) _ c i is);
-              above = λ i is. sym (over_above at (length bytes) _ c i is);
-            })
-      ]
+            let left : Leaves (written at bytes (plane_of old.present)) c = subst (λ (m : Medium). Leaves m c) is after in (
+              behind c,
+              from_now old (behind c) (behind_left c left),
+              record {
+                below = λ i is. sym (over_below at (length bytes) _ c i is);
+                above = λ i is. sym (over_above at (length bytes) _ c i is);
+              },
+            )
+      ];
     }
 
     pub may_tear : MayTear (log_view old) (log_view new) at (length bytes)
@@ -130,5 +133,5 @@ module _ (old new : Log) (time : Continues (plane_of old.first) old.events.items
               | inside from to ↦ absurd (cc (over_inside at (length bytes) (λ _. true) (plane_of old.present).pending i from to))
               | above is ↦ outside.above i is ∙ left.durable i (sym (over_above at (length bytes) _ (plane_of old.present).pending i is) ∙ quiet)
             ];
-          }))
+          }));
     }

@@ -1,11 +1,10 @@
 -- Lists as functions that go on with a default, and what writes into them do.
-use Rattle.std.proofs.Common.{◌≡◌, ◌≢◌, ◌≤◌, ◌<◌, ℕ, ◌+◌, ◌-◌, Bool, true, false, List, [], ◌∷◌, ◌++◌, length, take, drop, get_or, set, replicate, refl, sym, ◌∙◌, ap, subst, arith, inl, inr, length-append, get_or-set_same, get_or-set_other}
-use Rattle.std.proofs.Math.ListN.{length-take}
+use Rattle.std.proofs.Common.{◌≡◌, ◌≢◌, ◌≤◌, ◌<◌, ℕ, ◌+◌, ◌-◌, Bool, true, false, List, ◌++◌, length, take, drop, get_or, set, replicate, refl, sym, ◌∙◌, ap, subst, arith, inl, inr, length-append, get_or-set_same, get_or-set_other}
 use Rattle.std.proofs.lemmas.Bool.{cases_lt}
 use Rattle.std.proofs.lemmas.List.{get_or_append_left, get_or-append_right, get_or_past, get_or-replicate, get_or-take, get_or-drop, length-replicate, length-take-le, take_all}
 use Rattle.strat_base.specs.Image.{Image, HoldsBytes, over, patch}
-use Rattle.strat_base.proofs.ImageLemmas.{Lies, below, inside, above, lies, is_over, over_below, over_inside, over_above, same_everywhere}
-use Rattle.strat_disk.specs.Medium.{Medium, shown, written, settled, altered, IsWhole}
+use Rattle.strat_base.proofs.ImageLemmas.{below, inside, above, lies, over_below, over_inside, over_above}
+use Rattle.strat_disk.specs.Medium.{Medium, shown, written, settled, IsWhole}
 
 -- lists that read as a medium are that medium
 pub shown_is : (m : Medium) (bytes durable : List ℕ) (pending : List Bool) → ((i : ℕ) → get_or bytes i 0 ≡ m.content i)
@@ -43,8 +42,8 @@ get_or-marked xs at n fits i =
     let len : length (replicate n true) ≡ n = length-replicate n true in
     let placed = get_or-placed xs (replicate n true) at false (omega arith) i in
     let e : get_or (take at xs ++ replicate n true ++ drop (at + n) xs) i false
-        ≡ over at n (λ k. get_or (replicate n true) (k - at) false) (λ k. get_or xs k false) i =
-        subst (λ (m : ℕ). get_or (take at xs ++ replicate n true ++ drop (at + m) xs) i false ≡ over at m (λ k. get_or (replicate n true) (k - at) false) (λ k. get_or xs k false) i) len placed in
+    ≡ over at n (λ k. get_or (replicate n true) (k - at) false) (λ k. get_or xs k false) i =
+    subst (λ (m : ℕ). get_or (take at xs ++ replicate n true ++ drop (at + m) xs) i false ≡ over at m (λ k. get_or (replicate n true) (k - at) false) (λ k. get_or xs k false) i) len placed in
     e ∙ elim (lies at n i) [
       | below is ↦ over_below at n _ _ i is ∙ sym (over_below at n _ (λ k. get_or xs k false) i is)
       | inside from to ↦ over_inside at n _ _ i from to ∙ get_or-replicate n (i - at) true false (omega arith) ∙ sym (over_inside at n (λ _. true) _ i from to)

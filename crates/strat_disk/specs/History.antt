@@ -2,7 +2,6 @@
 use Rattle.std.specs.Prelude.{◌≡◌, ◌≤◌, ℕ, ◌+◌, List, [], ◌∷◌, length, take}
 use Rattle.std.proofs.Common.{subst, sym, ◌∙◌, ap, arith}
 use Rattle.std.proofs.lemmas.List.{take_all}
-use Rattle.strat_base.specs.Image.{Image}
 use Rattle.strat_disk.specs.Medium.{Medium, written, settled, Leaves, IsWhole}
 use Rattle.strat_disk.specs.declared.event.Event.{Event}
 use Rattle.strat_disk.specs.declared.event.Event.TheVariants.{Wrote, Synced}

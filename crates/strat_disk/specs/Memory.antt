@@ -1,7 +1,7 @@
 -- What shows of a disk in memory.
-use Rattle.std.specs.Prelude.{◌≡◌, ◌≤◌, ◌==◌, ℕ, ◌+◌, ◌-◌, ◌^◌, min, Bool, List, length, Some}
-use Rattle.std.specs.List.{list_any}
+use Rattle.std.specs.Prelude.{◌≡◌, ℕ, List, length, Some}
 use Rattle.strat_base.specs.Moments.{View}
+use Rattle.strat_disk.specs.Counts.{one_more}
 use Rattle.strat_disk.specs.Medium.{Medium, Leaves}
 use Rattle.strat_disk.specs.PlaneView.{plane_of}
 use Rattle.strat_disk.specs.History.{at_moment}
@@ -40,16 +40,9 @@ log_view l = record {
   images_at = λ t c. Leaves (at_moment (plane_of l.first) l.events.items t) c;
 }
 
+-- the same of the disk
 abbrev pub view_of : MemDisk → View
 view_of d = log_view d.log
-
--- a count that stands still at the end of its type
-abbrev pub one_more : ℕ → ℕ
-one_more n = min (n + 1) (2 ^ 64 - 1)
-
--- the call with this number is one of those that fail
-abbrev pub is_failing : List ℕ → ℕ → Bool
-is_failing failing n = list_any (λ k. k == n) failing
 
 -- one more call was made, and the same calls are to fail
 pub record Called (old new : MemDisk) : Type 0 where

@@ -1,8 +1,8 @@
 //! A disk as a store sees it: its content, and what a crash at each moment may leave.
-ghost use Rattle.std.specs.Prelude.{◌≡◌, ◌≤◌, ℕ, ◌+◌, ◌^◌, length, Some, IfSome, IsSomeAnd, OnOk, OnErr};
+ghost use Rattle.std.specs.Prelude.{◌≡◌, ◌≤◌, ℕ, ◌+◌, ◌^◌, length, IfSome, OnOk, OnErr};
 ghost use Rattle.strat_base.specs.Faults.{Counts};
-ghost use Rattle.strat_base.specs.Image.{Image, HoldsBytes, Outside, window, patch};
-ghost use Rattle.strat_base.specs.Moments.{View, Images, Passes, TearsOnly, LeavesOld, MayTear, Settled, WritesThrough};
+ghost use Rattle.strat_base.specs.Image.{Image, HoldsBytes};
+ghost use Rattle.strat_base.specs.Moments.{View, Images, Gives, Writes, Garbles, Passes, TearsOnly, LeavesOld, MayTear, Settled, WritesThrough};
 
 use strat_base::Failed;
 
@@ -23,7 +23,7 @@ pub trait Disk {
     /// Fills `into` with the bytes from `at` on. After an error `into` may hold anything.
     fn read_at(&mut self, at: u64, into: &mut [u8]) -> Result<(), Failed>
         requires { at + length into.old ≤ 2 ^ 44 }
-        ensures ok { OnOk result (IfSome (view self.old).content (λ f. into.new ≡ window f at (length into.old))) }
+        ensures ok { OnOk result (Gives (view self.old) at (length into.old) into.new) }
         ensures same { (view self.new).content ≡ (view self.old).content }
         ensures images { LeavesOld (view self.old) (view self.new) }
         ensures time { Passes (view self.old) (view self.new) }
@@ -34,8 +34,8 @@ pub trait Disk {
     /// Writes these bytes from `at` on. Until a sync, and after an error, the range may hold anything.
     fn write_at(&mut self, at: u64, bytes: &[u8]) -> Result<(), Failed>
         requires { at + length bytes.now ≤ 2 ^ 44 }
-        ensures ok { OnOk result (IfSome (view self.old).content (λ f. (view self.new).content ≡ Some (patch f at bytes.now))) }
-        ensures err { OnErr result (IfSome (view self.old).content (λ f. IsSomeAnd (view self.new).content (Outside at (length bytes.now) f))) }
+        ensures ok { OnOk result (Writes (view self.old) (view self.new) at bytes.now) }
+        ensures err { OnErr result (Garbles (view self.old) (view self.new) at (length bytes.now)) }
         ensures images { TearsOnly (view self.old) (view self.new) at (length bytes.now) }
         ensures torn { OnOk result (MayTear (view self.old) (view self.new) at (length bytes.now)) }
         ensures time { Passes (view self.old) (view self.new) }

@@ -3,9 +3,18 @@
 
 mod disk;
 mod event;
+mod faults;
+mod file;
+mod fuse;
 mod log;
 mod memory;
+mod one_file;
 mod plane;
 
 pub use disk::{Disk, write_through};
+pub use file::FileDisk;
+pub use fuse::FuseDisk;
 pub use memory::MemDisk;
+
+#[cfg(test)]
+mod tests;

@@ -26,7 +26,8 @@ impl Log {
     /// A disk with these bytes, all of them there for good.
     pub fn at_rest(alloc: Global, bytes: Vec<u8>) -> Result<Log, AllocError>
         ensures len { IfOk result (λ l. l.present.bytes.items ≡ bytes.items) }
-        ensures rest { IfOk result (λ l. plane_of l.present ≡ at_rest (slice_index bytes.items)) }
+        ensures rest { IfOk result (λ l. plane_of l.present
+            ≡ at_rest (slice_index bytes.items)) }
     {
         let first = Plane::at_rest(alloc, Vec::from_slice(alloc, &bytes)?)?;
         let present = Plane::at_rest(alloc, bytes)?;
@@ -41,9 +42,11 @@ impl Log {
     /// Writes these bytes. Where memory is short nothing is written.
     pub fn write(&mut self, alloc: Global, at: usize, bytes: &[u8]) -> Result<(), AllocError>
         requires { at + length bytes.now < 2 ^ 64 }
-        ensures ok { OnOk result (plane_of self.new.present ≡ written at bytes.now (plane_of self.old.present)) }
+        ensures ok { OnOk result (plane_of self.new.present
+            ≡ written at bytes.now (plane_of self.old.present)) }
         ensures err { OnErr result (plane_of self.new.present ≡ plane_of self.old.present) }
-        ensures time { Continues (plane_of self.old.first) self.old.events.items (plane_of self.new.first) self.new.events.items }
+        ensures time { Continues (plane_of self.old.first) self.old.events.items
+            (plane_of self.new.first) self.new.events.items }
     {
         let end = at + bytes.len();
         let copy = Vec::from_slice(alloc, bytes)?;
@@ -60,7 +63,8 @@ impl Log {
     pub fn sync(&mut self)
         ensures settled { plane_of self.new.present ≡ settled (plane_of self.old.present) }
         ensures bytes { self.new.present.bytes.items ≡ self.old.present.bytes.items }
-        ensures time { Continues (plane_of self.old.first) self.old.events.items (plane_of self.new.first) self.new.events.items }
+        ensures time { Continues (plane_of self.old.first) self.old.events.items
+            (plane_of self.new.first) self.new.events.items }
     {
         if self.pending {
             self.present.sync();
@@ -91,7 +95,12 @@ impl Log {
     }
 }
 
-fn make_room(first: &mut Plane, present: &mut Plane, events: &mut Vec<Event>, len: usize) -> Result<(), AllocError>
+fn make_room(
+    first: &mut Plane,
+    present: &mut Plane,
+    events: &mut Vec<Event>,
+    len: usize,
+) -> Result<(), AllocError>
     ensures first { SameWith first.old first.new len result }
     ensures present { SameWith present.old present.new len result }
     ensures events { events.new.items ≡ events.old.items }

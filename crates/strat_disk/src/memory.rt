@@ -1,11 +1,12 @@
 //! A disk in memory, for tests: it can fail at chosen calls, and it can crash.
 ghost use Rattle.std.specs.Prelude.{◌≡◌, ◌≤◌, ◌<◌, ℕ, ◌+◌, ◌-◌, ◌^◌, [], true, length, slice_index, Some, IfOk, IfSome, IsSomeAnd, IsErr, IsTrue, OnOk, OnErr, is_err};
 ghost use Rattle.strat_base.specs.Faults.{Counts};
-ghost use Rattle.strat_base.specs.Image.{Outside, window, patch};
-ghost use Rattle.strat_base.specs.Moments.{Images, Passes, TearsOnly, LeavesOld, MayTear, Settled};
+ghost use Rattle.strat_base.specs.Moments.{Images, Gives, Writes, Garbles, Passes, TearsOnly, LeavesOld, MayTear, Settled};
+ghost use Rattle.strat_disk.specs.Counts.{one_more, is_failing};
 ghost use Rattle.strat_disk.specs.Medium.{at_rest, written, settled, altered, crashed};
 
 use crate::disk::Disk;
+use crate::faults::fault;
 use crate::log::Log;
 use std::alloc::Global;
 use strat_base::{Failed, NoMemory};
@@ -22,7 +23,7 @@ pub struct MemDisk {
 }
 
 impl MemDisk {
-    ghost use Rattle.strat_disk.specs.Memory.{bytes_of, medium_of, failing_of, calls_of, reads_of, faults_of, view_of, one_more, is_failing, Called};
+    ghost use Rattle.strat_disk.specs.Memory.{bytes_of, medium_of, failing_of, calls_of, reads_of, faults_of, view_of, Called};
 
     /// An empty disk. The calls numbered in `failing`, from 1, will fail.
     pub fn new(alloc: Global, failing: &[u64]) -> Result<MemDisk, NoMemory>
@@ -82,7 +83,8 @@ impl MemDisk {
     /// The disk after a crash now, with no calls that fail. Where a write was pending there are the bytes of the
     /// last sync for choice 0, the bytes written for choice 1, and 0xa7 for any other. Linear in its length.
     pub fn crash(&self, choice: u8) -> Result<MemDisk, NoMemory>
-        ensures left { IfOk result (λ d. medium_of d ≡ at_rest (crashed choice (medium_of self.now))) }
+        ensures left { IfOk result (λ d. medium_of d
+            ≡ at_rest (crashed choice (medium_of self.now))) }
         ensures image { IfOk result (λ d. Images (view_of self.now) (slice_index (bytes_of d))) }
         ensures len { IfOk result (λ d. length (bytes_of d) ≡ length (bytes_of self.now)) }
         ensures failing { IfOk result (λ d. failing_of d ≡ []) }
@@ -101,14 +103,97 @@ impl MemDisk {
             faults: 0,
         })
     }
+}
 
-    /// Counts a call, and says whether it is to fail.
-    fn fails(&mut self) -> bool
+/// Counts a call, and says whether it is to fail.
+fn fails(calls: &mut u64, failing: &Vec<u64>) -> bool
+    ensures calls { calls.new ≡ one_more calls.old }
+    ensures value { result ≡ is_failing failing.now.items calls.new }
+{
+    *calls = calls.saturating_add(1);
+    failing.contains(calls)
+}
+
+impl Disk for MemDisk {
+    ghost use Rattle.strat_disk.specs.Memory.{bytes_of, medium_of, failing_of, calls_of, reads_of, faults_of, view_of, Called};
+    ghost use Rattle.strat_disk.specs.History.{content_left};
+    ghost use Rattle.strat_disk.specs.PlaneView.{plane_of};
+
+    ghost view = { view_of };
+
+    ghost faults = { faults_of };
+
+    ghost reads = { reads_of };
+
+    fn read_at(&mut self, at: u64, into: &mut [u8]) -> Result<(), Failed>
+        requires { at + length into.old ≤ 2 ^ 44 }
+        ensures ok { OnOk result (Gives (view_of self.old) at (length into.old) into.new) }
+        ensures same { (view_of self.new).content ≡ (view_of self.old).content }
+        ensures images { LeavesOld (view_of self.old) (view_of self.new) }
+        ensures time { Passes (view_of self.old) (view_of self.new) }
+        ensures cause { Counts (faults_of self.old) (faults_of self.new) result }
+        ensures fewest_reads { reads_of self.old ≤ reads_of self.new }
+        ensures most_reads { reads_of self.new ≤ reads_of self.old + 1 }
+        ensures reads { reads_of self.new ≡ one_more (reads_of self.old) }
+        ensures medium { medium_of self.new ≡ medium_of self.old }
         ensures called { Called self.old self.new }
-        ensures value { result ≡ is_failing (failing_of self.new) (calls_of self.new) }
-        ensures log { self.new ≡ record self.old { calls = one_more (calls_of self.old) } }
+        ensures fails { is_err result ≡ is_failing (failing_of self.new) (calls_of self.new) }
     {
-        self.calls = self.calls.saturating_add(1);
-        self.failing.contains(&self.calls)
+        self.reads = self.reads.saturating_add(1);
+        if fails(&mut self.calls, &self.failing) {
+            return Err(fault(&mut self.faults));
+        }
+        self.log.present.read(at as usize, into);
+        Ok(())
     }
+
+    fn write_at(&mut self, at: u64, bytes: &[u8]) -> Result<(), Failed>
+        requires { at + length bytes.now ≤ 2 ^ 44 }
+        ensures ok { OnOk result (Writes (view_of self.old) (view_of self.new) at bytes.now) }
+        ensures err { OnErr result (Garbles (view_of self.old) (view_of self.new)
+            at (length bytes.now)) }
+        ensures images { TearsOnly (view_of self.old) (view_of self.new) at (length bytes.now) }
+        ensures torn { OnOk result (MayTear (view_of self.old) (view_of self.new)
+            at (length bytes.now)) }
+        ensures time { Passes (view_of self.old) (view_of self.new) }
+        ensures cause { Counts (faults_of self.old) (faults_of self.new) result }
+        ensures reads { reads_of self.new ≡ reads_of self.old }
+        ensures written { OnOk result (medium_of self.new
+            ≡ written at bytes.now (medium_of self.old)) }
+        ensures unwritten { OnErr result (medium_of self.new ≡ medium_of self.old) }
+        ensures called { Called self.old self.new }
+        ensures fails { is_failing (failing_of self.new) (calls_of self.new) ≡ true → IsErr result }
+    {
+        if fails(&mut self.calls, &self.failing) {
+            return Err(fault(&mut self.faults));
+        }
+        match self.log.write(self.alloc, at as usize, bytes) {
+            Ok(()) => Ok(()),
+            Err(_) => Err(fault(&mut self.faults)),
+        }
+    }
+
+    fn sync(&mut self) -> Result<(), Failed>
+        ensures ok { OnOk result (Settled (view_of self.new)) }
+        ensures same { (view_of self.new).content ≡ (view_of self.old).content }
+        ensures images { LeavesOld (view_of self.old) (view_of self.new) }
+        ensures time { Passes (view_of self.old) (view_of self.new) }
+        ensures cause { Counts (faults_of self.old) (faults_of self.new) result }
+        ensures reads { reads_of self.new ≡ reads_of self.old }
+        ensures settled { OnOk result (medium_of self.new ≡ settled (medium_of self.old)) }
+        ensures unsettled { OnErr result (medium_of self.new ≡ medium_of self.old) }
+        ensures called { Called self.old self.new }
+        ensures fails { is_err result ≡ is_failing (failing_of self.new) (calls_of self.new) }
+    {
+        if fails(&mut self.calls, &self.failing) {
+            return Err(fault(&mut self.faults));
+        }
+        self.log.sync();
+        Ok(())
+    }
+
+    ghost leaves_content = { λ d. content_left (plane_of d.log.first) d.log.events.items
+        (plane_of d.log.present) d.log.replays d.log.present.whole };
+
+    ghost leaves_bytes = { λ d m c left. left.bytes };
 }

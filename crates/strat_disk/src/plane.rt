@@ -57,7 +57,8 @@ impl Plane {
     /// What a crash leaves: the pending bytes are the old ones, the new ones, or 0xa7.
     pub fn crash(&self, alloc: Global, choice: u8) -> Result<Vec<u8>, AllocError>
         ensures len { IfOk result (λ v. length v.items ≡ length self.now.bytes.items) }
-        ensures bytes { IfOk result (λ v. slice_index v.items ≡ crashed choice (plane_of self.now)) }
+        ensures bytes { IfOk result (λ v. slice_index v.items
+            ≡ crashed choice (plane_of self.now)) }
     {
         let mut left = Vec::with_capacity(alloc, self.bytes.len())?;
         for i in 0..self.bytes.len() {
@@ -136,7 +137,8 @@ impl Plane {
 }
 
 fn left_at(choice: u8, pending: bool, old: u8, new: u8) -> u8
-    ensures { result ≡ (if pending then (if choice == 0 then old else if choice == 1 then new else 0xa7) else old) }
+    ensures { result ≡ (if pending
+        then (if choice == 0 then old else if choice == 1 then new else 0xa7) else old) }
 {
     match (pending, choice) {
         (false, _) => old,
@@ -158,7 +160,8 @@ fn fill(bytes: &Vec<u8>, at: usize, into: &mut [u8])
 fn lengthen(into: &mut Vec<u8>, len: usize)
     requires fits { len ≤ vec_capacity into.old }
     requires longer { vec_len into.old ≤ len }
-    ensures items { into.new.items ≡ take len into.old.items ++ replicate (len - vec_len into.old) 0 }
+    ensures items { into.new.items
+        ≡ take len into.old.items ++ replicate (len - vec_len into.old) 0 }
     ensures len { vec_len into.new ≡ len }
 {
     into.resize(len, 0).unwrap();
@@ -167,7 +170,8 @@ fn lengthen(into: &mut Vec<u8>, len: usize)
 fn lengthen_marks(into: &mut Vec<bool>, len: usize)
     requires fits { len ≤ vec_capacity into.old }
     requires longer { vec_len into.old ≤ len }
-    ensures items { into.new.items ≡ take len into.old.items ++ replicate (len - vec_len into.old) false }
+    ensures items { into.new.items
+        ≡ take len into.old.items ++ replicate (len - vec_len into.old) false }
     ensures len { vec_len into.new ≡ len }
 {
     into.resize(len, false).unwrap();
@@ -182,7 +186,8 @@ fn overwrite(into: &mut Vec<u8>, at: usize, bytes: &[u8])
 
 fn mark(into: &mut Vec<bool>, at: usize, n: usize)
     requires { at + n ≤ length into.old.items }
-    ensures { into.new.items ≡ take at into.old.items ++ replicate n true ++ drop (at + n) into.old.items }
+    ensures { into.new.items
+        ≡ take at into.old.items ++ replicate n true ++ drop (at + n) into.old.items }
 {
     into[at..at + n].fill(true);
 }

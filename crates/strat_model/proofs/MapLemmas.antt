@@ -1,5 +1,5 @@
 -- Maps as lists of pairs: what a change of one key does to look-ups, and that the keys go on ascending.
-use Rattle.std.proofs.Common.{◌≡◌, ℕ, Bool, true, false, cond, zero, suc, drop, List, [], ◌∷◌, Some, None, refl, sym, ap, ◌∙◌, subst}
+use Rattle.std.proofs.Common.{◌≡◌, ◌≢◌, ℕ, Bool, true, false, cond, zero, suc, drop, List, [], ◌∷◌, Some, None, refl, sym, ap, ◌∙◌, subst}
 use Rattle.std.specs.List.{AllByRecursion, filter}
 use Rattle.std.specs.List.Sorted.{IsStrictlySortedBy}
 use Rattle.std.specs.Map.{keys_of}
@@ -93,10 +93,10 @@ drop_keeps_map (suc n) [] sorted = tt
 drop_keeps_map (suc n) (e ∷ es) sorted = drop_keeps_map n es sorted.1
 
 -- a look-up after a key has got a value
-pub value_of-set : (key value other : List ℕ) (pairs : Pairs)
+pub value_of_after_set : (key value other : List ℕ) (pairs : Pairs)
     → value_of (set key value pairs) other ≡ cond (is_eq (key_cmp other key)) (Some value) (value_of pairs other)
-value_of-set key value other [] = refl
-value_of-set key value other (e ∷ es) = by_order (value_of-set key value other es) (key_cmp key e.0) refl
+value_of_after_set key value other [] = refl
+value_of_after_set key value other (e ∷ es) = by_order (value_of_after_set key value other es) (key_cmp key e.0) refl
   where
     here : Bool
     here = is_eq (key_cmp other key)
@@ -124,9 +124,9 @@ value_of-set key value other (e ∷ es) = by_order (value_of-set key value other
     by_order rest Greater h = ap (λ v. cond (is_eq (key_cmp other e.0)) (Some e.1) v) rest ∙ apart (key_cmp other e.0) refl h
 
 -- a look-up after a key was taken away
-pub value_of-unset : (key other : List ℕ) (pairs : Pairs) → IsMap pairs
+pub value_of_after_unset : (key other : List ℕ) (pairs : Pairs) → IsMap pairs
     → value_of (unset key pairs) other ≡ cond (is_eq (key_cmp key other)) None (value_of pairs other)
-value_of-unset key other pairs sorted =
+value_of_after_unset key other pairs sorted =
     lookup-remove_entry (eq_by_cmp_equiv nat_list_cmp_total) (λ k. is_eq (key_cmp key k)) ((eq_by_cmp_equiv nat_list_cmp_total).congr key) other pairs (IsDistinct-from_sorted key_cmp (keys_of pairs) sorted)
 
 -- keys that compare equal are the same key
@@ -194,3 +194,32 @@ same_map (e ∷ es) (f ∷ fs) ma mb alike = by_order (same_map es fs ma.1 mb.1)
         let value : e.1 ≡ f.1 = cc in
         let others : es ≡ fs = rest (λ q. rest_alike h q (key_cmp q e.0) refl) in
         λ j. (key j, value j) ∷ others j
+
+-- different keys do not compare equal
+apart_keys : (a b : List ℕ) → a ≢ b → is_eq (key_cmp a b) ≡ false
+apart_keys a b apart = by_order (key_cmp a b) refl
+  where
+    by_order : (o : Ordering) → key_cmp a b ≡ o → is_eq o ≡ false
+    by_order Less h = refl
+    by_order Equal h = absurd (apart (same_key a b h))
+    by_order Greater h = refl
+
+-- a key that got a value has it
+pub value_of_set_here : (pairs : Pairs) (key value : List ℕ) → value_of (set key value pairs) key ≡ Some value
+value_of_set_here pairs key value =
+    value_of_after_set key value key pairs ∙ ap (λ o. cond (is_eq o) (Some value) (value_of pairs key)) (tied_itself nat_list_cmp_total key)
+
+-- another key has what it had
+pub value_of_set_other : (pairs : Pairs) (key value other : List ℕ) → other ≢ key → value_of (set key value pairs) other ≡ value_of pairs other
+value_of_set_other pairs key value other apart =
+    value_of_after_set key value other pairs ∙ ap (λ b. cond b (Some value) (value_of pairs other)) (apart_keys other key apart)
+
+-- a key that was taken away has no value
+pub value_of_unset_here : (pairs : Pairs) (key : List ℕ) → IsMap pairs → value_of (unset key pairs) key ≡ None
+value_of_unset_here pairs key sorted =
+    value_of_after_unset key key pairs sorted ∙ ap (λ o. cond (is_eq o) None (value_of pairs key)) (tied_itself nat_list_cmp_total key)
+
+-- another key has what it had
+pub value_of_unset_other : (pairs : Pairs) (key other : List ℕ) → IsMap pairs → other ≢ key → value_of (unset key pairs) other ≡ value_of pairs other
+value_of_unset_other pairs key other sorted apart =
+    value_of_after_unset key other pairs sorted ∙ ap (λ b. cond b None (value_of pairs other)) (apart_keys key other (λ same. apart (sym same)))

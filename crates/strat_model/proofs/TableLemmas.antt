@@ -219,10 +219,12 @@ step_leaves t request w there apart = by_command request apart
   where
     Same : Outcome → Type 0
     Same o = pairs_at o.table w ≡ pairs_at t w
+
     next : (n limit : ℕ) (found : Option Cursor)
         → Same (option_map_or (λ c. record { answer = page c.left limit; table = record t { cursors = advanced t.cursors n limit } }) found (refuses t why.UnknownCursor))
     next n limit None = refl
     next n limit (Some c) = refl
+
     by_command : (r : Request) → ((v : ℕ) → updated r ≡ Some v → is_frozen t v ≡ false → w ≢ v) → Same (step t r)
     by_command (Put v key value) apart = update_leaves t v _ w (apart v refl)
     by_command (Delete v key) apart = update_leaves t v _ w (apart v refl)

@@ -1,18 +1,27 @@
 -- What every table keeps, whatever commands it is given.
-use Rattle.std.specs.Prelude.{ℕ, Option, Some, None}
+use Rattle.std.specs.Prelude.{◌≤◌, ℕ, length, Option, Some, None}
 use Rattle.std.specs.List.{All}
 use Rattle.std.specs.List.Sorted.{IsStrictlySortedBy}
 use Rattle.std.specs.Map.{keys_of}
+use Rattle.strat_base.specs.declared.limits.TheConstants.{CHANGES_MAX, VERSIONS_MAX, CURSORS_MAX}
 use Rattle.strat_base.specs.Order.{key_cmp}
 use Rattle.strat_base.specs.Tree.{IsTree}
 use Rattle.strat_model.specs.Pairs.{Pairs}
 use Rattle.strat_model.specs.Request.{Request, Put, Delete}
 use Rattle.strat_model.specs.Table.{Row, Cursor, Table, parents_of}
-use Rattle.strat_model.specs.PlainView.{IsWithin}
 
 -- pairs are a map: their keys ascend strictly
 abbrev pub IsMap : Pairs → Type 0
 IsMap pairs = IsStrictlySortedBy key_cmp (keys_of pairs)
+
+-- a table is within its limits, and its limits within those of any table
+pub record IsWithin (t : Table) : Type 0 where
+  pub changes_max : t.changes_max ≤ CHANGES_MAX
+  pub versions_max : t.versions_max ≤ VERSIONS_MAX
+  pub rows : length t.rows ≤ t.versions_max
+  pub changes : t.changes ≤ t.changes_max
+  pub updates : t.updates ≤ t.changes
+  pub cursors : length t.cursors ≤ CURSORS_MAX
 
 -- a table has maps, a tree of versions, and no more of anything than it may have
 pub record IsTable (t : Table) : Type 0 where

@@ -12,3 +12,4 @@ pub mod Plain
 pub mod PlainView
 pub mod Examples
 pub mod Kept
+pub mod StateTable

@@ -1,9 +1,15 @@
 //! Examples that the definitions compute, and laws that they have. Each is a call that does nothing, and
 //! its clause is what it says.
 
-ghost use Rattle.std.specs.Prelude.{◌≡◌, ℕ, List};
+ghost use Rattle.std.specs.Prelude.{◌≡◌, ◌≢◌, ◌<◌, ◌≤◌, ℕ, List, length, Some, None, true};
+ghost use Rattle.strat_base.specs.declared.limits.TheConstants.{CHANGES_MAX, VERSIONS_MAX};
+ghost use Rattle.strat_model.specs.Pairs.{Pairs, value_of, set, unset};
+ghost use Rattle.strat_model.specs.Request.{Request, Clone};
+ghost use Rattle.strat_model.specs.Table.{Table, fresh};
+ghost use Rattle.strat_model.specs.Answer.{accepts};
+ghost use Rattle.strat_model.specs.Step.{step, pairs_at, is_frozen};
+ghost use Rattle.strat_model.specs.Kept.{IsMap, IsTable, updated};
 ghost use Rattle.strat_model.specs.Stream.{Splits};
-ghost use Rattle.strat_model.specs.Table.{fresh};
 ghost use Rattle.strat_model.specs.Examples.{answers, branching, branched, scanning, scanned, growing, grown, filling, filled, paging, paged, staging, staged};
 
 /// A clone has a map of its own, and its parent takes no more updates.
@@ -35,6 +41,49 @@ pub fn cursors_keep_their_moment()
 /// Two clones of one version change apart from it and from each other.
 pub fn clones_change_apart()
     ensures ok { answers (fresh 100000 100) staging ≡ staged }
+{}
+
+/// A key that got a value has it, and every other key has what it had.
+pub fn puts_change_one_key()
+    ensures found { (pairs : Pairs) (key value : List ℕ)
+        → value_of (set key value pairs) key ≡ Some value }
+    ensures same { (pairs : Pairs) (key value other : List ℕ) → other ≢ key
+        → value_of (set key value pairs) other ≡ value_of pairs other }
+{}
+
+/// A key that was taken away has no value, and every other key has what it had.
+pub fn deletes_change_one_key()
+    ensures none { (pairs : Pairs) (key : List ℕ) → IsMap pairs
+        → value_of (unset key pairs) key ≡ None }
+    ensures same { (pairs : Pairs) (key other : List ℕ) → IsMap pairs → other ≢ key
+        → value_of (unset key pairs) other ≡ value_of pairs other }
+{}
+
+/// Maps that answer every look-up alike are the same pairs.
+pub fn maps_are_their_look_ups()
+    ensures ok { (a b : Pairs) → IsMap a → IsMap b
+        → ((key : List ℕ) → value_of a key ≡ value_of b key) → a ≡ b }
+{}
+
+/// A new table keeps maps, a tree and limits, and so does the table after any step.
+pub fn tables_keep_maps_and_tree()
+    ensures ok { (changes_max versions_max : ℕ) → changes_max ≤ CHANGES_MAX → 1 ≤ versions_max
+        → versions_max ≤ VERSIONS_MAX → IsTable (fresh changes_max versions_max) }
+    ensures kept { (t : Table) (request : Request) → IsTable t → IsTable (step t request).table }
+{}
+
+/// The map of a version is changed by its own updates alone, and by none once it has a child.
+pub fn versions_change_alone()
+    ensures same { (t : Table) (request : Request) (w : ℕ) → w < length t.rows
+        → updated request ≢ Some w → pairs_at (step t request).table w ≡ pairs_at t w }
+    ensures kept { (t : Table) (request : Request) (w : ℕ) → w < length t.rows
+        → is_frozen t w ≡ true → pairs_at (step t request).table w ≡ pairs_at t w }
+{}
+
+/// A clone begins with the map of its parent.
+pub fn clones_begin_as_their_parent()
+    ensures ok { (t : Table) (v : ℕ) → accepts (step t (Clone v)).answer.reply ≡ true
+        → pairs_at (step t (Clone v)).table (length t.rows) ≡ pairs_at t v }
 {}
 
 /// Two readings of one stream as frames and a rest are the same reading.

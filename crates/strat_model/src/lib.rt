@@ -8,6 +8,7 @@ mod plain_pairs;
 mod plain_rows;
 mod plain_table;
 mod replies;
+pub mod state_laws;
 
 pub use commands::Command;
 pub use ended::Ended;

@@ -119,7 +119,8 @@ impl PlainPairs {
         ensures found { IfSome result (λ i. (i < length self.now)
             × (value_of self.now key.now ≡ Some (slice_index_or self.now i ([], [])).1)
             × (unset key.now self.now ≡ remove self.now i)) }
-        ensures none { IfNone result ((value_of self.now key.now ≡ None) × (unset key.now self.now ≡ self.now)) }
+        ensures none { IfNone result (value_of self.now key.now ≡ None) }
+        ensures same { IfNone result (unset key.now self.now ≡ self.now) }
     {
         for (i, pair) in self.pairs.iter().enumerate() {
             if key.cmp(pair.key()) == Ordering::Equal {

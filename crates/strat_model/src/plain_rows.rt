@@ -41,7 +41,8 @@ impl PlainRow {
 
     /// A child of this row, whose number is `version`, with a copy of the map.
     pub(crate) fn child(&self, version: Version) -> Result<PlainRow, NoMemory>
-        ensures ok { IfOk result (λ row. row ≡ record { parent = Some version; pairs = self.now.pairs }) }
+        ensures ok { IfOk result (λ row.
+            row ≡ record { parent = Some version; pairs = self.now.pairs }) }
     {
         Ok(PlainRow {
             parent: Some(version),
@@ -66,7 +67,8 @@ impl PlainRow {
     /// Gives a key a value.
     pub(crate) fn set(&mut self, key: &[u8], value: &[u8]) -> Result<(), NoMemory>
         requires fits { IsPair (key.now, value.now) }
-        ensures ok { OnOk result (self.new ≡ record self.old { pairs = set key.now value.now self.old.pairs }) }
+        ensures ok { OnOk result
+            (self.new ≡ record self.old { pairs = set key.now value.now self.old.pairs }) }
         ensures err { OnErr result (self.new ≡ self.old) }
     {
         self.pairs.set(key, value)

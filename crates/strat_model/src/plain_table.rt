@@ -40,7 +40,8 @@ impl Model for PlainTable {
 
     ghost Value = { Table };
 
-    ghost use Rattle.strat_model.specs.PlainView.{table_of, IsWithin};
+    ghost use Rattle.strat_model.specs.PlainView.{table_of};
+    ghost use Rattle.strat_model.specs.Kept.{IsWithin};
 
     ghost view = { table_of };
 

@@ -1,5 +1,5 @@
-use Rattle.std.proofs.Common.{◌≡◌, ℕ, refl, sym, ◌∙◌, ap, arith, false}
-use Rattle.strat_disk.specs.Medium.{Medium, altered}
+use Rattle.std.proofs.Common.{refl, ◌∙◌, ap, arith, false}
+use Rattle.strat_disk.specs.Medium.{Medium}
 use Rattle.strat_disk.proofs.PlaneLemmas.{over_both}
 use Rattle.strat_disk.proofs.LogLemmas.{replays_none}
 use Rattle.strat_disk.proofs.log.Log.alter.Goals as goal

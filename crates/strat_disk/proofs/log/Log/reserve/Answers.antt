@@ -1,4 +1,4 @@
-use Rattle.std.proofs.Common.{◌≡◌, ◌∙◌, ap, arith}
+use Rattle.std.proofs.Common.{◌∙◌, ap, arith}
 use Rattle.strat_disk.specs.Medium.{Medium}
 use Rattle.strat_disk.proofs.LogLemmas.{replays_same}
 use Rattle.strat_disk.proofs.log.Log.reserve.Goals as goal

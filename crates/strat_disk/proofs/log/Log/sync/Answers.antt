@@ -1,9 +1,7 @@
-use Rattle.std.proofs.Common.{◌≡◌, ℕ, List, length, refl, sym, ◌∙◌, ap, arith, false}
-use Rattle.strat_disk.specs.Medium.{Medium, settled}
-use Rattle.strat_disk.specs.PlaneView.{plane_of}
+use Rattle.std.proofs.Common.{length, refl, ap, arith}
+use Rattle.strat_disk.specs.Medium.{Medium}
 use Rattle.strat_disk.specs.History.{step}
-use Rattle.strat_disk.proofs.PlaneLemmas.{settled_quiet}
-use Rattle.strat_disk.proofs.LogLemmas.{replays_more, continues_same, continues_more}
+use Rattle.strat_disk.proofs.LogLemmas.{replays_more}
 use Rattle.strat_disk.proofs.log.Log.sync.Goals as goal
 
 pub invariant_of-self-clause-same_len : goal.invariant_of-self-clause-same_len

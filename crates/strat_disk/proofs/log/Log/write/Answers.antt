@@ -1,8 +1,8 @@
-use Rattle.std.proofs.Common.{◌≡◌, ℕ, List, refl, sym, ◌∙◌, ap, arith}
+use Rattle.std.proofs.Common.{◌≡◌, ℕ, List, sym, ◌∙◌, ap, arith}
 use Rattle.strat_disk.specs.Medium.{Medium, written}
 use Rattle.strat_disk.specs.PlaneView.{plane_of}
 use Rattle.strat_disk.specs.History.{step}
-use Rattle.strat_disk.proofs.LogLemmas.{replays_more, continues_same, continues_more}
+use Rattle.strat_disk.proofs.LogLemmas.{replays_more}
 use Rattle.strat_disk.proofs.log.Log.write.Goals as goal
 use Rattle.strat_disk.proofs.log.Log.write.Goals.{After-note}
 

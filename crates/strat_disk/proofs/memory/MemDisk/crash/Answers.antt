@@ -1,6 +1,6 @@
-use Rattle.std.proofs.Common.{◌≡◌, sym, ◌∙◌, ap, subst, slice_index}
+use Rattle.std.proofs.Common.{sym, ◌∙◌, ap, subst}
 use Rattle.strat_base.specs.Image.{Image}
-use Rattle.strat_disk.specs.Medium.{Medium, Leaves, crashed}
+use Rattle.strat_disk.specs.Medium.{Medium, Leaves}
 use Rattle.strat_disk.specs.PlaneView.{plane_of}
 use Rattle.strat_disk.proofs.MemoryLemmas.{crashed_leaves, from_now}
 use Rattle.strat_disk.proofs.memory.MemDisk.crash.Goals as goal

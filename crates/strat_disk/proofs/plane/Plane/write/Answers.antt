@@ -1,5 +1,5 @@
-use Rattle.std.proofs.Common.{◌≡◌, ℕ, get_or, false, subst, sym, refl, ap, ◌∙◌, arith}
-use Rattle.strat_disk.specs.Medium.{Medium, IsWhole, shown, written}
+use Rattle.std.proofs.Common.{◌≡◌, subst, sym, refl, arith}
+use Rattle.strat_disk.specs.Medium.{IsWhole, shown, written}
 use Rattle.strat_disk.proofs.PlaneLemmas.{shown_is, get_or-placed, get_or-marked, whole_written}
 use Rattle.strat_disk.proofs.plane.Plane.write.Goals as goal
 use Rattle.strat_disk.proofs.plane.Plane.write.Goals.{After-mark}

@@ -1,0 +1,177 @@
+-- The manifest: what a store keeps of itself beside its journal, and its bytes.
+use Rattle.std.specs.Prelude.{◌≡◌, ℕ, zero, suc, ◌+◌, ◌-◌, ◌^◌, ◌==◌, nat_lt, nat_le, ◌&&◌, not, Bool, true, if◌then◌else◌, List, [], ◌∷◌, ◌++◌, length, drop, map, flat_map, bytes_eq, slice_index, Option, Some, None, IsTrue, option_and_then}
+use Rattle.std.specs.List.{list_all}
+use Rattle.strat_base.specs.declared.limits.TheConstants.{LEVELS, VERSIONS_MAX}
+use Rattle.strat_base.specs.Numbers.{be, number}
+
+-- len blocks from block start on
+pub record Extent : Type 0 where
+  pub start : ℕ
+  pub len : ℕ
+
+-- the descriptor of an array: its number, the numbers of its entries, leads and least live ones, where it lies, and its tag
+pub record ArrayDesc : Type 0 where
+  pub id : ℕ
+  pub entries : ℕ
+  pub leads : ℕ
+  pub least : ℕ
+  pub extents : List Extent
+  pub versions : List ℕ
+
+-- the descriptor of a level: its number, its horizon, and its arrays
+pub record LevelDesc : Type 0 where
+  pub number : ℕ
+  pub horizon : ℕ
+  pub arrays : List ArrayDesc
+
+-- a manifest, with the parent of each version from 1 on
+pub record Manifest : Type 0 where
+  pub changes : ℕ
+  pub updates : ℕ
+  pub written : ℕ
+  pub next_array : ℕ
+  pub parents : List ℕ
+  pub levels : List LevelDesc
+
+-- how many versions a manifest has
+abbrev pub versions_in : Manifest → ℕ
+versions_in m = suc (length m.parents)
+
+-- numbers ascend strictly
+abbrev pub is_rising : List ℕ → Bool
+is_rising [] = true
+is_rising (x ∷ []) = true
+is_rising (x ∷ y ∷ rest) = nat_lt x y && is_rising (y ∷ rest)
+
+-- an extent has a block, and ends at a block number
+abbrev pub is_lawful_extent : Extent → Bool
+is_lawful_extent x = nat_le 1 x.len && nat_lt (x.start + x.len) (2 ^ 32)
+
+-- no extent begins where the one before it ends
+abbrev pub are_apart : List Extent → Bool
+are_apart [] = true
+are_apart (x ∷ []) = true
+are_apart (x ∷ y ∷ rest) = not (x.start + x.len == y.start) && are_apart (y ∷ rest)
+
+-- a list may be counted in four bytes, and has an item
+abbrev pub is_counted : {A : Type 0} → List A → Bool
+is_counted xs = nat_le 1 (length xs) && nat_lt (length xs) (2 ^ 32)
+
+-- each of these tests passes
+unfoldable pub all_pass : List Bool → Bool
+all_pass [] = true
+all_pass (test ∷ tests) = test && all_pass tests
+
+-- the descriptor of an array that is numbered below the next one
+abbrev pub is_lawful_array : ℕ → ArrayDesc → Bool
+is_lawful_array next_array a = all_pass (
+    nat_le 1 a.id ∷ nat_lt a.id next_array
+    ∷ nat_le 1 a.entries ∷ nat_lt a.entries (2 ^ 32) ∷ nat_le a.leads a.entries ∷ nat_le a.least a.entries
+    ∷ is_counted a.extents ∷ list_all is_lawful_extent a.extents ∷ are_apart a.extents
+    ∷ is_counted a.versions ∷ list_all (λ v. nat_lt v (2 ^ 32)) a.versions ∷ is_rising a.versions ∷ [])
+
+-- the first version of a tag
+abbrev pub first_version : ArrayDesc → ℕ
+first_version a = slice_index a.versions 0
+
+-- the descriptor of a level in a store of so many versions
+abbrev pub is_lawful_level : ℕ → ℕ → LevelDesc → Bool
+is_lawful_level versions next_array level = all_pass (
+    nat_le 1 level.number ∷ nat_le level.number LEVELS ∷ nat_le 1 level.horizon ∷ nat_le level.horizon versions
+    ∷ is_counted level.arrays ∷ list_all (is_lawful_array next_array) level.arrays
+    ∷ is_rising (map first_version level.arrays) ∷ [])
+
+-- each parent has a smaller number than its child
+abbrev pub are_older : ℕ → List ℕ → Bool
+are_older v [] = true
+are_older v (parent ∷ parents) = nat_lt parent v && are_older (suc v) parents
+
+-- a manifest that has a spelling
+abbrev pub is_lawful_manifest : Manifest → Bool
+is_lawful_manifest m = all_pass (
+    nat_lt m.changes (2 ^ 32) ∷ nat_le m.updates m.changes ∷ nat_lt m.written (2 ^ 64)
+    ∷ nat_le 1 m.next_array ∷ nat_lt m.next_array (2 ^ 64)
+    ∷ nat_le (versions_in m) VERSIONS_MAX ∷ are_older 1 m.parents
+    ∷ nat_le (length m.levels) LEVELS ∷ list_all (is_lawful_level (versions_in m) m.next_array) m.levels
+    ∷ is_rising (map (λ level. level.number) m.levels) ∷ [])
+
+-- a list behind its length in four bytes
+abbrev pub list_bytes : {A : Type 0} → (A → List ℕ) → List A → List ℕ
+list_bytes item_bytes xs = be 4 (length xs) ++ flat_map item_bytes xs
+
+-- the bytes of an extent
+abbrev pub extent_bytes : Extent → List ℕ
+extent_bytes x = be 4 x.start ++ be 4 x.len
+
+-- the bytes of an array's descriptor
+abbrev pub array_bytes : ArrayDesc → List ℕ
+array_bytes a =
+    be 8 a.id ++ (be 4 a.entries ++ (be 4 a.leads ++ (be 4 a.least ++ (list_bytes extent_bytes a.extents ++ list_bytes (be 4) a.versions))))
+
+-- the bytes of a level's descriptor
+abbrev pub level_bytes : LevelDesc → List ℕ
+level_bytes level = be 1 level.number ++ (be 4 level.horizon ++ list_bytes array_bytes level.arrays)
+
+-- the bytes of a manifest
+unfoldable pub manifest_bytes : Manifest → List ℕ
+manifest_bytes m =
+    be 4 m.changes ++ (be 4 m.updates ++ (be 8 m.written ++ (be 8 m.next_array
+    ++ (be 4 (versions_in m) ++ (flat_map (be 4) m.parents ++ (be 1 (length m.levels) ++ flat_map level_bytes m.levels))))))
+
+-- these bytes are the spelling of a manifest
+pub record Spells (bytes : List ℕ) (m : Manifest) : Type 0 where
+  pub lawful : IsTrue (is_lawful_manifest m)
+  pub text : bytes ≡ manifest_bytes m
+
+-- a value read from the front of bytes, and the bytes behind it
+abbrev pub Read : Type 0 → Type 0
+Read A = Option (A × List ℕ)
+
+-- what is read behind another value
+abbrev pub next : {A B : Type 0} → Read A → (A → List ℕ → Read B) → Read B
+next None behind = None
+next (Some read) behind = behind read.0 read.1
+
+-- a number in k bytes
+unfoldable pub read_number : ℕ → List ℕ → Read ℕ
+read_number k bytes = if nat_le k (length bytes) then Some (number k bytes, drop k bytes) else None
+
+-- n items, one behind the other
+unfoldable pub read_items : {A : Type 0} → (List ℕ → Read A) → ℕ → List ℕ → Read (List A)
+read_items read zero bytes = Some ([], bytes)
+read_items read (suc n) bytes = next (read bytes) (λ x rest. next (read_items read n rest) (λ xs end. Some (x ∷ xs, end)))
+
+-- as many items as four bytes in front of them say
+abbrev pub read_list : {A : Type 0} → (List ℕ → Read A) → List ℕ → Read (List A)
+read_list read bytes = next (read_number 4 bytes) (λ n rest. read_items read n rest)
+
+-- an extent, read from the front of bytes
+unfoldable pub read_extent : List ℕ → Read Extent
+read_extent bytes =
+    next (read_number 4 bytes) (λ start b. next (read_number 4 b) (λ len c. Some (record { start = start; len = len }, c)))
+
+-- an array's descriptor, read from the front of bytes
+unfoldable pub read_array : List ℕ → Read ArrayDesc
+read_array bytes =
+    next (read_number 8 bytes) (λ id b. next (read_number 4 b) (λ entries c. next (read_number 4 c) (λ leads d.
+    next (read_number 4 d) (λ least e. next (read_list read_extent e) (λ extents f. next (read_list (read_number 4) f) (λ versions g.
+    Some (record { id = id; entries = entries; leads = leads; least = least; extents = extents; versions = versions }, g)))))))
+
+-- a level's descriptor, read from the front of bytes
+unfoldable pub read_level : List ℕ → Read LevelDesc
+read_level bytes =
+    next (read_number 1 bytes) (λ number b. next (read_number 4 b) (λ horizon c. next (read_list read_array c) (λ arrays d.
+    Some (record { number = number; horizon = horizon; arrays = arrays }, d))))
+
+-- the fields of a manifest, read from the front of bytes
+unfoldable pub read_manifest : List ℕ → Read Manifest
+read_manifest bytes =
+    next (read_number 4 bytes) (λ changes b. next (read_number 4 b) (λ updates c. next (read_number 8 c) (λ written d.
+    next (read_number 8 d) (λ next_array e. next (read_number 4 e) (λ versions f. next (read_items (read_number 4) (versions - 1) f) (λ parents g.
+    next (read_number 1 g) (λ count h. next (read_items read_level count h) (λ levels i.
+    Some (record { changes = changes; updates = updates; written = written; next_array = next_array; parents = parents; levels = levels }, i)))))))))
+
+-- the manifest of which these bytes are the spelling
+unfoldable pub manifest_in : List ℕ → Option Manifest
+manifest_in bytes =
+    option_and_then (λ read. if is_lawful_manifest read.0 && bytes_eq bytes (manifest_bytes read.0) then Some read.0 else None) (read_manifest bytes)

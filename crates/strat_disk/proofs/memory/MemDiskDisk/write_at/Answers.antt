@@ -1,0 +1,24 @@
+use Rattle.std.proofs.Common.{◌≡◌, length, ap, subst, sym}
+use Rattle.strat_base.specs.Image.{Image, Outside}
+use Rattle.strat_base.proofs.ImageLemmas.{outside_refl}
+use Rattle.strat_base.proofs.MomentLemmas.{leaves_tears}
+use Rattle.strat_disk.specs.Medium.{Medium}
+use Rattle.strat_disk.specs.PlaneView.{plane_of}
+use Rattle.strat_disk.proofs.MemoryLemmas.{tears, may_tear, leaves_same}
+use Rattle.strat_disk.proofs.memory.MemDiskDisk.write_at.Goals as goal
+
+pub returns-in-Ok-clause-images : goal.returns-in-Ok-clause-images
+returns-in-Ok-clause-images c = tears c.args.self.now.log c.write.new.self c.write.ensures.time c.args.at c.args.bytes.now c.in-Ok.ensures.ok
+
+pub returns-in-Ok-clause-torn : goal.returns-in-Ok-clause-torn
+returns-in-Ok-clause-torn c = may_tear c.args.self.now.log c.write.new.self c.write.ensures.time c.args.at c.args.bytes.now c.in-Ok.ensures.ok
+
+pub returns-in-Err-clause-images : goal.returns-in-Err-clause-images
+returns-in-Err-clause-images c = leaves_tears _ _ _ _ (leaves_same c.args.self.now.log c.write.new.self c.write.ensures.time c.in-Err.ensures.err)
+
+pub returns-in-Err-clause-err : goal.returns-in-Err-clause-err
+returns-in-Err-clause-err c =
+    let n = length c.args.bytes.now in
+    let before = (plane_of c.args.self.now.log.present).content in
+    let content : (plane_of c.write.new.self.present).content ≡ before = ap (λ (m : Medium). m.content) c.in-Err.ensures.err in
+    subst (λ (d : Image). Outside c.args.at n before d) (sym content) (outside_refl c.args.at n before)

@@ -1,0 +1,11 @@
+-- Counts of calls, and the calls that are to fail.
+use Rattle.std.specs.Prelude.{◌==◌, ℕ, ◌+◌, ◌-◌, ◌^◌, min, Bool, List}
+use Rattle.std.specs.List.{list_any}
+
+-- a count that stands still at the end of its type
+abbrev pub one_more : ℕ → ℕ
+one_more n = min (n + 1) (2 ^ 64 - 1)
+
+-- the call with this number is one of those that fail
+abbrev pub is_failing : List ℕ → ℕ → Bool
+is_failing failing n = list_any (λ k. k == n) failing

@@ -1,0 +1,16 @@
+//! Counts of faults.
+ghost use Rattle.std.specs.Prelude.{◌≡◌, ◌≤◌};
+ghost use Rattle.strat_base.specs.Faults.{Rose};
+ghost use Rattle.strat_disk.specs.Counts.{one_more};
+
+use strat_base::Failed;
+
+/// Counts a fault. The count stands still at the end of its type.
+pub(crate) fn fault(faults: &mut u64) -> Failed
+    ensures faults { faults.new ≡ one_more faults.old }
+    ensures later { faults.old ≤ faults.new }
+    ensures rose { Rose faults.old faults.new }
+{
+    *faults = faults.saturating_add(1);
+    Failed
+}

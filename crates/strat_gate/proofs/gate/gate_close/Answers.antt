@@ -1,0 +1,23 @@
+use Rattle.std.proofs.Common.{◌≡◌, ◌≢◌, ◌==◌, true, false, sym, ◌∙◌, inl}
+use Rattle.std.proofs.lemmas.Bool.{eqb-true, eqb-false}
+use Rattle.strat_base.specs.Image.{Image}
+use Rattle.strat_base.proofs.MomentLemmas.{leaves_then_tears}
+use Rattle.strat_gate.proofs.gate.gate_close.Goals as goal
+
+pub returns-in_err-gate_shut-clause-alone : goal.returns-in_err-gate_shut-clause-alone
+returns-in_err-gate_shut-clause-alone g c = λ f told shut. absurd (shut (eqb-true (f c.args.at) 167 (sym (c.in_ok-gate_up.ensures.ok f told) ∙ c.if-branch.true)))
+
+pub returns-in_err-gate_shut-clause-images : goal.returns-in_err-gate_shut-clause-images
+returns-in_err-gate_shut-clause-images g c =
+    leaves_then_tears _ _ _ _ _ c.gate_up.ensures.time c.gate_shut.ensures.through.time c.gate_up.ensures.images c.gate_shut.ensures.through.images
+
+pub returns-in_ok-gate_shut-clause-alone : goal.returns-in_ok-gate_shut-clause-alone
+returns-in_ok-gate_shut-clause-alone g c = λ f told shut. absurd (shut (eqb-true (f c.args.at) 167 (sym (c.in_ok-gate_up.ensures.ok f told) ∙ c.if-branch.true)))
+
+pub returns-in_ok-gate_shut-clause-images : goal.returns-in_ok-gate_shut-clause-images
+returns-in_ok-gate_shut-clause-images g c =
+    leaves_then_tears _ _ _ _ _ c.gate_up.ensures.time c.gate_shut.ensures.through.time c.gate_up.ensures.images c.gate_shut.ensures.through.images
+
+pub returns-else-branch-clause-ok : goal.returns-else-branch-clause-ok
+returns-else-branch-clause-ok g c = λ f told.
+    inl (eqb-false (f c.args.at) 167 (sym (c.in_ok-gate_up.ensures.ok f told) ∙ c.if-branch.false), c.gate_up.ensures.same ∙ told, c.gate_up.ensures.images)

@@ -1,0 +1,15 @@
+-- A superblock laid into a slot.
+use Rattle.std.specs.Prelude.{◌≡◌, ◌≢◌, ◌<◌, ◌⊎◌, ℕ, ◌*◌, Option, Some, IfSome, Result, Ok}
+use Rattle.strat_base.specs.Image.{Image, SameIn}
+use Rattle.strat_base.specs.Moments.{View, Images}
+use Rattle.strat_base.specs.SuperBlock.{Super, Slot, chosen_in, newest_in}
+
+-- the content is told, both slots are the same in every image, and the newest is in the other slot and of a smaller generation
+pub record LaysOver (v : View) (f : Image) (slot : ℕ) (sb : Super) : Type 0 where
+  pub content : v.content ≡ Some f
+  pub same : (c : Image) → Images v c → SameIn 0 8192 f c
+  pub newest : IfSome (chosen_in f) (λ s. (s.0 ≢ slot) × (s.1.sb.generation < sb.generation))
+
+-- an image has the newest superblock of before, or this one
+abbrev pub OldOrNew : Image → ℕ → Super → Image → Type 0
+OldOrNew f slot sb c = (newest_in c ≡ newest_in f) ⊎ (newest_in c ≡ Ok (Some (slot, sb)))

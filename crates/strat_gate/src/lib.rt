@@ -1,0 +1,13 @@
+//! Gates and superblocks: a superblock is the old one or the new one at any moment.
+#![tactic(auto)]
+
+mod gate;
+mod slots;
+mod superblock;
+
+pub use gate::{gate_close, gate_raise, gate_shut, gate_up};
+pub use slots::{lay, newest};
+pub use superblock::SuperBlock;
+
+#[cfg(test)]
+mod tests;

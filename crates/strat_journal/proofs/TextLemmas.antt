@@ -1,0 +1,26 @@
+-- Records in a buffer.
+use Rattle.std.proofs.Common.{◌≡◌, ◌≤◌, ◌<◌, ◌+◌, ℕ, zero, suc, List, [], ◌∷◌, ◌++◌, length, take, drop, set, refl, sym, ap, ◌∙◌, arith, length-append, append_assoc}
+use Rattle.std.proofs.lemmas.List.{set_split, take_at, take_all, drop_all, append-nil, length-set}
+use Rattle.strat_base.specs.Numbers.{placed}
+use Rattle.strat_base.proofs.PlacedLemmas.{placed_three, length-placed}
+
+pub set_placed : (xs : List ℕ) (at x : ℕ) → at < length xs → set xs at x ≡ placed xs at (x ∷ [])
+set_placed xs at x within =
+    let next : suc at ≡ at + 1 = omega arith in
+    set_split xs at x within
+    ∙ ap (λ (n : ℕ). take at xs ++ x ∷ drop n xs) next
+    ∙ sym (append_assoc (take at xs) (x ∷ []) (drop (at + 1) xs))
+
+-- a gate, a text and another gate, written one behind the other
+pub gate_text_gate : (old text new mid : List ℕ) (at end room : ℕ) → at + 2 + length text ≤ length old → end ≡ at + 1 + length text
+    → room ≡ length old → mid ≡ set old at 0xa7 → new ≡ placed mid (at + 1) text
+    → set (take room (new ++ drop (length new) (set old at 0xa7))) end 0 ≡ placed old at (0xa7 ∷ (text ++ 0 ∷ []))
+gate_text_gate old text new mid at end room fits is room_is mid_is new_is =
+    let size : length mid ≡ length old = ap length mid_is ∙ length-set old at 0xa7 in
+    let first : mid ≡ placed old at (0xa7 ∷ []) = mid_is ∙ set_placed old at 0xa7 (omega arith) in
+    let long : length new ≡ length old = ap length new_is ∙ length-placed mid text (at + 1) (omega arith) ∙ size in
+    let whole : take room (new ++ drop (length new) (set old at 0xa7)) ≡ new = take_at new (drop (length new) (set old at 0xa7)) room (omega arith) in
+    ap (λ (x : List ℕ). set x end 0) whole
+    ∙ set_placed new end 0 (omega arith)
+    ∙ ap (λ (x : List ℕ). placed x end (0 ∷ [])) (new_is ∙ ap (λ (x : List ℕ). placed x (at + 1) text) first)
+    ∙ placed_three old (0xa7 ∷ []) text (0 ∷ []) at (at + 1) end (omega arith) (omega arith) (omega arith)

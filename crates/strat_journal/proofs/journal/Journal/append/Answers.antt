@@ -1,0 +1,63 @@
+use Rattle.std.proofs.Common.{◌≡◌, ◌+◌, ap, arith}
+use Rattle.strat_base.specs.Image.{Image}
+use Rattle.strat_base.specs.Moments.{Images}
+use Rattle.strat_base.proofs.MomentLemmas.{at_told}
+use Rattle.strat_journal.proofs.AppendLemmas as append
+use Rattle.strat_journal.proofs.journal.Journal.append.Goals as goal
+
+pub behind_gate-requires-clause-within : goal.behind_gate-requires-clause-within
+behind_gate-requires-clause-within g c =
+    let s = c.self.inside in
+    rw c.deref.ensures.value (append.len_within s.mem s.active s.stale _ _ s.bytes.items s.count s.staged s.end s.len c.self.invariant)
+
+pub returns-in_err-raise_over-clause-images : goal.returns-in_err-raise_over-clause-images
+returns-in_err-raise_over-clause-images g c =
+    let s = c.self.inside in
+    let some = rw (← c.self.view_is) at c.requires in
+    rw (← c.self.view_is)
+    (append.append_images s.mem s.active s.stale _ _ s.bytes.items s.count s.staged s.end s.len c.self.invariant some _ _ (c.region_at.result + s.end) c.behind_gate.result.now
+    (omega (arith, c.region_at.ensures.ok)) (rw c.deref.ensures.value at c.behind_gate.ensures.ok) c.raise_over.ensures.raises.images)
+
+pub returns-in_err-raise_over-clause-any_moment : goal.returns-in_err-raise_over-clause-any_moment
+returns-in_err-raise_over-clause-any_moment g c =
+    let s = c.self.inside in
+    let some = rw (← c.self.view_is) at c.requires in
+    rw (← c.self.view_is)
+    (λ f told. append.append_moment s.mem s.active s.stale _ _ s.bytes.items s.count s.staged s.end s.len c.self.invariant some _ _ (c.region_at.result + s.end) c.behind_gate.result.now
+    (omega (arith, c.region_at.ensures.ok)) (rw c.deref.ensures.value at c.behind_gate.ensures.ok) c.raise_over.ensures.raises.any_moment
+    f told (at_told _ (λ (f : Image). Images (g.D.Disk.view c.args.disk.now) f) f told (g.met.D.Disk.leaves_content c.args.disk.now)) (λ d left. g.met.D.Disk.leaves_bytes c.args.disk.now _ d left))
+
+pub returns-clause-images : goal.returns-clause-images
+returns-clause-images g c =
+    let s = c.self.inside in
+    let some = rw (← c.self.view_is) at c.requires in
+    rw (← c.self.view_is)
+    (append.append_images s.mem s.active s.stale _ _ s.bytes.items s.count s.staged s.end s.len c.self.invariant some _ _ (c.region_at.result + s.end) c.behind_gate.result.now
+    (omega (arith, c.region_at.ensures.ok)) (rw c.deref.ensures.value at c.behind_gate.ensures.ok) c.raise_over.ensures.raises.images)
+
+pub returns-clause-any_moment : goal.returns-clause-any_moment
+returns-clause-any_moment g c =
+    let s = c.self.inside in
+    let some = rw (← c.self.view_is) at c.requires in
+    rw (← c.self.view_is)
+    (λ f told. append.append_moment s.mem s.active s.stale _ _ s.bytes.items s.count s.staged s.end s.len c.self.invariant some _ _ (c.region_at.result + s.end) c.behind_gate.result.now
+    (omega (arith, c.region_at.ensures.ok)) (rw c.deref.ensures.value at c.behind_gate.ensures.ok) c.raise_over.ensures.raises.any_moment
+    f told (at_told _ (λ (f : Image). Images (g.D.Disk.view c.args.disk.now) f) f told (g.met.D.Disk.leaves_content c.args.disk.now)) (λ d left. g.met.D.Disk.leaves_bytes c.args.disk.now _ d left))
+
+pub returns-clause-kept : goal.returns-clause-kept
+returns-clause-kept g c =
+    let s = c.self.inside in
+    let some = rw (← c.self.view_is) at c.requires in
+    let done = c.in_ok-raise_over.ensures.raises in
+    rw (c.join.ensures.ok, ← c.self.view_is)
+    (λ f told. append.append_stands s.mem s.active s.stale _ _ s.bytes.items s.count s.staged s.end s.len c.self.invariant some _ _ (c.region_at.result + s.end) c.behind_gate.result.now
+    (omega (arith, c.region_at.ensures.ok)) (rw c.deref.ensures.value at c.behind_gate.ensures.ok) done.content done.settled
+    f told (at_told _ (λ (f : Image). Images (g.D.Disk.view c.args.disk.now) f) f told (g.met.D.Disk.leaves_content c.args.disk.now)) (λ d left. g.met.D.Disk.leaves_bytes c.args.disk.now _ d left))
+
+pub returns-clause-content : goal.returns-clause-content
+returns-clause-content g c =
+    let s = c.self.inside in
+    let some = rw (← c.self.view_is) at c.requires in
+    rw (← c.self.view_is)
+    (append.append_content s.mem s.active s.stale _ _ s.bytes.items s.count s.staged s.end s.len c.self.invariant some (g.D.Disk.view c.args.disk.now) (g.D.Disk.view c.raise_over.new.disk) (c.region_at.result + s.end) c.behind_gate.result.now
+    (omega (arith, c.region_at.ensures.ok)) (rw c.deref.ensures.value at c.behind_gate.ensures.ok) c.in_ok-raise_over.ensures.raises.content)

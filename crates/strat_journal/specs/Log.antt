@@ -1,0 +1,66 @@
+-- A journal in memory.
+use Rattle.std.specs.Prelude.{◌≡◌, ◌≢◌, ◌⊎◌, ◌≤◌, ◌<◌, ℕ, zero, suc, ◌+◌, ◌*◌, Bool, true, List, [], ◌∷◌, ◌++◌, length, drop, slice_index, Option, Some, None, Ok}
+use Rattle.std.specs.List.{list_all}
+use Rattle.strat_base.specs.Change.{Change, change_bytes, change_in, is_lawful}
+use Rattle.strat_base.specs.Image.{Image}
+use Rattle.strat_base.specs.Layout.{region_at, other_region}
+use Rattle.strat_base.specs.Moments.{View, Images}
+use Rattle.strat_journal.specs.Records.{records_bytes, changes_of}
+
+-- what a journal holds: how many changes a region takes, the active region, whether the other one is to be shut, the changes that are there for good, and those that become so together
+pub record Log : Type 0 where
+  pub mem : ℕ
+  pub active : ℕ
+  pub stale : Bool
+  pub list : List Change
+  pub batch : List Change
+
+-- the place of the first closed gate behind the list
+abbrev pub gate_of : Log → ℕ
+gate_of log = region_at log.mem log.active + length (records_bytes log.list)
+
+-- the batch is in the list, and the next one is empty
+abbrev pub batch_joined : Log → Log
+batch_joined log = record log { list = log.list ++ log.batch; batch = [] }
+
+-- a change and those of the records behind it
+abbrev pub change_then : (List ℕ → List Change) → List ℕ → Option Change → List Change
+change_then later bytes None = []
+change_then later bytes (Some change) = change ∷ later (drop (length (change_bytes change)) bytes)
+
+-- the changes of the first n records of these bytes
+unfoldable pub changes_in : ℕ → List ℕ → List Change
+changes_in zero bytes = []
+changes_in (suc n) [] = []
+changes_in (suc n) (gate ∷ bytes) = change_then (λ rest. changes_in n rest) bytes (change_in bytes)
+
+-- bytes that a buffer needs for twice as many of the largest records as a region takes, for those of a batch, and for a closed gate
+abbrev pub room_for : ℕ → ℕ
+room_for mem = 1288 * (2 * mem + 16) + 1
+
+-- the buffer has the records of the list, those of the batch behind them, and a closed gate
+pub record Keeps (list batch : List Change) (bytes : List ℕ) (mem active count staged end len : ℕ) : Type 0 where
+  pub text : bytes ≡ records_bytes list ++ (records_bytes batch ++ drop len bytes)
+  pub closed : slice_index bytes len ≡ 0
+  pub list_end : end ≡ length (records_bytes list)
+  pub batch_end : len ≡ end + length (records_bytes batch)
+  pub list_count : length list ≡ count
+  pub batch_count : length batch ≡ staged
+  pub list_fits : list_all is_lawful list ≡ true
+  pub batch_fits : list_all is_lawful batch ≡ true
+  pub few : count + staged ≤ mem
+  pub batch_few : staged ≤ 16
+  pub mem_least : 4 ≤ mem
+  pub mem_most : mem ≤ 4096
+  pub active_most : active ≤ 1
+  pub room : length bytes ≡ room_for mem
+
+-- every image gives the list, and where that is shorter than a region takes the first gate of the region that is not active is closed
+pub record Stands (v : View) (log : Log) : Type 0 where
+  pub given : (c : Image) → Images v c → changes_of c log.mem log.active ≡ Ok log.list
+  pub shut : (c : Image) → Images v c → length log.list < log.mem → c (region_at log.mem (other_region log.active)) ≢ 0xa7
+
+-- an image gives the list, or the list with the whole batch behind it
+abbrev pub GivesAllOrNone : Log → Image → Type 0
+GivesAllOrNone log c =
+    (changes_of c log.mem log.active ≡ Ok log.list) ⊎ (changes_of c log.mem log.active ≡ Ok (log.list ++ log.batch))

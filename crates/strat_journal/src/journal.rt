@@ -1,0 +1,127 @@
+//! The journal in memory, and how a batch becomes durable.
+
+ghost use Rattle.std.specs.Prelude.{◌≡◌, ◌≤◌, ◌<◌, ℕ, ◌+◌, ◌-◌, [], ◌∷◌, ◌++◌, length, Some, IsTrue, IfOk, OnOk, OnErr};
+ghost use Rattle.strat_base.specs.Change.{is_lawful};
+ghost use Rattle.strat_base.specs.ChangeView.{change_of};
+ghost use Rattle.strat_base.specs.Faults.{Counts};
+ghost use Rattle.strat_base.specs.Image.{Image, patch};
+ghost use Rattle.strat_base.specs.Layout as places;
+ghost use Rattle.strat_base.specs.Moments.{Since, Passes, TearsOnly, Settled};
+ghost use Rattle.strat_journal.specs.Log.{Stands, GivesAllOrNone, batch_joined, gate_of};
+ghost use Rattle.strat_journal.specs.Records.{records_bytes};
+
+use crate::layout::region_at;
+use crate::raising::raise_over;
+use crate::text::{behind_gate, put_record};
+use std::marker::Model;
+use strat_base::{Change, Failed, OwnedChange};
+use strat_disk::Disk;
+
+/// A change that an opening read, and the block in which the gate of its record stands.
+#[derive(Debug, Drop)]
+pub struct Logged {
+    pub change: OwnedChange,
+    pub block: u32,
+}
+
+/// A journal.
+#[derive(Drop)]
+pub struct Journal {
+    mem: u32,
+    active: u8,
+    stale: bool,
+    count: u32,
+    staged: u32,
+    end: usize,
+    len: usize,
+    bytes: Vec<u8>,
+}
+
+impl Model for Journal {
+    ghost use Rattle.std.specs.Prelude.{drop};
+    ghost use Rattle.strat_journal.specs.Log.{Log, changes_in, Keeps};
+
+    ghost Value = { Log };
+
+    ghost view = { λ j. record {
+      mem = j.mem;
+      active = j.active;
+      stale = j.stale;
+      list = changes_in j.count j.bytes.items;
+      batch = changes_in j.staged (drop j.end j.bytes.items);
+    } };
+
+    ghost invariant = { λ j. Keeps (changes_in j.count j.bytes.items)
+      (changes_in j.staged (drop j.end j.bytes.items))
+      j.bytes.items j.mem j.active j.count j.staged j.end j.len };
+}
+
+impl Journal {
+    /// The number of changes in the list.
+    pub fn count(&self) -> u32
+        ensures { result ≡ length self.now.list }
+    {
+        self.count
+    }
+
+    /// How many changes more the journal takes. Those of the batch are not counted.
+    pub fn room(&self) -> u32
+        ensures { result ≡ self.now.mem - length self.now.list }
+    {
+        self.mem - self.count
+    }
+
+    /// Whether the region that is not active is to be shut before the journal is added to.
+    pub fn stale(&self) -> bool
+        ensures { result ≡ self.now.stale }
+    {
+        self.stale
+    }
+
+    /// Puts a change behind the batch, in the time of copying its bytes. It is not in the list before
+    /// `append` makes it so, and takes no memory.
+    pub fn add(&mut self, change: &Change<'_>)
+        requires fits { IsTrue (is_lawful (change_of change.now)) }
+        requires few { length self.old.batch < 16 }
+        requires room { length self.old.list + length self.old.batch < self.old.mem }
+        ensures ok { self.new ≡ record self.old { batch = self.old.batch ++ change_of change.now ∷ [] } }
+    {
+        self.len = put_record(&mut self.bytes, self.len, change);
+        self.staged += 1;
+    }
+
+    /// The batch joins the list.
+    pub(crate) fn join(&mut self)
+        ensures ok { self.new ≡ batch_joined self.old }
+    {
+        self.count += self.staged;
+        self.staged = 0;
+        self.end = self.len;
+    }
+
+    /// Makes the batch durable, all of it or none at any crash: two writes and two syncs, whatever its
+    /// size. After an error the journal is spent.
+    pub fn append<D: Disk>(&mut self, disk: &mut D) -> Result<(), Failed>
+        requires { 0 < length self.old.batch }
+        ensures any_moment { (f : Image) → (D.view disk.old).content ≡ Some f
+            → Stands (D.view disk.old) self.old
+            → (c : Image) → Since (D.view disk.new) (D.view disk.old).moment c → GivesAllOrNone self.old c }
+        ensures kept { OnOk result ((f : Image) → (D.view disk.old).content ≡ Some f
+            → Stands (D.view disk.old) self.old → Stands (D.view disk.new) self.new) }
+        ensures ok { OnOk result (self.new ≡ batch_joined self.old) }
+        ensures err { OnErr result (self.new ≡ self.old) }
+        ensures content { OnOk result ((f : Image) → (D.view disk.old).content ≡ Some f
+            → (D.view disk.new).content ≡ Some (patch f (gate_of self.old) (records_bytes self.old.batch ++ 0 ∷ []))) }
+        ensures settled { OnOk result (Settled (D.view disk.new)) }
+        ensures images { TearsOnly (D.view disk.old) (D.view disk.new)
+            (places.region_at self.old.mem self.old.active) (places.region_size self.old.mem) }
+        ensures time { Passes (D.view disk.old) (D.view disk.new) }
+        ensures cause { Counts (D.faults disk.old) (D.faults disk.new) result }
+        ensures reads { D.reads disk.new ≡ D.reads disk.old }
+    {
+        let gate = region_at(self.mem, self.active) + self.end as u64;
+        raise_over(disk, gate, behind_gate(&self.bytes, self.end, self.len))?;
+        self.join();
+        Ok(())
+    }
+}

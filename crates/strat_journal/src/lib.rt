@@ -1,0 +1,10 @@
+//! A journal that takes all of a batch of changes or none of it.
+#![tactic(auto)]
+
+mod journal;
+mod layout;
+mod raising;
+mod text;
+
+pub use journal::{Journal, Logged};
+pub use layout::{RECORD_MAX, region_at, region_blocks, region_first};

@@ -1,0 +1,35 @@
+//! Records in the buffer of a journal.
+
+ghost use Rattle.std.specs.Prelude.{◌≡◌, ◌≤◌, ◌<◌, ◌+◌, ◌-◌, [], ◌∷◌, ◌++◌, length, take, drop, IsTrue, vec_len};
+ghost use Rattle.strat_base.specs.Change.{is_lawful, change_bytes};
+ghost use Rattle.strat_base.specs.ChangeView.{change_of};
+ghost use Rattle.strat_base.specs.Numbers.{placed};
+
+use strat_base::{Change, put_change};
+
+/// What an open gate reads as; any other byte is a closed one.
+pub(crate) const OPEN: u8 = 0xa7;
+
+/// Puts a record and a closed gate behind it into the buffer, and gives the place of that gate.
+pub(crate) fn put_record(bytes: &mut Vec<u8>, at: usize, change: &Change<'_>) -> usize
+    requires fits { IsTrue (is_lawful (change_of change.now)) }
+    requires room { at + 2 + length (change_bytes (change_of change.now)) ≤ vec_len bytes.old }
+    ensures end { result ≡ at + 1 + length (change_bytes (change_of change.now)) }
+    ensures ok { bytes.new.items
+        ≡ placed bytes.old.items at (0xa7 ∷ (change_bytes (change_of change.now) ++ 0 ∷ [])) }
+{
+    bytes[at] = OPEN;
+    let end = put_change(change, bytes, at + 1);
+    bytes[end] = 0;
+    end
+}
+
+/// The batch's records behind the first one's gate, and the closed gate behind them.
+pub(crate) fn behind_gate(bytes: &[u8], end: usize, len: usize) -> &[u8]
+    requires order { end ≤ len }
+    requires within { len < length bytes.now }
+    ensures ok { result.now ≡ take (len - end) (drop (end + 1) bytes.now) }
+    ensures size { length result.now ≡ len - end }
+{
+    &bytes[end + 1..len + 1]
+}

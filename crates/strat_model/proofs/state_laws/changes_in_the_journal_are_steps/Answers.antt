@@ -1,0 +1,9 @@
+use Rattle.strat_model.proofs.StateTableLemmas.{accepts_same, stays_sound, steps_to}
+use Rattle.strat_model.proofs.state_laws.changes_in_the_journal_are_steps.Goals as goal
+
+pub returns : goal.returns
+returns c = record {
+  accepted = accepts_same;
+  kept = stays_sound;
+  table = steps_to;
+}

@@ -1,0 +1,36 @@
+//! Laws that tie the states of a store to the tables that they mean. Each is a call that does
+//! nothing, and its clauses are what it says.
+
+ghost use Rattle.std.specs.Prelude.{◌≡◌, ℕ, ◌<◌, List, length, option_and_then};
+ghost use Rattle.strat_base.specs.Change.{Change};
+ghost use Rattle.strat_base.specs.Reading.{read_at};
+ghost use Rattle.strat_base.specs.Sound.{accepts_change, IsSound, Takes};
+ghost use Rattle.strat_base.specs.State.{State, fresh_state, versions_of, appended};
+ghost use Rattle.strat_model.specs.Answer.{accepts};
+ghost use Rattle.strat_model.specs.Pairs.{value_of};
+ghost use Rattle.strat_model.specs.StateTable.{table_of, request_for};
+ghost use Rattle.strat_model.specs.Step.{step, pairs_at};
+ghost use Rattle.strat_model.specs.Table.{fresh};
+
+/// A new store means a new table.
+pub fn new_stores_mean_new_tables()
+    ensures ok { (mem changes_max versions_max : ℕ)
+        → table_of (fresh_state mem changes_max versions_max) ≡ fresh changes_max versions_max }
+{}
+
+/// A table takes a change exactly where the state that it comes from accepts it. Where the journal
+/// has room the change goes there, and the table after it is that of the state after it.
+pub fn changes_in_the_journal_are_steps()
+    ensures accepted { (s : State) (c : Change)
+        → accepts (step (table_of s) (request_for c)).answer.reply ≡ accepts_change s c }
+    ensures kept { (s : State) (c : Change) → Takes s c → IsSound (appended s c) }
+    ensures table { (s : State) (c : Change) → Takes s c
+        → (step (table_of s) (request_for c)).table ≡ table_of (appended s c) }
+{}
+
+/// Reading a sound state place by place finds what its table has.
+pub fn reading_finds_the_tables_value()
+    ensures ok { (s : State) (v : ℕ) (key : List ℕ) → IsSound s → v < length (versions_of s)
+        → value_of (pairs_at (table_of s) v) key
+        ≡ option_and_then (λ e. e.value) (read_at s v key) }
+{}
