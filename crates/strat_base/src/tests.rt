@@ -1,10 +1,16 @@
 //! What no clause says: that the calls succeed where memory is ample, what the definitions come to at their
 //! edges, and the printed texts.
 
+ghost use Rattle.std.specs.Prelude.{IsTrue};
+ghost use Rattle.strat_base.specs.Change.{is_lawful};
+ghost use Rattle.strat_base.specs.ChangeView.{change_of};
+
 use crate::{
-    Entry, Fault, PairBuf, Trouble, Val, entry_order, get_u8, get_u16, get_u32, get_u64, key_ok,
-    put_u16, put_u32, put_u64, value_ok,
+    Change, Entry, Failed, Fault, NoMemory, OwnedChange, PairBuf, Trouble, Val, change_size,
+    entry_order, get_change, get_u8, get_u16, get_u32, get_u64, key_ok, put_change, put_u16,
+    put_u32, put_u64, value_ok,
 };
+use std::alloc::Global;
 use std::cmp::Ordering;
 use std::process::Abort;
 use std::test::Fail;
@@ -153,6 +159,84 @@ fn failures_have_texts(rt: HostRuntime) -> Result<(), Fail> {
     for (trouble, want) in troubles {
         let text = format!(in rt.alloc(); "{trouble}")?;
         assert_eq!(rt; text.as_str(), want);
+    }
+    Ok(())
+}
+
+/// A list that grew by a byte.
+fn grown(alloc: Global) -> Result<Vec<u8>, Trouble> {
+    let mut bytes = Vec::new(alloc);
+    bytes.push(7)?;
+    Ok(bytes)
+}
+
+#[test]
+fn failures_become_troubles(rt: HostRuntime) -> Result<(), Fail> {
+    assert_eq!(rt; Trouble::from(Failed), Trouble::Device);
+    assert_eq!(rt; Trouble::from(NoMemory), Trouble::NoMemory);
+    assert_eq!(rt; grown(rt.alloc())?.len(), 1);
+    Ok(())
+}
+
+fn sizes_ok(change: Change<'_>) -> bool
+    ensures { IsTrue result → IsTrue (is_lawful (change_of change.entry)) }
+{
+    match change {
+        Change::Put { key, value, .. } => key_ok(key) && value_ok(value),
+        Change::Delete { key, .. } => key_ok(key),
+        Change::Clone { .. } => true,
+    }
+}
+
+/// Writes a change behind a byte, keeps a copy of it, and reads both back.
+fn look_at_change(
+    rt: &impl Abort,
+    alloc: Global,
+    change: &Change<'_>,
+    want: &[u8],
+) -> Result<(), NoMemory> {
+    assert!(rt; sizes_ok(*change));
+    let size = change_size(change);
+    assert_eq!(rt; size, want.len());
+    let mut bytes = [9; 20];
+    assert!(rt; size + 1 <= bytes.len());
+    assert_eq!(rt; put_change(change, &mut bytes, 1), 1 + want.len());
+    assert_eq!(rt; &bytes[1..size + 1], want);
+    assert_eq!(rt; get_change(&bytes, 1), Some((*change, 1 + want.len())));
+    assert_eq!(rt; OwnedChange::new(alloc, change)?.as_change(), *change);
+    Ok(())
+}
+
+#[test]
+fn changes_are_written_and_read(rt: HostRuntime) -> Result<(), Fail> {
+    let put = Change::Put {
+        version: 0,
+        key: b"a",
+        value: b"1",
+    };
+    look_at_change(&rt, rt.alloc(), &put, &[1, 0, 0, 0, 0, 1, 0x61, 0, 1, 0x31])?;
+    let delete = Change::Delete {
+        version: 258,
+        key: b"bc",
+    };
+    look_at_change(&rt, rt.alloc(), &delete, &[2, 0, 0, 1, 2, 2, 0x62, 0x63])?;
+    let clone = Change::Clone {
+        version: 4294967295,
+    };
+    look_at_change(&rt, rt.alloc(), &clone, &[3, 255, 255, 255, 255])?;
+    let none = [
+        b"".as_slice(),
+        b"\x00\x00\x00\x00\x00",
+        b"\x04\x00\x00\x00\x00",
+        b"\x03\x00\x00\x00",
+        b"\x02\x00\x00\x00\x00\x00",
+        b"\x02\x00\x00\x00\x00\x02a",
+        b"\x01\x00\x00\x00\x00\x01a\x00",
+        b"\x01\x00\x00\x00\x00\x01a\x00\x021",
+        b"\x01\x00\x00\x00\x00\x01a\x04\x01",
+    ];
+    for bytes in none {
+        assert_eq!(rt; get_change(bytes, 0), None);
     }
     Ok(())
 }

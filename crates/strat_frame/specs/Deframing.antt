@@ -1,5 +1,5 @@
 -- A stream that is cut into frames as its bytes come in.
-use Rattle.std.specs.Prelude.{◌≡◌, ◌≤◌, ℕ, ◌+◌, Bool, true, List, ◌++◌, length, take, drop}
+use Rattle.std.specs.Prelude.{◌≡◌, ◌≤◌, ℕ, ◌+◌, true, List, ◌++◌, length, take, drop}
 use Rattle.strat_base.specs.Numbers.{number}
 use Rattle.strat_model.specs.Stream.{frame, IsBody, is_partial, is_too_long}
 use Rattle.strat_base.specs.declared.limits.TheConstants.{BODY_MAX}

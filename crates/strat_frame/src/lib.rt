@@ -17,6 +17,7 @@ mod buffer;
 mod commands;
 mod deframer;
 mod fields;
+pub mod laws;
 mod replies;
 
 pub use buffer::OutBuf;

@@ -1,4 +1,4 @@
-use Rattle.std.proofs.Common.{List, ℕ, ◌∷◌, [], ◌++◌, ap, ◌∙◌, arith, length}
+use Rattle.std.proofs.Common.{List, ℕ, ◌++◌, ap, ◌∙◌, arith}
 use Rattle.strat_base.specs.Numbers.{be}
 use Rattle.strat_base.proofs.NumberLemmas.{placed_whole, length-be}
 use Rattle.strat_frame.proofs.buffer.OutBuf.put_u16.Goals as goal
