@@ -16,3 +16,5 @@ pub mod StateTable
 pub mod Head
 pub mod Texts
 pub mod Settings
+pub mod Opening
+pub mod Blank
