@@ -18,3 +18,4 @@ pub mod Texts
 pub mod Settings
 pub mod Opening
 pub mod Blank
+pub mod Bad
