@@ -16,3 +16,6 @@ pub mod StateTable
 pub mod Head
 pub mod Texts
 pub mod Settings
+pub mod Opening
+pub mod Blank
+pub mod Bad

@@ -4,6 +4,7 @@
 mod commands;
 mod ended;
 pub mod laws;
+pub mod opening;
 mod plain_pairs;
 mod plain_rows;
 mod plain_table;

@@ -1,0 +1,40 @@
+//! What an opening finds in bytes, and laws that it has. Each is a call that does nothing, and its
+//! clauses are what it says.
+
+ghost use Rattle.std.specs.Prelude.{◌≡◌, [], ◌∷◌, ◌++◌, take, Some, None, Ok, Err};
+ghost use Rattle.strat_base.specs.Change.{Put};
+ghost use Rattle.strat_base.specs.Image.{patch};
+ghost use Rattle.strat_base.specs.Manifest.{manifest_bytes};
+ghost use Rattle.strat_base.specs.Numbers.{be};
+ghost use Rattle.strat_base.specs.State.{State, fresh_state};
+ghost use Rattle.strat_base.specs.SuperBlock.{body};
+ghost use Rattle.strat_model.specs.Blank.{formatted, first_block, manifest_block, new_super, new_manifest, new_head};
+ghost use Rattle.strat_model.specs.Opening.{head_in, reads_as};
+
+/// A disk that was just formatted opens as a new store.
+pub fn formatted_disks_open()
+    ensures found { head_in formatted ≡ Ok (Some new_head) }
+    ensures ok { reads_as formatted ≡ Some (fresh_state 4 100 10) }
+    ensures block { first_block ≡ take 40 (0xa7 ∷ body new_super) }
+    ensures manifest { manifest_block ≡ be 4 0 ++ manifest_bytes new_manifest }
+{}
+
+/// A record in the journal's active region is read: a put of `a` with the value `1` at version 0.
+pub fn records_are_found()
+    ensures { reads_as (patch formatted 8192
+            (0xa7 ∷ 1 ∷ 0 ∷ 0 ∷ 0 ∷ 0 ∷ 1 ∷ 0x61 ∷ 0 ∷ 1 ∷ 0x31 ∷ 0 ∷ []))
+        ≡ Some (record (fresh_state 4 100 10) { journal = Put 0 (0x61 ∷ []) (0x31 ∷ []) ∷ [] }) }
+{}
+
+/// What an opening refuses: a superblock out of its ranges, a chain that goes on behind its last
+/// block, bytes behind the manifest that are no zeros, an open gate with no change behind it, and a
+/// change that the table refuses. A disk of zeros is no store.
+pub fn damage_is_named()
+    ensures none { head_in (λ i. 0) ≡ Ok None }
+    ensures region { head_in (patch formatted 27 (2 ∷ [])) ≡ Err 0 }
+    ensures link { head_in (patch formatted 24579 (7 ∷ [])) ≡ Err 6 }
+    ensures fill { head_in (patch formatted 28671 (1 ∷ [])) ≡ Err 6 }
+    ensures gate { head_in (patch formatted 8192 (0xa7 ∷ [])) ≡ Err 2 }
+    ensures refused { head_in (patch formatted 8192
+            (0xa7 ∷ 1 ∷ 0 ∷ 0 ∷ 0 ∷ 5 ∷ 1 ∷ 0x61 ∷ 0 ∷ 1 ∷ 0x31 ∷ 0 ∷ [])) ≡ Err 2 }
+{}
