@@ -123,11 +123,11 @@ abbrev pub summary : Head → ℕ → ℕ → List (List ℕ)
 summary h seed count =
     joined (codes "workload seed " ∷ decimal seed ∷ codes " changes " ∷ decimal count ∷ [])
     ∷ joined (
-        codes "versions " ∷ decimal (length (head_versions h)) ∷ codes " updates " ∷ decimal (head_updates h)
-        ∷ codes " clones " ∷ decimal (head_changes h - head_updates h) ∷ [])
+    codes "versions " ∷ decimal (length (head_versions h)) ∷ codes " updates " ∷ decimal (head_updates h)
+    ∷ codes " clones " ∷ decimal (head_changes h - head_updates h) ∷ [])
     ∷ joined (
-        codes "levels " ∷ decimal (length h.manifest.levels) ∷ codes " arrays " ∷ decimal (length (descriptors h.manifest))
-        ∷ codes " stored " ∷ decimal (head_stored h) ∷ codes " written " ∷ decimal h.manifest.written ∷ [])
+    codes "levels " ∷ decimal (length h.manifest.levels) ∷ codes " arrays " ∷ decimal (length (descriptors h.manifest))
+    ∷ codes " stored " ∷ decimal (head_stored h) ∷ codes " written " ∷ decimal h.manifest.written ∷ [])
     ∷ density_line (sparsest (descriptors h.manifest))
     ∷ []
 
