@@ -27,7 +27,7 @@ pub fn path_of(words: &[String]) -> Option<&str>
 /// Does the job that the words name, and says how it ended as an exit status. The words are the program's
 /// arguments without its name. Nothing is read or written where they name no job.
 ///
-/// Serving takes the memory for frames and replies at once, 1.3 MB, and each put the memory of its pair. A
+/// Serving takes the memory for frames and replies at once, about 670 KB, and each put the memory of its pair. A
 /// get or a put looks through the pairs of the version.
 pub fn run<S: Source, K: Sink>(alloc: Global, words: &[String], source: &mut S, sink: &mut K) -> u8
     ensures usage { path_in (map string_bytes words.now) ≡ None → result ≡ 1 }
