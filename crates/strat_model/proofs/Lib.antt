@@ -4,3 +4,4 @@ pub mod TableLemmas
 pub mod StreamLemmas
 pub mod StateTableLemmas
 pub mod TextLemmas
+pub mod OpeningLemmas

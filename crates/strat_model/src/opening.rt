@@ -3,9 +3,10 @@
 
 ghost use Rattle.std.specs.Prelude.{◌≡◌, [], ◌∷◌, ◌++◌, take, Some, None, Ok, Err};
 ghost use Rattle.strat_base.specs.Change.{Put};
-ghost use Rattle.strat_base.specs.Image.{patch};
+ghost use Rattle.strat_base.specs.Image.{Image, patch};
 ghost use Rattle.strat_base.specs.Manifest.{manifest_bytes};
 ghost use Rattle.strat_base.specs.Numbers.{be};
+ghost use Rattle.strat_base.specs.Sound.{IsOpenable};
 ghost use Rattle.strat_base.specs.State.{State, fresh_state};
 ghost use Rattle.strat_base.specs.SuperBlock.{body};
 ghost use Rattle.strat_model.specs.Blank.{formatted, first_block, manifest_block, new_super, new_manifest, new_head};
@@ -37,4 +38,9 @@ pub fn damage_is_named()
     ensures gate { head_in (patch formatted 8192 (0xa7 ∷ [])) ≡ Err 2 }
     ensures refused { head_in (patch formatted 8192
             (0xa7 ∷ 1 ∷ 0 ∷ 0 ∷ 0 ∷ 5 ∷ 1 ∷ 0x61 ∷ 0 ∷ 1 ∷ 0x31 ∷ 0 ∷ [])) ≡ Err 2 }
+{}
+
+/// What the bytes of a disk read as has passed what an opening tests of a state.
+pub fn what_is_read_may_be_opened()
+    ensures { (c : Image) (s : State) → reads_as c ≡ Some s → IsOpenable s }
 {}
