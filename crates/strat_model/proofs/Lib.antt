@@ -5,3 +5,4 @@ pub mod StreamLemmas
 pub mod StateTableLemmas
 pub mod TextLemmas
 pub mod OpeningLemmas
+pub mod HeadLemmas

@@ -22,7 +22,7 @@ use Rattle.strat_base.proofs.ManifestLemmas.{pass_at, manifest_in-some}
 use Rattle.strat_model.specs.Head.{Head}
 use Rattle.strat_model.specs.Opening.{belongs, manifest_of, accepted_in, journal_behind, head_behind, head_of_slot, head_in, opened, state_of, reads_as}
 
-and_then_ok : {A B : Type 0} (r : Read A) (f : A → Read B) (y : B) → and_then r f ≡ Ok y → (x : A) × (r ≡ Ok x) × (f x ≡ Ok y)
+pub and_then_ok : {A B : Type 0} (r : Read A) (f : A → Read B) (y : B) → and_then r f ≡ Ok y → (x : A) × (r ≡ Ok x) × (f x ≡ Ok y)
 and_then_ok (Ok x) f y e = (x, refl, e)
 and_then_ok (Err b) f y e = absurd (cc)
 
@@ -38,16 +38,16 @@ put_first_ok : {A : Type 0} (x : A) (r : Read (List A)) (ys : List A) → put_fi
 put_first_ok x (Ok xs) ys e = (xs, refl, cc)
 put_first_ok x (Err b) ys e = absurd (cc)
 
-map_some : {A B : Type 0} (f : A → B) (o : Option A) (y : B) → option_map f o ≡ Some y → (x : A) × (o ≡ Some x) × (f x ≡ y)
+pub map_some : {A B : Type 0} (f : A → B) (o : Option A) (y : B) → option_map f o ≡ Some y → (x : A) × (o ≡ Some x) × (f x ≡ y)
 map_some f None y e = absurd (cc)
 map_some f (Some x) y e = (x, refl, cc)
 
-next_some : {A B : Type 0} (f : A → Option B) (o : Option A) (y : B) → option_and_then f o ≡ Some y → (x : A) × (o ≡ Some x) × (f x ≡ Some y)
+pub next_some : {A B : Type 0} (f : A → Option B) (o : Option A) (y : B) → option_and_then f o ≡ Some y → (x : A) × (o ≡ Some x) × (f x ≡ Some y)
 next_some f None y e = absurd (cc)
 next_some f (Some x) y e = (x, refl, e)
 
 -- what is made of a first item, and of the others
-each_some : {A B : Type 0} (f : A → Option B) (x : A) (xs : List A) (zs : List B) → all_some f (x ∷ xs) ≡ Some zs
+pub each_some : {A B : Type 0} (f : A → Option B) (x : A) (xs : List A) (zs : List B) → all_some f (x ∷ xs) ≡ Some zs
     → (y : B) × (ys : List B) × (f x ≡ Some y) × (all_some f xs ≡ Some ys) × (y ∷ ys ≡ zs)
 each_some f x xs zs e =
     let head = next_some (λ y. option_map (λ ys. y ∷ ys) (all_some f xs)) (f x) zs e in

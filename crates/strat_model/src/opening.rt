@@ -1,16 +1,18 @@
 //! What an opening finds in bytes, and laws that it has. Each is a call that does nothing, and its
 //! clauses are what it says.
 
-ghost use Rattle.std.specs.Prelude.{◌≡◌, [], ◌∷◌, ◌++◌, take, Some, None, Ok, Err};
+ghost use Rattle.std.specs.Prelude.{◌≡◌, ℕ, [], ◌∷◌, ◌++◌, take, Some, None, Ok, Err};
 ghost use Rattle.strat_base.specs.Change.{Put};
 ghost use Rattle.strat_base.specs.Image.{Image, patch};
 ghost use Rattle.strat_base.specs.Manifest.{manifest_bytes};
 ghost use Rattle.strat_base.specs.Numbers.{be};
 ghost use Rattle.strat_base.specs.Sound.{IsOpenable};
-ghost use Rattle.strat_base.specs.State.{State, fresh_state};
+ghost use Rattle.strat_base.specs.State.{State, fresh_state, versions_of, updates_of, changes_of};
 ghost use Rattle.strat_base.specs.SuperBlock.{body};
 ghost use Rattle.strat_model.specs.Blank.{formatted, first_block, manifest_block, new_super, new_manifest, new_head};
-ghost use Rattle.strat_model.specs.Opening.{head_in, reads_as};
+ghost use Rattle.strat_model.specs.Head.{Head, head_of, head_versions, head_updates, head_changes};
+ghost use Rattle.strat_model.specs.Opening.{head_in, reads_as, state_of};
+ghost use Rattle.strat_model.specs.Texts.{report, summary};
 
 /// A disk that was just formatted opens as a new store.
 pub fn formatted_disks_open()
@@ -43,4 +45,16 @@ pub fn damage_is_named()
 /// What the bytes of a disk read as has passed what an opening tests of a state.
 pub fn what_is_read_may_be_opened()
     ensures { (c : Image) (s : State) → reads_as c ≡ Some s → IsOpenable s }
+{}
+
+/// The texts of a head are those of the state that it is the head of. They say nothing of where on
+/// the disk its parts lie.
+pub fn texts_speak_of_states()
+    ensures report { (c : Image) (h : Head) (s : State) → state_of c h ≡ Some s
+        → report h ≡ report (head_of h.sb.generation s) }
+    ensures summary { (c : Image) (h : Head) (s : State) (seed count : ℕ) → state_of c h ≡ Some s
+        → summary h seed count ≡ summary (head_of h.sb.generation s) seed count }
+    ensures counts { (c : Image) (h : Head) (s : State) → state_of c h ≡ Some s
+        → (head_versions h ≡ versions_of s) × (head_updates h ≡ updates_of s)
+        × (head_changes h ≡ changes_of s) }
 {}
