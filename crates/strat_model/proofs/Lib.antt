@@ -6,3 +6,4 @@ pub mod StateTableLemmas
 pub mod TextLemmas
 pub mod OpeningLemmas
 pub mod HeadLemmas
+pub mod BadLemmas

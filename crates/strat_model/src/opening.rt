@@ -1,16 +1,17 @@
 //! What an opening finds in bytes, and laws that it has. Each is a call that does nothing, and its
 //! clauses are what it says.
 
-ghost use Rattle.std.specs.Prelude.{◌≡◌, ℕ, [], ◌∷◌, ◌++◌, take, Some, None, Ok, Err};
+ghost use Rattle.std.specs.Prelude.{◌≡◌, ℕ, [], ◌∷◌, ◌++◌, length, take, Some, None, Ok, Err};
 ghost use Rattle.strat_base.specs.Change.{Put};
 ghost use Rattle.strat_base.specs.Image.{Image, patch};
 ghost use Rattle.strat_base.specs.Manifest.{manifest_bytes};
 ghost use Rattle.strat_base.specs.Numbers.{be};
-ghost use Rattle.strat_base.specs.Sound.{IsOpenable};
+ghost use Rattle.strat_base.specs.Sound.{IsOpenable, IsSound};
 ghost use Rattle.strat_base.specs.State.{State, fresh_state, versions_of, updates_of, changes_of};
 ghost use Rattle.strat_base.specs.SuperBlock.{body};
+ghost use Rattle.strat_model.specs.Bad.{IsBad};
 ghost use Rattle.strat_model.specs.Blank.{formatted, first_block, manifest_block, new_super, new_manifest, new_head};
-ghost use Rattle.strat_model.specs.Head.{Head, head_of, head_versions, head_updates, head_changes};
+ghost use Rattle.strat_model.specs.Head.{Head, head_of, head_versions, head_updates, head_changes, descriptors};
 ghost use Rattle.strat_model.specs.Opening.{head_in, reads_as, state_of};
 ghost use Rattle.strat_model.specs.Texts.{report, summary};
 
@@ -57,4 +58,12 @@ pub fn texts_speak_of_states()
     ensures counts { (c : Image) (h : Head) (s : State) → state_of c h ≡ Some s
         → (head_versions h ≡ versions_of s) × (head_updates h ≡ updates_of s)
         × (head_changes h ≡ changes_of s) }
+{}
+
+/// A disk that reads as a sound state has no bad block: no opening refuses it, and each block of its
+/// arrays holds entries that fit their place.
+pub fn sound_disks_have_no_bad_block()
+    ensures { (c : Image) (h : Head) (s : State) (b : ℕ) → head_in c ≡ Ok (Some h)
+        → state_of c h ≡ Some s → IsSound s
+        → ¬ IsBad c (length (versions_of s)) (descriptors h.manifest) b }
 {}
