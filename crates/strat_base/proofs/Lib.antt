@@ -24,3 +24,5 @@ pub mod LiveLemmas
 pub mod PlacedLemmas
 pub mod SizeLemmas
 pub mod FoundLemmas
+pub mod ChainLemmas
+pub mod RegionLemmas
