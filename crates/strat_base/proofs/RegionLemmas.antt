@@ -1,28 +1,36 @@
--- A journal that one region holds.
-use Rattle.std.proofs.Common.{◌≡◌, ◌+◌, ℕ, zero, suc, Bool, true, false, cond, eqb, not, ◌&&◌, List, [], ◌∷◌, ◌++◌, length, Ok, Err, refl, sym, ap, ◌∙◌, append-nil}
+-- How many records a region has, and a journal that one region holds.
+use Rattle.std.proofs.Common.{◌≡◌, ◌≤◌, ◌+◌, ◌-◌, ℕ, zero, suc, Bool, true, false, cond, eqb, not, ◌&&◌, List, [], ◌∷◌, ◌++◌, length, Option, Some, None, Ok, Err, refl, sym, ap, ◌∙◌, append-nil, arith}
 use Rattle.std.proofs.lemmas.Bool.{cond-false, not-true}
-use Rattle.strat_base.specs.Image.{Image}
+use Rattle.strat_base.specs.Image.{Image, window}
+use Rattle.strat_base.specs.Change.{Change, change_in, change_bytes}
 use Rattle.strat_base.specs.Layout.{region_first, region_at, region_size, other_region}
 use Rattle.strat_base.specs.Damage.{Read, and_then, passed_or}
-use Rattle.strat_base.specs.Records.{Logged, is_open, records, region_records, full_then, journal_of, is_other_open, journal_in_one}
-
-and_then_ok : {A B : Type 0} (r : Read A) (f : A → Read B) (y : B) → and_then r f ≡ Ok y → (x : A) × (r ≡ Ok x) × (f x ≡ Ok y)
-and_then_ok (Ok x) f y e = (x, refl, e)
-and_then_ok (Err b) f y e = absurd (cc)
-
-passed_ok : {A : Type 0} (b : ℕ) (t : Bool) (x y : A) → passed_or b t x ≡ Ok y → (t ≡ true) × (x ≡ y)
-passed_ok b true x y e = (refl, cc)
-passed_ok b false x y e = absurd (cc)
+use Rattle.strat_base.proofs.DamageLemmas.{and_then_ok, passed_ok, put_first_ok}
+use Rattle.strat_base.specs.Records.{Logged, is_open, block_of, record_then, records, region_records, full_then, journal_of, is_other_open, journal_in_one}
 
 records_closed : (c : Image) (end n at : ℕ) → is_open (c at) ≡ false → records c end n at ≡ Ok []
 unfolding records
 records_closed c end zero at closed = refl
 records_closed c end (suc n) at closed = cond-false (is_open (c at)) _ (Ok []) closed
 
-module _ (c : Image) (mem active : ℕ) where
-  others : Read (List Logged)
-  others = region_records c mem (other_region active)
+-- no more records are read than were asked for
+pub records_few : (c : Image) (end n at : ℕ) (logged : List Logged) → records c end n at ≡ Ok logged → length logged ≤ n
+unfolding records
+records_few c end zero at logged e = let none : [] ≡ logged = cc in omega (arith, ap length (sym none))
+records_few c end (suc n) at logged e =
+    by_gate (is_open (c at)) (change_in (window c (at + 1) (end - (at + 1)))) (λ next. records_few c end n next) e
+  where
+    by_gate : (b : Bool) (o : Option Change) → ((next : ℕ) (l : List Logged) → records c end n next ≡ Ok l → length l ≤ n)
+        → cond b (record_then at (λ next. records c end n next) o) (Ok []) ≡ Ok logged → length logged ≤ suc n
+    by_gate false o rest e = let none : [] ≡ logged = cc in omega (arith, ap length (sym none))
+    by_gate true None rest e = absurd (cc)
+    by_gate true (Some change) rest e =
+        let next : ℕ = at + 1 + length (change_bytes change) in
+        let parts = put_first_ok (record { change = change; block = block_of at }) (records c end n next) logged e in
+        let few : length parts.0 ≤ n = rest next parts.0 parts.1 in
+        omega (arith, ap length parts.2)
 
+module _ (c : Image) (mem active : ℕ) where
   alone : (logged : List Logged) → not (eqb (length logged) mem && is_other_open c mem active) ≡ true → full_then mem (region_records c mem (other_region active)) logged ≡ Ok logged
   alone logged shut = by_test (eqb (length logged) mem) shut
     where

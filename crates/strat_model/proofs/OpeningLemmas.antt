@@ -18,25 +18,11 @@ use Rattle.strat_base.specs.Chained.{Chained, chain_from, chained_bytes, manifes
 use Rattle.strat_base.specs.Records.{Logged, is_open, block_of, record_then, records, region_records, is_other_open, journal_in_one}
 use Rattle.strat_base.specs.Layout.{region_first, region_at, region_size, other_region}
 use Rattle.strat_base.specs.Chain.{chain_length}
+use Rattle.strat_base.proofs.DamageLemmas.{and_then_ok, passed_ok, found_ok, put_first_ok}
 use Rattle.strat_base.proofs.ManifestLemmas.{pass_at, manifest_in-some}
+use Rattle.strat_base.proofs.RegionLemmas.{records_few}
 use Rattle.strat_model.specs.Head.{Head}
 use Rattle.strat_model.specs.Opening.{belongs, manifest_of, accepted_in, journal_behind, head_behind, head_of_slot, head_in, opened, state_of, reads_as}
-
-pub and_then_ok : {A B : Type 0} (r : Read A) (f : A → Read B) (y : B) → and_then r f ≡ Ok y → (x : A) × (r ≡ Ok x) × (f x ≡ Ok y)
-and_then_ok (Ok x) f y e = (x, refl, e)
-and_then_ok (Err b) f y e = absurd (cc)
-
-passed_ok : {A : Type 0} (b : ℕ) (t : Bool) (x y : A) → passed_or b t x ≡ Ok y → (t ≡ true) × (x ≡ y)
-passed_ok b true x y e = (refl, cc)
-passed_ok b false x y e = absurd (cc)
-
-found_ok : {A : Type 0} (b : ℕ) (o : Option A) (y : A) → found_or b o ≡ Ok y → o ≡ Some y
-found_ok b None y e = absurd (cc)
-found_ok b (Some x) y e = cc
-
-put_first_ok : {A : Type 0} (x : A) (r : Read (List A)) (ys : List A) → put_first x r ≡ Ok ys → (xs : List A) × (r ≡ Ok xs) × (x ∷ xs ≡ ys)
-put_first_ok x (Ok xs) ys e = (xs, refl, cc)
-put_first_ok x (Err b) ys e = absurd (cc)
 
 pub map_some : {A B : Type 0} (f : A → B) (o : Option A) (y : B) → option_map f o ≡ Some y → (x : A) × (o ≡ Some x) × (f x ≡ y)
 map_some f None y e = absurd (cc)
@@ -153,23 +139,6 @@ accepted_all changes_max versions_max parents changes (l ∷ logged) journal e =
         let there = rest parts.0 parts.1 in
         subst P parts.2 (both_true _ _ is there.0, ap suc there.1)
     by_test false is rest e = absurd (cc)
-
--- no more records are read than were asked for
-records_few : (c : Image) (end n at : ℕ) (logged : List Logged) → records c end n at ≡ Ok logged → length logged ≤ n
-unfolding records
-records_few c end zero at logged e = let none : [] ≡ logged = cc in omega (arith, ap length (sym none))
-records_few c end (suc n) at logged e =
-    by_gate (is_open (c at)) (change_in (window c (at + 1) (end - (at + 1)))) (λ next. records_few c end n next) e
-  where
-    by_gate : (b : Bool) (o : Option Change) → ((next : ℕ) (l : List Logged) → records c end n next ≡ Ok l → length l ≤ n)
-        → cond b (record_then at (λ next. records c end n next) o) (Ok []) ≡ Ok logged → length logged ≤ suc n
-    by_gate false o rest e = let none : [] ≡ logged = cc in omega (arith, ap length (sym none))
-    by_gate true None rest e = absurd (cc)
-    by_gate true (Some change) rest e =
-        let next : ℕ = at + 1 + length (change_bytes change) in
-        let parts = put_first_ok (record { change = change; block = block_of at }) (records c end n next) logged e in
-        let few : length parts.0 ≤ n = rest next parts.0 parts.1 in
-        omega (arith, ap length parts.2)
 
 cond_some : {A : Type 0} (b : Bool) (o : Option A) (y : A) → cond b o None ≡ Some y → o ≡ Some y
 cond_some true o y e = e

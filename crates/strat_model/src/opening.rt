@@ -9,8 +9,9 @@ ghost use Rattle.strat_base.specs.Numbers.{be};
 ghost use Rattle.strat_base.specs.Sound.{IsOpenable, IsSound};
 ghost use Rattle.strat_base.specs.State.{State, fresh_state, versions_of, updates_of, changes_of};
 ghost use Rattle.strat_base.specs.SuperBlock.{body};
+ghost use Rattle.strat_base.specs.Worked.{chain};
 ghost use Rattle.strat_model.specs.Bad.{IsBad};
-ghost use Rattle.strat_model.specs.Blank.{formatted, first_block, manifest_block, new_super, new_manifest, new_head};
+ghost use Rattle.strat_model.specs.Disks.{formatted, first_block, manifest_block, new_super, new_manifest, new_head, published};
 ghost use Rattle.strat_model.specs.Head.{Head, head_of, head_versions, head_updates, head_changes, descriptors};
 ghost use Rattle.strat_model.specs.Opening.{head_in, reads_as, state_of};
 ghost use Rattle.strat_model.specs.Texts.{report, summary};
@@ -28,6 +29,12 @@ pub fn records_are_found()
     ensures { reads_as (patch formatted 8192
             (0xa7 ∷ 1 ∷ 0 ∷ 0 ∷ 0 ∷ 0 ∷ 1 ∷ 0x61 ∷ 0 ∷ 1 ∷ 0x31 ∷ 0 ∷ []))
         ≡ Some (record (fresh_state 4 100 10) { journal = Put 0 (0x61 ∷ []) (0x31 ∷ []) ∷ [] }) }
+{}
+
+/// After a publication the newer superblock leads to the array, and the journal goes on in the
+/// region that it made active: the state is that of a chain of clones.
+pub fn published_disks_open()
+    ensures { reads_as published ≡ Some chain }
 {}
 
 /// What an opening refuses: a superblock out of its ranges, a chain that goes on behind its last
