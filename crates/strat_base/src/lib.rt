@@ -10,6 +10,7 @@ pub mod laws;
 pub mod limits;
 mod numbers;
 mod pairs;
+pub mod reading;
 pub mod spellings;
 mod troubles;
 pub mod worked;

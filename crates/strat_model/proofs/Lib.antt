@@ -4,3 +4,6 @@ pub mod TableLemmas
 pub mod StreamLemmas
 pub mod StateTableLemmas
 pub mod TextLemmas
+pub mod OpeningLemmas
+pub mod HeadLemmas
+pub mod BadLemmas

@@ -17,5 +17,5 @@ pub mod Head
 pub mod Texts
 pub mod Settings
 pub mod Opening
-pub mod Blank
+pub mod Disks
 pub mod Bad

@@ -1,15 +1,20 @@
 //! What an opening finds in bytes, and laws that it has. Each is a call that does nothing, and its
 //! clauses are what it says.
 
-ghost use Rattle.std.specs.Prelude.{◌≡◌, [], ◌∷◌, ◌++◌, take, Some, None, Ok, Err};
+ghost use Rattle.std.specs.Prelude.{◌≡◌, ℕ, [], ◌∷◌, ◌++◌, length, take, Some, None, Ok, Err};
 ghost use Rattle.strat_base.specs.Change.{Put};
-ghost use Rattle.strat_base.specs.Image.{patch};
+ghost use Rattle.strat_base.specs.Image.{Image, patch};
 ghost use Rattle.strat_base.specs.Manifest.{manifest_bytes};
 ghost use Rattle.strat_base.specs.Numbers.{be};
-ghost use Rattle.strat_base.specs.State.{State, fresh_state};
+ghost use Rattle.strat_base.specs.Sound.{IsOpenable, IsSound};
+ghost use Rattle.strat_base.specs.State.{State, fresh_state, versions_of, updates_of, changes_of};
 ghost use Rattle.strat_base.specs.SuperBlock.{body};
-ghost use Rattle.strat_model.specs.Blank.{formatted, first_block, manifest_block, new_super, new_manifest, new_head};
-ghost use Rattle.strat_model.specs.Opening.{head_in, reads_as};
+ghost use Rattle.strat_base.specs.Worked.{chain};
+ghost use Rattle.strat_model.specs.Bad.{IsBad};
+ghost use Rattle.strat_model.specs.Disks.{formatted, first_block, manifest_block, new_super, new_manifest, new_head, published};
+ghost use Rattle.strat_model.specs.Head.{Head, head_of, head_versions, head_updates, head_changes, descriptors};
+ghost use Rattle.strat_model.specs.Opening.{head_in, reads_as, state_of};
+ghost use Rattle.strat_model.specs.Texts.{report, summary};
 
 /// A disk that was just formatted opens as a new store.
 pub fn formatted_disks_open()
@@ -26,6 +31,12 @@ pub fn records_are_found()
         ≡ Some (record (fresh_state 4 100 10) { journal = Put 0 (0x61 ∷ []) (0x31 ∷ []) ∷ [] }) }
 {}
 
+/// After a publication the newer superblock leads to the array, and the journal goes on in the
+/// region that it made active: the state is that of a chain of clones.
+pub fn published_disks_open()
+    ensures { reads_as published ≡ Some chain }
+{}
+
 /// What an opening refuses: a superblock out of its ranges, a chain that goes on behind its last
 /// block, bytes behind the manifest that are no zeros, an open gate with no change behind it, and a
 /// change that the table refuses. A disk of zeros is no store.
@@ -37,4 +48,29 @@ pub fn damage_is_named()
     ensures gate { head_in (patch formatted 8192 (0xa7 ∷ [])) ≡ Err 2 }
     ensures refused { head_in (patch formatted 8192
         (0xa7 ∷ 1 ∷ 0 ∷ 0 ∷ 0 ∷ 5 ∷ 1 ∷ 0x61 ∷ 0 ∷ 1 ∷ 0x31 ∷ 0 ∷ [])) ≡ Err 2 }
+{}
+
+/// What the bytes of a disk read as has passed what an opening tests of a state.
+pub fn what_is_read_may_be_opened()
+    ensures { (c : Image) (s : State) → reads_as c ≡ Some s → IsOpenable s }
+{}
+
+/// The texts of a head are those of the state that it is the head of. They say nothing of where on
+/// the disk its parts lie.
+pub fn texts_speak_of_states()
+    ensures report { (c : Image) (h : Head) (s : State) → state_of c h ≡ Some s
+        → report h ≡ report (head_of h.sb.generation s) }
+    ensures summary { (c : Image) (h : Head) (s : State) (seed count : ℕ) → state_of c h ≡ Some s
+        → summary h seed count ≡ summary (head_of h.sb.generation s) seed count }
+    ensures counts { (c : Image) (h : Head) (s : State) → state_of c h ≡ Some s
+        → (head_versions h ≡ versions_of s) × (head_updates h ≡ updates_of s)
+        × (head_changes h ≡ changes_of s) }
+{}
+
+/// A disk that reads as a sound state has no bad block: no opening refuses it, and each block of its
+/// arrays holds entries that fit their place.
+pub fn sound_disks_have_no_bad_block()
+    ensures { (c : Image) (h : Head) (s : State) (b : ℕ) → head_in c ≡ Ok (Some h)
+        → state_of c h ≡ Some s → IsSound s
+        → ¬ IsBad c (length (versions_of s)) (descriptors h.manifest) b }
 {}
