@@ -1,5 +1,5 @@
 -- A journal in memory.
-use Rattle.std.specs.Prelude.{◌≡◌, ◌≢◌, ◌⊎◌, ◌≤◌, ◌<◌, ℕ, zero, suc, ◌+◌, ◌*◌, Bool, true, List, [], ◌∷◌, ◌++◌, length, drop, slice_index, Option, Some, None, Ok}
+use Rattle.std.specs.Prelude.{◌≡◌, ◌≢◌, ◌⊎◌, ◌≤◌, ◌<◌, ℕ, zero, suc, ◌+◌, ◌*◌, Bool, true, false, List, [], ◌∷◌, ◌++◌, length, drop, slice_index, Option, Some, None, Ok}
 use Rattle.std.specs.List.{list_all}
 use Rattle.strat_base.specs.Change.{Change, change_bytes, change_in, is_lawful}
 use Rattle.strat_base.specs.Image.{Image}
@@ -22,6 +22,14 @@ gate_of log = region_at log.mem log.active + length (records_bytes log.list)
 -- the batch is in the list, and the next one is empty
 abbrev pub batch_joined : Log → Log
 batch_joined log = record log { list = log.list ++ log.batch; batch = [] }
+
+-- the same with another list
+abbrev pub with_list : List Change → Log → Log
+with_list list log = record log { list = list }
+
+-- a journal without changes
+abbrev pub empty_log : ℕ → ℕ → Log
+empty_log mem active = record { mem = mem; active = active; stale = false; list = []; batch = [] }
 
 -- a change and those of the records behind it
 abbrev pub change_then : (List ℕ → List Change) → List ℕ → Option Change → List Change

@@ -1,17 +1,19 @@
 //! Reading a journal when a store is opened.
 
-ghost use Rattle.std.specs.Prelude.{◌≡◌, ◌≤◌, ◌<◌, ℕ, ◌+◌, length, Some, Ok, Err, IfOk, IsErrOf, vec_len};
+ghost use Rattle.std.specs.Prelude.{◌≡◌, ◌≢◌, ◌≤◌, ◌<◌, ℕ, ◌+◌, not, find, length, Some, Ok, Err, IfOk, IfErr, OnOk, IsErrOf, IsTrue, vec_len};
+ghost use Rattle.std.specs.Option.{option_copied};
 ghost use Rattle.strat_base.specs.Image.{Image};
 ghost use Rattle.strat_base.specs.SuperBlock as layout;
 ghost use Rattle.strat_base.specs.Troubles.{HasTrouble};
 ghost use Rattle.strat_base.specs.declared.failures.Trouble.TheVariants.{Damaged};
 ghost use Rattle.strat_journal.specs.Front.{Looks};
-ghost use Rattle.strat_journal.specs.Records.{region_records};
+ghost use Rattle.strat_journal.specs.Records.{region_records, alone_then};
+ghost use Rattle.strat_journal.specs.Records.{is_plain as plain_change};
 
 use crate::front::Front;
 use crate::journal::Logged;
 use std::alloc::Global;
-use strat_base::Trouble;
+use strat_base::{Change, OwnedChange, Trouble};
 use strat_disk::Disk;
 
 /// The records of a region, up to its first closed gate or as many as it takes. Reads each block at most
@@ -40,4 +42,41 @@ fn read_region<D: Disk>(alloc: Global, disk: &mut D, mem: u32, region: u8) -> Re
         at = next;
     }
     Ok(logged)
+}
+
+/// Whether a change is one that stores take so far: a put at version 0.
+fn is_plain(change: &OwnedChange) -> bool
+    ensures { result ≡ plain_change change.now }
+{
+    match change.as_change() {
+        Change::Put {
+            version,
+            key: _,
+            value: _,
+        } => version == 0,
+        Change::Delete { version: _, key: _ } | Change::Clone { version: _ } => false,
+    }
+}
+
+/// The first record that is not plain.
+fn first_other(logged: &[Logged]) -> Option<&Logged>
+    ensures { option_copied result ≡ find (λ l. not (plain_change l.change)) logged.now }
+{
+    logged.iter().find(|l| !is_plain(&l.change))
+}
+
+/// Tests what holds as long as stores have one version and use one region at a time.
+fn test(logged: &[Logged], mem: u32, others: bool, block: u32) -> Result<(), Trouble>
+    ensures ok { OnOk result (alone_then mem others block (Ok logged.now) ≡ Ok logged.now) }
+    ensures apart { OnOk result (IsTrue others → length logged.now ≢ mem) }
+    ensures damaged { IfErr result
+        (λ e. (b : ℕ) × (e ≡ Damaged b) × (alone_then mem others block (Ok logged.now) ≡ Err b)) }
+{
+    if others && logged.len() == mem as usize {
+        return Err(Trouble::Damaged { block });
+    }
+    match first_other(logged) {
+        Some(other) => Err(Trouble::Damaged { block: other.block }),
+        None => Ok(()),
+    }
 }
