@@ -6,3 +6,4 @@ pub mod AppendLemmas
 pub mod TextLemmas
 pub mod FrontLemmas
 pub mod ReadLemmas
+pub mod ClosingLemmas

@@ -1,6 +1,7 @@
 //! A journal that takes all of a batch of changes or none of it.
 #![tactic(auto)]
 
+mod closing;
 mod front;
 mod journal;
 mod layout;
@@ -8,5 +9,6 @@ mod raising;
 mod read;
 mod text;
 
+pub use closing::close_region;
 pub use journal::{Journal, Logged};
 pub use layout::{RECORD_MAX, region_at, region_blocks, region_first};
