@@ -9,8 +9,9 @@ use Rattle.strat_base.specs.Change.{Change, change_bytes, is_lawful}
 use Rattle.strat_base.specs.Layout.{region_at, region_size, other_region}
 use Rattle.strat_base.proofs.ChangeLemmas.{length-change_bytes}
 use Rattle.strat_journal.specs.declared.journal.Logged.{Logged}
+use Rattle.strat_journal.specs.Laid.{Laid}
 use Rattle.strat_journal.specs.Records.{records_bytes, logged_from, joined, full_then, records, region_records, journal_of, changes_in_order, changes_of}
-use Rattle.strat_journal.proofs.RecordLemmas.{Laid, changes, none_text, laid_read, read_laid}
+use Rattle.strat_journal.proofs.RecordLemmas.{changes, none_text, laid_read, read_laid}
 
 pub records_bytes-append : (xs ys : List Change) → records_bytes (xs ++ ys) ≡ records_bytes xs ++ records_bytes ys
 records_bytes-append [] ys = refl
@@ -46,13 +47,13 @@ region_takes mem = omega arith
 abbrev pub LaidIn : Image → ℕ → ℕ → List Change → Type 0
 LaidIn c mem region list = Laid c (region_at mem region + region_size mem) mem (region_at mem region) list
 
-full_false : {X : Type 0} (n : ℕ) (others : Result (List X) ℕ) (xs : List X) → length xs ≢ n → full_then n others (Ok xs) ≡ Ok xs
+pub full_false : {X : Type 0} (n : ℕ) (others : Result (List X) ℕ) (xs : List X) → length xs ≢ n → full_then n others (Ok xs) ≡ Ok xs
 full_false n others xs apart = elim (cases_Bool (eqb (length xs) n)) [
   | inl same ↦ absurd (apart (eqb-true (length xs) n same))
   | inr other ↦ rw other refl
 ]
 
-full_true : {X : Type 0} (n : ℕ) (others : Result (List X) ℕ) (xs : List X) → length xs ≡ n → full_then n others (Ok xs) ≡ joined xs others
+pub full_true : {X : Type 0} (n : ℕ) (others : Result (List X) ℕ) (xs : List X) → length xs ≡ n → full_then n others (Ok xs) ≡ joined xs others
 full_true n others xs same = cond-true (eqb (length xs) n) (joined xs others) (Ok xs) (eq-eqb (length xs) n same)
 
 joined_long : (others : Result (List Logged) ℕ) (xs : List Logged) (list : List Change) → changes_in_order (joined xs others) ≡ Ok list → length list < length xs → ⊥

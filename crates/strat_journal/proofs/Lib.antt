@@ -7,3 +7,4 @@ pub mod TextLemmas
 pub mod FrontLemmas
 pub mod ReadLemmas
 pub mod ClosingLemmas
+pub mod NowLemmas

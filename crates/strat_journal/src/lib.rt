@@ -4,6 +4,7 @@
 mod closing;
 mod front;
 mod journal;
+pub mod laws;
 mod layout;
 mod raising;
 mod read;
