@@ -8,6 +8,8 @@ pub mod laws;
 mod layout;
 mod raising;
 mod read;
+#[cfg(test)]
+mod tests;
 mod text;
 
 pub use closing::close_region;
