@@ -1,5 +1,5 @@
 //! Gates: a record counts only while the byte before it reads 0xa7. A gate is written alone, with a sync on either side.
-ghost use Rattle.std.specs.Prelude.{◌≡◌, ◌≢◌, ◌<◌, ◌==◌, ℕ, ◌+◌, ◌^◌, [], ◌∷◌, Some, IfOk, OnOk};
+ghost use Rattle.std.specs.Prelude.{◌≡◌, ◌≢◌, ◌≤◌, ◌<◌, ◌==◌, ℕ, ◌+◌, ◌^◌, [], ◌∷◌, Some, IfOk, OnOk};
 ghost use Rattle.strat_base.specs.Faults.{Counts};
 ghost use Rattle.strat_base.specs.Image.{Image};
 ghost use Rattle.strat_base.specs.Moments.{Passes, TearsOnly, LeavesOld, WritesThrough};
@@ -40,6 +40,8 @@ pub fn gate_up<D: Disk>(disk: &mut D, at: u64) -> Result<bool, Failed>
     ensures images { LeavesOld (D.view disk.old) (D.view disk.new) }
     ensures time { Passes (D.view disk.old) (D.view disk.new) }
     ensures cause { Counts (D.faults disk.old) (D.faults disk.new) result }
+    ensures fewest_reads { D.reads disk.old ≤ D.reads disk.new }
+    ensures most_reads { D.reads disk.new ≤ D.reads disk.old + 1 }
 {
     let mut byte = [0];
     disk.read_at(at, &mut byte)?;

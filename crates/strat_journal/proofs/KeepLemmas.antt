@@ -1,8 +1,8 @@
 -- What the buffer of a journal keeps.
-use Rattle.std.proofs.Common.{◌≡◌, ◌≤◌, ◌<◌, ◌+◌, ◌*◌, ◌-◌, ℕ, zero, suc, Bool, true, ◌&&◌, List, [], ◌∷◌, ◌++◌, length, take, drop, get_or, Option, Some, refl, sym, ap, ◌∙◌, subst, arith, length-append, length-drop, append_assoc, drop-cons}
+use Rattle.std.proofs.Common.{◌≡◌, ◌≤◌, ◌<◌, ◌+◌, ◌*◌, ◌-◌, ℕ, zero, suc, Bool, true, ◌&&◌, List, [], ◌∷◌, ◌++◌, length, take, drop, get_or, replicate, Option, Some, refl, sym, ap, ◌∙◌, subst, arith, length-append, length-drop, append_assoc, drop-cons}
 use Rattle.std.specs.List.{list_all}
 use Rattle.std.proofs.lemmas.Bool.{and_parts, and_from}
-use Rattle.std.proofs.lemmas.List.{take_at, drop_at, drop-drop, append-nil, get_or-drop}
+use Rattle.std.proofs.lemmas.List.{get_or-replicate, length-replicate, take_at, drop_at, drop-drop, append-nil, get_or-drop}
 use Rattle.strat_base.specs.Numbers.{placed}
 use Rattle.strat_base.specs.Change.{Change, change_bytes, change_in, is_lawful}
 use Rattle.strat_base.proofs.ChangeLemmas.{change_in-bytes, length-change_bytes}
@@ -164,3 +164,24 @@ module _ (list batch : List Change) (bytes : List ℕ) (mem active count staged 
 pub same_log : (mem active : ℕ) (stale : Bool) (list list' batch batch' : List Change) → list ≡ list' → batch ≡ batch'
     → ◌≡◌ {A = Log} (record { mem = mem; active = active; stale = stale; list = list; batch = batch }) (record { mem = mem; active = active; stale = stale; list = list'; batch = batch' })
 same_log mem active stale list list' batch batch' e f = λ i. record { mem = mem; active = active; stale = stale; list = e i; batch = f i }
+
+-- a buffer of zeros keeps no change
+pub none_kept : (bytes : List ℕ) (mem active n : ℕ) → bytes ≡ replicate n 0 → n ≡ room_for mem → 4 ≤ mem → mem ≤ 4096 → active ≤ 1
+    → Keeps (changes_in 0 bytes) (changes_in 0 bytes) bytes mem active 0 0 0 0
+none_kept bytes mem active n zeros room least most region =
+    subst (λ (x : List Change). Keeps x x bytes mem active 0 0 0 0) (sym (none_in bytes)) (record {
+      text = refl;
+      closed = ap (λ (x : List ℕ). get_or x 0 0) zeros ∙ get_or-replicate n 0 0 0 (omega (arith, room));
+      list_end = refl;
+      batch_end = refl;
+      list_count = refl;
+      batch_count = refl;
+      list_fits = refl;
+      batch_fits = refl;
+      few = omega arith;
+      batch_few = omega arith;
+      mem_least = least;
+      mem_most = most;
+      active_most = region;
+      room = ap length zeros ∙ length-replicate n 0 ∙ room;
+    })

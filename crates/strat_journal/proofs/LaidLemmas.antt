@@ -1,15 +1,17 @@
 -- The changes of an image are those of the records that stand in its active region.
-use Rattle.std.proofs.Common.{◌≡◌, ◌≢◌, ◌≤◌, ◌<◌, ◌+◌, ◌*◌, ℕ, suc, true, eqb, inl, inr, List, [], ◌∷◌, ◌++◌, length, Result, Ok, Err, refl, sym, ap, ◌∙◌, subst, arith, length-append, append_assoc}
+use Rattle.std.proofs.Common.{◌≡◌, ◌≢◌, ◌≤◌, ◌<◌, ◌+◌, ◌*◌, ℕ, zero, suc, true, eqb, ◌⊎◌, inl, inr, List, [], ◌∷◌, ◌++◌, length, Result, Ok, Err, refl, sym, ap, ◌∙◌, subst, arith, length-append, append_assoc}
 use Rattle.std.specs.List.{list_all}
 use Rattle.std.proofs.lemmas.Bool.{eqb-true, eq-eqb, and_parts, and_from, cond-true, cases_Bool, cases_eq}
 use Rattle.std.proofs.lemmas.List.{append-nil, length-map}
-use Rattle.strat_base.specs.Image.{Image, HoldsBytes}
+use Rattle.strat_base.specs.Image.{Image, HoldsBytes, Outside, window}
+use Rattle.strat_base.proofs.ImageLemmas.{window_same}
 use Rattle.strat_base.specs.Change.{Change, change_bytes, is_lawful}
 use Rattle.strat_base.specs.Layout.{region_at, region_size, other_region}
 use Rattle.strat_base.proofs.ChangeLemmas.{length-change_bytes}
 use Rattle.strat_journal.specs.declared.journal.Logged.{Logged}
-use Rattle.strat_journal.specs.Records.{records_bytes, logged_from, joined, full_then, region_records, changes_in_order, changes_of}
-use Rattle.strat_journal.proofs.RecordLemmas.{Laid, changes, none_text, laid_read, read_laid}
+use Rattle.strat_journal.specs.Laid.{Laid}
+use Rattle.strat_journal.specs.Records.{records_bytes, logged_from, joined, full_then, records, region_records, journal_of, changes_in_order, changes_of}
+use Rattle.strat_journal.proofs.RecordLemmas.{changes, none_text, laid_read, read_laid}
 
 pub records_bytes-append : (xs ys : List Change) → records_bytes (xs ++ ys) ≡ records_bytes xs ++ records_bytes ys
 records_bytes-append [] ys = refl
@@ -45,13 +47,13 @@ region_takes mem = omega arith
 abbrev pub LaidIn : Image → ℕ → ℕ → List Change → Type 0
 LaidIn c mem region list = Laid c (region_at mem region + region_size mem) mem (region_at mem region) list
 
-full_false : {X : Type 0} (n : ℕ) (others : Result (List X) ℕ) (xs : List X) → length xs ≢ n → full_then n others (Ok xs) ≡ Ok xs
+pub full_false : {X : Type 0} (n : ℕ) (others : Result (List X) ℕ) (xs : List X) → length xs ≢ n → full_then n others (Ok xs) ≡ Ok xs
 full_false n others xs apart = elim (cases_Bool (eqb (length xs) n)) [
   | inl same ↦ absurd (apart (eqb-true (length xs) n same))
   | inr other ↦ rw other refl
 ]
 
-full_true : {X : Type 0} (n : ℕ) (others : Result (List X) ℕ) (xs : List X) → length xs ≡ n → full_then n others (Ok xs) ≡ joined xs others
+pub full_true : {X : Type 0} (n : ℕ) (others : Result (List X) ℕ) (xs : List X) → length xs ≡ n → full_then n others (Ok xs) ≡ joined xs others
 full_true n others xs same = cond-true (eqb (length xs) n) (joined xs others) (Ok xs) (eq-eqb (length xs) n same)
 
 joined_long : (others : Result (List Logged) ℕ) (xs : List Logged) (list : List Change) → changes_in_order (joined xs others) ≡ Ok list → length list < length xs → ⊥
@@ -106,3 +108,62 @@ given_laid c mem active list holds given few =
     let found = given_part mem others (region_records c mem active) list few given in
     let read = read_laid c (s + region_size mem) mem s found.0 holds (omega arith) found.1 in
     subst (LaidIn c mem active) found.2 read.0
+
+longer : {X : Type 0} (others : Result (List X) ℕ) (xs list : List X) → joined xs others ≡ Ok list → length list < length xs → ⊥
+longer (Err block) xs list e short = absurd (cc)
+longer (Ok ys) xs list e short = let same : xs ++ ys ≡ list = cc in omega (arith, ap length same, length-append xs ys)
+
+journal_part : (mem : ℕ) (others r : Result (List Logged) ℕ) (logged : List Logged) → length logged < mem → full_then mem others r ≡ Ok logged → r ≡ Ok logged
+journal_part mem others (Err block) logged few e = absurd (cc)
+journal_part mem others (Ok xs) logged few e = elim (cases_eq (length xs) mem) [
+  | inr part ↦ sym (full_false mem others xs part) ∙ e
+  | inl full ↦ absurd (longer others xs logged (sym (full_true mem others xs full) ∙ e) (omega (arith, full)))
+]
+
+-- a journal of fewer changes than a region takes stands in the active region, and the other way round
+pub journal_laid : (c : Image) (mem active : ℕ) (logged : List Logged) → HoldsBytes c → journal_of c mem active ≡ Ok logged → length logged < mem
+    → LaidIn c mem active (changes logged) × (logged ≡ logged_from (region_at mem active) (changes logged))
+journal_laid c mem active logged holds e few =
+    let s : ℕ = region_at mem active in
+    let found = journal_part mem (region_records c mem (other_region active)) (region_records c mem active) logged few e in
+    read_laid c (s + region_size mem) mem s logged holds (omega arith) found
+
+pub laid_journal : (c : Image) (mem active : ℕ) (list : List Change) → LaidIn c mem active list → length list < mem → journal_of c mem active ≡ Ok (logged_from (region_at mem active) list)
+laid_journal c mem active list laid few =
+    let s : ℕ = region_at mem active in
+    ap (full_then mem (region_records c mem (other_region active))) (laid_read c (s + region_size mem) mem s list laid)
+    ∙ full_false mem (region_records c mem (other_region active)) (logged_from s list) (λ full. omega (arith, few, full, length-logged_from s list))
+
+-- the first byte of one region lies in no record of the other
+pub outside_other : (mem region : ℕ) → region ≤ 1
+    → (region_at mem region + 1 ≤ region_at mem (other_region region)) ⊎ (region_at mem (other_region region) + region_size mem ≤ region_at mem region)
+outside_other mem zero few = inl (omega arith)
+outside_other mem (suc zero) few = inr (omega arith)
+outside_other mem (suc (suc k)) few = absurd (omega arith)
+
+-- what stands in one region stays when the other's first gate changes
+pub gate_keeps : (d c : Image) (mem region : ℕ) (list : List Change) → region ≤ 1 → 4 ≤ mem → length list < mem → Outside (region_at mem region) 1 d c → LaidIn d mem (other_region region) list
+    → LaidIn c mem (other_region region) list
+gate_keeps d c mem region list few some short out laid =
+    let s : ℕ = region_at mem (other_region region) in
+    let size : length (records_bytes list) + 1 ≤ region_size mem = omega (arith, length-records_bytes list laid.lawful, region_takes mem) in
+    let same : (i : ℕ) → s ≤ i → i < s + region_size mem → c i ≡ d i = λ i low high. elim (outside_other mem region few) [
+        | inl under ↦ out.above i (omega arith)
+        | inr past ↦ out.below i (omega arith)
+    ] in
+    record {
+      text = window_same d c s (length (records_bytes list)) (record { byte = λ i low high. same i low (omega (arith, size)) }) ∙ laid.text;
+      lawful = laid.lawful;
+      few = laid.few;
+      closed = λ lt up. laid.closed lt (sym (same (s + length (records_bytes list)) (omega arith) (omega (arith, size))) ∙ up);
+      within = laid.within;
+    }
+
+-- so the journal of the one does, too
+pub journal_kept : (d c : Image) (mem region : ℕ) (logged : List Logged) → HoldsBytes d → region ≤ 1 → 4 ≤ mem → length logged < mem → Outside (region_at mem region) 1 d c
+    → journal_of d mem (other_region region) ≡ Ok logged → journal_of c mem (other_region region) ≡ Ok logged
+journal_kept d c mem region logged holds few some short out e =
+    let read = journal_laid d mem (other_region region) logged holds e short in
+    let size : length (changes logged) ≡ length logged = length-map logged (λ (l : Logged). l.change) in
+    laid_journal c mem (other_region region) (changes logged) (gate_keeps d c mem region (changes logged) few some (omega (arith, size)) out read.0) (omega (arith, size))
+    ∙ ap (λ (xs : List Logged). Ok xs) (sym read.1)

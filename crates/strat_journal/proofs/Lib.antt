@@ -6,3 +6,5 @@ pub mod AppendLemmas
 pub mod TextLemmas
 pub mod FrontLemmas
 pub mod ReadLemmas
+pub mod ClosingLemmas
+pub mod NowLemmas

@@ -1,5 +1,6 @@
 -- How the records of a region are read one after the other.
-use Rattle.std.proofs.Common.{◌≡◌, ◌≢◌, ◌≤◌, ◌<◌, ◌+◌, ◌-◌, ◌*◌, ◌/◌, ℕ, zero, suc, ◌⊎◌, inl, inr, List, [], ◌∷◌, ◌++◌, length, Option, Some, None, Result, Ok, Err, cond, refl, sym, ap, ◌∙◌, subst, arith, length-append, append_assoc}
+use Rattle.std.proofs.Common.{◌≡◌, ◌≢◌, ◌≤◌, ◌<◌, ◌+◌, ◌-◌, ◌*◌, ◌/◌, ℕ, zero, suc, ◌⊎◌, inl, inr, List, [], ◌∷◌, ◌++◌, length, Option, Some, None, Result, Ok, Err, cond, Bool, true, refl, sym, ap, ◌∙◌, subst, arith, length-append, append_assoc}
+use Rattle.std.proofs.lemmas.Bool.{eqb-true, eq-eqb}
 use Rattle.std.proofs.lemmas.List.{append-nil}
 use Rattle.strat_base.specs.Image.{Image, window}
 use Rattle.strat_base.specs.Moments.{View}
@@ -156,3 +157,11 @@ module _ (old mid new : View) (before between reads : ℕ) (mem region n at : �
 -- the error that is handed on is the one that came
 pub same_err : {T U E : Type 0} (r : Result T E) (x y z : E) → r ≡ Err x → x ≡ y → r ≡ Err z → ◌≡◌ {A = Result U E} (Err y) (Err z)
 same_err r x y z e same f = let g : Err x ≡ Err z = sym e ∙ f in let h : x ≡ z = cc in ap (λ (w : _). Err w) (sym same ∙ h)
+
+-- an open gate of the other region is stale exactly where the active one is not full
+pub stale_is : (b : Bool) (gate mem count list : ℕ) → b ≡ is_open gate → count ≤ mem → (b ≡ true → count ≢ mem) → list ≡ count
+    → (b ≡ true → (list < mem) × (gate ≡ 0xa7)) × ((list < mem) × (gate ≡ 0xa7) → b ≡ true)
+stale_is b gate mem count list e few apart same = (
+  λ up. (let other = apart up in omega (arith, few, other), eqb-true gate 0xa7 (sym e ∙ up)),
+  λ stale. e ∙ eq-eqb gate 0xa7 stale.1,
+)

@@ -10,15 +10,8 @@ use Rattle.strat_base.proofs.ImageLemmas.{length-window, window_at, window_split
 use Rattle.strat_base.proofs.ChangeLemmas.{change_in-bytes, change_in-some}
 use Rattle.strat_base.proofs.TreeLemmas.{option_cases}
 use Rattle.strat_journal.specs.declared.journal.Logged.{Logged}
+use Rattle.strat_journal.specs.Laid.{Laid}
 use Rattle.strat_journal.specs.Records.{is_open, records_bytes, block_of, logged_from, put_first, record_then, records}
-
--- these records, lawful and at most n, stand from a place on up to a closed gate
-pub record Laid (c : Image) (end n at : ℕ) (list : List Change) : Type 0 where
-  pub text : window c at (length (records_bytes list)) ≡ records_bytes list
-  pub lawful : list_all is_lawful list ≡ true
-  pub few : length list ≤ n
-  pub closed : length list < n → c (at + length (records_bytes list)) ≢ 0xa7
-  pub within : at + length (records_bytes list) ≤ end
 
 size_some : (change : Change) → 1 ≤ length (change_bytes change)
 size_some (Put version key value) = omega arith

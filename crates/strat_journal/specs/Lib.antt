@@ -2,3 +2,4 @@ pub mod Records
 pub mod Log
 pub mod Raising
 pub mod Front
+pub mod Laid

@@ -1,10 +1,11 @@
 -- A journal in memory.
-use Rattle.std.specs.Prelude.{◌≡◌, ◌≢◌, ◌⊎◌, ◌≤◌, ◌<◌, ℕ, zero, suc, ◌+◌, ◌*◌, Bool, true, List, [], ◌∷◌, ◌++◌, length, drop, slice_index, Option, Some, None, Ok}
+use Rattle.std.specs.Prelude.{◌≡◌, ◌≢◌, ◌⊎◌, ◌≤◌, ◌<◌, ℕ, zero, suc, ◌+◌, ◌*◌, Bool, true, false, List, [], ◌∷◌, ◌++◌, length, map, drop, slice_index, Option, Some, None, Ok}
 use Rattle.std.specs.List.{list_all}
 use Rattle.strat_base.specs.Change.{Change, change_bytes, change_in, is_lawful}
 use Rattle.strat_base.specs.Image.{Image}
 use Rattle.strat_base.specs.Layout.{region_at, other_region}
 use Rattle.strat_base.specs.Moments.{View, Images}
+use Rattle.strat_journal.specs.declared.journal.Logged.{Logged}
 use Rattle.strat_journal.specs.Records.{records_bytes, changes_of}
 
 -- what a journal holds: how many changes a region takes, the active region, whether the other one is to be shut, the changes that are there for good, and those that become so together
@@ -22,6 +23,14 @@ gate_of log = region_at log.mem log.active + length (records_bytes log.list)
 -- the batch is in the list, and the next one is empty
 abbrev pub batch_joined : Log → Log
 batch_joined log = record log { list = log.list ++ log.batch; batch = [] }
+
+-- the same with another list
+abbrev pub with_list : List Change → Log → Log
+with_list list log = record log { list = list }
+
+-- a journal without changes
+abbrev pub empty_log : ℕ → ℕ → Log
+empty_log mem active = record { mem = mem; active = active; stale = false; list = []; batch = [] }
 
 -- a change and those of the records behind it
 abbrev pub change_then : (List ℕ → List Change) → List ℕ → Option Change → List Change
@@ -64,3 +73,15 @@ pub record Stands (v : View) (log : Log) : Type 0 where
 abbrev pub GivesAllOrNone : Log → Image → Type 0
 GivesAllOrNone log c =
     (changes_of c log.mem log.active ≡ Ok log.list) ⊎ (changes_of c log.mem log.active ≡ Ok (log.list ++ log.batch))
+
+-- a journal whose list are these changes in their order
+pub record Restores (mem active : ℕ) (logged : List Logged) (log : Log) : Type 0 where
+  pub mem_is : log.mem ≡ mem
+  pub active_is : log.active ≡ active
+  pub list_is : log.list ≡ map (λ l. l.change) logged
+  pub batch_is : log.batch ≡ []
+  pub few : length log.list ≤ mem
+
+-- so many changes leave room in the active region, and the other one's first gate is open
+abbrev pub IsStale : Image → ℕ → ℕ → ℕ → Type 0
+IsStale f mem active count = (count < mem) × (f (region_at mem (other_region active)) ≡ 0xa7)

@@ -1,21 +1,25 @@
 //! The journal in memory, and how a batch becomes durable.
 
-ghost use Rattle.std.specs.Prelude.{◌≡◌, ◌≤◌, ◌<◌, ℕ, ◌+◌, ◌-◌, [], ◌∷◌, ◌++◌, length, Some, IsTrue, IfOk, OnOk, OnErr};
+ghost use Rattle.std.specs.Prelude.{◌≡◌, ◌≤◌, ◌<◌, ℕ, ◌+◌, ◌-◌, [], ◌∷◌, ◌++◌, length, map, Some, IsTrue, IfOk, OnOk, OnErr};
 ghost use Rattle.strat_base.specs.Change.{is_lawful};
 ghost use Rattle.strat_base.specs.ChangeView.{change_of};
 ghost use Rattle.strat_base.specs.Faults.{Counts};
 ghost use Rattle.strat_base.specs.Image.{Image, patch};
 ghost use Rattle.strat_base.specs.Layout as places;
 ghost use Rattle.strat_base.specs.Moments.{Since, Passes, TearsOnly, Settled};
-ghost use Rattle.strat_journal.specs.Log.{Stands, GivesAllOrNone, batch_joined, gate_of};
+ghost use Rattle.strat_journal.specs.Log.{Stands, GivesAllOrNone, batch_joined, with_list, empty_log, gate_of};
 ghost use Rattle.strat_journal.specs.Records.{records_bytes};
 
-use crate::layout::region_at;
+use crate::layout::{RECORD_MAX, region_at};
 use crate::raising::raise_over;
 use crate::text::{behind_gate, put_record};
+use std::alloc::Global;
 use std::marker::Model;
-use strat_base::{Change, Failed, OwnedChange};
+use strat_base::{Change, Failed, NoMemory, OwnedChange};
 use strat_disk::Disk;
+
+/// Most changes of a batch.
+pub const BATCH_MAX: usize = 16;
 
 /// A change that an opening read, and the block in which the gate of its record stands.
 #[derive(Debug, Drop)]
@@ -57,6 +61,55 @@ impl Model for Journal {
 }
 
 impl Journal {
+    /// Nothing in the list, and room for as many changes as two regions take and for a batch.
+    pub(crate) fn empty(alloc: Global, mem: u32, active: u8) -> Result<Journal, NoMemory>
+        requires least { 4 ≤ mem }
+        requires most { mem ≤ 4096 }
+        requires region { active ≤ 1 }
+        ensures ok { IfOk result (λ j. j ≡ empty_log mem active) }
+    {
+        let room = RECORD_MAX as usize * (2 * mem as usize + BATCH_MAX) + 1;
+        Ok(Journal {
+            mem,
+            active,
+            stale: false,
+            count: 0,
+            staged: 0,
+            end: 0,
+            len: 0,
+            bytes: vec![in alloc; 0; room]?,
+        })
+    }
+
+    /// Puts a change behind the list that an opening read.
+    fn restore(&mut self, change: &Change<'_>)
+        requires fits { IsTrue (is_lawful (change_of change.now)) }
+        requires empty { self.old.batch ≡ [] }
+        requires room { length self.old.list < self.old.mem }
+        ensures ok { self.new ≡ with_list (self.old.list ++ change_of change.now ∷ []) self.old }
+    {
+        self.add(change);
+        self.join();
+    }
+
+    /// Puts changes behind the list that an opening read.
+    pub(crate) fn restore_all(&mut self, logged: &[Logged])
+        requires empty { self.old.batch ≡ [] }
+        requires room { length self.old.list + length logged.now ≤ self.old.mem }
+        ensures ok { self.new ≡ with_list (self.old.list ++ map (λ l. l.change) logged.now) self.old }
+    {
+        for record in logged {
+            self.restore(&record.change.as_change());
+        }
+    }
+
+    /// Says whether the region that is not active is to be shut.
+    pub(crate) fn set_stale(&mut self, stale: bool)
+        ensures ok { self.new ≡ record self.old { stale = stale } }
+    {
+        self.stale = stale;
+    }
+
     /// The number of changes in the list.
     pub fn count(&self) -> u32
         ensures { result ≡ length self.now.list }

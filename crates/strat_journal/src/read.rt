@@ -1,18 +1,27 @@
 //! Reading a journal when a store is opened.
 
-ghost use Rattle.std.specs.Prelude.{◌≡◌, ◌≤◌, ◌<◌, ℕ, ◌+◌, length, Some, Ok, Err, IfOk, IsErrOf, vec_len};
+ghost use Rattle.std.specs.Prelude.{◌≡◌, ◌≢◌, ◌≤◌, ◌<◌, ℕ, ◌+◌, not, find, length, Some, Ok, Err, IfOk, IfErr, OnOk, IsErrOf, IsTrue, ◌↔◌, vec_len};
+ghost use Rattle.std.specs.Option.{option_copied};
 ghost use Rattle.strat_base.specs.Image.{Image};
+ghost use Rattle.strat_base.specs.Layout as places;
+ghost use Rattle.strat_base.specs.Moments.{Passes, LeavesOld};
 ghost use Rattle.strat_base.specs.SuperBlock as layout;
+ghost use Rattle.strat_base.specs.SuperBlock.{IsLawful};
 ghost use Rattle.strat_base.specs.Troubles.{HasTrouble};
 ghost use Rattle.strat_base.specs.declared.failures.Trouble.TheVariants.{Damaged};
+ghost use Rattle.strat_gate.specs.SuperView.{super_of};
 ghost use Rattle.strat_journal.specs.Front.{Looks};
-ghost use Rattle.strat_journal.specs.Records.{region_records};
+ghost use Rattle.strat_journal.specs.Log.{Restores, IsStale};
+ghost use Rattle.strat_journal.specs.Records.{is_open, region_records, alone_then, journal_now};
+ghost use Rattle.strat_journal.specs.Records.{is_plain as plain_change};
 
 use crate::front::Front;
-use crate::journal::Logged;
+use crate::journal::{Journal, Logged};
+use crate::layout::{region_at, region_first};
 use std::alloc::Global;
-use strat_base::Trouble;
+use strat_base::{Change, OwnedChange, Trouble};
 use strat_disk::Disk;
+use strat_gate::{SuperBlock, gate_up};
 
 /// The records of a region, up to its first closed gate or as many as it takes. Reads each block at most
 /// once and none behind that gate.
@@ -40,4 +49,92 @@ fn read_region<D: Disk>(alloc: Global, disk: &mut D, mem: u32, region: u8) -> Re
         at = next;
     }
     Ok(logged)
+}
+
+/// Whether a change is one that stores take so far: a put at version 0.
+fn is_plain(change: &OwnedChange) -> bool
+    ensures { result ≡ plain_change change.now }
+{
+    match change.as_change() {
+        Change::Put {
+            version,
+            key: _,
+            value: _,
+        } => version == 0,
+        Change::Delete { version: _, key: _ } | Change::Clone { version: _ } => false,
+    }
+}
+
+/// The first record that is not plain.
+fn first_other(logged: &[Logged]) -> Option<&Logged>
+    ensures { option_copied result ≡ find (λ l. not (plain_change l.change)) logged.now }
+{
+    logged.iter().find(|l| !is_plain(&l.change))
+}
+
+/// Tests what holds as long as stores have one version and use one region at a time.
+fn test(logged: &[Logged], mem: u32, others: bool, block: u32) -> Result<(), Trouble>
+    ensures ok { OnOk result (alone_then mem others block (Ok logged.now) ≡ Ok logged.now) }
+    ensures apart { OnOk result (IsTrue others → length logged.now ≢ mem) }
+    ensures damaged { IfErr result
+        (λ e. (b : ℕ) × (e ≡ Damaged b) × (alone_then mem others block (Ok logged.now) ≡ Err b)) }
+{
+    if others && logged.len() == mem as usize {
+        return Err(Trouble::Damaged { block });
+    }
+    match first_other(logged) {
+        Some(other) => Err(Trouble::Damaged { block: other.block }),
+        None => Ok(()),
+    }
+}
+
+/// What an opening reads of a journal, and whether the other region's first gate is open.
+fn read_records<D: Disk>(alloc: Global, disk: &mut D, mem: u32, region: u8) -> Result<(Vec<Logged>, bool), Trouble>
+    requires mem { mem ≤ 4096 }
+    requires region { region ≤ 1 }
+    ensures found { IfOk result (λ r. (f : Image) → (D.view disk.old).content ≡ Some f
+        → journal_now f mem region ≡ Ok r.0.items) }
+    ensures others { IfOk result (λ r. (f : Image) → (D.view disk.old).content ≡ Some f
+        → r.1 ≡ is_open (f (places.region_at mem (places.other_region region)))) }
+    ensures few { IfOk result (λ r. (vec_len r.0 ≤ mem) × (IsTrue r.1 → vec_len r.0 ≢ mem)) }
+    ensures damaged { (b : ℕ) → IsErrOf result (Damaged b) → (f : Image)
+        → (D.view disk.old).content ≡ Some f → journal_now f mem region ≡ Err b }
+    ensures looks { Looks (D.view disk.old) (D.view disk.new) }
+    ensures cause { HasTrouble (D.faults disk.old) (D.faults disk.new) result }
+    ensures fewest_reads { D.reads disk.old ≤ D.reads disk.new }
+    ensures most_reads { D.reads disk.new ≤ D.reads disk.old + layout.region_blocks mem + 1 }
+{
+    let logged = read_region(alloc, disk, mem, region)?;
+    let others = gate_up(disk, region_at(mem, 1 - region))?;
+    test(&logged, mem, others, region_first(mem, 1 - region))?;
+    Ok((logged, others))
+}
+
+impl Journal {
+    /// Reads the journal of a superblock, and gives it with its changes in order and the blocks of their
+    /// gates. Takes all the memory that later calls need, and writes nothing. Reads each block of the active
+    /// region at most once, none behind its first closed gate, and one of the other region.
+    pub fn read<D: Disk>(alloc: Global, disk: &mut D, sb: &SuperBlock) -> Result<(Journal, Vec<Logged>), Trouble>
+        requires { IsLawful (super_of sb.now) }
+        ensures found { IfOk result (λ r. (f : Image) → (D.view disk.old).content ≡ Some f
+            → journal_now f sb.now.mem sb.now.region ≡ Ok r.1.items) }
+        ensures log { IfOk result (λ r. Restores sb.now.mem sb.now.region r.1.items r.0) }
+        ensures stale { IfOk result (λ r. (f : Image) → (D.view disk.old).content ≡ Some f
+            → IsTrue r.0.stale ↔ IsStale f sb.now.mem sb.now.region (length r.0.list)) }
+        ensures damaged { (b : ℕ) → IsErrOf result (Damaged b) → (f : Image)
+            → (D.view disk.old).content ≡ Some f
+            → journal_now f sb.now.mem sb.now.region ≡ Err b }
+        ensures same { (D.view disk.new).content ≡ (D.view disk.old).content }
+        ensures images { LeavesOld (D.view disk.old) (D.view disk.new) }
+        ensures time { Passes (D.view disk.old) (D.view disk.new) }
+        ensures cause { HasTrouble (D.faults disk.old) (D.faults disk.new) result }
+        ensures fewest_reads { D.reads disk.old ≤ D.reads disk.new }
+        ensures most_reads { D.reads disk.new ≤ D.reads disk.old + layout.region_blocks sb.now.mem + 1 }
+    {
+        let mut journal = Journal::empty(alloc, sb.mem, sb.region)?;
+        let (logged, others) = read_records(alloc, disk, sb.mem, sb.region)?;
+        journal.restore_all(&logged);
+        journal.set_stale(others);
+        Ok((journal, logged))
+    }
 }

@@ -1,0 +1,109 @@
+-- What an opening reads today, and the journal.
+use Rattle.std.proofs.Common.{◌≡◌, ◌≢◌, ◌≤◌, ◌<◌, ◌+◌, ◌-◌, ℕ, zero, suc, Bool, true, false, eqb, cond, ◌&&◌, not, inl, inr, List, [], ◌∷◌, ◌++◌, length, find, Option, Some, None, Result, Ok, Err, refl, sym, ap, ◌∙◌, arith, length-append}
+use Rattle.std.specs.List.{list_all}
+use Rattle.std.proofs.lemmas.Bool.{eqb-true, eq-eqb, and_parts, and_from, cond-true, cases_Bool, cases_eq}
+use Rattle.std.proofs.lemmas.List.{append-nil}
+use Rattle.strat_base.specs.Image.{Image, window}
+use Rattle.strat_base.specs.Change.{Change, change_bytes, change_in}
+use Rattle.strat_base.specs.Layout.{region_first, region_at, region_size, other_region}
+use Rattle.strat_base.proofs.TreeLemmas.{option_cases}
+use Rattle.strat_journal.specs.declared.journal.Logged.{Logged}
+use Rattle.strat_journal.specs.Records.{is_open, block_of, put_first, record_then, joined, full_then, records, region_records, journal_of, is_plain, plain_or, plain, alone_then, journal_now}
+use Rattle.strat_journal.proofs.RecordLemmas.{open_gate}
+use Rattle.strat_journal.proofs.LaidLemmas.{full_true, full_false, closed_records}
+
+-- plain records are all of them
+plain_same : (logged xs : List Logged) (o : Option Logged) → plain_or logged o ≡ Ok xs → logged ≡ xs
+plain_same logged xs None e = cc
+plain_same logged xs (Some l) e = absurd (cc)
+
+-- plain records hold no other
+none_other : (logged : List Logged) → list_all (λ (l : Logged). is_plain l.change) logged ≡ true → find (λ (l : Logged). not (is_plain l.change)) logged ≡ None
+none_other [] e = refl
+none_other (l ∷ logged) e =
+    let parts = and_parts (is_plain l.change) (list_all (λ (l : Logged). is_plain l.change) logged) e in
+    ap (λ (b : Bool). cond (not b) (Some l) (find (λ (l : Logged). not (is_plain l.change)) logged)) parts.0 ∙ none_other logged parts.1
+
+shut_of : (others : Bool) (n mem : ℕ) → (eqb n mem && others) ≡ false → n ≡ mem → others ≡ false
+shut_of others n mem one same = ap (λ (b : Bool). b && others) (sym (eq-eqb n mem same)) ∙ one
+
+now_part : (mem block : ℕ) (others : Bool) (r : Result (List Logged) ℕ) (logged : List Logged) → alone_then mem others block r ≡ Ok logged
+    → (r ≡ Ok logged) × (length logged ≡ mem → others ≡ false)
+now_part mem block others (Err bad) logged e = absurd (cc)
+now_part mem block others (Ok xs) logged e = elim (cases_Bool (eqb (length xs) mem && others)) [
+  | inl both ↦ absurd (let f : Err block ≡ Ok logged = sym (cond-true (eqb (length xs) mem && others) (Err block) (plain xs) both) ∙ e in cc)
+  | inr one ↦
+      let there : plain xs ≡ Ok logged = ap (λ (b : Bool). cond b (Err block) (plain xs)) (sym one) ∙ e in
+      let same : xs ≡ logged = plain_same xs logged (find (λ (l : Logged). not (is_plain l.change)) xs) there in
+      (ap (λ (zs : List Logged). Ok zs) same, λ full. shut_of others (length xs) mem one (ap length same ∙ full))
+]
+
+pub narrow : (c : Image) (mem active : ℕ) (logged : List Logged) → journal_now c mem active ≡ Ok logged → journal_of c mem active ≡ Ok logged
+narrow c mem active logged e =
+    let part = now_part mem (region_first mem (other_region active)) (is_open (c (region_at mem (other_region active)))) (region_records c mem active) logged e in
+    let others : Result (List Logged) ℕ = region_records c mem (other_region active) in
+    ap (full_then mem others) part.0 ∙ elim (cases_eq (length logged) mem) [
+      | inr short ↦ full_false mem others logged short
+      | inl full ↦
+          let shut : c (region_at mem (other_region active)) ≢ 0xa7 = λ up. let f : true ≡ false = sym (eq-eqb (c (region_at mem (other_region active))) 0xa7 up) ∙ part.1 full in cc in
+          full_true mem others logged full ∙ ap (joined logged) (closed_records c mem (other_region active) shut) ∙ ap (λ (zs : List Logged). Ok zs) (append-nil logged)
+    ]
+
+put_some : {X : Type 0} (x : X) (r : Result (List X) ℕ) → put_first x r ≡ Ok [] → ⊥
+put_some x (Ok xs) e = cc
+put_some x (Err block) e = cc
+
+first_some : (o : Option Change) (later : ℕ → Result (List Logged) ℕ) (at : ℕ) → record_then at later o ≡ Ok [] → ⊥
+first_some None later at e = cc
+first_some (Some change) later at e = put_some (record { change = change; block = block_of at }) (later (at + 1 + length (change_bytes change))) e
+
+-- an open gate is no end of records
+open_some : (c : Image) (end n at : ℕ) → 0 < n → records c end n at ≡ Ok [] → is_open (c at) ≡ false
+unfolding records
+open_some c end zero at some e = absurd (omega arith)
+open_some c end (suc n) at some e = elim (cases_Bool (is_open (c at))) [
+  | inr shut ↦ shut
+  | inl up ↦ absurd (first_some (change_in (window c (at + 1) (end - (at + 1)))) (λ next. records c end n next) at (sym (open_gate (c at) _ (Ok []) (eqb-true (c at) 0xa7 up)) ∙ e))
+]
+
+joined_few : (xs : List Logged) (r : Result (List Logged) ℕ) (logged : List Logged) → joined xs r ≡ Ok logged → length logged ≤ length xs → (r ≡ Ok []) × (xs ≡ logged)
+joined_few xs (Err block) logged e few = absurd (cc)
+joined_few xs (Ok []) logged e few = let same : xs ++ [] ≡ logged = cc in (refl, sym (append-nil xs) ∙ same)
+joined_few xs (Ok (y ∷ ys)) logged e few = let same : xs ++ y ∷ ys ≡ logged = cc in absurd (omega (arith, ap length same, length-append xs (y ∷ ys)))
+
+apart_test : (n mem : ℕ) (others : Bool) → n ≢ mem → (eqb n mem && others) ≡ false
+apart_test n mem others apart = elim (cases_Bool (eqb n mem)) [
+  | inl same ↦ absurd (apart (eqb-true n mem same))
+  | inr other ↦ ap (λ (b : Bool). b && others) other
+]
+
+and_false : (b : Bool) → (b && false) ≡ false
+and_false true = refl
+and_false false = refl
+
+wide_part : (mem block : ℕ) (others : Bool) (rest r : Result (List Logged) ℕ) (logged : List Logged) → full_then mem rest r ≡ Ok logged → length logged ≤ mem
+    → (rest ≡ Ok [] → others ≡ false) → list_all (λ (l : Logged). is_plain l.change) logged ≡ true → alone_then mem others block r ≡ Ok logged
+wide_part mem block others rest (Err bad) logged e few shut plain' = absurd (cc)
+wide_part mem block others rest (Ok xs) logged e few shut plain' = elim (cases_eq (length xs) mem) [
+  | inr short ↦
+      let same : Ok xs ≡ Ok logged = sym (full_false mem rest xs short) ∙ e in
+      let xs_is : xs ≡ logged = cc in
+      let no : (eqb (length xs) mem && others) ≡ false = apart_test (length xs) mem others short in
+      ap (λ (b : Bool). cond b (Err block) (plain xs)) no ∙ ap plain xs_is ∙ ap (plain_or logged) (none_other logged plain')
+  | inl full ↦
+      let none = joined_few xs rest logged (sym (full_true mem rest xs full) ∙ e) (omega (arith, full)) in
+      let no : (eqb (length xs) mem && others) ≡ false = ap (λ (b : Bool). eqb (length xs) mem && b) (shut none.0) ∙ and_false (eqb (length xs) mem) in
+      ap (λ (b : Bool). cond b (Err block) (plain xs)) no ∙ ap plain none.1 ∙ ap (plain_or logged) (none_other logged plain')
+]
+
+pub wide : (c : Image) (mem active : ℕ) (logged : List Logged) → 0 < mem → journal_of c mem active ≡ Ok logged → length logged ≤ mem
+    → list_all (λ (l : Logged). is_plain l.change) logged ≡ true → journal_now c mem active ≡ Ok logged
+wide c mem active logged some e few plain' =
+    wide_part mem (region_first mem (other_region active)) (is_open (c (region_at mem (other_region active)))) (region_records c mem (other_region active)) (region_records c mem active) logged e few
+    (open_some c (region_at mem (other_region active) + region_size mem) mem (region_at mem (other_region active)) some) plain'
+
+pub empty : (c : Image) (mem active : ℕ) → 0 < mem → c (region_at mem active) ≢ 0xa7 → journal_now c mem active ≡ Ok []
+empty c mem active some shut =
+    let none : region_records c mem active ≡ Ok [] = closed_records c mem active shut in
+    ap (alone_then mem (is_open (c (region_at mem (other_region active)))) (region_first mem (other_region active))) none
+    ∙ ap (λ (b : Bool). cond b (Err (region_first mem (other_region active))) (Ok [])) (apart_test 0 mem (is_open (c (region_at mem (other_region active)))) (λ same. omega (arith, some, same)))

@@ -1,0 +1,16 @@
+use Rattle.std.proofs.Common.{length, map, arith, ap, length-append}
+use Rattle.std.proofs.lemmas.List.{length-map}
+use Rattle.strat_journal.specs.declared.journal.Logged.{Logged}
+use Rattle.strat_journal.specs.Log.{Log}
+use Rattle.strat_journal.proofs.ReadLemmas.{stale_is}
+use Rattle.strat_journal.proofs.journal.Journal.read.Goals as goal
+
+pub returns-clause-stale : goal.returns-clause-stale
+returns-clause-stale g c = λ f told.
+    let read = c.in_ok-logged.ensures in
+    let list = ap (λ (j : Log). length j.list) c.restore_all.ensures.ok in
+    let none = ap (λ (j : Log). length j.list) c.in_ok-journal.ensures.ok in
+    rw c.set_stale.ensures.ok
+    (stale_is _ _ c.args.sb.now.mem _ _ (read.others f told) read.few.0 read.few.1
+    (omega (arith, list, none, length-append c.in_ok-journal.journal.list (map (λ (l : Logged). l.change) c.deref.result.now),
+        length-map c.deref.result.now (λ (l : Logged). l.change), c.deref.ensures.len)))

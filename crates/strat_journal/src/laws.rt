@@ -1,0 +1,31 @@
+//! Laws of the journal that a disk's bytes hold. Each is the contract of a function that does nothing.
+
+ghost use Rattle.std.specs.Prelude.{◌≡◌, ◌≢◌, ◌≤◌, ◌<◌, ℕ, List, [], ◌∷◌, length, Ok, IsTrue};
+ghost use Rattle.std.specs.List.{list_all};
+ghost use Rattle.strat_base.specs.Change.{Change};
+ghost use Rattle.strat_base.specs.Image.{Image, HoldsBytes};
+ghost use Rattle.strat_base.specs.Layout.{region_at, region_size, other_region};
+ghost use Rattle.strat_journal.specs.Laid.{Laid};
+ghost use Rattle.strat_journal.specs.Records.{is_plain, logged_from, records, journal_of, journal_now};
+ghost use Rattle.strat_journal.specs.declared.journal.Logged.{Logged};
+
+/// What an opening reads today is the journal, and each journal of plain records that has no more than a
+/// region takes is read. A journal is empty where the active region's first gate is closed.
+pub fn plain_journals_are_journals()
+    ensures narrow { (c : Image) (mem active : ℕ) (logged : List Logged)
+        → journal_now c mem active ≡ Ok logged → journal_of c mem active ≡ Ok logged }
+    ensures wide { (c : Image) (mem active : ℕ) (logged : List Logged) → 0 < mem
+        → journal_of c mem active ≡ Ok logged → length logged ≤ mem
+        → IsTrue (list_all (λ l. is_plain l.change) logged) → journal_now c mem active ≡ Ok logged }
+    ensures empty { (c : Image) (mem active : ℕ) → 0 < mem → c (region_at mem active) ≢ 0xa7
+        → journal_now c mem active ≡ Ok [] }
+{}
+
+/// Records that stand one behind the other up to a closed gate are read, each with the block of its gate, and
+/// what is read stands so.
+pub fn records_are_read_as_written()
+    ensures read { (c : Image) (end n at : ℕ) (list : List Change) → Laid c end n at list
+        → records c end n at ≡ Ok (logged_from at list) }
+    ensures written { (c : Image) (end n at : ℕ) (list : List Change) → HoldsBytes c → at ≤ end
+        → records c end n at ≡ Ok (logged_from at list) → Laid c end n at list }
+{}
