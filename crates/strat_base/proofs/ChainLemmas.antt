@@ -70,16 +70,19 @@ filled : (n k : ℕ) (bytes : List ℕ) → (j : ℕ) × ((take n bytes ++ repli
 filled n k bytes =
     elim (cases_lt n (length bytes)) [
       | inl lt ↦
-          let none : n - length (take n bytes) ≡ 0 = omega (arith, length-take-le n bytes (omega arith)) in
-          (k, ap (λ (m : ℕ). (take n bytes ++ replicate m 0) ++ (drop n bytes ++ replicate k 0)) none
-          ∙ ap (λ (x : List ℕ). x ++ (drop n bytes ++ replicate k 0)) (append-nil (take n bytes))
-          ∙ sym (append_assoc (take n bytes) (drop n bytes) (replicate k 0))
-          ∙ ap (λ (x : List ℕ). x ++ replicate k 0) (take-append-drop n bytes))
-      | inr le ↦
-          ((n - length bytes) + k,
-          (λ i. (take_all n bytes le i ++ replicate (n - length (take_all n bytes le i)) 0) ++ (drop_all n bytes le i ++ replicate k 0))
-          ∙ append_assoc bytes (replicate (n - length bytes) 0) (replicate k 0)
-          ∙ ap (λ (x : List ℕ). bytes ++ x) (replicate-append-replicate (n - length bytes) k 0))
+          let none : n - length (take n bytes) ≡ 0 = omega (arith, length-take-le n bytes (omega arith)) in (
+            k,
+            ap (λ (m : ℕ). (take n bytes ++ replicate m 0) ++ (drop n bytes ++ replicate k 0)) none
+                ∙ ap (λ (x : List ℕ). x ++ (drop n bytes ++ replicate k 0)) (append-nil (take n bytes))
+                ∙ sym (append_assoc (take n bytes) (drop n bytes) (replicate k 0))
+                ∙ ap (λ (x : List ℕ). x ++ replicate k 0) (take-append-drop n bytes),
+          )
+      | inr le ↦ (
+        (n - length bytes) + k,
+        (λ i. (take_all n bytes le i ++ replicate (n - length (take_all n bytes le i)) 0) ++ (drop_all n bytes le i ++ replicate k 0))
+            ∙ append_assoc bytes (replicate (n - length bytes) 0) (replicate k 0)
+            ∙ ap (λ (x : List ℕ). bytes ++ x) (replicate-append-replicate (n - length bytes) k 0),
+      )
     ]
 
 -- the bytes of a chain are those that it holds, and zeros

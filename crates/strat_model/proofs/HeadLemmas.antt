@@ -154,11 +154,11 @@ summary_unplaced h seed count =
     the_summary levels arrays stored density =
         joined (codes "workload seed " ∷ decimal seed ∷ codes " changes " ∷ decimal count ∷ [])
         ∷ joined (
-            codes "versions " ∷ decimal (length (head_versions h)) ∷ codes " updates " ∷ decimal (head_updates h)
-            ∷ codes " clones " ∷ decimal (head_changes h - head_updates h) ∷ [])
+        codes "versions " ∷ decimal (length (head_versions h)) ∷ codes " updates " ∷ decimal (head_updates h)
+        ∷ codes " clones " ∷ decimal (head_changes h - head_updates h) ∷ [])
         ∷ joined (
-            codes "levels " ∷ decimal levels ∷ codes " arrays " ∷ decimal arrays
-            ∷ codes " stored " ∷ decimal stored ∷ codes " written " ∷ decimal h.manifest.written ∷ [])
+        codes "levels " ∷ decimal levels ∷ codes " arrays " ∷ decimal arrays
+        ∷ codes " stored " ∷ decimal stored ∷ codes " written " ∷ decimal h.manifest.written ∷ [])
         ∷ density ∷ []
 
 pub report_said : (c : Image) (h : Head) (s : State) → state_of c h ≡ Some s → report h ≡ report (head_of h.sb.generation s)
