@@ -1,5 +1,5 @@
 -- A manifest is read from the chain of blocks that holds it.
-use Rattle.std.proofs.Common.{◌≡◌, ◌≤◌, ◌<◌, ◌+◌, ◌-◌, ◌*◌, ◌^◌, ℕ, zero, suc, Bool, true, false, cond, eqb, ltb, leb, not, ◌&&◌, ◌⊎◌, inl, inr, List, [], ◌∷◌, ◌++◌, length, take, drop, replicate, Option, Some, None, Ok, Err, refl, sym, ap, ◌∙◌, subst, arith, append_assoc, append-nil, take-append-drop, length-take-le}
+use Rattle.std.proofs.Common.{◌≡◌, ◌<◌, ◌+◌, ◌-◌, ◌*◌, ◌^◌, ℕ, zero, suc, true, cond, eqb, ltb, leb, not, ◌&&◌, inl, inr, List, [], ◌∷◌, ◌++◌, length, take, drop, replicate, Option, Some, None, Ok, Err, refl, sym, ap, ◌∙◌, arith, append_assoc, append-nil, take-append-drop, length-take-le}
 use Rattle.std.specs.Prelude.{option_map}
 use Rattle.std.specs.List.{list_all, list_any}
 use Rattle.std.proofs.lemmas.Bool.{cases_lt, and_parts, ltb-true, cond-true, eq-eqb}
@@ -9,8 +9,8 @@ use Rattle.strat_base.specs.Image.{Image, window}
 use Rattle.strat_base.specs.Numbers.{be, number}
 use Rattle.strat_base.specs.Chain.{next_block, link_bytes, chain_length, HoldsChain}
 use Rattle.strat_base.specs.Manifest.{Manifest, Spells, manifest_in}
-use Rattle.strat_base.specs.Damage.{Read, and_then, found_or, passed_or, put_first}
-use Rattle.strat_base.specs.Chained.{Chained, IsChain, link_at, may_follow, are_linked, chain_from, chained_bytes, manifest_filled, manifest_in_chain, manifest_at}
+use Rattle.strat_base.specs.Damage.{Read, and_then, found_or, put_first}
+use Rattle.strat_base.specs.Chained.{IsChain, link_at, may_follow, are_linked, chain_from, chained_bytes, manifest_filled, manifest_in_chain, manifest_at}
 use Rattle.strat_base.proofs.ImageLemmas.{length-window, window_split}
 use Rattle.strat_base.proofs.ManifestLemmas.{manifest_in-bytes}
 use Rattle.strat_base.proofs.NumberLemmas.{length-be, number-be}
