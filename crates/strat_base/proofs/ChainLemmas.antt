@@ -1,5 +1,5 @@
 -- A manifest is read from the chain of blocks that holds it.
-use Rattle.std.proofs.Common.{◌≡◌, ◌≤◌, ◌<◌, ◌+◌, ◌-◌, ◌*◌, ◌^◌, ℕ, zero, suc, Bool, true, false, cond, eqb, ltb, leb, not, ◌&&◌, ◌⊎◌, inl, inr, List, [], ◌∷◌, ◌++◌, length, take, drop, replicate, Option, Some, None, Ok, Err, refl, sym, ap, ◌∙◌, subst, arith, append_assoc, append-nil, take-append-drop, length-take-le}
+use Rattle.std.proofs.Common.{◌≡◌, ◌<◌, ◌+◌, ◌-◌, ◌*◌, ◌^◌, ℕ, zero, suc, true, cond, eqb, ltb, leb, not, ◌&&◌, inl, inr, List, [], ◌∷◌, ◌++◌, length, take, drop, replicate, Option, Some, None, Ok, Err, refl, sym, ap, ◌∙◌, arith, append_assoc, append-nil, take-append-drop, length-take-le}
 use Rattle.std.specs.Prelude.{option_map}
 use Rattle.std.specs.List.{list_all, list_any}
 use Rattle.std.proofs.lemmas.Bool.{cases_lt, and_parts, ltb-true, cond-true, eq-eqb}
@@ -9,8 +9,8 @@ use Rattle.strat_base.specs.Image.{Image, window}
 use Rattle.strat_base.specs.Numbers.{be, number}
 use Rattle.strat_base.specs.Chain.{next_block, link_bytes, chain_length, HoldsChain}
 use Rattle.strat_base.specs.Manifest.{Manifest, Spells, manifest_in}
-use Rattle.strat_base.specs.Damage.{Read, and_then, found_or, passed_or, put_first}
-use Rattle.strat_base.specs.Chained.{Chained, IsChain, link_at, may_follow, are_linked, chain_from, chained_bytes, manifest_filled, manifest_in_chain, manifest_at}
+use Rattle.strat_base.specs.Damage.{Read, and_then, found_or, put_first}
+use Rattle.strat_base.specs.Chained.{IsChain, link_at, may_follow, are_linked, chain_from, chained_bytes, manifest_filled, manifest_in_chain, manifest_at}
 use Rattle.strat_base.proofs.ImageLemmas.{length-window, window_split}
 use Rattle.strat_base.proofs.ManifestLemmas.{manifest_in-bytes}
 use Rattle.strat_base.proofs.NumberLemmas.{length-be, number-be}
@@ -70,16 +70,19 @@ filled : (n k : ℕ) (bytes : List ℕ) → (j : ℕ) × ((take n bytes ++ repli
 filled n k bytes =
     elim (cases_lt n (length bytes)) [
       | inl lt ↦
-          let none : n - length (take n bytes) ≡ 0 = omega (arith, length-take-le n bytes (omega arith)) in
-          (k, ap (λ (m : ℕ). (take n bytes ++ replicate m 0) ++ (drop n bytes ++ replicate k 0)) none
-          ∙ ap (λ (x : List ℕ). x ++ (drop n bytes ++ replicate k 0)) (append-nil (take n bytes))
-          ∙ sym (append_assoc (take n bytes) (drop n bytes) (replicate k 0))
-          ∙ ap (λ (x : List ℕ). x ++ replicate k 0) (take-append-drop n bytes))
-      | inr le ↦
-          ((n - length bytes) + k,
-          (λ i. (take_all n bytes le i ++ replicate (n - length (take_all n bytes le i)) 0) ++ (drop_all n bytes le i ++ replicate k 0))
-          ∙ append_assoc bytes (replicate (n - length bytes) 0) (replicate k 0)
-          ∙ ap (λ (x : List ℕ). bytes ++ x) (replicate-append-replicate (n - length bytes) k 0))
+          let none : n - length (take n bytes) ≡ 0 = omega (arith, length-take-le n bytes (omega arith)) in (
+            k,
+            ap (λ (m : ℕ). (take n bytes ++ replicate m 0) ++ (drop n bytes ++ replicate k 0)) none
+                ∙ ap (λ (x : List ℕ). x ++ (drop n bytes ++ replicate k 0)) (append-nil (take n bytes))
+                ∙ sym (append_assoc (take n bytes) (drop n bytes) (replicate k 0))
+                ∙ ap (λ (x : List ℕ). x ++ replicate k 0) (take-append-drop n bytes),
+          )
+      | inr le ↦ (
+        (n - length bytes) + k,
+        (λ i. (take_all n bytes le i ++ replicate (n - length (take_all n bytes le i)) 0) ++ (drop_all n bytes le i ++ replicate k 0))
+            ∙ append_assoc bytes (replicate (n - length bytes) 0) (replicate k 0)
+            ∙ ap (λ (x : List ℕ). bytes ++ x) (replicate-append-replicate (n - length bytes) k 0),
+      )
     ]
 
 -- the bytes of a chain are those that it holds, and zeros

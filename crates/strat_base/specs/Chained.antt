@@ -1,5 +1,5 @@
 -- The manifest in a chain of blocks, as it is read.
-use Rattle.std.specs.Prelude.{◌≡◌, ℕ, zero, suc, ◌+◌, ◌-◌, ◌*◌, ◌==◌, nat_le, nat_lt, ◌&&◌, not, Bool, true, if◌then◌else◌, List, [], ◌∷◌, length, take, drop, flat_map, Option, None, Ok, Err, IsTrue, option_map}
+use Rattle.std.specs.Prelude.{◌≡◌, ℕ, zero, suc, ◌+◌, ◌-◌, ◌*◌, ◌==◌, nat_le, nat_lt, ◌&&◌, not, Bool, true, if◌then◌else◌, List, [], ◌∷◌, length, take, drop, flat_map, Option, None, Err, IsTrue, option_map}
 use Rattle.std.specs.List.{list_any, list_all}
 use Rattle.strat_base.specs.declared.limits.TheConstants.{BLOCK}
 use Rattle.strat_base.specs.Numbers.{number}

@@ -1,8 +1,8 @@
 //! What every crate of the store shares: limits, failures, numbers in bytes, entries and pairs.
 #![tactic(auto)]
 
-mod changes;
 pub mod broken;
+mod changes;
 mod entries;
 mod failures;
 mod fields;

@@ -2,7 +2,7 @@
 use Rattle.std.specs.Prelude.{◌<◌, ◌≤◌, ℕ, suc, ◌+◌, ◌-◌, ◌*◌, ◌==◌, nat_lt, ◌&&◌, not, Bool, true, if◌then◌else◌, List, [], ◌∷◌, ◌++◌, length, map, flat_map, sum_by, Option, Some, None, codes}
 use Rattle.std.specs.Fmt.{decimal}
 use Rattle.std.specs.List.{range_with_len}
-use Rattle.strat_base.specs.Manifest.{ArrayDesc, LevelDesc, Manifest}
+use Rattle.strat_base.specs.Manifest.{ArrayDesc, LevelDesc}
 use Rattle.strat_base.specs.Breach.{Breach}
 use Rattle.strat_model.specs.Head.{Head, head_versions, journal_count, head_changes, head_updates, descriptors, head_stored}
 
@@ -123,11 +123,11 @@ abbrev pub summary : Head → ℕ → ℕ → List (List ℕ)
 summary h seed count =
     joined (codes "workload seed " ∷ decimal seed ∷ codes " changes " ∷ decimal count ∷ [])
     ∷ joined (
-        codes "versions " ∷ decimal (length (head_versions h)) ∷ codes " updates " ∷ decimal (head_updates h)
-        ∷ codes " clones " ∷ decimal (head_changes h - head_updates h) ∷ [])
+    codes "versions " ∷ decimal (length (head_versions h)) ∷ codes " updates " ∷ decimal (head_updates h)
+    ∷ codes " clones " ∷ decimal (head_changes h - head_updates h) ∷ [])
     ∷ joined (
-        codes "levels " ∷ decimal (length h.manifest.levels) ∷ codes " arrays " ∷ decimal (length (descriptors h.manifest))
-        ∷ codes " stored " ∷ decimal (head_stored h) ∷ codes " written " ∷ decimal h.manifest.written ∷ [])
+    codes "levels " ∷ decimal (length h.manifest.levels) ∷ codes " arrays " ∷ decimal (length (descriptors h.manifest))
+    ∷ codes " stored " ∷ decimal (head_stored h) ∷ codes " written " ∷ decimal h.manifest.written ∷ [])
     ∷ density_line (sparsest (descriptors h.manifest))
     ∷ []
 

@@ -27,7 +27,7 @@ pub fn formatted_disks_open()
 /// A record in the journal's active region is read: a put of `a` with the value `1` at version 0.
 pub fn records_are_found()
     ensures { reads_as (patch formatted 8192
-            (0xa7 ∷ 1 ∷ 0 ∷ 0 ∷ 0 ∷ 0 ∷ 1 ∷ 0x61 ∷ 0 ∷ 1 ∷ 0x31 ∷ 0 ∷ []))
+        (0xa7 ∷ 1 ∷ 0 ∷ 0 ∷ 0 ∷ 0 ∷ 1 ∷ 0x61 ∷ 0 ∷ 1 ∷ 0x31 ∷ 0 ∷ []))
         ≡ Some (record (fresh_state 4 100 10) { journal = Put 0 (0x61 ∷ []) (0x31 ∷ []) ∷ [] }) }
 {}
 
@@ -47,7 +47,7 @@ pub fn damage_is_named()
     ensures fill { head_in (patch formatted 28671 (1 ∷ [])) ≡ Err 6 }
     ensures gate { head_in (patch formatted 8192 (0xa7 ∷ [])) ≡ Err 2 }
     ensures refused { head_in (patch formatted 8192
-            (0xa7 ∷ 1 ∷ 0 ∷ 0 ∷ 0 ∷ 5 ∷ 1 ∷ 0x61 ∷ 0 ∷ 1 ∷ 0x31 ∷ 0 ∷ [])) ≡ Err 2 }
+        (0xa7 ∷ 1 ∷ 0 ∷ 0 ∷ 0 ∷ 5 ∷ 1 ∷ 0x61 ∷ 0 ∷ 1 ∷ 0x31 ∷ 0 ∷ [])) ≡ Err 2 }
 {}
 
 /// What the bytes of a disk read as has passed what an opening tests of a state.
