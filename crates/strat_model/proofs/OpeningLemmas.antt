@@ -1,21 +1,21 @@
 -- What an opening reads has what an opening tests.
-use Rattle.std.proofs.Common.{◌≡◌, ◌≤◌, ◌<◌, ◌+◌, ◌*◌, ◌-◌, ◌^◌, ℕ, zero, suc, Bool, true, false, cond, eqb, leb, ltb, not, ◌&&◌, List, [], ◌∷◌, ◌++◌, length, take, drop, map, Option, Some, None, Result, Ok, Err, refl, sym, ap, ◌∙◌, subst, arith}
-use Rattle.std.specs.Prelude.{option_map, option_and_then, IsTrue}
+use Rattle.std.proofs.Common.{◌≡◌, ◌≤◌, ◌<◌, ◌+◌, ◌-◌, ◌^◌, ℕ, suc, Bool, true, false, cond, eqb, leb, ltb, not, ◌&&◌, List, [], ◌∷◌, length, take, drop, map, Option, Some, None, Ok, Err, refl, sym, ap, ◌∙◌, subst, arith}
+use Rattle.std.specs.Prelude.{option_map, option_and_then}
 use Rattle.std.specs.List.{list_all}
 use Rattle.std.proofs.lemmas.Bool.{and_parts, leb-true, le-leb, ltb-true, lt-ltb}
 use Rattle.strat_base.specs.declared.limits.TheConstants.{LEVELS, VERSIONS_MAX}
-use Rattle.strat_base.specs.Image.{Image, window}
+use Rattle.strat_base.specs.Image.{Image}
 use Rattle.strat_base.specs.Tree.{Parents}
-use Rattle.strat_base.specs.Change.{Change, change_in, change_bytes}
-use Rattle.strat_base.specs.Level.{TaggedArray, Level}
-use Rattle.strat_base.specs.Manifest.{ArrayDesc, LevelDesc, Manifest, all_pass, is_rising, are_older, is_counted, first_version, versions_in, is_lawful_array, is_lawful_level, is_lawful_manifest, manifest_in}
-use Rattle.strat_base.specs.Opened.{array_on, level_on, all_some, parents_in, state_on}
+use Rattle.strat_base.specs.Change.{Change}
+use Rattle.strat_base.specs.Level.{Level}
+use Rattle.strat_base.specs.Manifest.{LevelDesc, Manifest, is_rising, are_older, is_counted, first_version, versions_in, is_lawful_array, is_lawful_level, is_lawful_manifest, manifest_in}
+use Rattle.strat_base.specs.Opened.{array_on, level_on, all_some, parents_in}
 use Rattle.strat_base.specs.State.{State, tree_after}
 use Rattle.strat_base.specs.Sound.{is_tree, is_tree_from, is_numbered_from, is_accepted, are_accepted, IsOpenable}
 use Rattle.strat_base.specs.SuperBlock.{Super, newest_in}
-use Rattle.strat_base.specs.Damage.{Read, and_then, passed_or, found_or, put_first}
+use Rattle.strat_base.specs.Damage.{Read, and_then, passed_or, put_first}
 use Rattle.strat_base.specs.Chained.{Chained, chain_from, chained_bytes, manifest_filled, manifest_in_chain, manifest_at}
-use Rattle.strat_base.specs.Records.{Logged, is_open, block_of, record_then, records, region_records, is_other_open, journal_in_one}
+use Rattle.strat_base.specs.Records.{Logged, region_records, is_other_open, journal_in_one}
 use Rattle.strat_base.specs.Layout.{region_first, region_at, region_size, other_region}
 use Rattle.strat_base.specs.Chain.{chain_length}
 use Rattle.strat_base.proofs.DamageLemmas.{and_then_ok, passed_ok, found_ok, put_first_ok}
