@@ -1,5 +1,5 @@
 -- The manifest in a chain of blocks, as it is read.
-use Rattle.std.specs.Prelude.{◌≡◌, ℕ, zero, suc, ◌+◌, ◌-◌, ◌*◌, ◌==◌, nat_le, nat_lt, ◌&&◌, not, Bool, true, if◌then◌else◌, List, [], ◌∷◌, length, take, drop, flat_map, Option, None, Ok, Err, IsTrue, option_map}
+use Rattle.std.specs.Prelude.{ℕ, zero, suc, ◌+◌, ◌-◌, ◌*◌, ◌==◌, nat_le, nat_lt, ◌&&◌, not, Bool, if◌then◌else◌, List, [], ◌∷◌, take, drop, flat_map, Option, None, Err, option_map}
 use Rattle.std.specs.List.{list_any, list_all}
 use Rattle.strat_base.specs.declared.limits.TheConstants.{BLOCK}
 use Rattle.strat_base.specs.Numbers.{number}
@@ -15,16 +15,6 @@ link_at c b = number 4 (window c (BLOCK * b) 4)
 -- a block may follow these in a chain: it is one that a chain may have, and not there already
 abbrev pub may_follow : List ℕ → ℕ → Bool
 may_follow blocks b = nat_le 1 b && nat_lt b 4294967295 && not (list_any (λ other. other == b) blocks)
-
--- each of these blocks may follow those in front of it
-abbrev pub are_linked : List ℕ → List ℕ → Bool
-are_linked before [] = true
-are_linked before (b ∷ blocks) = may_follow before b && are_linked (b ∷ before) blocks
-
--- blocks for a chain of n bytes: as many as these need, and each may follow those in front of it
-pub record IsChain (blocks : List ℕ) (n : ℕ) : Type 0 where
-  pub count : length blocks ≡ chain_length n
-  pub linked : IsTrue (are_linked [] blocks)
 
 -- the blocks of a chain from b on, of which n follow it, behind others; or the first whose link is wrong
 unfoldable pub chain_from : Image → List ℕ → ℕ → ℕ → Read (List ℕ)

@@ -1,8 +1,8 @@
 //! Laws of what is read of a disk. Each is the contract of a function that does nothing.
 
 ghost use Rattle.std.specs.Prelude.{◌≡◌, ℕ, List, ◌∷◌, length, Ok};
-ghost use Rattle.strat_base.specs.Chain.{HoldsChain};
-ghost use Rattle.strat_base.specs.Chained.{IsChain, manifest_at};
+ghost use Rattle.strat_base.specs.Chain.{IsChain};
+ghost use Rattle.strat_base.specs.Chained.{manifest_at};
 ghost use Rattle.strat_base.specs.Image.{Image};
 ghost use Rattle.strat_base.specs.Manifest.{Manifest, Spells};
 ghost use Rattle.strat_base.specs.Records.{Logged, journal_of, journal_in_one};
@@ -10,7 +10,7 @@ ghost use Rattle.strat_base.specs.Records.{Logged, journal_of, journal_in_one};
 /// A manifest is read from the chain of blocks that holds it.
 pub fn chains_are_read_as_written()
     ensures { (c : Image) (b : ℕ) (blocks bytes : List ℕ) (m : Manifest) → Spells bytes m
-        → IsChain (b ∷ blocks) (length bytes) → HoldsChain c (b ∷ blocks) bytes
+        → IsChain c (b ∷ blocks) bytes
         → manifest_at c b (length bytes) ≡ Ok (record { manifest = m; blocks = b ∷ blocks }) }
 {}
 

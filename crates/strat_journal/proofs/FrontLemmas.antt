@@ -74,10 +74,10 @@ change_in-long xs more bytes long =
           let begins = change_in-some (xs ++ more) found.0 bytes found.1 in
           let few : length (change_bytes found.0) ≤ length xs = omega (arith, length-change_bytes found.0 begins.lawful) in
           let front : take (length (change_bytes found.0)) xs ≡ change_bytes found.0 =
-              sym (take-append-le (length (change_bytes found.0)) xs more few) ∙ ap (take (length (change_bytes found.0))) begins.split
-              ∙ take_at (change_bytes found.0) begins.rest (length (change_bytes found.0)) refl in
+          sym (take-append-le (length (change_bytes found.0)) xs more few) ∙ ap (take (length (change_bytes found.0))) begins.split
+          ∙ take_at (change_bytes found.0) begins.rest (length (change_bytes found.0)) refl in
           let split : xs ≡ change_bytes found.0 ++ drop (length (change_bytes found.0)) xs =
-              sym (take-append-drop (length (change_bytes found.0)) xs) ∙ ap (λ (x : List ℕ). x ++ drop (length (change_bytes found.0)) xs) front in
+          sym (take-append-drop (length (change_bytes found.0)) xs) ∙ ap (λ (x : List ℕ). x ++ drop (length (change_bytes found.0)) xs) front in
           ap change_in split ∙ change_in-bytes found.0 (drop (length (change_bytes found.0)) xs) begins.lawful ∙ sym found.1
       | inl none ↦ elim (option_cases (change_in xs)) [
         | inl also ↦ also ∙ sym none
@@ -150,7 +150,6 @@ module _ (f : Image) (holds : HoldsBytes f) (part : Part) (at : ℕ) (within : l
     gate = gate_is;
     change = λ up. change_in-long seen more whole_bytes (omega (arith, long, length-drop (at + 1) part.bytes)) ∙ ap change_in (sym whole);
   }
-
 
 shows_more : (f : Image) (first : ℕ) (bytes block all : List ℕ) → all ≡ bytes ++ block → bytes ≡ window f first (length bytes) → block ≡ window f (first + length bytes) (length block)
     → all ≡ window f first (length all)

@@ -148,8 +148,8 @@ gate_keeps d c mem region list few some short out laid =
     let s : ℕ = region_at mem (other_region region) in
     let size : length (records_bytes list) + 1 ≤ region_size mem = omega (arith, length-records_bytes list laid.lawful, region_takes mem) in
     let same : (i : ℕ) → s ≤ i → i < s + region_size mem → c i ≡ d i = λ i low high. elim (outside_other mem region few) [
-        | inl under ↦ out.above i (omega arith)
-        | inr past ↦ out.below i (omega arith)
+      | inl under ↦ out.above i (omega arith)
+      | inr past ↦ out.below i (omega arith)
     ] in
     record {
       text = window_same d c s (length (records_bytes list)) (record { byte = λ i low high. same i low (omega (arith, size)) }) ∙ laid.text;

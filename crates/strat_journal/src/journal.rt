@@ -56,8 +56,8 @@ impl Model for Journal {
     } };
 
     ghost invariant = { λ j. Keeps (changes_in j.count j.bytes.items)
-      (changes_in j.staged (drop j.end j.bytes.items))
-      j.bytes.items j.mem j.active j.count j.staged j.end j.len };
+        (changes_in j.staged (drop j.end j.bytes.items))
+        j.bytes.items j.mem j.active j.count j.staged j.end j.len };
 }
 
 impl Journal {

@@ -4,6 +4,7 @@ ghost use Rattle.strat_gate.specs.SuperView.{super_of};
 
 use super::*;
 use std::alloc::Global;
+use std::process::Abort;
 use std::test::Fail;
 use strat_base::{Change, Failed, Trouble};
 use strat_disk::{Disk, FuseDisk, MemDisk};
@@ -79,7 +80,10 @@ fn the_example_is_appended_and_read(rt: HostRuntime) -> Result<(), Fail> {
     let mut disk = MemDisk::new(rt.alloc(), &[])?;
     let (mut journal, logged) = Journal::read(rt.alloc(), &mut disk, &block(4, 0))?;
     assert_eq!(rt; logged.len(), 0);
-    assert_eq!(rt; (journal.count(), journal.room(), journal.stale()), (0, 4, false));
+    assert_eq!(rt;
+        (journal.count(), journal.room(), journal.stale()),
+        (0, 4, false)
+    );
     journal.add(&Change::Put {
         version: 0,
         key: b"a",
@@ -99,34 +103,49 @@ fn the_example_is_appended_and_read(rt: HostRuntime) -> Result<(), Fail> {
     assert_eq!(rt; logged[0].block, 2);
     assert_eq!(rt;
         logged[0].change.as_change(),
-        Change::Put { version: 0, key: b"a", value: b"1" }
+        Change::Put {
+            version: 0,
+            key: b"a",
+            value: b"1"
+        }
     );
+    Ok(())
+}
+
+// Appends one change and then n behind a fuse of so many calls, and reads what each crash leaves.
+fn append_behind_fuse(rt: &impl Abort, alloc: Global, n: u8, calls: u64) -> Result<(), Fail>
+    requires { n ≤ 16 }
+{
+    let mut disk = MemDisk::new(alloc, &[])?;
+    let (mut journal, _) = Journal::read(alloc, &mut disk, &block(17, 0))?;
+    assert_eq!(rt; journal.room(), 17);
+    add_puts(&mut journal, 1);
+    journal.append(&mut disk)?;
+    assert_eq!(rt; journal.room(), 16);
+    add_puts(&mut journal, n);
+    let mut disk = FuseDisk::new(disk, calls);
+    let appended = n > 0 && journal.append(&mut disk).is_ok();
+    assert_eq!(rt; appended, calls == 4, "{n} changes, {calls} calls");
+    let disk = disk.into_inner();
+    for choice in 0..3 {
+        let mut left = disk.crash(choice)?;
+        let (journal, logged) = Journal::read(alloc, &mut left, &block(17, 0))?;
+        let all = logged.len() == 1 + n as usize;
+        assert!(rt;
+            all || logged.len() == 1 && !appended,
+            "{n}, {calls}, {choice}"
+        );
+        assert_eq!(rt; journal.count() as usize, logged.len());
+    }
     Ok(())
 }
 
 #[test]
 fn a_crash_leaves_none_of_a_batch_or_all(rt: HostRuntime) -> Result<(), Fail> {
-    for n in [1, 2, 16] {
-        for calls in 0..5 {
-            let mut disk = MemDisk::new(rt.alloc(), &[])?;
-            let (mut journal, _) = Journal::read(rt.alloc(), &mut disk, &block(17, 0))?;
-            assert!(rt; journal.room() == 17 && n <= 16);
-            add_puts(&mut journal, 1);
-            journal.append(&mut disk)?;
-            assert_eq!(rt; journal.room(), 16);
-            add_puts(&mut journal, n);
-            let mut disk = FuseDisk::new(disk, calls);
-            let appended = journal.append(&mut disk).is_ok();
-            assert_eq!(rt; appended, calls == 4, "{n} changes, {calls} calls");
-            let disk = disk.into_inner();
-            for choice in 0..3 {
-                let mut left = disk.crash(choice)?;
-                let (journal, logged) = Journal::read(rt.alloc(), &mut left, &block(17, 0))?;
-                let all = logged.len() == 1 + n as usize;
-                assert!(rt; all || logged.len() == 1 && !appended, "{n}, {calls}, {choice}");
-                assert_eq!(rt; journal.count() as usize, logged.len());
-            }
-        }
+    for calls in 0..5 {
+        append_behind_fuse(&rt, rt.alloc(), 1, calls)?;
+        append_behind_fuse(&rt, rt.alloc(), 2, calls)?;
+        append_behind_fuse(&rt, rt.alloc(), 16, calls)?;
     }
     Ok(())
 }
@@ -166,11 +185,10 @@ fn an_altered_record_is_damage(rt: HostRuntime) -> Result<(), Fail> {
         (13344, 0xa6, Ok(4)),
     ] {
         let mut disk = disk_of_four(rt.alloc())?;
+        assert!(rt; at < 20000);
         disk.write_at(at, &[byte])?;
         let read = Journal::read(rt.alloc(), &mut disk, &block(5, 0));
-        let found = read
-            .map(|x| x.1.len())
-            .map_err(|e| e);
+        let found = read.map(|x| x.1.len()).map_err(|e| e);
         let wanted = left.map_err(|block| Trouble::Damaged { block });
         assert_eq!(rt; found, wanted, "byte {byte} at {at}");
     }
@@ -182,12 +200,15 @@ fn a_stale_region_is_closed(rt: HostRuntime) -> Result<(), Fail> {
     let mut disk = MemDisk::new(rt.alloc(), &[])?;
     disk.write_at(8192, &[0xa7, 1, 0, 0, 0, 0, 1, 0x61, 0, 0, 0])?;
     let (journal, logged) = Journal::read(rt.alloc(), &mut disk, &block(4, 1))?;
-    assert_eq!(rt; (journal.stale(), journal.count(), logged.len()), (true, 0, 0));
-    let calls = disk.calls();
+    assert_eq!(rt;
+        (journal.stale(), journal.count(), logged.len()),
+        (true, 0, 0)
+    );
+    assert_eq!(rt; disk.calls(), 3);
     close_region(&mut disk, 4, 0)?;
-    assert_eq!(rt; disk.calls(), calls + 3);
+    assert_eq!(rt; disk.calls(), 6);
     close_region(&mut disk, 4, 0)?;
-    assert_eq!(rt; disk.calls(), calls + 4);
+    assert_eq!(rt; disk.calls(), 7);
     let (mut journal, _) = Journal::read(rt.alloc(), &mut disk, &block(4, 1))?;
     assert!(rt; !journal.stale() && journal.room() == 4);
     add_puts(&mut journal, 2);
@@ -195,7 +216,10 @@ fn a_stale_region_is_closed(rt: HostRuntime) -> Result<(), Fail> {
     let (journal, logged) = Journal::read(rt.alloc(), &mut disk, &block(4, 1))?;
     assert_eq!(rt; (journal.stale(), logged.len()), (false, 2));
     assert!(rt; logged.len() == 2 && logged[1].block == 4);
-    assert_eq!(rt; (region_at(4, 1), region_first(4, 1), region_blocks(4)), (16384, 4, 2));
+    assert_eq!(rt;
+        (region_at(4, 1), region_first(4, 1), region_blocks(4)),
+        (16384, 4, 2)
+    );
     assert_eq!(rt; region_blocks(4096), 1289);
     Ok(())
 }

@@ -1,18 +1,17 @@
 -- A disk that reads as a sound state has no bad block.
-use Rattle.std.proofs.Common.{◌≡◌, ◌≤◌, ◌<◌, ◌+◌, ◌-◌, ◌*◌, ℕ, zero, suc, Bool, true, false, eqb, ltb, leb, ◌&&◌, inl, inr, get_or, List, [], ◌∷◌, ◌++◌, length, filter, Option, Some, None, Ok, Err, refl, sym, ap, ◌∙◌, subst, arith, append_assoc, length-append}
+use Rattle.std.proofs.Common.{◌≡◌, ◌≤◌, ◌<◌, ◌-◌, ◌*◌, ℕ, zero, suc, true, eqb, ltb, leb, ◌&&◌, inl, inr, get_or, List, [], ◌∷◌, ◌++◌, length, Option, Some, None, Ok, refl, sym, ap, ◌∙◌, subst, arith, append_assoc, length-append}
 use Rattle.std.specs.Prelude.{option_map, flat_map, slice_get}
-use Rattle.std.specs.List.{Contains, list_any, list_all}
+use Rattle.std.specs.List.{list_all}
 use Rattle.std.specs.Ordering.{is_lt}
 use Rattle.std.proofs.lemmas.Bool.{and_parts, and_from, eqb-true, leb-true, le-leb, lt-ltb}
 use Rattle.std.proofs.lemmas.List.Elements.{filter-append}
 use Rattle.strat_base.specs.declared.limits.TheConstants.{BLOCK}
 use Rattle.strat_base.specs.Image.{Image, window}
 use Rattle.strat_base.specs.Order.{entry_cmp}
-use Rattle.strat_base.specs.Tree.{Parents}
 use Rattle.strat_base.specs.Block.{block_in}
 use Rattle.strat_base.specs.Entries.{Entry, is_tagged, lead_entries, holds_entry, is_ascending}
 use Rattle.strat_base.specs.Level.{TaggedArray, Level, level_leads, own_leads, least_live, is_drawn, IsStratified}
-use Rattle.strat_base.specs.Manifest.{ArrayDesc, LevelDesc, Manifest}
+use Rattle.strat_base.specs.Manifest.{ArrayDesc, LevelDesc}
 use Rattle.strat_base.specs.Opened.{blocks_of, entries_on, array_on, level_on, all_some}
 use Rattle.strat_base.specs.State.{State, versions_of}
 use Rattle.strat_base.specs.Sound.{shallower, has_old_horizon, is_described, has_ascending_entries, IsSound}

@@ -1,17 +1,14 @@
 -- A head tells of its state what a state's own head tells.
-use Rattle.std.proofs.Common.{◌≡◌, ◌+◌, ◌-◌, ◌*◌, ℕ, Bool, true, false, cond, ltb, List, [], ◌∷◌, ◌++◌, length, map, Option, Some, None, refl, sym, ap, ◌∙◌, subst}
-use Rattle.std.specs.Prelude.{option_map, flat_map, filter_map, fold, sum_by, codes}
+use Rattle.std.proofs.Common.{◌≡◌, ◌+◌, ◌-◌, ◌*◌, ℕ, Bool, true, false, cond, ltb, List, [], ◌∷◌, ◌++◌, length, map, Option, Some, None, refl, sym, ap, ◌∙◌}
+use Rattle.std.specs.Prelude.{option_map, flat_map, fold, sum_by, codes}
 use Rattle.std.specs.Fmt.{decimal}
 use Rattle.std.proofs.lemmas.List.{map-append}
 use Rattle.std.proofs.Math.ListN.{length-map}
 use Rattle.strat_base.specs.Image.{Image}
-use Rattle.strat_base.specs.Tree.{Parents}
-use Rattle.strat_base.specs.Change.{Change}
 use Rattle.strat_base.specs.Level.{TaggedArray, Level}
 use Rattle.strat_base.specs.Manifest.{ArrayDesc, LevelDesc, Manifest}
 use Rattle.strat_base.specs.Opened.{blocks_of, entries_on, array_on, level_on, all_some, parents_in}
-use Rattle.strat_base.specs.Entries.{Entry}
-use Rattle.strat_base.specs.State.{State, tree_after, versions_of, updates_of, changes_of}
+use Rattle.strat_base.specs.State.{State, versions_of, updates_of, changes_of}
 use Rattle.strat_model.specs.Head.{Head, head_versions, journal_count, head_changes, head_updates, head_stored, descriptors, described, level_described, parent_numbers, head_of}
 use Rattle.strat_model.specs.Texts.{joined, store_line, journal_line, array_line, level_lines, report, summary, sparser, sparsest, density_line}
 use Rattle.strat_model.specs.Opening.{state_of}
@@ -154,11 +151,11 @@ summary_unplaced h seed count =
     the_summary levels arrays stored density =
         joined (codes "workload seed " ∷ decimal seed ∷ codes " changes " ∷ decimal count ∷ [])
         ∷ joined (
-            codes "versions " ∷ decimal (length (head_versions h)) ∷ codes " updates " ∷ decimal (head_updates h)
-            ∷ codes " clones " ∷ decimal (head_changes h - head_updates h) ∷ [])
+        codes "versions " ∷ decimal (length (head_versions h)) ∷ codes " updates " ∷ decimal (head_updates h)
+        ∷ codes " clones " ∷ decimal (head_changes h - head_updates h) ∷ [])
         ∷ joined (
-            codes "levels " ∷ decimal levels ∷ codes " arrays " ∷ decimal arrays
-            ∷ codes " stored " ∷ decimal stored ∷ codes " written " ∷ decimal h.manifest.written ∷ [])
+        codes "levels " ∷ decimal levels ∷ codes " arrays " ∷ decimal arrays
+        ∷ codes " stored " ∷ decimal stored ∷ codes " written " ∷ decimal h.manifest.written ∷ [])
         ∷ density ∷ []
 
 pub report_said : (c : Image) (h : Head) (s : State) → state_of c h ≡ Some s → report h ≡ report (head_of h.sb.generation s)

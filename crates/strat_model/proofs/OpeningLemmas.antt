@@ -1,21 +1,21 @@
 -- What an opening reads has what an opening tests.
-use Rattle.std.proofs.Common.{◌≡◌, ◌≤◌, ◌<◌, ◌+◌, ◌*◌, ◌-◌, ◌^◌, ℕ, zero, suc, Bool, true, false, cond, eqb, leb, ltb, not, ◌&&◌, List, [], ◌∷◌, ◌++◌, length, take, drop, map, Option, Some, None, Result, Ok, Err, refl, sym, ap, ◌∙◌, subst, arith}
-use Rattle.std.specs.Prelude.{option_map, option_and_then, IsTrue}
+use Rattle.std.proofs.Common.{◌≡◌, ◌≤◌, ◌<◌, ◌+◌, ◌-◌, ◌^◌, ℕ, suc, Bool, true, false, cond, eqb, leb, ltb, not, ◌&&◌, List, [], ◌∷◌, length, take, drop, map, Option, Some, None, Ok, Err, refl, sym, ap, ◌∙◌, subst, arith}
+use Rattle.std.specs.Prelude.{option_map, option_and_then}
 use Rattle.std.specs.List.{list_all}
 use Rattle.std.proofs.lemmas.Bool.{and_parts, leb-true, le-leb, ltb-true, lt-ltb}
 use Rattle.strat_base.specs.declared.limits.TheConstants.{LEVELS, VERSIONS_MAX}
-use Rattle.strat_base.specs.Image.{Image, window}
+use Rattle.strat_base.specs.Image.{Image}
 use Rattle.strat_base.specs.Tree.{Parents}
-use Rattle.strat_base.specs.Change.{Change, change_in, change_bytes}
-use Rattle.strat_base.specs.Level.{TaggedArray, Level}
-use Rattle.strat_base.specs.Manifest.{ArrayDesc, LevelDesc, Manifest, all_pass, is_rising, are_older, is_counted, first_version, versions_in, is_lawful_array, is_lawful_level, is_lawful_manifest, manifest_in}
-use Rattle.strat_base.specs.Opened.{array_on, level_on, all_some, parents_in, state_on}
+use Rattle.strat_base.specs.Change.{Change}
+use Rattle.strat_base.specs.Level.{Level}
+use Rattle.strat_base.specs.Manifest.{LevelDesc, Manifest, is_rising, are_older, is_counted, first_version, versions_in, is_lawful_array, is_lawful_level, is_lawful_manifest, manifest_in}
+use Rattle.strat_base.specs.Opened.{array_on, level_on, all_some, parents_in}
 use Rattle.strat_base.specs.State.{State, tree_after}
-use Rattle.strat_base.specs.Sound.{is_tree, is_tree_from, is_numbered_from, is_accepted, are_accepted, IsOpenable}
+use Rattle.strat_base.specs.Sound.{is_tree, is_tree_from, is_numbered_from, is_accepted, are_accepted, IsWellFormed}
 use Rattle.strat_base.specs.SuperBlock.{Super, newest_in}
-use Rattle.strat_base.specs.Damage.{Read, and_then, passed_or, found_or, put_first}
+use Rattle.strat_base.specs.Damage.{Read, and_then, passed_or, put_first}
 use Rattle.strat_base.specs.Chained.{Chained, chain_from, chained_bytes, manifest_filled, manifest_in_chain, manifest_at}
-use Rattle.strat_base.specs.Records.{Logged, is_open, block_of, record_then, records, region_records, is_other_open, journal_in_one}
+use Rattle.strat_base.specs.Records.{Logged, region_records, is_other_open, journal_in_one}
 use Rattle.strat_base.specs.Layout.{region_first, region_at, region_size, other_region}
 use Rattle.strat_base.specs.Chain.{chain_length}
 use Rattle.strat_base.proofs.DamageLemmas.{and_then_ok, passed_ok, found_ok, put_first_ok}
@@ -174,7 +174,7 @@ module _ (c : Image) (sb : Super) (m : Manifest) (journal : List Change) (found 
       let few : length region.0 ≤ sb.mem = records_few c (region_at sb.mem sb.region + region_size sb.mem) sb.mem (region_at sb.mem sb.region) region.0 region.1 in
       (accepted.0, omega (arith, accepted.1, ap length same))
 
-  openable : (s : State) → state_of c (record { sb = sb; manifest = m; journal = journal }) ≡ Some s → IsOpenable s
+  openable : (s : State) → state_of c (record { sb = sb; manifest = m; journal = journal }) ≡ Some s → IsWellFormed s
   openable s e =
       let make : List Level → State = λ levels. record {
         mem = sb.mem;
@@ -191,7 +191,7 @@ module _ (c : Image) (sb : Super) (m : Manifest) (journal : List Change) (found 
       let made = map_some make (all_some (level_on c) m.levels) s e in
       let laws : list_all (is_lawful_level (versions_in m) m.next_array) m.levels ≡ true = pass_at (manifest_tests m) 8 lawful_found in
       let tests = journal_tests in
-      subst IsOpenable made.2 (record {
+      subst IsWellFormed made.2 (record {
         tree = lawful_tree m lawful_found;
         numbered = numbered c (versions_in m) m.next_array m.levels made.0 1 made.1 laws (pass_at (manifest_tests m) 9 lawful_found) (begins_lawful (versions_in m) m.next_array m.levels laws);
         accepted = tests.0;
@@ -212,7 +212,7 @@ slot_ok c (Some slot) h e =
     (slot.1, found.1 ∙ ap (λ (x : Head). Ok x) same)
 
 -- what an opening reads has passed what an opening tests
-pub read_openable : (c : Image) (s : State) → reads_as c ≡ Some s → IsOpenable s
+pub read_openable : (c : Image) (s : State) → reads_as c ≡ Some s → IsWellFormed s
 read_openable c s e =
     let head = next_some (state_of c) (opened (head_in c)) s e in
     let slot = and_then_ok (newest_in c) (head_of_slot c) (Some head.0) (opened_ok (head_in c) head.0 head.1) in
@@ -223,4 +223,4 @@ read_openable c s e =
     let journal = and_then_ok (journal_behind c sb manifest.0) (λ journal. Ok (record { sb = sb; manifest = manifest.0; journal = journal })) head.0 manifest.2 in
     let last : Ok (record { sb = sb; manifest = manifest.0; journal = journal.0 }) ≡ Ok head.0 = journal.2 in
     let same : record { sb = sb; manifest = manifest.0; journal = journal.0 } ≡ head.0 = cc in
-    openable c sb manifest.0 journal.0 manifest.1 journal.1 s (ap (state_of c) same ∙ head.2)
+    openable c sb manifest.0 journal.0 manifest.1 journal.1 s (subst (λ (x : Head). state_of c x ≡ Some s) (sym same) head.2)

@@ -24,7 +24,7 @@ use Rattle.strat_model.specs.Table.{Row, Table, bare}
 use Rattle.strat_model.specs.declared.replies.Reply.TheVariants as reply
 use Rattle.strat_model.specs.declared.replies.Refusal.TheVariants as why
 use Rattle.strat_model.specs.declared.replies.Refusal.{Refusal}
-use Rattle.strat_model.specs.Answer.{Answer, plain, accepts}
+use Rattle.strat_model.specs.Answer.{plain, accepts}
 use Rattle.strat_model.specs.Request.{Put, Delete, Clone}
 use Rattle.strat_model.specs.Step.{Outcome, refuses, step, update, clone, is_known, is_frozen, no_row, pairs_at, with_pairs}
 use Rattle.strat_model.specs.StateTable.{rows_from, table_of, request_for, answer_for}

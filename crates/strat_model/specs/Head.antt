@@ -1,6 +1,5 @@
 -- What an opening finds of a store beside the blocks of its arrays.
-use Rattle.std.specs.Prelude.{ℕ, ◌+◌, List, [], ◌∷◌, length, map, flat_map, filter_map, fold, sum_by}
-use Rattle.std.specs.Option.{option_map_or}
+use Rattle.std.specs.Prelude.{ℕ, ◌+◌, List, [], length, map, flat_map, filter_map, fold, sum_by}
 use Rattle.strat_base.specs.Tree.{Parents}
 use Rattle.strat_base.specs.Change.{Change}
 use Rattle.strat_base.specs.Level.{TaggedArray, Level}

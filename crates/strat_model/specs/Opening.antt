@@ -1,5 +1,5 @@
 -- What an opening finds in the bytes of a disk, and the state that they read as.
-use Rattle.std.specs.Prelude.{◌≡◌, ℕ, suc, ◌+◌, ◌*◌, ◌==◌, nat_lt, nat_le, ◌&&◌, Bool, if◌then◌else◌, List, [], ◌∷◌, ◌++◌, map, flat_map, sum_by, Option, Some, None, Ok, Err, option_map, option_and_then}
+use Rattle.std.specs.Prelude.{ℕ, suc, ◌+◌, ◌*◌, nat_lt, nat_le, ◌&&◌, Bool, if◌then◌else◌, List, [], ◌∷◌, ◌++◌, map, flat_map, sum_by, Option, Some, None, Ok, Err, option_and_then}
 use Rattle.std.specs.List.{list_all}
 use Rattle.strat_base.specs.Image.{Image}
 use Rattle.strat_base.specs.Tree.{Parents}

@@ -6,7 +6,7 @@ ghost use Rattle.strat_base.specs.Change.{Put};
 ghost use Rattle.strat_base.specs.Image.{Image, patch};
 ghost use Rattle.strat_base.specs.Manifest.{manifest_bytes};
 ghost use Rattle.strat_base.specs.Numbers.{be};
-ghost use Rattle.strat_base.specs.Sound.{IsOpenable, IsSound};
+ghost use Rattle.strat_base.specs.Sound.{IsWellFormed, IsSound};
 ghost use Rattle.strat_base.specs.State.{State, fresh_state, versions_of, updates_of, changes_of};
 ghost use Rattle.strat_base.specs.SuperBlock.{body};
 ghost use Rattle.strat_base.specs.Worked.{chain};
@@ -50,9 +50,9 @@ pub fn damage_is_named()
         (0xa7 ∷ 1 ∷ 0 ∷ 0 ∷ 0 ∷ 5 ∷ 1 ∷ 0x61 ∷ 0 ∷ 1 ∷ 0x31 ∷ 0 ∷ [])) ≡ Err 2 }
 {}
 
-/// What the bytes of a disk read as has passed what an opening tests of a state.
+/// What the bytes of a disk read as is a well formed state.
 pub fn what_is_read_may_be_opened()
-    ensures { (c : Image) (s : State) → reads_as c ≡ Some s → IsOpenable s }
+    ensures { (c : Image) (s : State) → reads_as c ≡ Some s → IsWellFormed s }
 {}
 
 /// The texts of a head are those of the state that it is the head of. They say nothing of where on
@@ -67,8 +67,8 @@ pub fn texts_speak_of_states()
         × (head_changes h ≡ changes_of s) }
 {}
 
-/// A disk that reads as a sound state has no bad block: no opening refuses it, and each block of its
-/// arrays holds entries that fit their place.
+/// A disk that reads as a sound state has no bad block: no opening refuses it, and each block of
+/// its arrays holds entries that fit their place.
 pub fn sound_disks_have_no_bad_block()
     ensures { (c : Image) (h : Head) (s : State) (b : ℕ) → head_in c ≡ Ok (Some h)
         → state_of c h ≡ Some s → IsSound s

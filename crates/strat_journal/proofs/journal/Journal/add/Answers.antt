@@ -31,9 +31,11 @@ returns c =
     let few = rw (← c.self.view_is) at c.requires.few in
     let put = c.put_record-self-inside in
     let kept = keep.change_joined _ _ s.bytes.items s.mem s.active s.count s.staged s.end s.len c.self.invariant (change_of c.args.change.now) c.requires.fits
-        (omega (arith, room, c.self.invariant.list_count, c.self.invariant.batch_count)) (omega (arith, few, c.self.invariant.batch_count))
-        put.new.bytes.items put.result put.ensures.ok put.ensures.end in
-    record { ok = rw (← c.self.view_is)
-        (keep.same_log s.mem s.active s.stale _ _ _ _
-        (keep.list_kept _ _ put.new.bytes.items s.mem s.active s.count (s.staged + 1) s.end put.result kept)
-        (keep.batch_kept _ _ put.new.bytes.items s.mem s.active s.count (s.staged + 1) s.end put.result kept)) }
+    (omega (arith, room, c.self.invariant.list_count, c.self.invariant.batch_count)) (omega (arith, few, c.self.invariant.batch_count))
+    put.new.bytes.items put.result put.ensures.ok put.ensures.end in
+    record {
+      ok = rw (← c.self.view_is)
+          (keep.same_log s.mem s.active s.stale _ _ _ _
+          (keep.list_kept _ _ put.new.bytes.items s.mem s.active s.count (s.staged + 1) s.end put.result kept)
+          (keep.batch_kept _ _ put.new.bytes.items s.mem s.active s.count (s.staged + 1) s.end put.result kept));
+    }
