@@ -1,9 +1,9 @@
 -- What the steps of an append leave: until the first gate is raised the list, and then the list or all of the batch behind it.
-use Rattle.std.proofs.Common.{Bool, take, drop, Some, ◌-◌, ◌*◌, ◌≡◌, ◌≢◌, ◌≤◌, ◌<◌, ◌+◌, ℕ, zero, suc, true, ◌⊎◌, inl, inr, List, [], ◌∷◌, ◌++◌, length, Ok, sym, ap, ◌∙◌, subst, arith, length-append}
+use Rattle.std.proofs.Common.{Bool, take, drop, Some, ◌-◌, ◌≡◌, ◌≢◌, ◌≤◌, ◌<◌, ◌+◌, ℕ, zero, suc, true, ◌⊎◌, inl, inr, List, [], ◌∷◌, ◌++◌, length, Ok, sym, ap, ◌∙◌, subst, arith, length-append}
 use Rattle.std.specs.List.{list_all}
 use Rattle.std.proofs.lemmas.Bool.{cases_eq}
 use Rattle.strat_base.specs.Image.{Image, HoldsBytes, Outside, window, patch}
-use Rattle.strat_base.specs.Moments.{View, Images, Since, Passes, TearsOnly, Settled}
+use Rattle.strat_base.specs.Moments.{View, Images, Since, TearsOnly, Settled}
 use Rattle.strat_base.specs.Change.{Change, is_lawful}
 use Rattle.strat_base.specs.Layout.{region_at, region_size, other_region}
 use Rattle.strat_base.proofs.ImageLemmas.{window_same, window_patch, outside_patch}
@@ -68,11 +68,11 @@ module _ (log : Log) (ready : Ready log) where
   raised_laid f c rest split laid there out up =
       let behind : List ℕ = records_bytes log.batch in
       let whole : window c (gate_of log) (length (behind ++ 0 ∷ [])) ≡ behind ++ 0 ∷ [] =
-          subst (λ (x : List ℕ). window c (gate_of log) (length x) ≡ x) split (first_raised c (gate_of log) rest up (window_same f c (gate_of log + 1) (length rest) (record { byte = λ i low high. out.above i (omega arith) }) ∙ there)) in
+      subst (λ (x : List ℕ). window c (gate_of log) (length x) ≡ x) split (first_raised c (gate_of log) rest up (window_same f c (gate_of log + 1) (length rest) (record { byte = λ i low high. out.above i (omega arith) }) ∙ there)) in
       let front : window c (region_at log.mem log.active) (length (records_bytes log.list)) ≡ records_bytes log.list =
-          window_same f c (region_at log.mem log.active) (length (records_bytes log.list)) (record { byte = λ i low high. out.below i (omega arith) }) ∙ laid.text in
+      window_same f c (region_at log.mem log.active) (length (records_bytes log.list)) (record { byte = λ i low high. out.below i (omega arith) }) ∙ laid.text in
       let text : window c (region_at log.mem log.active) (length (records_bytes log.list ++ behind)) ≡ records_bytes log.list ++ behind =
-          window_both c (region_at log.mem log.active) (records_bytes log.list) behind front (window_front c (gate_of log) behind (0 ∷ []) whole) in
+      window_both c (region_at log.mem log.active) (records_bytes log.list) behind front (window_front c (gate_of log) behind (0 ∷ []) whole) in
       let all : records_bytes log.list ++ behind ≡ records_bytes (log.list ++ log.batch) = sym (records_bytes-append log.list log.batch) in
       let size : length (records_bytes (log.list ++ log.batch)) ≡ length (records_bytes log.list) + length behind = omega (arith, ap length all, length-append (records_bytes log.list) behind) in
       let lawful : list_all is_lawful (log.list ++ log.batch) ≡ true = all_lawful-append log.list log.batch ready.list_fits ready.batch_fits in
@@ -107,7 +107,7 @@ module _ (log : Log) (ready : Ready log) (old : View) (holds : (d : Image) → I
   raised_other : (c : Image) → Outside (gate_of log) 1 written c → c (region_at log.mem (other_region log.active)) ≢ 0xa7
   raised_other c out up =
       stands.shut f there fewer (sym (keeps_other log ready f written (gate_of log + 1) (length rest) (omega arith) high (outside_patch f (gate_of log + 1) rest))
-          ∙ sym (keeps_other log ready written c (gate_of log) 1 (omega arith) (omega (arith, high)) out) ∙ up)
+      ∙ sym (keeps_other log ready written c (gate_of log) 1 (omega arith) (omega (arith, high)) out) ∙ up)
 
   raised_given : (c : Image) → Outside (gate_of log) 1 written c → c (gate_of log) ≡ 0xa7 → changes_of c log.mem log.active ≡ Ok (log.list ++ log.batch)
   raised_given c out up =
@@ -174,8 +174,17 @@ module _ (mem active : ℕ) (stale : Bool) (list batch : List Change) (bytes : L
     split = ap (λ (x : List ℕ). 0xa7 ∷ x) rest_is ∙ behind_split list batch bytes mem active count staged end len keeps some len_within
 
     high : gate_of log + 1 + length rest ≤ region_at mem active + region_size mem
-    high = omega (arith, ap length split, length-append (records_bytes batch) (0 ∷ []), length-records_bytes list keeps.list_fits, length-records_bytes batch keeps.batch_fits,
-        keeps.list_count, keeps.batch_count, keeps.few, region_takes mem)
+    high = omega (
+      arith,
+      ap length split,
+      length-append (records_bytes batch) (0 ∷ []),
+      length-records_bytes list keeps.list_fits,
+      length-records_bytes batch keeps.batch_fits,
+      keeps.list_count,
+      keeps.batch_count,
+      keeps.few,
+      region_takes mem,
+    )
 
     pub append_images : TearsOnly old new gate (1 + length rest) → TearsOnly old new (region_at mem active) (region_size mem)
     append_images tears = tears_wider old new gate (1 + length rest) (region_at mem active) (region_size mem) (omega arith) (omega (arith, gate_same, high)) tears

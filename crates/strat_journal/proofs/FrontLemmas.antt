@@ -1,11 +1,11 @@
 -- What stands behind a gate is clear as soon as the bytes read have it whole, or as many bytes as a change may have.
-use Rattle.std.proofs.Common.{◌≡◌, ◌≢◌, ◌≤◌, ◌<◌, ◌+◌, ◌-◌, ◌*◌, ◌%◌, ◌^◌, ℕ, zero, suc, ◌⊎◌, inl, inr, List, [], ◌∷◌, ◌++◌, length, take, drop, get_or, Option, Some, None, Result, Ok, OnOk, IsErr, IfSome, refl, sym, ap, ◌∙◌, subst, arith, length-append, length-drop, length-take, take-append-drop, append_assoc}
+use Rattle.std.proofs.Common.{◌≡◌, ◌≤◌, ◌<◌, ◌+◌, ◌-◌, ◌*◌, ℕ, inl, inr, List, [], ◌++◌, length, take, drop, get_or, Some, None, Result, Ok, IsErr, IfSome, refl, sym, ap, ◌∙◌, subst, arith, length-append, length-drop, take-append-drop, append_assoc}
 use Rattle.std.specs.Option.{IsSome}
 use Rattle.std.proofs.lemmas.Result.{IfOk-from_err, on_ok_weaker}
 use Rattle.std.proofs.lemmas.List.{take_at, drop_at, append-nil, take-append-le}
 use Rattle.std.proofs.lemmas.Bool.{false≢true}
 use Rattle.strat_base.specs.Image.{Image, HoldsBytes, window}
-use Rattle.strat_base.specs.Moments.{View, Passes, LeavesOld}
+use Rattle.strat_base.specs.Moments.{View}
 use Rattle.strat_base.specs.Numbers.{AreBytes}
 use Rattle.strat_base.specs.Change.{Change, change_bytes, change_in, BeginsWith}
 use Rattle.strat_base.proofs.ImageLemmas.{length-window, window_at, window_split}
@@ -74,10 +74,10 @@ change_in-long xs more bytes long =
           let begins = change_in-some (xs ++ more) found.0 bytes found.1 in
           let few : length (change_bytes found.0) ≤ length xs = omega (arith, length-change_bytes found.0 begins.lawful) in
           let front : take (length (change_bytes found.0)) xs ≡ change_bytes found.0 =
-              sym (take-append-le (length (change_bytes found.0)) xs more few) ∙ ap (take (length (change_bytes found.0))) begins.split
-              ∙ take_at (change_bytes found.0) begins.rest (length (change_bytes found.0)) refl in
+          sym (take-append-le (length (change_bytes found.0)) xs more few) ∙ ap (take (length (change_bytes found.0))) begins.split
+          ∙ take_at (change_bytes found.0) begins.rest (length (change_bytes found.0)) refl in
           let split : xs ≡ change_bytes found.0 ++ drop (length (change_bytes found.0)) xs =
-              sym (take-append-drop (length (change_bytes found.0)) xs) ∙ ap (λ (x : List ℕ). x ++ drop (length (change_bytes found.0)) xs) front in
+          sym (take-append-drop (length (change_bytes found.0)) xs) ∙ ap (λ (x : List ℕ). x ++ drop (length (change_bytes found.0)) xs) front in
           ap change_in split ∙ change_in-bytes found.0 (drop (length (change_bytes found.0)) xs) begins.lawful ∙ sym found.1
       | inl none ↦ elim (option_cases (change_in xs)) [
         | inl also ↦ also ∙ sym none
@@ -150,7 +150,6 @@ module _ (f : Image) (holds : HoldsBytes f) (part : Part) (at : ℕ) (within : l
     gate = gate_is;
     change = λ up. change_in-long seen more whole_bytes (omega (arith, long, length-drop (at + 1) part.bytes)) ∙ ap change_in (sym whole);
   }
-
 
 shows_more : (f : Image) (first : ℕ) (bytes block all : List ℕ) → all ≡ bytes ++ block → bytes ≡ window f first (length bytes) → block ≡ window f (first + length bytes) (length block)
     → all ≡ window f first (length all)

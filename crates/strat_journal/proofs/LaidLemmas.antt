@@ -3,14 +3,14 @@ use Rattle.std.proofs.Common.{◌≡◌, ◌≢◌, ◌≤◌, ◌<◌, ◌+◌,
 use Rattle.std.specs.List.{list_all}
 use Rattle.std.proofs.lemmas.Bool.{eqb-true, eq-eqb, and_parts, and_from, cond-true, cases_Bool, cases_eq}
 use Rattle.std.proofs.lemmas.List.{append-nil, length-map}
-use Rattle.strat_base.specs.Image.{Image, HoldsBytes, Outside, window}
+use Rattle.strat_base.specs.Image.{Image, HoldsBytes, Outside}
 use Rattle.strat_base.proofs.ImageLemmas.{window_same}
 use Rattle.strat_base.specs.Change.{Change, change_bytes, is_lawful}
 use Rattle.strat_base.specs.Layout.{region_at, region_size, other_region}
 use Rattle.strat_base.proofs.ChangeLemmas.{length-change_bytes}
 use Rattle.strat_journal.specs.declared.journal.Logged.{Logged}
 use Rattle.strat_journal.specs.Laid.{Laid}
-use Rattle.strat_journal.specs.Records.{records_bytes, logged_from, joined, full_then, records, region_records, journal_of, changes_in_order, changes_of}
+use Rattle.strat_journal.specs.Records.{records_bytes, logged_from, joined, full_then, region_records, journal_of, changes_in_order, changes_of}
 use Rattle.strat_journal.proofs.RecordLemmas.{changes, none_text, laid_read, read_laid}
 
 pub records_bytes-append : (xs ys : List Change) → records_bytes (xs ++ ys) ≡ records_bytes xs ++ records_bytes ys
@@ -148,8 +148,8 @@ gate_keeps d c mem region list few some short out laid =
     let s : ℕ = region_at mem (other_region region) in
     let size : length (records_bytes list) + 1 ≤ region_size mem = omega (arith, length-records_bytes list laid.lawful, region_takes mem) in
     let same : (i : ℕ) → s ≤ i → i < s + region_size mem → c i ≡ d i = λ i low high. elim (outside_other mem region few) [
-        | inl under ↦ out.above i (omega arith)
-        | inr past ↦ out.below i (omega arith)
+      | inl under ↦ out.above i (omega arith)
+      | inr past ↦ out.below i (omega arith)
     ] in
     record {
       text = window_same d c s (length (records_bytes list)) (record { byte = λ i low high. same i low (omega (arith, size)) }) ∙ laid.text;

@@ -79,7 +79,7 @@ module _ (c : Image) (at : ℕ) (change : Change) (list : List Change) where
   text_of gate first later =
       let next : suc at ≡ at + 1 = omega arith in
       let rest : window c (suc at) (length (change_bytes change ++ records_bytes list)) ≡ change_bytes change ++ records_bytes list =
-          ap (λ (n : ℕ). window c n (length (change_bytes change ++ records_bytes list))) next ∙ window_both c (at + 1) (change_bytes change) (records_bytes list) first later in
+      ap (λ (n : ℕ). window c n (length (change_bytes change ++ records_bytes list))) next ∙ window_both c (at + 1) (change_bytes change) (records_bytes list) first later in
       λ i. gate i ∷ rest i
 
 pub open_gate : (gate : ℕ) (a b : Result (List Logged) ℕ) → gate ≡ 0xa7 → cond (is_open gate) a b ≡ a
@@ -133,13 +133,16 @@ abbrev pub Read : Image → ℕ → ℕ → ℕ → List Logged → Type 0
 Read c end n at logged = Laid c end n at (changes logged) × (logged ≡ logged_from at (changes logged))
 
 none_read : (c : Image) (end n at : ℕ) → at ≤ end → (0 < n → c at ≢ 0xa7) → Read c end n at []
-none_read c end n at within shut = (record {
-  text = none_text c at;
-  lawful = refl;
-  few = omega arith;
-  closed = λ lt up. let same : at ≡ at + 0 = omega arith in shut lt (ap c same ∙ up);
-  within = omega arith;
-}, refl)
+none_read c end n at within shut = (
+  record {
+    text = none_text c at;
+    lawful = refl;
+    few = omega arith;
+    closed = λ lt up. let same : at ≡ at + 0 = omega arith in shut lt (ap c same ∙ up);
+    within = omega arith;
+  },
+  refl,
+)
 
 first_read : (c : Image) (end n at : ℕ) (change : Change) (logged : List Logged) → c at ≡ 0xa7 → BeginsWith (window c (at + 1) (end - (at + 1))) change
     → Read c end n (at + 1 + length (change_bytes change)) logged → Read c end (suc n) at (record { change = change; block = block_of at } ∷ logged)
@@ -180,14 +183,14 @@ read_laid c end (suc n) at logged holds within e =
           subst (Read c end (suc n) at) none (none_read c end (suc n) at within (λ lt. shut))
       | inl up ↦
           let there : record_then at (λ next. records c end n next) (change_in (window c (at + 1) (end - (at + 1)))) ≡ Ok logged =
-              sym (open_gate (c at) _ (Ok []) (eqb-true (c at) 0xa7 up)) ∙ e in
+          sym (open_gate (c at) _ (Ok []) (eqb-true (c at) 0xa7 up)) ∙ e in
           elim (option_cases (change_in (window c (at + 1) (end - (at + 1))))) [
             | inl none ↦ absurd (let f : Err (block_of at) ≡ Ok logged = ap (record_then at (λ next. records c end n next)) (sym none) ∙ there in cc)
             | inr change ↦
                 let begins = change_in-some (window c (at + 1) (end - (at + 1))) change.0 (AreBytes-window c (at + 1) (end - (at + 1)) holds) change.1 in
                 let next : ℕ = at + 1 + length (change_bytes change.0) in
                 let found = put_first_ok (record { change = change.0; block = block_of at }) (records c end n next) logged
-                    (ap (record_then at (λ next. records c end n next)) (sym change.1) ∙ there) in
+                (ap (record_then at (λ next. records c end n next)) (sym change.1) ∙ there) in
                 let few : next ≤ end = begins_within c end at change.0 begins in
                 let later = read_laid c end n next found.0 holds few found.1 in
                 subst (Read c end (suc n) at) found.2 (first_read c end n at change.0 found.0 (eqb-true (c at) 0xa7 up) begins later)

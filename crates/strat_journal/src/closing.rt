@@ -22,7 +22,7 @@ pub fn close_region<D: Disk>(disk: &mut D, mem: u32, region: u8) -> Result<(), F
     requires region { region ≤ 1 }
     ensures kept { (logged : List Logged) → length logged < mem
         → ((c : Image) → Images (D.view disk.old) c
-          → journal_of c mem (places.other_region region) ≡ Ok logged)
+        → journal_of c mem (places.other_region region) ≡ Ok logged)
         → (c : Image) → Since (D.view disk.new) (D.view disk.old).moment c
         → journal_of c mem (places.other_region region) ≡ Ok logged }
     ensures shut { OnOk result ((f : Image) → (D.view disk.old).content ≡ Some f → Settled (D.view disk.old)

@@ -157,7 +157,12 @@ impl Front {
     }
 
     /// The record at a place and the place after it, or nothing where a closed gate ends the records.
-    pub(crate) fn next<D: Disk>(&mut self, alloc: Global, disk: &mut D, at: usize) -> Result<Option<(Logged, usize)>, Trouble>
+    pub(crate) fn next<D: Disk>(
+        &mut self,
+        alloc: Global,
+        disk: &mut D,
+        at: usize,
+    ) -> Result<Option<(Logged, usize)>, Trouble>
         requires near { at ≤ length self.old.bytes }
         requires within { at + 1288 ≤ self.old.size }
         ensures found { IfOk result (λ r. (f : Image) → (D.view disk.old).content ≡ Some f

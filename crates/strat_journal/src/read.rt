@@ -25,7 +25,12 @@ use strat_gate::{SuperBlock, gate_up};
 
 /// The records of a region, up to its first closed gate or as many as it takes. Reads each block at most
 /// once and none behind that gate.
-fn read_region<D: Disk>(alloc: Global, disk: &mut D, mem: u32, region: u8) -> Result<Vec<Logged>, Trouble>
+fn read_region<D: Disk>(
+    alloc: Global,
+    disk: &mut D,
+    mem: u32,
+    region: u8,
+) -> Result<Vec<Logged>, Trouble>
     requires mem { mem ≤ 4096 }
     requires region { region ≤ 1 }
     ensures found { IfOk result (λ v. (f : Image) → (D.view disk.old).content ≡ Some f
@@ -89,7 +94,12 @@ fn test(logged: &[Logged], mem: u32, others: bool, block: u32) -> Result<(), Tro
 }
 
 /// What an opening reads of a journal, and whether the other region's first gate is open.
-fn read_records<D: Disk>(alloc: Global, disk: &mut D, mem: u32, region: u8) -> Result<(Vec<Logged>, bool), Trouble>
+fn read_records<D: Disk>(
+    alloc: Global,
+    disk: &mut D,
+    mem: u32,
+    region: u8,
+) -> Result<(Vec<Logged>, bool), Trouble>
     requires mem { mem ≤ 4096 }
     requires region { region ≤ 1 }
     ensures found { IfOk result (λ r. (f : Image) → (D.view disk.old).content ≡ Some f
@@ -114,7 +124,11 @@ impl Journal {
     /// Reads the journal of a superblock, and gives it with its changes in order and the blocks of their
     /// gates. Takes all the memory that later calls need, and writes nothing. Reads each block of the active
     /// region at most once, none behind its first closed gate, and one of the other region.
-    pub fn read<D: Disk>(alloc: Global, disk: &mut D, sb: &SuperBlock) -> Result<(Journal, Vec<Logged>), Trouble>
+    pub fn read<D: Disk>(
+        alloc: Global,
+        disk: &mut D,
+        sb: &SuperBlock,
+    ) -> Result<(Journal, Vec<Logged>), Trouble>
         requires { IsLawful (super_of sb.now) }
         ensures found { IfOk result (λ r. (f : Image) → (D.view disk.old).content ≡ Some f
             → journal_now f sb.now.mem sb.now.region ≡ Ok r.1.items) }

@@ -80,7 +80,10 @@ fn the_example_is_appended_and_read(rt: HostRuntime) -> Result<(), Fail> {
     let mut disk = MemDisk::new(rt.alloc(), &[])?;
     let (mut journal, logged) = Journal::read(rt.alloc(), &mut disk, &block(4, 0))?;
     assert_eq!(rt; logged.len(), 0);
-    assert_eq!(rt; (journal.count(), journal.room(), journal.stale()), (0, 4, false));
+    assert_eq!(rt;
+        (journal.count(), journal.room(), journal.stale()),
+        (0, 4, false)
+    );
     journal.add(&Change::Put {
         version: 0,
         key: b"a",
@@ -100,7 +103,11 @@ fn the_example_is_appended_and_read(rt: HostRuntime) -> Result<(), Fail> {
     assert_eq!(rt; logged[0].block, 2);
     assert_eq!(rt;
         logged[0].change.as_change(),
-        Change::Put { version: 0, key: b"a", value: b"1" }
+        Change::Put {
+            version: 0,
+            key: b"a",
+            value: b"1"
+        }
     );
     Ok(())
 }
@@ -124,7 +131,10 @@ fn append_behind_fuse(rt: &impl Abort, alloc: Global, n: u8, calls: u64) -> Resu
         let mut left = disk.crash(choice)?;
         let (journal, logged) = Journal::read(alloc, &mut left, &block(17, 0))?;
         let all = logged.len() == 1 + n as usize;
-        assert!(rt; all || logged.len() == 1 && !appended, "{n}, {calls}, {choice}");
+        assert!(rt;
+            all || logged.len() == 1 && !appended,
+            "{n}, {calls}, {choice}"
+        );
         assert_eq!(rt; journal.count() as usize, logged.len());
     }
     Ok(())
@@ -178,9 +188,7 @@ fn an_altered_record_is_damage(rt: HostRuntime) -> Result<(), Fail> {
         assert!(rt; at < 20000);
         disk.write_at(at, &[byte])?;
         let read = Journal::read(rt.alloc(), &mut disk, &block(5, 0));
-        let found = read
-            .map(|x| x.1.len())
-            .map_err(|e| e);
+        let found = read.map(|x| x.1.len()).map_err(|e| e);
         let wanted = left.map_err(|block| Trouble::Damaged { block });
         assert_eq!(rt; found, wanted, "byte {byte} at {at}");
     }
@@ -192,7 +200,10 @@ fn a_stale_region_is_closed(rt: HostRuntime) -> Result<(), Fail> {
     let mut disk = MemDisk::new(rt.alloc(), &[])?;
     disk.write_at(8192, &[0xa7, 1, 0, 0, 0, 0, 1, 0x61, 0, 0, 0])?;
     let (journal, logged) = Journal::read(rt.alloc(), &mut disk, &block(4, 1))?;
-    assert_eq!(rt; (journal.stale(), journal.count(), logged.len()), (true, 0, 0));
+    assert_eq!(rt;
+        (journal.stale(), journal.count(), logged.len()),
+        (true, 0, 0)
+    );
     assert_eq!(rt; disk.calls(), 3);
     close_region(&mut disk, 4, 0)?;
     assert_eq!(rt; disk.calls(), 6);
@@ -205,7 +216,10 @@ fn a_stale_region_is_closed(rt: HostRuntime) -> Result<(), Fail> {
     let (journal, logged) = Journal::read(rt.alloc(), &mut disk, &block(4, 1))?;
     assert_eq!(rt; (journal.stale(), logged.len()), (false, 2));
     assert!(rt; logged.len() == 2 && logged[1].block == 4);
-    assert_eq!(rt; (region_at(4, 1), region_first(4, 1), region_blocks(4)), (16384, 4, 2));
+    assert_eq!(rt;
+        (region_at(4, 1), region_first(4, 1), region_blocks(4)),
+        (16384, 4, 2)
+    );
     assert_eq!(rt; region_blocks(4096), 1289);
     Ok(())
 }

@@ -1,4 +1,4 @@
-use Rattle.std.proofs.Common.{refl, ap, ◌∙◌, sym, cond, arith, ◌∷◌, [], ◌++◌}
+use Rattle.std.proofs.Common.{refl, ◌∙◌, arith}
 use Rattle.std.proofs.lemmas.Result.{err_from_is_err_and}
 use Rattle.strat_journal.proofs.FrontLemmas.{looks_trans}
 use Rattle.strat_journal.proofs.ReadLemmas.{same_err, begun, one_more, ends_shut, ends_torn, ends_full}
@@ -16,7 +16,7 @@ pub returns-in_err-record-clause-looks : goal.returns-in_err-record-clause-looks
 returns-in_err-record-clause-looks g c = looks_trans c.loop-i.invariant.0.looks c.next.ensures.ok.looks
 
 pub returns-in_default-clause-found : goal.returns-in_default-clause-found
-returns-in_default-clause-found g c = 
+returns-in_default-clause-found g c =
     ends_shut _ _ (g.D.Disk.view c.next.new.disk) _ _ (g.D.Disk.reads c.next.new.disk) _ _ _ _ _ c.next.new.self _ c.loop-i.invariant.0 c.loop-i-test.true (rw c.in_default.is at c.in_ok-record.ensures.found)
 
 pub returns-in_default-clause-looks : goal.returns-in_default-clause-looks
@@ -26,11 +26,10 @@ pub returns-in_err-push-clause-looks : goal.returns-in_err-push-clause-looks
 returns-in_err-push-clause-looks g c = looks_trans c.loop-i.invariant.0.looks c.next.ensures.ok.looks
 
 pub loop-i-preserved : goal.loop-i-preserved
-loop-i-preserved g c = 
-    let on = c.in_ok-record.ensures in
-    (
+loop-i-preserved g c =
+    let on = c.in_ok-record.ensures in (
       one_more _ _ _ _ _ _ _ _ _ _ _ _ _ c.loop-i.invariant.0 _ c.in-Some.record c.in-Some.next c.loop-i-test.true on.ok
-      (rw c.in-Some.is at on.found) (rw c.in-Some.is at on.near) _ c.in_ok-push.ensures.items,
+          (rw c.in-Some.is at on.found) (rw c.in-Some.is at on.near) _ c.in_ok-push.ensures.items,
       on.cause.ok ∙ c.loop-i.invariant.1,
     )
 

@@ -1,8 +1,6 @@
-use Rattle.std.proofs.Common.{◌≡◌, ◌<◌, ◌+◌, ◌++◌, ◌∷◌, [], length, drop, sym, ◌∙◌, ap, refl, arith}
-use Rattle.strat_base.specs.Change.{change_bytes}
+use Rattle.std.proofs.Common.{◌+◌, arith}
 use Rattle.strat_base.specs.ChangeView.{change_of}
 use Rattle.strat_base.proofs.ChangeLemmas.{length-change_bytes}
-use Rattle.strat_journal.specs.Log.{Log, changes_in, Keeps}
 use Rattle.strat_journal.proofs.KeepLemmas as keep
 use Rattle.strat_journal.proofs.journal.Journal.add.Goals as goal
 
@@ -31,9 +29,11 @@ returns c =
     let few = rw (← c.self.view_is) at c.requires.few in
     let put = c.put_record-self-inside in
     let kept = keep.change_joined _ _ s.bytes.items s.mem s.active s.count s.staged s.end s.len c.self.invariant (change_of c.args.change.now) c.requires.fits
-        (omega (arith, room, c.self.invariant.list_count, c.self.invariant.batch_count)) (omega (arith, few, c.self.invariant.batch_count))
-        put.new.bytes.items put.result put.ensures.ok put.ensures.end in
-    record { ok = rw (← c.self.view_is)
-        (keep.same_log s.mem s.active s.stale _ _ _ _
-        (keep.list_kept _ _ put.new.bytes.items s.mem s.active s.count (s.staged + 1) s.end put.result kept)
-        (keep.batch_kept _ _ put.new.bytes.items s.mem s.active s.count (s.staged + 1) s.end put.result kept)) }
+    (omega (arith, room, c.self.invariant.list_count, c.self.invariant.batch_count)) (omega (arith, few, c.self.invariant.batch_count))
+    put.new.bytes.items put.result put.ensures.ok put.ensures.end in
+    record {
+      ok = rw (← c.self.view_is)
+          (keep.same_log s.mem s.active s.stale _ _ _ _
+          (keep.list_kept _ _ put.new.bytes.items s.mem s.active s.count (s.staged + 1) s.end put.result kept)
+          (keep.batch_kept _ _ put.new.bytes.items s.mem s.active s.count (s.staged + 1) s.end put.result kept));
+    }

@@ -12,5 +12,11 @@ returns-clause-stale g c = λ f told.
     let none = ap (λ (j : Log). length j.list) c.in_ok-journal.ensures.ok in
     rw c.set_stale.ensures.ok
     (stale_is _ _ c.args.sb.now.mem _ _ (read.others f told) read.few.0 read.few.1
-    (omega (arith, list, none, length-append c.in_ok-journal.journal.list (map (λ (l : Logged). l.change) c.deref.result.now),
-        length-map c.deref.result.now (λ (l : Logged). l.change), c.deref.ensures.len)))
+    (omega (
+      arith,
+      list,
+      none,
+      length-append c.in_ok-journal.journal.list (map (λ (l : Logged). l.change) c.deref.result.now),
+      length-map c.deref.result.now (λ (l : Logged). l.change),
+      c.deref.ensures.len,
+    )))
