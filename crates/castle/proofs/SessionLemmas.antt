@@ -11,8 +11,11 @@ use Rattle.strat_model.specs.Run.{Run, text}
 use Rattle.strat_base.specs.Numbers.{AreBytes}
 use Rattle.strat_model.specs.declared.ended.Ended.{Ended}
 use Rattle.strat_model.specs.declared.ended.Ended.TheVariants as ended
+use Rattle.strat_base.specs.Faults.{Rose}
+use Rattle.strat_model.specs.Ended.{status_of}
+use Rattle.castle.specs.Job.{EndsAsInput}
 use Rattle.castle.specs.Batch.{at, Batch, SendsFront, too_long_bytes}
-use Rattle.castle.specs.Session.{Took, IsAtEnd, Progress, Session, IsSession, IsWhole, Served, said, start}
+use Rattle.castle.specs.Session.{Took, IsAtEnd, Progress, Session, IsSession, IsWhole, Served, HasCause, said, start}
 use Rattle.castle.proofs.BatchLemmas.{no_batch, batch_then, run_length, each_then}
 use Rattle.castle.proofs.StreamLemmas.{partial_not_long, frames_of}
 use Rattle.std.proofs.lemmas.Bool.{and_right, or_left, or_right, eq-eqb, ne_eqb, cases_eq}
@@ -181,22 +184,22 @@ module _ (mem budget : ℕ) (t : Table) (taken h : List ℕ) (b : Batch mem star
     sends_all : Appends k0 k1 (said (session_of mem t taken h b [] h))
     sends_all = subst (λ (x : List ℕ). Appends k0 k1 x) (sym said_all) sent
 
-    pub served_done : length h ≡ 0 → IsAtEnd s1 → Served mem budget ended.Done s0 s1 k0 k1
-    served_done none end = record {
+    pub served_done : length taken < budget → length h ≡ 0 → IsAtEnd s1 → Served mem budget ended.Done s0 s1 k0 k1
+    served_done less none end = record {
       session = session_of mem t taken h b [] h;
       is = is_session [] h splits_none;
       took = took;
       sends = sends_all;
-      ends = (is_whole, let e : ending_of h ≡ Whole = rw (partial_not_long h part, none) refl in e, end);
+      ends = (is_whole, let e : ending_of h ≡ Whole = rw (partial_not_long h part, none) refl in e, end, less);
     }
 
-    pub served_truncated : eqb (length h) 0 ≡ false → IsAtEnd s1 → Served mem budget ended.Truncated s0 s1 k0 k1
-    served_truncated some end = record {
+    pub served_truncated : length taken < budget → eqb (length h) 0 ≡ false → IsAtEnd s1 → Served mem budget ended.Truncated s0 s1 k0 k1
+    served_truncated less some end = record {
       session = session_of mem t taken h b [] h;
       is = is_session [] h splits_none;
       took = took;
       sends = sends_all;
-      ends = (is_whole, let e : ending_of h ≡ Rest = rw (partial_not_long h part, some) refl in e, end);
+      ends = (is_whole, let e : ending_of h ≡ Rest = rw (partial_not_long h part, some) refl in e, end, less);
     }
 
     pub served_budget : length taken ≡ budget → Served mem budget ended.Budget s0 s1 k0 k1
@@ -265,11 +268,12 @@ module _ (mem count budget : ℕ) (t : Table) (h : List ℕ) (s0 s1 k0 k1 : Opti
   ends_budget part all = served_budget mem budget t p.taken h p.batch all_within part s0 s1 k0 k1 p.took p.sent (omega (arith, p.counted))
 
   -- the source ended
-  pub ends_at_end : (how : Ended) → (length h ≡ 0 → how ≡ ended.Done) → (length h ≢ 0 → how ≡ ended.Truncated) → is_partial h ≡ true → IsAtEnd s1 → Served mem budget how s0 s1 k0 k1
-  ends_at_end how done truncated part end =
+  pub ends_at_end : count < budget → (how : Ended) → (length h ≡ 0 → how ≡ ended.Done) → (length h ≢ 0 → how ≡ ended.Truncated) → is_partial h ≡ true → IsAtEnd s1 → Served mem budget how s0 s1 k0 k1
+  ends_at_end less how done truncated part end =
+      let taken_less : length p.taken < budget = subst (λ (n : ℕ). n < budget) (sym p.counted) less in
       elim (cases_eq (length h) 0) [
-        | inl none ↦ subst (λ (x : Ended). Served mem budget x s0 s1 k0 k1) (sym (done none)) (served_done mem budget t p.taken h p.batch all_within part s0 s1 k0 k1 p.took p.sent none end)
-        | inr some ↦ subst (λ (x : Ended). Served mem budget x s0 s1 k0 k1) (sym (truncated some)) (served_truncated mem budget t p.taken h p.batch all_within part s0 s1 k0 k1 p.took p.sent (ne_eqb _ _ some) end)
+        | inl none ↦ subst (λ (x : Ended). Served mem budget x s0 s1 k0 k1) (sym (done none)) (served_done mem budget t p.taken h p.batch all_within part s0 s1 k0 k1 p.took p.sent taken_less none end)
+        | inr some ↦ subst (λ (x : Ended). Served mem budget x s0 s1 k0 k1) (sym (truncated some)) (served_truncated mem budget t p.taken h p.batch all_within part s0 s1 k0 k1 p.took p.sent taken_less (ne_eqb _ _ some) end)
       ]
 
   -- the sink failed at a reply
@@ -293,3 +297,19 @@ module _ (mem count budget : ℕ) (t : Table) (h : List ℕ) (s0 s1 k0 k1 : Opti
   -- a frame was too long, and the sink failed at that reply
   pub ends_long_cut : (k2 : Option (List ℕ)) → is_too_long h ≡ true → SendsFront k1 k2 too_long_bytes → Served mem budget ended.Sink s0 s1 k0 k2
   ends_long_cut k2 long front = served_long_cut mem budget t p.taken h p.batch all_within long s0 s1 k0 k1 k2 p.took p.sent front
+
+-- where neither the source nor the sink failed a run ends as its input does, or at the budget, or for want of memory
+pub completes : (mem budget : ℕ) (how : Ended) (s0 s1 k0 k1 : Option (List ℕ)) (source_before source_now sink_before sink_now : ℕ)
+    → Served mem budget how s0 s1 k0 k1 → HasCause how source_before source_now sink_before sink_now → ¬ Rose source_before source_now → ¬ Rose sink_before sink_now → EndsAsInput (status_of how)
+completes mem budget ended.Done s0 s1 k0 k1 a b c d served cause source sink = inl refl
+completes mem budget ended.FrameTooLong s0 s1 k0 k1 a b c d served cause source sink = inr (inl refl)
+completes mem budget ended.Truncated s0 s1 k0 k1 a b c d served cause source sink = inr (inr (inl refl))
+completes mem budget ended.NoMemory s0 s1 k0 k1 a b c d served cause source sink = inr (inr (inr (inl refl)))
+completes mem budget ended.Budget s0 s1 k0 k1 a b c d served cause source sink = inr (inr (inr (inr refl)))
+completes mem budget ended.Source s0 s1 k0 k1 a b c d served cause source sink = absurd (source (cause.source refl))
+completes mem budget ended.Sink s0 s1 k0 k1 a b c d served cause source sink = absurd (sink (cause.sink refl))
+completes mem budget ended.Usage s0 s1 k0 k1 a b c d served cause source sink = absurd served.ends
+completes mem budget ended.NotAStore s0 s1 k0 k1 a b c d served cause source sink = absurd served.ends
+completes mem budget ended.Device s0 s1 k0 k1 a b c d served cause source sink = absurd served.ends
+completes mem budget (ended.Damaged block) s0 s1 k0 k1 a b c d served cause source sink = absurd served.ends
+completes mem budget ended.Unsound s0 s1 k0 k1 a b c d served cause source sink = absurd served.ends

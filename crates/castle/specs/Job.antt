@@ -1,5 +1,5 @@
 -- What the program does for its words.
-use Rattle.std.specs.Prelude.{◌≡◌, ℕ, ◌==◌, if◌then◌else◌, List, Option, codes}
+use Rattle.std.specs.Prelude.{◌≡◌, ◌⊎◌, ℕ, ◌==◌, if◌then◌else◌, List, Option, codes}
 use Rattle.strat_model.specs.declared.ended.Ended.{Ended}
 use Rattle.strat_model.specs.Ended.{status_of}
 use Rattle.castle.specs.Session.{Served, HasCause}
@@ -16,6 +16,10 @@ pub record StatusHasCause (status source_before source_now sink_before sink_now 
   pub how : Ended
   pub status_is : status ≡ status_of how
   pub cause : HasCause how source_before source_now sink_before sink_now
+
+-- a run ended as its input does, or at the budget, or before it began for want of memory
+abbrev pub EndsAsInput : ℕ → Type 0
+EndsAsInput status = (status ≡ 0) ⊎ (status ≡ 3) ⊎ (status ≡ 4) ⊎ (status ≡ 8) ⊎ (status ≡ 10)
 
 -- what a status means
 abbrev pub text_of : ℕ → List ℕ

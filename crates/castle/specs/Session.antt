@@ -60,8 +60,8 @@ Sends _ before now all = Appends before now all
 
 -- what the bytes taken say where a run ends so
 abbrev pub EndsFor : Ended → ℕ → Session → Option (List ℕ) → Type 0
-EndsFor ended.Done budget s left = IsWhole s × (ending_of s.rest ≡ Whole) × IsAtEnd left
-EndsFor ended.Truncated budget s left = IsWhole s × (ending_of s.rest ≡ Rest) × IsAtEnd left
+EndsFor ended.Done budget s left = IsWhole s × (ending_of s.rest ≡ Whole) × IsAtEnd left × (length s.taken < budget)
+EndsFor ended.Truncated budget s left = IsWhole s × (ending_of s.rest ≡ Rest) × IsAtEnd left × (length s.taken < budget)
 EndsFor ended.FrameTooLong budget s left = IsWhole s × (ending_of s.rest ≡ Long)
 EndsFor ended.Budget budget s left = IsWhole s × (ending_of s.rest ≢ Long) × (length s.taken ≡ budget)
 EndsFor ended.Source budget s left = IsWhole s × (ending_of s.rest ≢ Long)

@@ -2,8 +2,9 @@
 
 ghost use Rattle.std.specs.Prelude.{◌≡◌, map, string_bytes, IsSome, None};
 ghost use Rattle.std.specs.Option.{option_copied};
+ghost use Rattle.strat_base.specs.Faults.{Rose};
 ghost use Rattle.castle.specs.Words.{path_in};
-ghost use Rattle.castle.specs.Job.{ServesFrames, StatusHasCause, text_of};
+ghost use Rattle.castle.specs.Job.{ServesFrames, StatusHasCause, EndsAsInput, text_of};
 
 use crate::serving::serve;
 use std::alloc::Global;
@@ -26,7 +27,7 @@ pub fn path_of(words: &[String]) -> Option<&str>
 /// Does the job that the words name, and says how it ended as an exit status. The words are the program's
 /// arguments without its name. Nothing is read or written where they name no job.
 ///
-/// Serving takes the memory for frames and replies at once, 1.3 MB, and each put the memory of its pair. A
+/// Serving takes the memory for frames and replies at once, about 670 KB, and each put the memory of its pair. A
 /// get or a put looks through the pairs of the version.
 pub fn run<S: Source, K: Sink>(alloc: Global, words: &[String], source: &mut S, sink: &mut K) -> u8
     ensures usage { path_in (map string_bytes words.now) ≡ None → result ≡ 1 }
@@ -38,6 +39,10 @@ pub fn run<S: Source, K: Sink>(alloc: Global, words: &[String], source: &mut S, 
     ensures cause { IsSome (path_in (map string_bytes words.now))
         → StatusHasCause result (S.faults source.old) (S.faults source.new)
         (K.faults sink.old) (K.faults sink.new) }
+    ensures complete { IsSome (path_in (map string_bytes words.now))
+        → ¬ Rose (S.faults source.old) (S.faults source.new)
+        → ¬ Rose (K.faults sink.old) (K.faults sink.new) → EndsAsInput result }
+    ensures unread { result ≡ 8 → (source.new ≡ source.old) × (sink.new ≡ sink.old) }
 {
     match path_of(words) {
         None => Ended::Usage.status(),

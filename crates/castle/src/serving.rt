@@ -33,6 +33,8 @@ pub fn serve<S: Source, K: Sink>(alloc: Global, source: &mut S, sink: &mut K, bu
         (K.held sink.old) (K.held sink.new) }
     ensures cause { HasCause result (S.faults source.old) (S.faults source.new)
         (K.faults sink.old) (K.faults sink.new) }
+    ensures unread { result ≡ Ended.NoMemory
+        → (source.new ≡ source.old) × (sink.new ≡ sink.old) }
 {
     let Ok(mut server) = Server::new(alloc) else {
         return Ended::NoMemory;

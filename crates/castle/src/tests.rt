@@ -224,7 +224,11 @@ fn other_words_are_no_job(rt: HostRuntime) -> Result<(), Fail> {
         let words = words(rt.alloc(), row)?;
         let mut source = MemSource::new(rt.alloc(), STREAM, &[1], 4096)?;
         let mut sink = MemSink::new(rt.alloc(), &[], 4096)?;
-        assert_eq!(rt; run(rt.alloc(), &words, &mut source, &mut sink), 1, "row {i}");
+        assert_eq!(rt;
+            run(rt.alloc(), &words, &mut source, &mut sink),
+            1,
+            "row {i}"
+        );
         assert!(rt; sink.bytes().is_empty(), "row {i}");
         assert!(rt; path_of(&words).is_none(), "row {i}");
     }

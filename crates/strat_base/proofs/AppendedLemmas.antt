@@ -94,10 +94,10 @@ module _ (s : State) (sound : IsSound s) (c : Change) (accepted : accepts_change
 
     pub sound_appended : IsSound (appended s c)
     sound_appended = record {
-      opens = record {
-        tree = sound.opens.tree;
-        numbered = sound.opens.numbered;
-        accepted = accepted-push s.changes_max s.versions_max s.parents s.changes s.journal c sound.opens.accepted accepted;
+      formed = record {
+        tree = sound.formed.tree;
+        numbered = sound.formed.numbered;
+        accepted = accepted-push s.changes_max s.versions_max s.parents s.changes s.journal c sound.formed.accepted accepted;
         fits = le-leb (length (s.journal ++ c ∷ [])) s.mem (omega (arith, length-append s.journal (c ∷ [])));
       };
       stratified = each_from (IsStratified (versions_of (appended s c))) s.levels (λ level here.

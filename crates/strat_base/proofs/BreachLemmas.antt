@@ -1,9 +1,9 @@
--- A state is sound exactly where it opens and breaks no rule.
+-- A state is sound exactly where it is well formed and breaks no rule.
 use Rattle.std.proofs.Common.{◌≡◌, ℕ, Bool, true, false, eqb, length, List, [], ◌++◌, refl, sym, ap, ◌∙◌, true≢false}
 use Rattle.std.specs.List.{list_all, flat_map}
 use Rattle.strat_base.specs.Level.{TaggedArray, Level, IsStratified, has_disjoint_tags, has_live_tagged, agrees, is_dense, is_led, is_drawn, has_single_leads}
 use Rattle.strat_base.specs.State.{State, versions_of}
-use Rattle.strat_base.specs.Sound.{has_room, has_old_horizon, is_above_frozen, is_described, has_few_leads, has_ascending_entries, IsOpenable, IsSound}
+use Rattle.strat_base.specs.Sound.{has_room, has_old_horizon, is_above_frozen, is_described, has_few_leads, has_ascending_entries, IsWellFormed, IsSound}
 use Rattle.strat_base.specs.Breach.{Breach, breach_unless, level_breaches, array_breaches, breaches}
 use Rattle.strat_base.proofs.ListFacts.{all_at, all_from, each_of, each_from, empty_parts, empty_both, flat_empty, empty_each}
 
@@ -77,9 +77,9 @@ module _ (s : State) where
   l : List Breach
   l = breach_unless (has_few_leads s) (record { rule = 108; level = 0; array = 0 })
 
-  pub sound_from_none : IsOpenable s → breaches s ≡ [] → IsSound s
+  pub sound_from_none : IsWellFormed s → breaches s ≡ [] → IsSound s
   unfolding a b c d e f g h i' j k l m
-  sound_from_none opens none =
+  sound_from_none formed none =
       let to_l = empty_parts (m ++ a ++ b ++ c ++ d ++ e ++ f ++ g ++ h ++ i' ++ j ++ k) l none in
       let to_k = empty_parts (m ++ a ++ b ++ c ++ d ++ e ++ f ++ g ++ h ++ i' ++ j) k to_l.0 in
       let to_j = empty_parts (m ++ a ++ b ++ c ++ d ++ e ++ f ++ g ++ h ++ i') j to_k.0 in
@@ -100,7 +100,7 @@ module _ (s : State) where
       let drawn = arrays_pass s 102 is_drawn to_f.1 in
       let single = levels_pass s 103 has_single_leads to_g.1 in
       record {
-        opens = opens;
+        formed = formed;
         stratified = each_from (IsStratified (versions_of s)) s.levels (λ level among. record {
           disjoint = all_at has_disjoint_tags level s.levels disjoint among;
           tagged = all_at (has_live_tagged (versions_of s)) level s.levels tagged among;

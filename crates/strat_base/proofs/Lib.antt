@@ -24,3 +24,6 @@ pub mod LiveLemmas
 pub mod PlacedLemmas
 pub mod SizeLemmas
 pub mod FoundLemmas
+pub mod DamageLemmas
+pub mod ChainLemmas
+pub mod RegionLemmas

@@ -136,7 +136,7 @@ numbered_parts least first levels h =
 
 module _ (s : State) (sound : IsSound s) where
   pub sound_tree : IsTree (versions_of s)
-  sound_tree = accepted_tree s.changes_max s.versions_max s.journal s.parents s.changes (tree_from_test s.parents sound.opens.tree) sound.opens.accepted
+  sound_tree = accepted_tree s.changes_max s.versions_max s.journal s.parents s.changes (tree_from_test s.parents sound.formed.tree) sound.formed.accepted
 
   -- no lead of a level is nearer than an entry of a place above it
   settled_order : (level : Level) → Among level s.levels → (e d : Entry) → Among e (journal_updates s ++ flat_map level_leads (shallower s level)) → Among d (level_leads level)
@@ -205,7 +205,7 @@ module _ (s : State) (sound : IsSound s) where
         deciding_live parents sound_tree (latest (journal_updates s)) key v (latest_single (journal_updates s))
         ∙ (λ i. first_some (λ u. find-latest key u (journal_updates s) i) (path parents v)) in
         ap (λ (o : Option Entry). option_or o (found_first parents s.levels v key)) zero'
-        ∙ ap (option_or (deciding parents (reverse (journal_updates s)) key v)) (levels_decide s.levels 1 sound.opens.numbered (λ level among. among))
+        ∙ ap (option_or (deciding parents (reverse (journal_updates s)) key v)) (levels_decide s.levels 1 sound.formed.numbered (λ level among. among))
         ∙ sym (deciding-append parents sound_tree key (reverse (journal_updates s)) (flat_map level_leads s.levels) v (λ e d a b on_e on_d lt.
         let at = among_flat level_leads s.levels d b in
         settled_order at.0 at.1 e d (among_left (journal_updates s) (flat_map level_leads (shallower s at.0)) e (among_back (journal_updates s) e a)) at.2 v on_e on_d lt))

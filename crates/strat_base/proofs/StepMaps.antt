@@ -135,7 +135,7 @@ module _ (s : State) (sound : IsSound s) where
   pub known_sources : (e : Entry) → Among e (sources s) → e.version < length (versions_of s)
   known_sources e among =
       elim (among_split (reverse (journal_updates s)) (flat_map level_leads s.levels) e among) [
-        | inl update ↦ known_updates s.changes_max s.versions_max s.journal s.parents s.changes sound.opens.accepted e (among_back (journal_updates s) e update)
+        | inl update ↦ known_updates s.changes_max s.versions_max s.journal s.parents s.changes sound.formed.accepted e (among_back (journal_updates s) e update)
         | inr lead ↦
             let at = among_flat level_leads s.levels e lead in
             let low = lead_below (versions_of s) (sound_tree s sound) at.0 (each_of (IsStratified (versions_of s)) s.levels at.0 sound.stratified at.1) e at.2 in

@@ -2,7 +2,7 @@
 use Rattle.std.specs.Prelude.{◌≡◌, ℕ, Bool, true, false, List, [], ◌∷◌, ◌++◌, flat_map}
 use Rattle.strat_base.specs.Level.{TaggedArray, Level, has_disjoint_tags, has_live_tagged, agrees, is_dense, is_led, is_drawn, has_single_leads}
 use Rattle.strat_base.specs.State.{State, versions_of}
-use Rattle.strat_base.specs.Sound.{has_room, has_old_horizon, is_above_frozen, is_described, has_few_leads, has_ascending_entries, IsOpenable, IsSound}
+use Rattle.strat_base.specs.Sound.{has_room, has_old_horizon, is_above_frozen, is_described, has_few_leads, has_ascending_entries, IsWellFormed, IsSound}
 
 -- a rule's letter, and the level and the array that break it, or 0 where it is not one of them alone
 pub record Breach : Type 0 where
@@ -45,8 +45,8 @@ breaches s =
     ++ array_breaches s 107 (λ level a. is_described s a)
     ++ breach_unless (has_few_leads s) (breach 108 0 0)
 
--- a state opens, and is not sound for these rules alone, each with the level and the array that break it
+-- a state is well formed, and is not sound for these rules alone, each with the level and the array that break it
 pub record Breaks (s : State) (found : List Breach) : Type 0 where
-  pub opens : IsOpenable s
+  pub formed : IsWellFormed s
   pub unsound : IsSound s → ⊥
   pub exactly : breaches s ≡ found

@@ -1,4 +1,4 @@
--- States that open but break a rule.
+-- States that are well formed but break a rule. An opening refuses some of them: those with tags that meet, with more copies than leads, with a horizon that is not reached, and with more leads than updates.
 use Rattle.std.specs.Prelude.{ℕ, ◌+◌, ◌-◌, List, [], ◌∷◌, length, Some, None}
 use Rattle.strat_base.specs.Tree.{Parents}
 use Rattle.strat_base.specs.Level.{Level}

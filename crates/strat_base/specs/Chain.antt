@@ -1,5 +1,6 @@
 -- A manifest on the disk: a chain of blocks.
-use Rattle.std.specs.Prelude.{◌≡◌, ℕ, ◌+◌, ◌-◌, ◌*◌, ◌/◌, List, [], ◌∷◌, ◌++◌, length, take, drop, replicate}
+use Rattle.std.specs.Prelude.{◌≡◌, ◌≢◌, ◌≤◌, ◌<◌, ℕ, ◌+◌, ◌-◌, ◌*◌, ◌/◌, ◌^◌, AllPairs, List, [], ◌∷◌, ◌++◌, length, take, drop, replicate}
+use Rattle.std.specs.List.{AllByRecursion}
 use Rattle.strat_base.specs.declared.limits.TheConstants.{BLOCK}
 use Rattle.strat_base.specs.Numbers.{be}
 use Rattle.strat_base.specs.Image.{Image, window}
@@ -22,3 +23,10 @@ unfoldable pub HoldsChain : Image → List ℕ → List ℕ → Type 0
 HoldsChain c [] bytes = bytes ≡ []
 HoldsChain c (b ∷ blocks) bytes =
     (window c (BLOCK * b) BLOCK ≡ link_bytes (next_block blocks) (take (BLOCK - 4) bytes)) × HoldsChain c blocks (drop (BLOCK - 4) bytes)
+
+-- the chain of a manifest's bytes: as many blocks as they need, each a block that may be named, and none twice
+pub record IsChain (c : Image) (blocks bytes : List ℕ) : Type 0 where
+  pub holds : HoldsChain c blocks bytes
+  pub count : length blocks ≡ chain_length (length bytes)
+  pub named : AllByRecursion (λ b. (1 ≤ b) × (b < 2 ^ 32 - 1)) blocks
+  pub distinct : AllPairs (λ a b. a ≢ b) blocks

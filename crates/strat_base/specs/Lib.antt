@@ -28,3 +28,6 @@ pub mod Block
 pub mod Manifest
 pub mod Chain
 pub mod Opened
+pub mod Damage
+pub mod Chained
+pub mod Records

@@ -81,8 +81,8 @@ are_accepted changes_max versions_max parents changes (change ∷ journal) =
 abbrev pub accepts_change : State → Change → Bool
 accepts_change s change = is_accepted s.changes_max s.versions_max (versions_of s) (changes_of s) change
 
--- what an opening tests of a state
-pub record IsOpenable (s : State) : Type 0 where
+-- a state is well formed: it has a tree, levels in order, and a journal whose changes were accepted in turn and have room
+pub record IsWellFormed (s : State) : Type 0 where
   pub tree : IsTrue (is_tree s.parents)
   pub numbered : IsTrue (is_numbered_from 1 s.levels)
   pub accepted : IsTrue (are_accepted s.changes_max s.versions_max s.parents s.changes s.journal)
@@ -90,7 +90,7 @@ pub record IsOpenable (s : State) : Type 0 where
 
 -- a state is sound
 pub record IsSound (s : State) : Type 0 where
-  pub opens : IsOpenable s
+  pub formed : IsWellFormed s
   pub stratified : AllByRecursion (IsStratified (versions_of s)) s.levels  -- a to g
   pub roomy : IsTrue (list_all (has_room s) s.levels)  -- h
   pub old : IsTrue (list_all (has_old_horizon s) s.levels)  -- i

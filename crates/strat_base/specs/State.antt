@@ -1,5 +1,5 @@
 -- The state of a store, as its disk says it, and what it says of keys at versions.
-use Rattle.std.specs.Prelude.{ℕ, ◌+◌, ◌*◌, ◌-◌, ◌^◌, ◌==◌, nat_le, ◌||◌, Bool, true, List, [], ◌∷◌, ◌++◌, length, reverse, sum_by, flat_map, filter_map, find, fold, Option, Some, None, unwrap_or, option_and_then, IsTrue}
+use Rattle.std.specs.Prelude.{ℕ, ◌+◌, ◌*◌, ◌-◌, ◌^◌, ◌==◌, nat_le, ◌||◌, Bool, true, List, [], ◌∷◌, ◌++◌, length, reverse, sum_by, map, flat_map, filter_map, find, fold, Option, Some, None, unwrap_or, option_and_then, IsTrue}
 use Rattle.std.specs.List.{list_all, range_with_len}
 use Rattle.std.specs.Option.{option_map_or}
 use Rattle.std.specs.BTreeMap.{insert_entry}
@@ -7,7 +7,7 @@ use Rattle.strat_base.specs.Order.{key_cmp}
 use Rattle.strat_base.specs.Tree.{Parents, with_child}
 use Rattle.strat_base.specs.Entries.{Entry}
 use Rattle.strat_base.specs.Live.{deciding}
-use Rattle.strat_base.specs.Level.{Level, level_leads}
+use Rattle.strat_base.specs.Level.{Level, level_leads, density, lead_fraction}
 use Rattle.strat_base.specs.Change.{Change, Put, Delete, Clone}
 
 -- a state: the limits, what the manifest says, and the changes in the journal
@@ -94,6 +94,14 @@ appended s change = record s { journal = s.journal ++ change ∷ [] }
 -- how many entries a state stores
 abbrev pub stored : State → ℕ
 stored s = sum_by (λ level. sum_by (λ a. length a.content) level.arrays) s.levels + length (journal_updates s)
+
+-- the densities of all arrays, the shallowest level first
+abbrev pub densities : State → List (ℕ × ℕ)
+densities s = flat_map (λ level. map (density (versions_of s)) level.arrays) s.levels
+
+-- the lead fractions of all arrays, the shallowest level first
+abbrev pub lead_fractions : State → List (ℕ × ℕ)
+lead_fractions s = flat_map (λ level. map lead_fraction level.arrays) s.levels
 
 -- the least level from 1 on that has room for n leads
 unfoldable pub deep : ℕ → ℕ → ℕ

@@ -1,4 +1,5 @@
-//! States that break a rule, each that rule alone. Each is the contract of a function that does nothing.
+//! States that break a rule, and no other that does not follow. Each is the contract of a function
+//! that does nothing.
 
 #![tactic(auto, unfolding(crate::specs::Tree::climb), using(crate::proofs::BreachLemmas::unsound_from_some))]
 

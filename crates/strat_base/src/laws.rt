@@ -1,5 +1,5 @@
-//! Laws that tie the definitions of a store's structure together. Each is the contract of a function
-//! that does nothing.
+//! Laws that tie the definitions of a store's structure together. Each is the contract of a
+//! function that does nothing.
 
 ghost use Rattle.std.specs.BTreeMap.{insert_entry};
 ghost use Rattle.std.specs.List.{list_any, list_all};
@@ -13,7 +13,7 @@ ghost use Rattle.strat_base.specs.Level.{Level, has_disjoint_tags, has_single_le
 ghost use Rattle.strat_base.specs.Live.{live, deciding};
 ghost use Rattle.strat_base.specs.Order.{key_cmp};
 ghost use Rattle.strat_base.specs.Reading.{read_at};
-ghost use Rattle.strat_base.specs.Sound.{has_ascending_entries, IsOpenable, IsSound, Takes};
+ghost use Rattle.strat_base.specs.Sound.{has_ascending_entries, IsWellFormed, IsSound, Takes};
 ghost use Rattle.strat_base.specs.State.{State, fresh_state, versions_of, sources, value_at, map_at, updates_of, changes_of, appended, stored, deep, IsPaid};
 ghost use Rattle.strat_base.specs.Tree.{Parents, parent_of, path, is_ancestor, below, with_child, IsTree};
 
@@ -35,8 +35,8 @@ pub fn below_is_greatest()
         → IsTrue (is_ancestor parents u v) → u < h → u ≤ below parents v h }
 {}
 
-/// Where no key has two entries at one version, at most one entry of a key is live at a version: the
-/// one that decides the key there.
+/// Where no key has two entries at one version, at most one entry of a key is live at a version:
+/// the one that decides the key there.
 pub fn one_entry_of_a_key_is_live()
     ensures few { (parents : Parents) (entries : List Entry) (key : List ℕ) (v : ℕ) → IsTree parents
         → IsTrue (is_single entries) → length (filter (is_of key) (live parents entries v)) ≤ 1 }
@@ -47,14 +47,15 @@ pub fn one_entry_of_a_key_is_live()
 
 /// A key that is live at a version is live at each child of it.
 pub fn live_keys_stay_live()
-    ensures { (parents : Parents) (entries : List Entry) (key : List ℕ) (v child : ℕ) → IsTree parents
-        → parent_of parents child ≡ Some v → IsTrue (list_any (is_of key) (live parents entries v))
+    ensures { (parents : Parents) (entries : List Entry) (key : List ℕ) (v child : ℕ)
+        → IsTree parents → parent_of parents child ≡ Some v
+        → IsTrue (list_any (is_of key) (live parents entries v))
         → IsTrue (list_any (is_of key) (live parents entries child)) }
 {}
 
 /// In a sound state the first place that has an entry of a key live at a version decides the key
-/// there. The places are the journal, and then of each level, the shallowest first, the one array that
-/// is for the version.
+/// there. The places are the journal, and then of each level, the shallowest first, the one array
+/// that is for the version.
 pub fn the_first_place_decides()
     ensures entry { (s : State) (v : ℕ) (key : List ℕ) → IsSound s → v < length (versions_of s)
         → read_at s v key ≡ deciding (versions_of s) (sources s) key v }
@@ -65,9 +66,9 @@ pub fn the_first_place_decides()
         ≡ lookup (λ k. is_eq (key_cmp key k)) (map_at s v) }
 {}
 
-/// A sound state is one that opens and breaks no rule.
+/// A sound state is one that is well formed and breaks no rule.
 pub fn soundness_is_no_breach()
-    ensures { (s : State) → IsSound s ↔ (IsOpenable s × (breaches s ≡ [])) }
+    ensures { (s : State) → IsSound s ↔ (IsWellFormed s × (breaches s ≡ [])) }
 {}
 
 /// Where arrays ascend and tags are disjoint, a level has one lead for each key and version.
@@ -90,7 +91,7 @@ pub fn a_put_sets_a_key()
         × (changes_of (appended s (Put v key value)) ≡ changes_of s + 1) }
 {}
 
-/// A deletion that a sound state takes removes the key from the map of its version and changes no other.
+/// A deletion that a sound state takes removes the key from its version's map and changes no other.
 pub fn a_deletion_removes_a_key()
     ensures kept { (s : State) (v : ℕ) (key : List ℕ) → Takes s (Delete v key)
         → IsSound (appended s (Delete v key)) }
@@ -104,7 +105,7 @@ pub fn a_deletion_removes_a_key()
         × (changes_of (appended s (Delete v key)) ≡ changes_of s + 1) }
 {}
 
-/// A clone that a sound state takes makes one more version, with its parent's map, and changes no other.
+/// A clone that a sound state takes makes one more version with its parent's map, and changes no other.
 pub fn a_clone_copies_a_map()
     ensures kept { (s : State) (p : ℕ) → Takes s (Clone p) → IsSound (appended s (Clone p)) }
     ensures tree { (s : State) (p : ℕ) → Takes s (Clone p)
@@ -119,8 +120,10 @@ pub fn a_clone_copies_a_map()
 
 /// A new store is sound, has paid, stores nothing and has the empty map at its one version.
 pub fn a_new_store_is_sound()
-    ensures sound { (mem changes_max versions_max : ℕ) → IsSound (fresh_state mem changes_max versions_max) }
-    ensures paid { (mem changes_max versions_max : ℕ) → IsPaid (fresh_state mem changes_max versions_max) }
+    ensures sound { (mem changes_max versions_max : ℕ)
+        → IsSound (fresh_state mem changes_max versions_max) }
+    ensures paid { (mem changes_max versions_max : ℕ)
+        → IsPaid (fresh_state mem changes_max versions_max) }
     ensures empty { (mem changes_max versions_max : ℕ)
         → (stored (fresh_state mem changes_max versions_max) ≡ 0)
         × (map_at (fresh_state mem changes_max versions_max) 0 ≡ []) }

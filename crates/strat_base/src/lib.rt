@@ -1,8 +1,8 @@
 //! What every crate of the store shares: limits, failures, numbers in bytes, entries and pairs.
 #![tactic(auto)]
 
-mod changes;
 pub mod broken;
+mod changes;
 mod entries;
 mod failures;
 mod fields;
@@ -10,6 +10,7 @@ pub mod laws;
 pub mod limits;
 mod numbers;
 mod pairs;
+pub mod reading;
 pub mod spellings;
 mod troubles;
 pub mod worked;
@@ -19,3 +20,6 @@ pub use entries::{Entry, Val, Version, entry_order, key_ok, value_ok};
 pub use failures::{Failed, Fault, NoMemory, Trouble};
 pub use numbers::{get_u8, get_u16, get_u32, get_u64, put_u16, put_u32, put_u64};
 pub use pairs::PairBuf;
+
+#[cfg(test)]
+mod tests;

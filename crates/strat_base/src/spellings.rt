@@ -1,4 +1,5 @@
-//! Laws and examples of the bytes on the disk. Each is the contract of a function that does nothing.
+//! Laws and examples of the bytes on the disk. Each is the contract of a function that does
+//! nothing.
 
 ghost use Rattle.std.specs.Prelude.{◌≡◌, ◌↔◌, ℕ, ◌≤◌, List, [], ◌∷◌, ◌++◌, length, replicate, Some, IsTrue};
 ghost use Rattle.strat_base.specs.Block.{fits_fields, entry_bytes, entry_in, BeginsWithEntry, fits_block, block_bytes, IsBlock, block_in};
@@ -42,7 +43,7 @@ pub fn blocks_are_read_as_written()
         → length (block_bytes entries) ≡ 4096 }
 {}
 
-/// The bytes of `a` with the value `1` at version 0, and of the mark that `a` is gone from version 258 on.
+/// The bytes of `a` with the value `1` at version 0, and of `a` gone from version 258 on.
 #[tactic(auto, unfolding(crate::specs::Numbers::be))]
 pub fn bytes_of_entries()
     ensures put { entry_bytes (says 0x61 0 0x31)

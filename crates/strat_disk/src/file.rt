@@ -5,22 +5,34 @@ ghost use Rattle.strat_disk.specs.Untold.{untold};
 use crate::disk::Disk;
 use crate::faults::fault;
 use crate::one_file::OneFile;
+use std::marker::Model;
 use std::rt::Files;
 use strat_base::Failed;
 
 /// One file, by its path, that is opened at the first call and created where it is absent.
 ///
 /// A read or a write is a seek and a transfer. The first sync also syncs the folder that names the file, so that a
-/// new file is still there after a power loss; after a sync that failed each one fails. It tells no content.
+/// new file is still there after a power loss; after a sync that failed each one fails. It tells no content, and is seen
+/// as its count of faults.
 #[derive(Drop)]
 pub struct FileDisk<'a, R: Files> {
     file: OneFile<'a, R>,
     faults: u64,
 }
 
+impl<'a, R: Files> Model for FileDisk<'a, R> {
+    ghost use Rattle.std.specs.Prelude.{ℕ};
+
+    ghost Value = { ℕ };
+
+    ghost view = { λ d. d.faults };
+}
+
 impl<'a, R: Files> FileDisk<'a, R> {
-    /// The file of this path. Nothing is touched yet.
-    pub fn new(rt: &'a R, path: &'a str) -> FileDisk<'a, R> {
+    /// The file of this path, which has not failed. Nothing is touched yet.
+    pub fn new(rt: &'a R, path: &'a str) -> FileDisk<'a, R>
+        ensures { result ≡ 0 }
+    {
         FileDisk {
             file: OneFile::new(rt, path),
             faults: 0,
@@ -31,7 +43,7 @@ impl<'a, R: Files> FileDisk<'a, R> {
 impl<R: Files> Disk for FileDisk<'_, R> {
     ghost view = { λ d. untold };
 
-    ghost faults = { λ d. d.faults };
+    ghost faults = { λ d. d };
 
     ghost reads = { λ d. 0 };
 

@@ -16,12 +16,13 @@ pub struct FuseDisk<D> {
 }
 
 impl<D: Disk> FuseDisk<D> {
-    ghost use Rattle.strat_disk.specs.Fuse.{inner_of, left_of};
+    ghost use Rattle.strat_disk.specs.Fuse.{inner_of, left_of, all_faults};
 
     /// Passes so many calls to `inner`.
     pub fn new(inner: D, calls: u64) -> FuseDisk<D>
         ensures inner { inner_of result ≡ inner }
         ensures left { left_of result ≡ calls }
+        ensures faults { all_faults D.faults result ≡ D.faults inner }
     {
         FuseDisk {
             inner,

@@ -1,5 +1,5 @@
 -- A command that is read is the command that was spelled, and what was spelled is read again.
-use Rattle.std.proofs.Common.{◌≡◌, ℕ, ◌+◌, ◌^◌, ◌<◌, ◌≤◌, Bool, true, false, cond, leb, eqb, List, [], ◌∷◌, ◌++◌, length, take, drop, Option, Some, None, refl, sym, ap, subst, ◌∙◌, append_assoc, length-append, length-take, length-drop, arith, inl, inr, ◌⊎◌, ◌%◌}
+use Rattle.std.proofs.Common.{◌≡◌, ℕ, ◌^◌, ◌<◌, ◌≤◌, Bool, true, false, cond, leb, eqb, List, [], ◌∷◌, ◌++◌, length, take, drop, Option, Some, None, refl, sym, ap, subst, ◌∙◌, append_assoc, length-append, length-take, arith, inl, inr, ◌⊎◌, ◌%◌}
 use Rattle.std.proofs.lemmas.Bool.{leb-true, le-leb, eqb-true, and_parts}
 use Rattle.std.proofs.lemmas.List.{take_at, drop_at, take-append-drop, append-nil, nil_from_length}
 use Rattle.std.proofs.lemmas.Option.{cond_some}
@@ -26,6 +26,33 @@ pub record Takes (bytes text rest : List ℕ) : Type 0 where
   pub parts : bytes ≡ text ++ rest
   pub rest_fits : AreBytes rest
 
+-- two texts one after the other
+two_parts : (bytes first after second rest : List ℕ) → bytes ≡ first ++ after → after ≡ second ++ rest → bytes ≡ (first ++ second) ++ rest
+two_parts bytes first after second rest e f = e ∙ ap (λ (x : List ℕ). first ++ x) f ∙ sym (append_assoc first second rest)
+
+-- a text behind which nothing stands
+pub all_parts : (bytes text rest : List ℕ) → bytes ≡ text ++ rest → rest ≡ [] → bytes ≡ text
+all_parts bytes text rest e nothing = e ∙ ap (λ (x : List ℕ). text ++ x) nothing ∙ append-nil text
+
+-- a byte in front of both
+one_more : (byte : ℕ) (bytes text : List ℕ) → bytes ≡ text → byte ∷ bytes ≡ byte ∷ text
+one_more byte bytes text e = λ j. byte ∷ e j
+
+-- a length and so many bytes behind it
+counted_front : (bytes after : List ℕ) (n : ℕ) → bytes ≡ be 2 n ++ after → n ≤ length after → bytes ≡ counted (take n after) ++ drop n after
+counted_front bytes after n e fits =
+    let len : n ≡ length (take n after) = omega (arith, length-take n after, fits) in
+    let front : bytes ≡ be 2 (length (take n after)) ++ after = e ∙ ap (λ (k : ℕ). be 2 k ++ after) len in
+    two_parts bytes (be 2 (length (take n after))) after (take n after) (drop n after) front (sym (take-append-drop n after))
+
+-- a tag and a byte in front of fields
+pub front_parts : (bytes after fields text : List ℕ) (tag byte : ℕ) → bytes ≡ be 4 tag ++ after → after ≡ be 1 byte ++ fields → byte < 256 → byte ∷ fields ≡ text → bytes ≡ be 4 tag ++ text
+unfolding be
+front_parts bytes after fields text tag byte e f fits g =
+    let same : byte % 256 ≡ byte = omega (arith, fits) in
+    let behind : after ≡ text = f ∙ ap (λ (n : ℕ). n ∷ fields) same ∙ g in
+    e ∙ ap (λ (x : List ℕ). be 4 tag ++ x) behind
+
 -- a field of k bytes is that of the number in it
 abbrev pub IsWide : ℕ → Type 0
 IsWide k = (bytes : List ℕ) → k ≤ length bytes → AreBytes bytes → be k (number k bytes) ≡ take k bytes
@@ -50,10 +77,8 @@ counted_takes bytes text rest fits e =
     let n = b.0 in
     let t = number_takes 2 be-number_2 bytes n.0 n.1 fits b.1 in
     let g = cond_some (leb n.0 (length n.1)) (take n.0 n.1, drop n.0 n.1) (text, rest) b.2 in
-    let len : length (take n.0 n.1) ≡ n.0 = omega (arith, length-take n.0 n.1, leb-true n.0 (length n.1) g.0) in
     let made : Takes bytes (counted (take n.0 n.1)) (drop n.0 n.1) = record {
-      parts = t.0.parts ∙ ap (λ (x : List ℕ). be 2 n.0 ++ x) (sym (take-append-drop n.0 n.1)) ∙ sym (append_assoc (be 2 n.0) (take n.0 n.1) (drop n.0 n.1))
-          ∙ ap (λ (k : ℕ). (be 2 k ++ take n.0 n.1) ++ drop n.0 n.1) (sym len);
+      parts = counted_front bytes n.1 n.0 t.0.parts (leb-true n.0 (length n.1) g.0);
       rest_fits = AreBytes-drop n.0 n.1 t.0.rest_fits;
     } in
     subst (λ (x : List ℕ × List ℕ). Takes bytes (counted x.0) x.1) g.1 made
@@ -63,14 +88,17 @@ unfolding counted_then
 counted_again text rest short =
     let regrouped : counted text ++ rest ≡ be 2 (length text) ++ (text ++ rest) = append_assoc (be 2 (length text)) text rest in
     let long : leb (length text) (length (text ++ rest)) ≡ true = le-leb (length text) (length (text ++ rest)) (omega (arith, length-append text rest)) in
-    ap (λ (x : List ℕ). option_and_then (λ (n : ℕ × List ℕ). cond (leb n.0 (length n.1)) (Some (take n.0 n.1, drop n.0 n.1)) None) (number_then 2 x)) regrouped
-    ∙ rw (number_again 2 (length text) (text ++ rest) short, long, take_at text rest (length text) refl, drop_at text rest (length text) refl) refl
+    rw (regrouped, number_again 2 (length text) (text ++ rest) short, long, take_at text rest (length text) refl, drop_at text rest (length text) refl) refl
 
 -- a request whose fields these are
 record IsRequest (opcode : ℕ) (fields : List ℕ) (request : Request) : Type 0 where
   pub text : opcode ∷ fields ≡ command_bytes request
   pub fits : FitsFields request
   pub taken : is_taken request ≡ true
+
+is_request : (opcode : ℕ) (fields : List ℕ) (made request : Request) → made ≡ request → opcode ∷ fields ≡ command_bytes made → FitsFields made → is_taken made ≡ true → IsRequest opcode fields request
+is_request opcode fields made request same text fits taken =
+    subst (λ (r : Request). IsRequest opcode fields r) same (record { text = text; fits = fits; taken = taken })
 
 whole_is : (made request : Request) (rest : List ℕ) → whole made rest ≡ Some request → (rest ≡ []) × (is_taken made ≡ true) × (made ≡ request)
 unfolding whole
@@ -93,11 +121,10 @@ put_takes fields request fits e =
     let t0 = number_takes 4 be-number_4 fields a.0.0 a.0.1 fits a.1 in
     let t1 = counted_takes a.0.1 b.0.0 b.0.1 t0.0.rest_fits b.1 in
     let t2 = counted_takes b.0.1 d.0.0 d.0.1 t1.rest_fits d.1 in
-    let v = be 4 a.0.0 in
-    let text : fields ≡ (v ++ counted b.0.0) ++ counted d.0.0 =
-    t0.0.parts ∙ ap (λ (x : List ℕ). v ++ x) (t1.parts ∙ ap (λ (x : List ℕ). counted b.0.0 ++ x) (t2.parts ∙ ap (λ (x : List ℕ). counted d.0.0 ++ x) w.0 ∙ append-nil (counted d.0.0)))
-    ∙ sym (append_assoc v (counted b.0.0) (counted d.0.0)) in
-    subst (λ (r : Request). IsRequest 1 fields r) w.2 (record { text = ap (λ (x : List ℕ). 1 ∷ x) text; fits = t0.1; taken = w.1 })
+    let front = two_parts fields (be 4 a.0.0) a.0.1 (counted b.0.0) b.0.1 t0.0.parts t1.parts in
+    let parts = two_parts fields (be 4 a.0.0 ++ counted b.0.0) b.0.1 (counted d.0.0) d.0.1 front t2.parts in
+    let text = all_parts fields ((be 4 a.0.0 ++ counted b.0.0) ++ counted d.0.0) d.0.1 parts w.0 in
+    is_request 1 fields (Put a.0.0 b.0.0 d.0.0) request w.2 (one_more 1 fields ((be 4 a.0.0 ++ counted b.0.0) ++ counted d.0.0) text) t0.1 w.1
 
 get_takes : (fields : List ℕ) (request : Request) → AreBytes fields → get_in fields ≡ Some request → IsRequest 3 fields request
 unfolding get_in
@@ -107,10 +134,9 @@ get_takes fields request fits e =
     let w = whole_is (Get a.0.0 b.0.0) request b.0.1 b.2 in
     let t0 = number_takes 4 be-number_4 fields a.0.0 a.0.1 fits a.1 in
     let t1 = counted_takes a.0.1 b.0.0 b.0.1 t0.0.rest_fits b.1 in
-    let v = be 4 a.0.0 in
-    let text : fields ≡ v ++ counted b.0.0 =
-    t0.0.parts ∙ ap (λ (x : List ℕ). v ++ x) (t1.parts ∙ ap (λ (x : List ℕ). counted b.0.0 ++ x) w.0 ∙ append-nil (counted b.0.0)) in
-    subst (λ (r : Request). IsRequest 3 fields r) w.2 (record { text = ap (λ (x : List ℕ). 3 ∷ x) text; fits = t0.1; taken = w.1 })
+    let parts = two_parts fields (be 4 a.0.0) a.0.1 (counted b.0.0) b.0.1 t0.0.parts t1.parts in
+    let text = all_parts fields (be 4 a.0.0 ++ counted b.0.0) b.0.1 parts w.0 in
+    is_request 3 fields (Get a.0.0 b.0.0) request w.2 (one_more 3 fields (be 4 a.0.0 ++ counted b.0.0) text) t0.1 w.1
 
 request_takes : (opcode : ℕ) (fields : List ℕ) (request : Request) → AreBytes fields → request_in opcode fields ≡ Some request → IsRequest opcode fields request
 unfolding request_in
@@ -125,7 +151,7 @@ request_takes opcode fields request fits e =
 
 -- what is read is spelled so
 pub command_takes : (body : List ℕ) (tag : ℕ) (request : Request) → AreBytes body → command_in body ≡ Some (tag, request) → Spells body tag request
-unfolding command_in be
+unfolding command_in
 command_takes body tag request fits e =
     let a = bind_some (λ (t : ℕ × List ℕ). option_and_then (λ opcode. option_and_then (λ r. Some (t.0, r)) (request_in opcode.0 opcode.1)) (number_then 1 t.1)) (number_then 4 body) (tag, request) e in
     let b = bind_some (λ (opcode : ℕ × List ℕ). option_and_then (λ r. Some (a.0.0, r)) (request_in opcode.0 opcode.1)) (number_then 1 a.0.1) (tag, request) a.2 in
@@ -133,9 +159,7 @@ command_takes body tag request fits e =
     let t0 = number_takes 4 be-number_4 body a.0.0 a.0.1 fits a.1 in
     let t1 = number_takes 1 be-number_1 a.0.1 b.0.0 b.0.1 t0.0.rest_fits b.1 in
     let is = request_takes b.0.0 b.0.1 d.0 t1.0.rest_fits d.1 in
-    let byte : b.0.0 % 256 ≡ b.0.0 = omega (arith, t1.1) in
-    let text : body ≡ command_body a.0.0 d.0 =
-    t0.0.parts ∙ ap (λ (x : List ℕ). be 4 a.0.0 ++ x) (t1.0.parts ∙ ap (λ (n : ℕ). n ∷ b.0.1) byte ∙ is.text) in
+    let text = front_parts body a.0.1 b.0.1 (command_bytes d.0) a.0.0 b.0.0 t0.0.parts t1.0.parts t1.1 is.text in
     let made : Spells body a.0.0 d.0 = record { text = text; tag_fits = t0.1; fits = is.fits; taken = is.taken } in
     subst (λ (x : ℕ × Request). Spells body x.0 x.1) (let h : Some (a.0.0, d.0) ≡ Some (tag, request) = d.2 in cc) made
 
@@ -155,14 +179,13 @@ put_again version key value fits taken =
     let sizes = and_parts (is_key key) (is_value value) taken in
     let regrouped : (be 4 version ++ counted key) ++ counted value ≡ be 4 version ++ (counted key ++ (counted value ++ [])) =
     append_assoc (be 4 version) (counted key) (counted value) ∙ ap (λ (x : List ℕ). be 4 version ++ (counted key ++ x)) (sym (append-nil (counted value))) in
-    ap put_in regrouped
-    ∙ rw (number_again 4 version (counted key ++ (counted value ++ [])) fits, counted_again key (counted value ++ []) (key_short key sizes.0), counted_again value [] (value_short value sizes.1)) (whole_again (Put version key value) taken)
+    rw (regrouped, number_again 4 version (counted key ++ (counted value ++ [])) fits, counted_again key (counted value ++ []) (key_short key sizes.0), counted_again value [] (value_short value sizes.1)) (whole_again (Put version key value) taken)
 
 get_again : (version : ℕ) (key : List ℕ) → version < 2 ^ 32 → is_taken (Get version key) ≡ true → get_in (be 4 version ++ counted key) ≡ Some (Get version key)
 unfolding get_in
 get_again version key fits taken =
     let regrouped : be 4 version ++ counted key ≡ be 4 version ++ (counted key ++ []) = ap (λ (x : List ℕ). be 4 version ++ x) (sym (append-nil (counted key))) in
-    ap get_in regrouped ∙ rw (number_again 4 version (counted key ++ []) fits, counted_again key [] (key_short key taken)) (whole_again (Get version key) taken)
+    rw (regrouped, number_again 4 version (counted key ++ []) fits, counted_again key [] (key_short key taken)) (whole_again (Get version key) taken)
 
 -- a tag and an opcode in front of fields
 front_again : (tag opcode : ℕ) (fields : List ℕ) (request : Request) → tag < 2 ^ 32 → opcode < 256 → request_in opcode fields ≡ Some request → command_in (be 4 tag ++ opcode ∷ fields) ≡ Some (tag, request)
@@ -185,10 +208,14 @@ command_again tag (NextPairs cursor limit) tag_fits fits taken = absurd cc
 command_again tag (CloseCursor cursor) tag_fits fits taken = absurd cc
 command_again tag Stat tag_fits fits taken = absurd cc
 
+-- a body is read as the command that it spells
+spelled_is_read : (body : List ℕ) (tag : ℕ) (request : Request) → Spells body tag request → command_in body ≡ Some (tag, request)
+spelled_is_read body tag request is = ap command_in is.text ∙ command_again tag request is.tag_fits is.fits is.taken
+
 -- what is not read is spelled by nothing
 pub none_spelled : (body : List ℕ) (tag : ℕ) (request : Request) → command_in body ≡ None → Spells body tag request → ⊥
 none_spelled body tag request none is =
-    let e : command_in body ≡ Some (tag, request) = ap command_in is.text ∙ command_again tag request is.tag_fits is.fits is.taken in
+    let e : command_in body ≡ Some (tag, request) = spelled_is_read body tag request is in
     let f : ◌≡◌ {A = Option (ℕ × Request)} None (Some (tag, request)) = sym none ∙ e in absurd cc
 
 -- a number that may be there, or 0
@@ -208,3 +235,10 @@ taken_is_lawful (OpenCursor version lo hi) taken = absurd cc
 taken_is_lawful (NextPairs cursor limit) taken = absurd cc
 taken_is_lawful (CloseCursor cursor) taken = absurd cc
 taken_is_lawful Stat taken = absurd cc
+
+-- a body spells one command under one tag
+pub one_command : (body : List ℕ) (tag other_tag : ℕ) (request other : Request) → Spells body tag request → Spells body other_tag other → (tag ≡ other_tag) × (request ≡ other)
+one_command body tag other_tag request other a b =
+    let e : ◌≡◌ {A = Option (ℕ × Request)} (Some (tag, request)) (Some (other_tag, other)) = sym (spelled_is_read body tag request a) ∙ spelled_is_read body other_tag other b in
+    let parts : (tag, request) ≡ (other_tag, other) = cc in
+    (ap (λ (x : ℕ × Request). x.0) parts, ap (λ (x : ℕ × Request). x.1) parts)

@@ -1,10 +1,10 @@
 -- A reply that is read is the reply that was spelled, and what was spelled is read again.
-use Rattle.std.proofs.Common.{◌≡◌, ℕ, ◌+◌, ◌^◌, ◌<◌, ◌≤◌, ◌%◌, Bool, true, false, cond, leb, eqb, List, [], ◌∷◌, ◌++◌, length, take, drop, Option, Some, None, refl, sym, ap, subst, ◌∙◌, inl, inr, ◌⊎◌, arith}
+use Rattle.std.proofs.Common.{◌≡◌, ℕ, ◌^◌, ◌<◌, true, cond, eqb, List, [], ◌∷◌, ◌++◌, length, Option, Some, None, refl, sym, ap, subst, ◌∙◌, inl, inr, arith}
 use Rattle.std.proofs.lemmas.Bool.{leb-true, eqb-true}
 use Rattle.std.proofs.lemmas.List.{append-nil, nil_from_length}
 use Rattle.std.proofs.lemmas.Option.{cond_some}
 use Rattle.std.specs.Option.{option_and_then, option_map}
-use Rattle.strat_base.specs.Numbers.{be, number, AreBytes}
+use Rattle.strat_base.specs.Numbers.{be, AreBytes}
 use Rattle.strat_base.specs.Sizes.{is_value}
 use Rattle.strat_base.proofs.NumberLemmas.{be-number_1, be-number_4}
 use Rattle.strat_model.specs.declared.replies.Reply.{Reply}
@@ -16,7 +16,7 @@ use Rattle.strat_model.specs.Spelling.{counted, status_byte, reply_fields, reply
 use Rattle.std.specs.Prelude.{IfSome, IfNone}
 use Rattle.strat_frame.specs.Fields.{Finds, number_then, counted_then, simple_reply, value_in, answer_in, reply_in}
 use Rattle.strat_frame.specs.Replies.{as_told}
-use Rattle.strat_frame.proofs.FieldLemmas.{bind_some, chosen, number_takes, number_again, counted_takes, counted_again}
+use Rattle.strat_frame.proofs.FieldLemmas.{bind_some, chosen, number_takes, number_again, counted_takes, counted_again, all_parts, front_parts}
 
 -- a reply without fields has this status byte
 record IsSimple (status : ℕ) (r : Reply) : Type 0 where
@@ -89,7 +89,7 @@ value_takes fields value fits e =
       | inl h ↦
           let g = cond_some (is_value a.0.0) a.0.0 value h.1 in
           let nothing : a.0.1 ≡ [] = nil_from_length a.0.1 (eqb-true (length a.0.1) 0 h.0) in
-          let text : fields ≡ counted a.0.0 = t.parts ∙ ap (λ (x : List ℕ). counted a.0.0 ++ x) nothing ∙ append-nil (counted a.0.0) in
+          let text = all_parts fields (counted a.0.0) a.0.1 t.parts nothing in
           subst (λ (x : List ℕ). (fields ≡ counted x) × (is_value x ≡ true)) g.1 (text, g.0)
     ]
 
@@ -115,7 +115,7 @@ answer_takes status fields a fits e =
 
 -- what is read is spelled so
 pub reply_takes : (body : List ℕ) (tag : ℕ) (a : Answer) → AreBytes body → reply_in body ≡ Some (tag, a) → SpellsReply body tag a
-unfolding reply_in be
+unfolding reply_in
 reply_takes body tag a fits e =
     let t = bind_some (λ (t : ℕ × List ℕ). option_and_then (λ status. option_and_then (λ r. Some (t.0, r)) (answer_in status.0 status.1)) (number_then 1 t.1)) (number_then 4 body) (tag, a) e in
     let s = bind_some (λ (status : ℕ × List ℕ). option_and_then (λ r. Some (t.0.0, r)) (answer_in status.0 status.1)) (number_then 1 t.0.1) (tag, a) t.2 in
@@ -123,9 +123,7 @@ reply_takes body tag a fits e =
     let t0 = number_takes 4 be-number_4 body t.0.0 t.0.1 fits t.1 in
     let t1 = number_takes 1 be-number_1 t.0.1 s.0.0 s.0.1 t0.0.rest_fits s.1 in
     let is = answer_takes s.0.0 s.0.1 r.0 t1.0.rest_fits r.1 in
-    let byte : s.0.0 % 256 ≡ s.0.0 = omega (arith, t1.1) in
-    let text : body ≡ reply_body t.0.0 r.0 =
-    t0.0.parts ∙ ap (λ (x : List ℕ). be 4 t.0.0 ++ x) (t1.0.parts ∙ ap (λ (n : ℕ). n ∷ s.0.1) byte ∙ is.text) in
+    let text = front_parts body t.0.1 s.0.1 (status_byte r.0.reply ∷ reply_fields r.0.reply r.0.pairs) t.0.0 s.0.0 t0.0.parts t1.0.parts t1.1 is.text in
     let made : SpellsReply body t.0.0 r.0 = record { text = text; tag_fits = t0.1; given = is.given; pairs_fit = is.fits } in
     subst (λ (x : ℕ × Answer). SpellsReply body x.0 x.1) (let h : Some (t.0.0, r.0) ≡ Some (tag, a) = r.2 in cc) made
 
@@ -179,6 +177,10 @@ reply_again tag (reply.Refused why.ScanSize) pairs tag_fits given fits = absurd 
 reply_again tag (reply.Refused why.DeviceFault) pairs tag_fits given fits = absurd cc
 reply_again tag (reply.Refused (why.Damaged block)) pairs tag_fits given fits = absurd cc
 
+-- a body is read as the reply that it spells
+spelled_is_read : (body : List ℕ) (tag : ℕ) (a : Answer) → SpellsReply body tag a → reply_in body ≡ Some (tag, a)
+spelled_is_read body tag a is = ap reply_in is.text ∙ reply_again tag a.reply a.pairs is.tag_fits is.given is.pairs_fit
+
 -- what was found is spelled so
 pub is_found : (body : List ℕ) (o : Option (ℕ × Reply)) (pairs : Pairs) → AreBytes body → Finds (λ r. (r.0, as_told r.1 pairs)) o (reply_in body)
     → IfSome o (λ r. SpellsReply body r.0 (as_told r.1 pairs))
@@ -190,5 +192,12 @@ pub is_none : (body : List ℕ) (o : Option (ℕ × Reply)) (pairs : Pairs) → 
     → IfNone o ((tag : ℕ) (a : Answer) → SpellsReply body tag a → ⊥)
 is_none body (Some r) pairs e = tt
 is_none body None pairs e = λ tag a is.
-    let read : reply_in body ≡ Some (tag, a) = ap reply_in is.text ∙ reply_again tag a.reply a.pairs is.tag_fits is.given is.pairs_fit in
+    let read : reply_in body ≡ Some (tag, a) = spelled_is_read body tag a is in
     let f : ◌≡◌ {A = Option (ℕ × Answer)} None (Some (tag, a)) = sym e ∙ read in absurd cc
+
+-- a body spells one reply under one tag
+pub one_reply : (body : List ℕ) (tag other_tag : ℕ) (a other : Answer) → SpellsReply body tag a → SpellsReply body other_tag other → (tag ≡ other_tag) × (a ≡ other)
+one_reply body tag other_tag a other is is_other =
+    let e : ◌≡◌ {A = Option (ℕ × Answer)} (Some (tag, a)) (Some (other_tag, other)) = sym (spelled_is_read body tag a is) ∙ spelled_is_read body other_tag other is_other in
+    let parts : (tag, a) ≡ (other_tag, other) = cc in
+    (ap (λ (x : ℕ × Answer). x.0) parts, ap (λ (x : ℕ × Answer). x.1) parts)

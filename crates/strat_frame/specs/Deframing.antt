@@ -1,5 +1,5 @@
 -- A stream that is cut into frames as its bytes come in.
-use Rattle.std.specs.Prelude.{◌≡◌, ◌≤◌, ℕ, ◌+◌, Bool, true, List, ◌++◌, length, take, drop}
+use Rattle.std.specs.Prelude.{◌≡◌, ◌≤◌, ℕ, ◌+◌, true, List, ◌++◌, length, take, drop}
 use Rattle.strat_base.specs.Numbers.{number}
 use Rattle.strat_model.specs.Stream.{frame, IsBody, is_partial, is_too_long}
 use Rattle.strat_base.specs.declared.limits.TheConstants.{BODY_MAX}
@@ -31,4 +31,5 @@ BeginsWith (front.TooLong n) held = (is_too_long held ≡ true) × (n ≡ number
 pub record IsCut (bytes : List ℕ) (capacity start body_at body_len : ℕ) : Type 0 where
   pub rest : start ≤ length bytes
   pub body : body_at + body_len ≤ length bytes
+  pub few : length bytes ≤ 6148
   pub room : 6148 ≤ capacity

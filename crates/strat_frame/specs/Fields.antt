@@ -1,5 +1,5 @@
 -- Reading the fields of a body from left to right.
-use Rattle.std.specs.Prelude.{◌≡◌, ℕ, ◌==◌, nat_le, ◌&&◌, Bool, true, false, if◌then◌else◌, List, [], ◌∷◌, length, take, drop, Option, Some, None}
+use Rattle.std.specs.Prelude.{◌≡◌, ℕ, ◌==◌, nat_le, if◌then◌else◌, List, [], ◌∷◌, length, take, drop, Option, Some, None}
 use Rattle.std.specs.Option.{option_and_then, option_map}
 use Rattle.strat_base.specs.Numbers.{number}
 use Rattle.strat_model.specs.Request.{Request, Put, Get}

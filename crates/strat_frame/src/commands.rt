@@ -8,8 +8,8 @@ ghost use Rattle.strat_model.specs.Stream.{frame};
 ghost use Rattle.strat_frame.specs.Fields.{Finds, put_in, get_in, request_in, command_in};
 ghost use Rattle.strat_frame.specs.Faults.{IsFaulty};
 
+use crate::buffer::{OutBuf, REPLY_MAX};
 use crate::fields::{counted_bytes_then, u8_then, u32_then};
-use crate::out::{OutBuf, REPLY_MAX};
 use strat_base::{get_u32, key_ok, value_ok};
 use strat_model::Command;
 

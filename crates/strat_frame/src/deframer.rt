@@ -92,16 +92,17 @@ impl Deframer {
 
     /// How many bytes are held.
     pub fn held(&self) -> usize
-        ensures { result ≡ length self.now.held }
+        ensures ok { result ≡ length self.now.held }
+        ensures fits { result ≤ ROOM }
     {
         self.bytes.len() - self.start
     }
 
     /// How many bytes there is room for.
     pub fn room(&self) -> usize
-        ensures { result ≡ ROOM - length self.now.held }
+        ensures { length self.now.held + result ≡ ROOM }
     {
-        ROOM.saturating_sub(self.held())
+        ROOM - self.held()
     }
 
     /// Holds a piece of the stream behind what is held. What was held moves to the front, and the piece

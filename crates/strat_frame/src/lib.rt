@@ -13,13 +13,17 @@
 //! `0000000f 00000007 01 00000000 0001 61 0001 31`, and its reply `00000005 00000007 00`.
 #![tactic(auto)]
 
+mod buffer;
 mod commands;
 mod deframer;
 mod fields;
-mod out;
+pub mod laws;
 mod replies;
 
+pub use buffer::OutBuf;
 pub use commands::{BodyFault, parse_command, write_command};
 pub use deframer::{Deframer, Next};
-pub use out::OutBuf;
 pub use replies::{parse_reply, write_reply};
+
+#[cfg(test)]
+mod tests;

@@ -8,8 +8,8 @@ ghost use Rattle.strat_model.specs.Stream.{frame};
 ghost use Rattle.strat_frame.specs.Fields.{Finds, simple_reply, value_in, answer_in, reply_in};
 ghost use Rattle.strat_frame.specs.Replies.{as_told};
 
+use crate::buffer::{OutBuf, REPLY_MAX};
 use crate::fields::{counted_bytes_then, u8_then, u32_then};
-use crate::out::{OutBuf, REPLY_MAX};
 use strat_base::limits::VALUE_MAX;
 use strat_base::{PairBuf, value_ok};
 use strat_model::{Refusal, Reply};

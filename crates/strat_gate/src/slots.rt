@@ -1,5 +1,5 @@
 //! The two slots of a store's superblocks, blocks 0 and 1: the newest is read from them, and the next is laid into the other.
-ghost use Rattle.std.specs.Prelude.{◌≡◌, ◌≤◌, ◌<◌, ◌*◌, ◌+◌, ◌^◌, ◌∷◌, ℕ, Some, IfOk, IfErr, OnOk, length};
+ghost use Rattle.std.specs.Prelude.{◌≡◌, ◌≤◌, ◌<◌, ◌*◌, ◌+◌, ◌^◌, ◌∷◌, ℕ, Some, IfSome, IfOk, IfErr, OnOk, length};
 ghost use Rattle.strat_base.specs.Causes.{HasCause};
 ghost use Rattle.strat_base.specs.Faults.{Counts};
 ghost use Rattle.strat_base.specs.Image.{Image, patch};
@@ -18,6 +18,7 @@ use strat_disk::{Disk, write_through};
 /// Of two open slots the one of greater generation counts, at a tie the first; where its fields are out of range, its
 /// block is damaged.
 pub fn newest<D: Disk>(disk: &mut D) -> Result<Option<(u8, SuperBlock)>, Fault>
+    ensures lawful { IfOk result (λ r. IfSome r (λ x. (x.0 < 2) × IsLawful (super_of x.1))) }
     ensures found { IfOk result (λ r. (f : Image) → (D.view disk.old).content ≡ Some f
         → newest_in f ≡ Ok (seen r)) }
     ensures damaged { IfErr result (λ e. (block : ℕ) → e ≡ Damaged block
@@ -54,6 +55,7 @@ fn choose(
     first: Option<(u16, SuperBlock)>,
     second: Option<(u16, SuperBlock)>,
 ) -> Result<Option<(u8, SuperBlock)>, Fault>
+    ensures lawful { IfOk result (λ r. IfSome r (λ x. (x.0 < 2) × IsLawful (super_of x.1))) }
     ensures found { IfOk result (λ r. verdict (newer (slot_seen first) (slot_seen second))
         ≡ Ok (seen r)) }
     ensures damaged { IfErr result (λ e. (block : ℕ) × (e ≡ Damaged block)

@@ -15,9 +15,9 @@
 //! The bytes from 40 on are written as zeros and not looked at. Generation 1 with the manifest of 29 bytes in block 6,
 //! and the limits 4, 100 and 10, is `a7 5354524154425431 0001 0000000000000001 00000006 0000001d 00 00000004 00000064 0000000a`.
 
-ghost use Rattle.std.specs.Prelude.{◌≡◌, ◌≤◌, ◌<◌, ◌==◌, ℕ, ◌+◌, length, drop};
+ghost use Rattle.std.specs.Prelude.{IsTrue, ◌≡◌, ◌≤◌, ◌<◌, ◌==◌, ℕ, ◌+◌, length, drop};
 ghost use Rattle.strat_base.specs.Numbers.{be, number, placed};
-ghost use Rattle.strat_base.specs.SuperBlock.{zeros, body, slot_of, in_range, first_free};
+ghost use Rattle.strat_base.specs.SuperBlock.{IsLawful, zeros, body, slot_of, in_range, first_free};
 ghost use Rattle.strat_gate.specs.SuperView.{super_of, slot_seen};
 
 use strat_base::limits::{CHANGES_MAX, MEM_MAX, MEM_MIN, VERSIONS_MAX};
@@ -95,7 +95,8 @@ pub(crate) fn parse(bytes: &[u8]) -> Option<(u16, SuperBlock)>
 
 /// Whether the format is known and each field is in its range.
 pub(crate) fn is_in_range(format: u16, sb: &SuperBlock) -> bool
-    ensures { result ≡ in_range (record { format = format; sb = super_of sb.now }) }
+    ensures ok { result ≡ in_range (record { format = format; sb = super_of sb.now }) }
+    ensures lawful { IsTrue result → IsLawful (super_of sb.now) }
 {
     format == FORMAT
         && 1 <= sb.generation

@@ -9,6 +9,7 @@ ghost use Rattle.strat_model.specs.Table.{Table, fresh};
 ghost use Rattle.strat_model.specs.Answer.{accepts};
 ghost use Rattle.strat_model.specs.Step.{step, pairs_at, is_frozen};
 ghost use Rattle.strat_model.specs.Kept.{IsMap, IsTable, updated};
+ghost use Rattle.strat_model.specs.Stream.{Splits};
 ghost use Rattle.strat_model.specs.Examples.{answers, branching, branched, scanning, scanned, growing, grown, filling, filled, paging, paged, staging, staged};
 
 /// A clone has a map of its own, and its parent takes no more updates.
@@ -83,4 +84,11 @@ pub fn versions_change_alone()
 pub fn clones_begin_as_their_parent()
     ensures ok { (t : Table) (v : ℕ) → accepts (step t (Clone v)).answer.reply ≡ true
         → pairs_at (step t (Clone v)).table (length t.rows) ≡ pairs_at t v }
+{}
+
+/// Two readings of one stream as frames and a rest are the same reading.
+pub fn streams_have_one_reading()
+    ensures { (stream : List ℕ) (bodies others : List (List ℕ)) (rest others_rest : List ℕ)
+        → Splits stream bodies rest → Splits stream others others_rest
+        → (bodies ≡ others) × (rest ≡ others_rest) }
 {}

@@ -41,7 +41,7 @@ returns-then-n-eq0-clause-ok g c = λ mem.
     let took : Took (left c.loop-taken.source) (left c.read_piece.new.source) (take 0 c.read_piece.new.piece) =
     subst (λ (k : ℕ). Took (left c.loop-taken.source) (left c.read_piece.new.source) (take k c.read_piece.new.piece)) none c.in-Ok-read_piece.ensures.ok in
     let p = takes_none mem (left c.args.source.now) (left c.loop-taken.source) (left c.read_piece.new.source) (held c.args.sink.now) (held c.loop-taken.sink) (held c.loop-taken.sink) c.loop-taken.taken s.table s.deframer.held (i.progress mem) took in
-    ends_at_end mem c.loop-taken.taken c.args.budget s.table s.deframer.held (left c.args.source.now) (left c.read_piece.new.source) (held c.args.sink.now) (held c.loop-taken.sink) p i.within
+    ends_at_end mem c.loop-taken.taken c.args.budget s.table s.deframer.held (left c.args.source.now) (left c.read_piece.new.source) (held c.args.sink.now) (held c.loop-taken.sink) p i.within c.loop-taken-test.true
     c.at_end.result c.at_end.ensures.done c.at_end.ensures.truncated i.part (c.in-Ok-read_piece.ensures.end none (omega (arith, c.min-most.ensures, c.loop-taken-test.true)))
 
 pub loop-taken-preserved : goal.loop-taken-preserved

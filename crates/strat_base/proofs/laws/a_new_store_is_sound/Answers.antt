@@ -6,7 +6,7 @@ use Rattle.strat_base.proofs.laws.a_new_store_is_sound.Goals as goal
 pub returns : goal.returns
 returns c = record {
   sound = λ mem changes_max versions_max. record {
-    opens = record { tree = refl; numbered = refl; accepted = refl; fits = le-leb 0 mem (omega arith) };
+    formed = record { tree = refl; numbered = refl; accepted = refl; fits = le-leb 0 mem (omega arith) };
     stratified = tt;
     roomy = refl;
     old = refl;

@@ -1,5 +1,4 @@
-use Rattle.std.proofs.Common.{◌≡◌, ◌+◌, ◌≤◌, length, sym, ◌∙◌, arith, Some}
-use Rattle.strat_base.specs.Numbers.{number, number_at}
+use Rattle.std.proofs.Common.{◌+◌, ◌≤◌, length, sym, ◌∙◌, arith}
 use Rattle.strat_base.proofs.NumberLemmas.{number_at_some}
 use Rattle.strat_frame.proofs.FrameLemmas.{begins_with_frame}
 use Rattle.strat_frame.proofs.deframer.look_at.Goals as goal

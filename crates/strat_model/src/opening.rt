@@ -1,0 +1,76 @@
+//! What an opening finds in bytes, and laws that it has. Each is a call that does nothing, and its
+//! clauses are what it says.
+
+ghost use Rattle.std.specs.Prelude.{◌≡◌, ℕ, [], ◌∷◌, ◌++◌, length, take, Some, None, Ok, Err};
+ghost use Rattle.strat_base.specs.Change.{Put};
+ghost use Rattle.strat_base.specs.Image.{Image, patch};
+ghost use Rattle.strat_base.specs.Manifest.{manifest_bytes};
+ghost use Rattle.strat_base.specs.Numbers.{be};
+ghost use Rattle.strat_base.specs.Sound.{IsWellFormed, IsSound};
+ghost use Rattle.strat_base.specs.State.{State, fresh_state, versions_of, updates_of, changes_of};
+ghost use Rattle.strat_base.specs.SuperBlock.{body};
+ghost use Rattle.strat_base.specs.Worked.{chain};
+ghost use Rattle.strat_model.specs.Bad.{IsBad};
+ghost use Rattle.strat_model.specs.Disks.{formatted, first_block, manifest_block, new_super, new_manifest, new_head, published};
+ghost use Rattle.strat_model.specs.Head.{Head, head_of, head_versions, head_updates, head_changes, descriptors};
+ghost use Rattle.strat_model.specs.Opening.{head_in, reads_as, state_of};
+ghost use Rattle.strat_model.specs.Texts.{report, summary};
+
+/// A disk that was just formatted opens as a new store.
+pub fn formatted_disks_open()
+    ensures found { head_in formatted ≡ Ok (Some new_head) }
+    ensures ok { reads_as formatted ≡ Some (fresh_state 4 100 10) }
+    ensures block { first_block ≡ take 40 (0xa7 ∷ body new_super) }
+    ensures manifest { manifest_block ≡ be 4 0 ++ manifest_bytes new_manifest }
+{}
+
+/// A record in the journal's active region is read: a put of `a` with the value `1` at version 0.
+pub fn records_are_found()
+    ensures { reads_as (patch formatted 8192
+        (0xa7 ∷ 1 ∷ 0 ∷ 0 ∷ 0 ∷ 0 ∷ 1 ∷ 0x61 ∷ 0 ∷ 1 ∷ 0x31 ∷ 0 ∷ []))
+        ≡ Some (record (fresh_state 4 100 10) { journal = Put 0 (0x61 ∷ []) (0x31 ∷ []) ∷ [] }) }
+{}
+
+/// After a publication the newer superblock leads to the array, and the journal goes on in the
+/// region that it made active: the state is that of a chain of clones.
+pub fn published_disks_open()
+    ensures { reads_as published ≡ Some chain }
+{}
+
+/// What an opening refuses: a superblock out of its ranges, a chain that goes on behind its last
+/// block, bytes behind the manifest that are no zeros, an open gate with no change behind it, and a
+/// change that the table refuses. A disk of zeros is no store.
+pub fn damage_is_named()
+    ensures none { head_in (λ i. 0) ≡ Ok None }
+    ensures region { head_in (patch formatted 27 (2 ∷ [])) ≡ Err 0 }
+    ensures link { head_in (patch formatted 24579 (7 ∷ [])) ≡ Err 6 }
+    ensures fill { head_in (patch formatted 28671 (1 ∷ [])) ≡ Err 6 }
+    ensures gate { head_in (patch formatted 8192 (0xa7 ∷ [])) ≡ Err 2 }
+    ensures refused { head_in (patch formatted 8192
+        (0xa7 ∷ 1 ∷ 0 ∷ 0 ∷ 0 ∷ 5 ∷ 1 ∷ 0x61 ∷ 0 ∷ 1 ∷ 0x31 ∷ 0 ∷ [])) ≡ Err 2 }
+{}
+
+/// What the bytes of a disk read as is a well formed state.
+pub fn what_is_read_may_be_opened()
+    ensures { (c : Image) (s : State) → reads_as c ≡ Some s → IsWellFormed s }
+{}
+
+/// The texts of a head are those of the state that it is the head of. They say nothing of where on
+/// the disk its parts lie.
+pub fn texts_speak_of_states()
+    ensures report { (c : Image) (h : Head) (s : State) → state_of c h ≡ Some s
+        → report h ≡ report (head_of h.sb.generation s) }
+    ensures summary { (c : Image) (h : Head) (s : State) (seed count : ℕ) → state_of c h ≡ Some s
+        → summary h seed count ≡ summary (head_of h.sb.generation s) seed count }
+    ensures counts { (c : Image) (h : Head) (s : State) → state_of c h ≡ Some s
+        → (head_versions h ≡ versions_of s) × (head_updates h ≡ updates_of s)
+        × (head_changes h ≡ changes_of s) }
+{}
+
+/// A disk that reads as a sound state has no bad block: no opening refuses it, and each block of
+/// its arrays holds entries that fit their place.
+pub fn sound_disks_have_no_bad_block()
+    ensures { (c : Image) (h : Head) (s : State) (b : ℕ) → head_in c ≡ Ok (Some h)
+        → state_of c h ≡ Some s → IsSound s
+        → ¬ IsBad c (length (versions_of s)) (descriptors h.manifest) b }
+{}
