@@ -1,9 +1,9 @@
 -- What the steps of an append leave: until the first gate is raised the list, and then the list or all of the batch behind it.
-use Rattle.std.proofs.Common.{Bool, take, drop, Some, ◌-◌, ◌*◌, ◌≡◌, ◌≢◌, ◌≤◌, ◌<◌, ◌+◌, ℕ, zero, suc, true, ◌⊎◌, inl, inr, List, [], ◌∷◌, ◌++◌, length, Ok, sym, ap, ◌∙◌, subst, arith, length-append}
+use Rattle.std.proofs.Common.{Bool, take, drop, Some, ◌-◌, ◌≡◌, ◌≢◌, ◌≤◌, ◌<◌, ◌+◌, ℕ, zero, suc, true, ◌⊎◌, inl, inr, List, [], ◌∷◌, ◌++◌, length, Ok, sym, ap, ◌∙◌, subst, arith, length-append}
 use Rattle.std.specs.List.{list_all}
 use Rattle.std.proofs.lemmas.Bool.{cases_eq}
 use Rattle.strat_base.specs.Image.{Image, HoldsBytes, Outside, window, patch}
-use Rattle.strat_base.specs.Moments.{View, Images, Since, Passes, TearsOnly, Settled}
+use Rattle.strat_base.specs.Moments.{View, Images, Since, TearsOnly, Settled}
 use Rattle.strat_base.specs.Change.{Change, is_lawful}
 use Rattle.strat_base.specs.Layout.{region_at, region_size, other_region}
 use Rattle.strat_base.proofs.ImageLemmas.{window_same, window_patch, outside_patch}

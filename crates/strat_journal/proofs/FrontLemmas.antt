@@ -1,11 +1,11 @@
 -- What stands behind a gate is clear as soon as the bytes read have it whole, or as many bytes as a change may have.
-use Rattle.std.proofs.Common.{◌≡◌, ◌≢◌, ◌≤◌, ◌<◌, ◌+◌, ◌-◌, ◌*◌, ◌%◌, ◌^◌, ℕ, zero, suc, ◌⊎◌, inl, inr, List, [], ◌∷◌, ◌++◌, length, take, drop, get_or, Option, Some, None, Result, Ok, OnOk, IsErr, IfSome, refl, sym, ap, ◌∙◌, subst, arith, length-append, length-drop, length-take, take-append-drop, append_assoc}
+use Rattle.std.proofs.Common.{◌≡◌, ◌≤◌, ◌<◌, ◌+◌, ◌-◌, ◌*◌, ℕ, inl, inr, List, [], ◌++◌, length, take, drop, get_or, Some, None, Result, Ok, IsErr, IfSome, refl, sym, ap, ◌∙◌, subst, arith, length-append, length-drop, take-append-drop, append_assoc}
 use Rattle.std.specs.Option.{IsSome}
 use Rattle.std.proofs.lemmas.Result.{IfOk-from_err, on_ok_weaker}
 use Rattle.std.proofs.lemmas.List.{take_at, drop_at, append-nil, take-append-le}
 use Rattle.std.proofs.lemmas.Bool.{false≢true}
 use Rattle.strat_base.specs.Image.{Image, HoldsBytes, window}
-use Rattle.strat_base.specs.Moments.{View, Passes, LeavesOld}
+use Rattle.strat_base.specs.Moments.{View}
 use Rattle.strat_base.specs.Numbers.{AreBytes}
 use Rattle.strat_base.specs.Change.{Change, change_bytes, change_in, BeginsWith}
 use Rattle.strat_base.proofs.ImageLemmas.{length-window, window_at, window_split}

@@ -1,12 +1,11 @@
 -- What an opening reads today, and the journal.
 use Rattle.std.proofs.Common.{◌≡◌, ◌≢◌, ◌≤◌, ◌<◌, ◌+◌, ◌-◌, ℕ, zero, suc, Bool, true, false, eqb, cond, ◌&&◌, not, inl, inr, List, [], ◌∷◌, ◌++◌, length, find, Option, Some, None, Result, Ok, Err, refl, sym, ap, ◌∙◌, arith, length-append}
 use Rattle.std.specs.List.{list_all}
-use Rattle.std.proofs.lemmas.Bool.{eqb-true, eq-eqb, and_parts, and_from, cond-true, cases_Bool, cases_eq}
+use Rattle.std.proofs.lemmas.Bool.{eqb-true, eq-eqb, and_parts, cond-true, cases_Bool, cases_eq}
 use Rattle.std.proofs.lemmas.List.{append-nil}
 use Rattle.strat_base.specs.Image.{Image, window}
 use Rattle.strat_base.specs.Change.{Change, change_bytes, change_in}
 use Rattle.strat_base.specs.Layout.{region_first, region_at, region_size, other_region}
-use Rattle.strat_base.proofs.TreeLemmas.{option_cases}
 use Rattle.strat_journal.specs.declared.journal.Logged.{Logged}
 use Rattle.strat_journal.specs.Records.{is_open, block_of, put_first, record_then, joined, full_then, records, region_records, journal_of, is_plain, plain_or, plain, alone_then, journal_now}
 use Rattle.strat_journal.proofs.RecordLemmas.{open_gate}

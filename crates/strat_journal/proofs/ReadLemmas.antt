@@ -1,12 +1,11 @@
 -- How the records of a region are read one after the other.
-use Rattle.std.proofs.Common.{◌≡◌, ◌≢◌, ◌≤◌, ◌<◌, ◌+◌, ◌-◌, ◌*◌, ◌/◌, ℕ, zero, suc, ◌⊎◌, inl, inr, List, [], ◌∷◌, ◌++◌, length, Option, Some, None, Result, Ok, Err, cond, Bool, true, refl, sym, ap, ◌∙◌, subst, arith, length-append, append_assoc}
+use Rattle.std.proofs.Common.{◌≡◌, ◌≢◌, ◌≤◌, ◌<◌, ◌+◌, ◌-◌, ◌*◌, ℕ, suc, List, [], ◌∷◌, ◌++◌, length, Some, None, Result, Ok, Err, Bool, true, refl, sym, ap, ◌∙◌, subst, arith, length-append, append_assoc}
 use Rattle.std.proofs.lemmas.Bool.{eqb-true, eq-eqb}
 use Rattle.std.proofs.lemmas.List.{append-nil}
 use Rattle.strat_base.specs.Image.{Image, window}
 use Rattle.strat_base.specs.Moments.{View}
-use Rattle.strat_base.specs.Change.{Change, change_bytes, change_in}
-use Rattle.strat_base.specs.SuperBlock.{region_blocks}
-use Rattle.strat_base.specs.Layout.{region_first, region_at, region_size, other_region}
+use Rattle.strat_base.specs.Change.{change_bytes, change_in}
+use Rattle.strat_base.specs.Layout.{region_at, region_size}
 use Rattle.strat_journal.specs.declared.journal.Logged.{Logged}
 use Rattle.strat_journal.specs.Records.{is_open, block_of, put_first, record_then, joined, records, region_records}
 use Rattle.strat_journal.specs.Front.{Part, Looks, Shows, ReadsOn, Stored, StoredNone}

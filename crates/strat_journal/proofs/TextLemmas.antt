@@ -1,6 +1,6 @@
 -- Records in a buffer.
-use Rattle.std.proofs.Common.{◌≡◌, ◌≤◌, ◌<◌, ◌+◌, ℕ, zero, suc, List, [], ◌∷◌, ◌++◌, length, take, drop, set, refl, sym, ap, ◌∙◌, arith, length-append, append_assoc}
-use Rattle.std.proofs.lemmas.List.{set_split, take_at, take_all, drop_all, append-nil, length-set}
+use Rattle.std.proofs.Common.{◌≡◌, ◌≤◌, ◌<◌, ◌+◌, ℕ, suc, List, [], ◌∷◌, ◌++◌, length, take, drop, set, sym, ap, ◌∙◌, arith, append_assoc}
+use Rattle.std.proofs.lemmas.List.{set_split, take_at, length-set}
 use Rattle.strat_base.specs.Numbers.{placed}
 use Rattle.strat_base.proofs.PlacedLemmas.{placed_three, length-placed}
 

@@ -28,15 +28,27 @@ pub struct Logged {
     pub block: u32,
 }
 
-/// A journal.
+/// A journal: the list of changes in the active region and then in the other, and a batch of changes that
+/// are not in the list yet.
+///
+/// Its buffer has the records as they stand on the disk, so a batch is written from where it was put. The
+/// memory for it is taken at the opening: 1,288 bytes for each of twice as many changes as a region takes, and
+/// for each of 16 of a batch.
 #[derive(Drop)]
 pub struct Journal {
+    /// Changes per region.
     mem: u32,
+    /// The active region.
     active: u8,
+    /// Whether the other region's first gate was open where it should not be.
     stale: bool,
+    /// Changes in the list.
     count: u32,
+    /// Changes in the batch.
     staged: u32,
+    /// Where the list's records end in the buffer.
     end: usize,
+    /// Where the batch's records end, and a closed gate stands.
     len: usize,
     bytes: Vec<u8>,
 }

@@ -1,5 +1,3 @@
-use Rattle.std.proofs.Common.{ap, sym, subst, ◌∙◌, ◌≡◌, ℕ}
-use Rattle.strat_base.specs.Image.{Image, Outside}
 use Rattle.strat_journal.proofs.LaidLemmas.{journal_kept}
 use Rattle.strat_journal.proofs.ClosingLemmas.{closed_shut}
 use Rattle.strat_journal.proofs.closing.close_region.Goals as goal

@@ -1,8 +1,6 @@
-use Rattle.std.proofs.Common.{◌≡◌, ◌<◌, ◌+◌, ◌++◌, ◌∷◌, [], length, drop, sym, ◌∙◌, ap, refl, arith}
-use Rattle.strat_base.specs.Change.{change_bytes}
+use Rattle.std.proofs.Common.{◌+◌, arith}
 use Rattle.strat_base.specs.ChangeView.{change_of}
 use Rattle.strat_base.proofs.ChangeLemmas.{length-change_bytes}
-use Rattle.strat_journal.specs.Log.{Log, changes_in, Keeps}
 use Rattle.strat_journal.proofs.KeepLemmas as keep
 use Rattle.strat_journal.proofs.journal.Journal.add.Goals as goal
 

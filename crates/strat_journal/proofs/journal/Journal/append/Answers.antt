@@ -1,4 +1,4 @@
-use Rattle.std.proofs.Common.{◌≡◌, ◌+◌, ap, arith}
+use Rattle.std.proofs.Common.{◌+◌, arith}
 use Rattle.strat_base.specs.Image.{Image}
 use Rattle.strat_base.specs.Moments.{Images}
 use Rattle.strat_base.proofs.MomentLemmas.{at_told}

@@ -1,5 +1,4 @@
-use Rattle.std.proofs.Common.{◌≡◌, ◌+◌, ◌++◌, [], drop, sym, ◌∙◌, ap}
-use Rattle.strat_journal.specs.Log.{Log, changes_in, Keeps, batch_joined}
+use Rattle.std.proofs.Common.{◌+◌, drop}
 use Rattle.strat_journal.proofs.KeepLemmas as keep
 use Rattle.strat_journal.proofs.journal.Journal.join.Goals as goal
 
