@@ -1,5 +1,5 @@
 -- What an opening reads today, and the journal.
-use Rattle.std.proofs.Common.{map, ◌≡◌, ◌≢◌, ◌≤◌, ◌<◌, ◌+◌, ◌-◌, ℕ, zero, suc, Bool, true, false, eqb, cond, ◌&&◌, not, inl, inr, List, [], ◌∷◌, ◌++◌, length, find, Option, Some, None, Result, Ok, Err, refl, sym, ap, ◌∙◌, arith, length-append}
+use Rattle.std.proofs.Common.{map, ◌≡◌, ◌≢◌, ◌≤◌, ◌<◌, ◌+◌, ◌-◌, ℕ, zero, suc, Bool, true, false, eqb, cond, ◌&&◌, not, inl, inr, List, [], ◌∷◌, ◌++◌, length, find, Option, Some, None, Result, Ok, Err, refl, sym, ap, ◌∙◌, arith, length-append, true≢false}
 use Rattle.std.specs.List.{list_all}
 use Rattle.std.proofs.lemmas.Bool.{and_from, eqb-true, eq-eqb, and_parts, cond-true, cases_Bool, cases_eq}
 use Rattle.std.proofs.lemmas.List.{append-nil, length-map}
@@ -10,7 +10,7 @@ use Rattle.strat_base.specs.Damage.{Read, and_then, passed_or, put_first}
 use Rattle.strat_base.specs.Records.{Logged, is_open, block_of, record_then, records, region_records, journal_of, is_other_open, journal_in_one}
 use Rattle.strat_journal.specs.declared.journal.Logged.{Logged as Owned}
 use Rattle.std.specs.Option.{option_map}
-use Rattle.strat_journal.specs.Records.{logged_of, is_plain, plain_or, plain, alone_then, journal_now}
+use Rattle.strat_journal.specs.Records.{changes_in_order, changes_of, logged_of, is_plain, plain_or, plain, alone_then, journal_now}
 use Rattle.strat_journal.proofs.RecordLemmas.{open_gate}
 use Rattle.strat_journal.proofs.LaidLemmas.{joined, fully, full_true, full_false, closed_records}
 
@@ -152,3 +152,21 @@ now_of c mem active logged e = ap (now mem (is_open (c (region_at mem (other_reg
 
 pub now_torn : (c : Image) (mem active block : ℕ) → region_records c mem active ≡ Err block → journal_now c mem active ≡ Err block
 now_torn c mem active block e = ap (now mem (is_open (c (region_at mem (other_region active)))) (region_first mem (other_region active))) e
+
+-- a test of two things that failed, where one of them holds
+pub off_by : (r others : Bool) (P : Type 0) → (r ≡ true → (others ≡ true) × P) × ((others ≡ true) × P → r ≡ true) → r ≡ false → P → others ≡ false
+off_by r others P both off holds = elim (cases_Bool others) [
+  | inr down ↦ down
+  | inl up ↦ absurd (let f : true ≡ false = sym (both.1 (up, holds)) ∙ off in true≢false f)
+]
+
+changes-mapped : (items : List Owned) → map (λ (l : Logged). l.change) (map logged_of items) ≡ map (λ (l : Owned). l.change) items
+changes-mapped [] = refl
+changes-mapped (l ∷ items) = ap (λ (xs : List Change). l.change ∷ xs) (changes-mapped items)
+
+-- the changes that an opening reads are those of the journal
+pub changes_now : (c : Image) (mem active : ℕ) (items : List Owned) (list : List Change) → journal_now c mem active ≡ Ok (map logged_of items)
+    → list ≡ map (λ (l : Owned). l.change) items → changes_of c mem active ≡ Ok list
+changes_now c mem active items list e list_is =
+    ap changes_in_order (narrow c mem active (map logged_of items) e)
+    ∙ ap (λ (xs : List Change). Ok xs) (changes-mapped items ∙ sym list_is)

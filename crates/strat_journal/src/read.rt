@@ -78,6 +78,13 @@ fn first_other(logged: &[Logged]) -> Option<&Logged>
     logged.iter().find(|l| !is_plain(&l.change))
 }
 
+/// Whether records are as many as a region takes and others may follow in the other region.
+fn goes_on(len: usize, mem: u32, others: bool) -> bool
+    ensures { IsTrue result ↔ (IsTrue others × (len ≡ mem)) }
+{
+    others && len == mem as usize
+}
+
 /// Tests what holds as long as stores have one version and use one region at a time.
 fn test(logged: &[Logged], mem: u32, others: bool, block: u32) -> Result<(), Trouble>
     ensures ok { OnOk result (alone_then mem others block (map logged_of logged.now)
@@ -87,7 +94,7 @@ fn test(logged: &[Logged], mem: u32, others: bool, block: u32) -> Result<(), Tro
         (λ e. (b : ℕ) × (e ≡ Damaged b) × 
           (alone_then mem others block (map logged_of logged.now) ≡ Err b)) }
 {
-    if others && logged.len() == mem as usize {
+    if goes_on(logged.len(), mem, others) {
         return Err(Trouble::Damaged { block });
     }
     match first_other(logged) {
@@ -135,6 +142,8 @@ impl Journal {
         requires { IsLawful (super_of sb.now) }
         ensures found { IfOk result (λ r. (f : Image) → (D.view disk.old).content ≡ Some f
             → journal_now f sb.now.mem sb.now.region ≡ Ok (map logged_of r.1.items)) }
+        ensures given { IfOk result (λ r. (f : Image) → (D.view disk.old).content ≡ Some f
+            → changes_of f sb.now.mem sb.now.region ≡ Ok r.0.list) }
         ensures log { IfOk result (λ r. Restores sb.now.mem sb.now.region r.1.items r.0) }
         ensures stale { IfOk result (λ r. (f : Image) → (D.view disk.old).content ≡ Some f
             → IsTrue r.0.stale ↔ IsStale f sb.now.mem sb.now.region (length r.0.list)) }
