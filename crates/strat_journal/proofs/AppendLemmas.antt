@@ -8,7 +8,8 @@ use Rattle.strat_base.specs.Change.{Change, is_lawful}
 use Rattle.strat_base.specs.Layout.{region_at, region_size, other_region}
 use Rattle.strat_base.proofs.ImageLemmas.{window_same, window_patch, outside_patch}
 use Rattle.strat_base.proofs.MomentLemmas.{settled_at, tears_wider}
-use Rattle.strat_journal.specs.Records.{records_bytes, changes_of}
+use Rattle.strat_base.specs.Records.{records_bytes}
+use Rattle.strat_journal.specs.Records.{changes_of}
 use Rattle.strat_journal.specs.Raising.{BehindOrRaised}
 use Rattle.strat_journal.proofs.KeepLemmas.{behind_split}
 use Rattle.strat_journal.proofs.RaisingLemmas.{patched_first, patched_twice}

@@ -8,10 +8,19 @@ use Rattle.strat_base.proofs.ImageLemmas.{window_same}
 use Rattle.strat_base.specs.Change.{Change, change_bytes, is_lawful}
 use Rattle.strat_base.specs.Layout.{region_at, region_size, other_region}
 use Rattle.strat_base.proofs.ChangeLemmas.{length-change_bytes}
-use Rattle.strat_journal.specs.declared.journal.Logged.{Logged}
 use Rattle.strat_journal.specs.Laid.{Laid}
-use Rattle.strat_journal.specs.Records.{records_bytes, logged_from, joined, full_then, region_records, journal_of, changes_in_order, changes_of}
+use Rattle.strat_base.specs.Damage.{Read, and_then}
+use Rattle.strat_base.specs.Records.{Logged, records_bytes, full_then, records, region_records, journal_of}
+use Rattle.strat_journal.specs.Records.{logged_from, changes_in_order, changes_of}
 use Rattle.strat_journal.proofs.RecordLemmas.{changes, none_text, laid_read, read_laid}
+
+-- two lists, one behind the other
+abbrev pub joined : {X : Type 0} → List X → Read (List X) → Read (List X)
+joined xs others = and_then others (λ later. Ok (xs ++ later))
+
+-- a list that is read, and where it has n elements others behind it
+abbrev pub fully : ℕ → Read (List Logged) → Read (List Logged) → Read (List Logged)
+fully n others read = and_then read (full_then n others)
 
 pub records_bytes-append : (xs ys : List Change) → records_bytes (xs ++ ys) ≡ records_bytes xs ++ records_bytes ys
 records_bytes-append [] ys = refl
@@ -47,13 +56,13 @@ region_takes mem = omega arith
 abbrev pub LaidIn : Image → ℕ → ℕ → List Change → Type 0
 LaidIn c mem region list = Laid c (region_at mem region + region_size mem) mem (region_at mem region) list
 
-pub full_false : {X : Type 0} (n : ℕ) (others : Result (List X) ℕ) (xs : List X) → length xs ≢ n → full_then n others (Ok xs) ≡ Ok xs
+pub full_false : (n : ℕ) (others : Read (List Logged)) (xs : List Logged) → length xs ≢ n → fully n others (Ok xs) ≡ Ok xs
 full_false n others xs apart = elim (cases_Bool (eqb (length xs) n)) [
   | inl same ↦ absurd (apart (eqb-true (length xs) n same))
   | inr other ↦ rw other refl
 ]
 
-pub full_true : {X : Type 0} (n : ℕ) (others : Result (List X) ℕ) (xs : List X) → length xs ≡ n → full_then n others (Ok xs) ≡ joined xs others
+pub full_true : (n : ℕ) (others : Read (List Logged)) (xs : List Logged) → length xs ≡ n → fully n others (Ok xs) ≡ joined xs others
 full_true n others xs same = cond-true (eqb (length xs) n) (joined xs others) (Ok xs) (eq-eqb (length xs) n same)
 
 joined_long : (others : Result (List Logged) ℕ) (xs : List Logged) (list : List Change) → changes_in_order (joined xs others) ≡ Ok list → length list < length xs → ⊥
@@ -79,7 +88,7 @@ laid_given c mem active list laid shut =
     let s : ℕ = region_at mem active in
     let read : region_records c mem active ≡ Ok (logged_from s list) = laid_read c (s + region_size mem) mem s list laid in
     let others : Result (List Logged) ℕ = region_records c mem (other_region active) in
-    ap (λ (r : Result (List Logged) ℕ). changes_in_order (full_then mem others r)) read
+    ap (λ (r : Result (List Logged) ℕ). changes_in_order (fully mem others r)) read
     ∙ elim (cases_eq (length list) mem) [
       | inl full ↦
           ap changes_in_order (full_true mem others (logged_from s list) (length-logged_from s list ∙ full))
@@ -92,7 +101,7 @@ laid_given c mem active list laid shut =
     ]
 
 -- a journal of fewer changes than a region takes is what the active region has
-given_part : (mem : ℕ) (others r : Result (List Logged) ℕ) (list : List Change) → length list < mem → changes_in_order (full_then mem others r) ≡ Ok list
+given_part : (mem : ℕ) (others r : Result (List Logged) ℕ) (list : List Change) → length list < mem → changes_in_order (fully mem others r) ≡ Ok list
     → (xs : List Logged) × (r ≡ Ok xs) × (changes xs ≡ list)
 given_part mem others (Err block) list few e = absurd (cc)
 given_part mem others (Ok xs) list few e = elim (cases_eq (length xs) mem) [
@@ -113,7 +122,7 @@ longer : {X : Type 0} (others : Result (List X) ℕ) (xs list : List X) → join
 longer (Err block) xs list e short = absurd (cc)
 longer (Ok ys) xs list e short = let same : xs ++ ys ≡ list = cc in omega (arith, ap length same, length-append xs ys)
 
-journal_part : (mem : ℕ) (others r : Result (List Logged) ℕ) (logged : List Logged) → length logged < mem → full_then mem others r ≡ Ok logged → r ≡ Ok logged
+journal_part : (mem : ℕ) (others r : Result (List Logged) ℕ) (logged : List Logged) → length logged < mem → fully mem others r ≡ Ok logged → r ≡ Ok logged
 journal_part mem others (Err block) logged few e = absurd (cc)
 journal_part mem others (Ok xs) logged few e = elim (cases_eq (length xs) mem) [
   | inr part ↦ sym (full_false mem others xs part) ∙ e
@@ -131,7 +140,7 @@ journal_laid c mem active logged holds e few =
 pub laid_journal : (c : Image) (mem active : ℕ) (list : List Change) → LaidIn c mem active list → length list < mem → journal_of c mem active ≡ Ok (logged_from (region_at mem active) list)
 laid_journal c mem active list laid few =
     let s : ℕ = region_at mem active in
-    ap (full_then mem (region_records c mem (other_region active))) (laid_read c (s + region_size mem) mem s list laid)
+    ap (fully mem (region_records c mem (other_region active))) (laid_read c (s + region_size mem) mem s list laid)
     ∙ full_false mem (region_records c mem (other_region active)) (logged_from s list) (λ full. omega (arith, few, full, length-logged_from s list))
 
 -- the first byte of one region lies in no record of the other

@@ -1,15 +1,18 @@
 -- What an opening reads today, and the journal.
-use Rattle.std.proofs.Common.{◌≡◌, ◌≢◌, ◌≤◌, ◌<◌, ◌+◌, ◌-◌, ℕ, zero, suc, Bool, true, false, eqb, cond, ◌&&◌, not, inl, inr, List, [], ◌∷◌, ◌++◌, length, find, Option, Some, None, Result, Ok, Err, refl, sym, ap, ◌∙◌, arith, length-append}
+use Rattle.std.proofs.Common.{map, ◌≡◌, ◌≢◌, ◌≤◌, ◌<◌, ◌+◌, ◌-◌, ℕ, zero, suc, Bool, true, false, eqb, cond, ◌&&◌, not, inl, inr, List, [], ◌∷◌, ◌++◌, length, find, Option, Some, None, Result, Ok, Err, refl, sym, ap, ◌∙◌, arith, length-append, true≢false}
 use Rattle.std.specs.List.{list_all}
-use Rattle.std.proofs.lemmas.Bool.{eqb-true, eq-eqb, and_parts, cond-true, cases_Bool, cases_eq}
-use Rattle.std.proofs.lemmas.List.{append-nil}
+use Rattle.std.proofs.lemmas.Bool.{and_from, eqb-true, eq-eqb, and_parts, cond-true, cases_Bool, cases_eq}
+use Rattle.std.proofs.lemmas.List.{append-nil, length-map}
 use Rattle.strat_base.specs.Image.{Image, window}
 use Rattle.strat_base.specs.Change.{Change, change_bytes, change_in}
 use Rattle.strat_base.specs.Layout.{region_first, region_at, region_size, other_region}
-use Rattle.strat_journal.specs.declared.journal.Logged.{Logged}
-use Rattle.strat_journal.specs.Records.{is_open, block_of, put_first, record_then, joined, full_then, records, region_records, journal_of, is_plain, plain_or, plain, alone_then, journal_now}
+use Rattle.strat_base.specs.Damage.{Read, and_then, passed_or, put_first}
+use Rattle.strat_base.specs.Records.{Logged, is_open, block_of, record_then, records, region_records, journal_of, is_other_open, journal_in_one}
+use Rattle.strat_journal.specs.declared.journal.Logged.{Logged as Owned}
+use Rattle.std.specs.Option.{option_map}
+use Rattle.strat_journal.specs.Records.{changes_in_order, changes_of, logged_of, is_plain, plain_or, plain, alone_then, journal_now}
 use Rattle.strat_journal.proofs.RecordLemmas.{open_gate}
-use Rattle.strat_journal.proofs.LaidLemmas.{full_true, full_false, closed_records}
+use Rattle.strat_journal.proofs.LaidLemmas.{joined, fully, full_true, full_false, closed_records}
 
 -- plain records are all of them
 plain_same : (logged xs : List Logged) (o : Option Logged) → plain_or logged o ≡ Ok xs → logged ≡ xs
@@ -26,13 +29,17 @@ none_other (l ∷ logged) e =
 shut_of : (others : Bool) (n mem : ℕ) → (eqb n mem && others) ≡ false → n ≡ mem → others ≡ false
 shut_of others n mem one same = ap (λ (b : Bool). b && others) (sym (eq-eqb n mem same)) ∙ one
 
-now_part : (mem block : ℕ) (others : Bool) (r : Result (List Logged) ℕ) (logged : List Logged) → alone_then mem others block r ≡ Ok logged
+-- plain records of a journal that one region holds, out of those of the active region
+abbrev now : ℕ → Bool → ℕ → Read (List Logged) → Read (List Logged)
+now n others block read = and_then (and_then read (λ logged. passed_or block (not (eqb (length logged) n && others)) logged)) plain
+
+now_part : (mem block : ℕ) (others : Bool) (r : Read (List Logged)) (logged : List Logged) → now mem others block r ≡ Ok logged
     → (r ≡ Ok logged) × (length logged ≡ mem → others ≡ false)
 now_part mem block others (Err bad) logged e = absurd (cc)
 now_part mem block others (Ok xs) logged e = elim (cases_Bool (eqb (length xs) mem && others)) [
-  | inl both ↦ absurd (let f : Err block ≡ Ok logged = sym (cond-true (eqb (length xs) mem && others) (Err block) (plain xs) both) ∙ e in cc)
+  | inl both ↦ absurd (let f : Err block ≡ Ok logged = sym (ap (λ (b : Bool). and_then (passed_or block (not b) xs) plain) both) ∙ e in cc)
   | inr one ↦
-      let there : plain xs ≡ Ok logged = ap (λ (b : Bool). cond b (Err block) (plain xs)) (sym one) ∙ e in
+      let there : plain xs ≡ Ok logged = sym (ap (λ (b : Bool). and_then (passed_or block (not b) xs) plain) one) ∙ e in
       let same : xs ≡ logged = plain_same xs logged (find (λ (l : Logged). not (is_plain l.change)) xs) there in
       (ap (λ (zs : List Logged). Ok zs) same, λ full. shut_of others (length xs) mem one (ap length same ∙ full))
 ]
@@ -41,7 +48,7 @@ pub narrow : (c : Image) (mem active : ℕ) (logged : List Logged) → journal_n
 narrow c mem active logged e =
     let part = now_part mem (region_first mem (other_region active)) (is_open (c (region_at mem (other_region active)))) (region_records c mem active) logged e in
     let others : Result (List Logged) ℕ = region_records c mem (other_region active) in
-    ap (full_then mem others) part.0 ∙ elim (cases_eq (length logged) mem) [
+    ap (fully mem others) part.0 ∙ elim (cases_eq (length logged) mem) [
       | inr short ↦ full_false mem others logged short
       | inl full ↦
           let shut : c (region_at mem (other_region active)) ≢ 0xa7 = λ up. let f : true ≡ false = sym (eq-eqb (c (region_at mem (other_region active))) 0xa7 up) ∙ part.1 full in cc in
@@ -80,19 +87,19 @@ and_false : (b : Bool) → (b && false) ≡ false
 and_false true = refl
 and_false false = refl
 
-wide_part : (mem block : ℕ) (others : Bool) (rest r : Result (List Logged) ℕ) (logged : List Logged) → full_then mem rest r ≡ Ok logged → length logged ≤ mem
-    → (rest ≡ Ok [] → others ≡ false) → list_all (λ (l : Logged). is_plain l.change) logged ≡ true → alone_then mem others block r ≡ Ok logged
+wide_part : (mem block : ℕ) (others : Bool) (rest r : Result (List Logged) ℕ) (logged : List Logged) → fully mem rest r ≡ Ok logged → length logged ≤ mem
+    → (rest ≡ Ok [] → others ≡ false) → list_all (λ (l : Logged). is_plain l.change) logged ≡ true → now mem others block r ≡ Ok logged
 wide_part mem block others rest (Err bad) logged e few shut plain' = absurd (cc)
 wide_part mem block others rest (Ok xs) logged e few shut plain' = elim (cases_eq (length xs) mem) [
   | inr short ↦
       let same : Ok xs ≡ Ok logged = sym (full_false mem rest xs short) ∙ e in
       let xs_is : xs ≡ logged = cc in
       let no : (eqb (length xs) mem && others) ≡ false = apart_test (length xs) mem others short in
-      ap (λ (b : Bool). cond b (Err block) (plain xs)) no ∙ ap plain xs_is ∙ ap (plain_or logged) (none_other logged plain')
+      ap (λ (b : Bool). and_then (passed_or block (not b) xs) plain) no ∙ ap plain xs_is ∙ ap (plain_or logged) (none_other logged plain')
   | inl full ↦
       let none = joined_few xs rest logged (sym (full_true mem rest xs full) ∙ e) (omega (arith, full)) in
       let no : (eqb (length xs) mem && others) ≡ false = ap (λ (b : Bool). eqb (length xs) mem && b) (shut none.0) ∙ and_false (eqb (length xs) mem) in
-      ap (λ (b : Bool). cond b (Err block) (plain xs)) no ∙ ap plain none.1 ∙ ap (plain_or logged) (none_other logged plain')
+      ap (λ (b : Bool). and_then (passed_or block (not b) xs) plain) no ∙ ap plain none.1 ∙ ap (plain_or logged) (none_other logged plain')
 ]
 
 pub wide : (c : Image) (mem active : ℕ) (logged : List Logged) → 0 < mem → journal_of c mem active ≡ Ok logged → length logged ≤ mem
@@ -104,5 +111,62 @@ wide c mem active logged some e few plain' =
 pub empty : (c : Image) (mem active : ℕ) → 0 < mem → c (region_at mem active) ≢ 0xa7 → journal_now c mem active ≡ Ok []
 empty c mem active some shut =
     let none : region_records c mem active ≡ Ok [] = closed_records c mem active shut in
-    ap (alone_then mem (is_open (c (region_at mem (other_region active)))) (region_first mem (other_region active))) none
-    ∙ ap (λ (b : Bool). cond b (Err (region_first mem (other_region active))) (Ok [])) (apart_test 0 mem (is_open (c (region_at mem (other_region active)))) (λ same. omega (arith, some, same)))
+    ap (now mem (is_open (c (region_at mem (other_region active)))) (region_first mem (other_region active))) none
+    ∙ ap (λ (b : Bool). and_then (passed_or (region_first mem (other_region active)) (not b) []) plain) (apart_test 0 mem (is_open (c (region_at mem (other_region active)))) (λ same. omega (arith, some, same)))
+
+-- a search among records in memory is one among those that they stand for
+pub other_mapped : (xs : List Owned) → find (λ (l : Logged). not (is_plain l.change)) (map logged_of xs) ≡ option_map logged_of (find (λ (l : Owned). not (is_plain l.change)) xs)
+other_mapped [] = refl
+other_mapped (x ∷ xs) = elim (cases_Bool (not (is_plain x.change))) [
+  | inl other ↦
+      ap (λ (b : Bool). cond b (Some (logged_of x)) (find (λ (l : Logged). not (is_plain l.change)) (map logged_of xs))) other
+      ∙ sym (ap (λ (b : Bool). option_map logged_of (cond b (Some x) (find (λ (l : Owned). not (is_plain l.change)) xs))) other)
+  | inr same ↦
+      ap (λ (b : Bool). cond b (Some (logged_of x)) (find (λ (l : Logged). not (is_plain l.change)) (map logged_of xs))) same
+      ∙ other_mapped xs
+      ∙ sym (ap (λ (b : Bool). option_map logged_of (cond b (Some x) (find (λ (l : Owned). not (is_plain l.change)) xs))) same)
+]
+
+test_off : (n : ℕ) (others : Bool) (xs : List Logged) → (length xs ≡ n → others ≡ false) → (eqb (length xs) n && others) ≡ false
+test_off n others xs shut = elim (cases_eq (length xs) n) [
+  | inl full ↦ ap (λ (b : Bool). eqb (length xs) n && b) (shut full) ∙ and_false (eqb (length xs) n)
+  | inr part ↦ apart_test (length xs) n others part
+]
+
+-- what the tests of records in memory find
+pub test_passed : (n : ℕ) (others : Bool) (block : ℕ) (xs : List Owned) (o : Option Owned) → find (λ (l : Owned). not (is_plain l.change)) xs ≡ o → (length xs ≡ n → others ≡ false)
+    → alone_then n others block (map logged_of xs) ≡ plain_or (map logged_of xs) (option_map logged_of o)
+test_passed n others block xs o e shut =
+    ap (λ (b : Bool). and_then (passed_or block (not b) (map logged_of xs)) plain) (test_off n others (map logged_of xs) (λ full. shut (sym (length-map xs logged_of) ∙ full)))
+    ∙ ap (plain_or (map logged_of xs)) (other_mapped xs ∙ ap (option_map logged_of) e)
+
+pub test_refused : (n : ℕ) (others : Bool) (block : ℕ) (xs : List Owned) → length xs ≡ n → others ≡ true → alone_then n others block (map logged_of xs) ≡ Err block
+test_refused n others block xs full up =
+    ap (λ (b : Bool). and_then (passed_or block (not b) (map logged_of xs)) plain)
+    (and_from (eqb (length (map logged_of xs)) n) others (eq-eqb (length (map logged_of xs)) n (length-map xs logged_of ∙ full)) up)
+
+-- the journal of the moment by the active region's records and the tests behind them
+pub now_of : (c : Image) (mem active : ℕ) (logged : List Logged) → region_records c mem active ≡ Ok logged
+    → journal_now c mem active ≡ alone_then mem (is_open (c (region_at mem (other_region active)))) (region_first mem (other_region active)) logged
+now_of c mem active logged e = ap (now mem (is_open (c (region_at mem (other_region active)))) (region_first mem (other_region active))) e
+
+pub now_torn : (c : Image) (mem active block : ℕ) → region_records c mem active ≡ Err block → journal_now c mem active ≡ Err block
+now_torn c mem active block e = ap (now mem (is_open (c (region_at mem (other_region active)))) (region_first mem (other_region active))) e
+
+-- a test of two things that failed, where one of them holds
+pub off_by : (r others : Bool) (P : Type 0) → (r ≡ true → (others ≡ true) × P) × ((others ≡ true) × P → r ≡ true) → r ≡ false → P → others ≡ false
+off_by r others P both off holds = elim (cases_Bool others) [
+  | inr down ↦ down
+  | inl up ↦ absurd (let f : true ≡ false = sym (both.1 (up, holds)) ∙ off in true≢false f)
+]
+
+changes-mapped : (items : List Owned) → map (λ (l : Logged). l.change) (map logged_of items) ≡ map (λ (l : Owned). l.change) items
+changes-mapped [] = refl
+changes-mapped (l ∷ items) = ap (λ (xs : List Change). l.change ∷ xs) (changes-mapped items)
+
+-- the changes that an opening reads are those of the journal
+pub changes_now : (c : Image) (mem active : ℕ) (items : List Owned) (list : List Change) → journal_now c mem active ≡ Ok (map logged_of items)
+    → list ≡ map (λ (l : Owned). l.change) items → changes_of c mem active ≡ Ok list
+changes_now c mem active items list e list_is =
+    ap changes_in_order (narrow c mem active (map logged_of items) e)
+    ∙ ap (λ (xs : List Change). Ok xs) (changes-mapped items ∙ sym list_is)

@@ -1,13 +1,16 @@
 -- How the records of a region are read one after the other.
-use Rattle.std.proofs.Common.{◌≡◌, ◌≢◌, ◌≤◌, ◌<◌, ◌+◌, ◌-◌, ◌*◌, ℕ, suc, List, [], ◌∷◌, ◌++◌, length, Some, None, Result, Ok, Err, Bool, true, refl, sym, ap, ◌∙◌, subst, arith, length-append, append_assoc}
+use Rattle.std.proofs.Common.{map, ◌≡◌, ◌≢◌, ◌≤◌, ◌<◌, ◌+◌, ◌-◌, ◌*◌, ℕ, suc, List, [], ◌∷◌, ◌++◌, length, Some, None, Result, Ok, Err, Bool, true, refl, sym, ap, ◌∙◌, subst, arith, length-append, append_assoc}
 use Rattle.std.proofs.lemmas.Bool.{eqb-true, eq-eqb}
-use Rattle.std.proofs.lemmas.List.{append-nil}
+use Rattle.std.proofs.lemmas.List.{append-nil, map-append}
 use Rattle.strat_base.specs.Image.{Image, window}
 use Rattle.strat_base.specs.Moments.{View}
 use Rattle.strat_base.specs.Change.{change_bytes, change_in}
 use Rattle.strat_base.specs.Layout.{region_at, region_size}
-use Rattle.strat_journal.specs.declared.journal.Logged.{Logged}
-use Rattle.strat_journal.specs.Records.{is_open, block_of, put_first, record_then, joined, records, region_records}
+use Rattle.strat_journal.specs.declared.journal.Logged.{Logged as Owned}
+use Rattle.strat_base.specs.Damage.{Read, and_then, put_first}
+use Rattle.strat_base.specs.Records.{Logged, is_open, block_of, record_then, records, region_records}
+use Rattle.strat_journal.specs.Records.{logged_of}
+use Rattle.strat_journal.proofs.LaidLemmas.{joined}
 use Rattle.strat_journal.specs.Front.{Part, Looks, Shows, ReadsOn, Stored, StoredNone}
 use Rattle.strat_journal.proofs.RecordLemmas.{open_gate, shut_gate}
 use Rattle.strat_journal.proofs.FrontLemmas.{looks_refl, looks_trans}
@@ -17,16 +20,16 @@ abbrev pub left : Image → ℕ → ℕ → ℕ → ℕ → Result (List Logged)
 left f mem region n at = records f (region_at mem region + region_size mem) n (region_at mem region + at)
 
 -- after n records of a region
-pub record SoFar (old now : View) (before reads : ℕ) (mem region n at : ℕ) (part : Part) (logged : List Logged) : Type 0 where
+pub record SoFar (old now : View) (before reads : ℕ) (mem region n at : ℕ) (part : Part) (items : List Owned) : Type 0 where
   pub first : part.first ≡ region_at mem region
   pub size : part.size ≡ region_size mem
   pub near : at ≤ length part.bytes
   pub far : at ≤ 1288 * n
   pub within : length part.bytes ≤ part.size
-  pub count : length logged ≡ n
+  pub count : length items ≡ n
   pub looks : Looks old now
   pub shows : (f : Image) → old.content ≡ Some f → Shows f part
-  pub found : (f : Image) → old.content ≡ Some f → region_records f mem region ≡ joined logged (left f mem region (mem - n) at)
+  pub found : (f : Image) → old.content ≡ Some f → region_records f mem region ≡ joined (map logged_of items) (left f mem region (mem - n) at)
   pub fewest : before ≤ reads
   pub each_once : 4096 * reads ≤ 4096 * before + length part.bytes
 
@@ -55,12 +58,12 @@ module _ (f : Image) (mem region : ℕ) (part : Part) (first : part.first ≡ re
       λ i. change_in (window f (from i) (more i))
 
   -- a record is read, and then those that follow it
-  pub left_record : (l : Logged) (next : ℕ) → Stored f part at (Some (l, next)) → left f mem region (suc m) at ≡ put_first l (left f mem region m next)
+  pub left_record : (l : Owned) (next : ℕ) → Stored f part at (Some (l, next)) → left f mem region (suc m) at ≡ put_first (logged_of l) (left f mem region m next)
   unfolding records
   left_record l next stored =
       let follows : place + 1 + length (change_bytes l.change) ≡ region_at mem region + next = omega (arith, stored.3) in
       let block : block_of place ≡ l.block = ap block_of (sym place_is) ∙ sym stored.2 in
-      let same : ◌≡◌ {A = Logged} (record { change = l.change; block = block_of place }) l = λ i. record { change = l.change; block = block i } in
+      let same : ◌≡◌ {A = Logged} (record { change = l.change; block = block_of place }) (logged_of l) = λ i. record { change = l.change; block = block i } in
       open_gate (f place) _ (Ok []) (ap f (sym place_is) ∙ stored.0)
       ∙ ap (record_then place (λ n. records f end m n)) (behind ∙ stored.1)
       ∙ (λ i. put_first (same i) (records f end m (follows i)))
@@ -85,11 +88,11 @@ nothing_shown : (f : Image) (at : ℕ) → [] ≡ window f at 0
 unfolding window
 nothing_shown f at = refl
 
-pub begun : (v : View) (reads mem region : ℕ) (part : Part) (logged : List Logged) → part ≡ record { first = region_at mem region; size = region_size mem; bytes = [] } → logged ≡ []
-    → SoFar v v reads reads mem region 0 0 part logged
-begun v reads mem region part logged part_is none =
-    subst (λ (p : Part). SoFar v v reads reads mem region 0 0 p logged) (sym part_is)
-    (subst (λ (xs : List Logged). SoFar v v reads reads mem region 0 0 (record { first = region_at mem region; size = region_size mem; bytes = [] }) xs) (sym none) (record {
+pub begun : (v : View) (reads mem region : ℕ) (part : Part) (items : List Owned) → part ≡ record { first = region_at mem region; size = region_size mem; bytes = [] } → items ≡ []
+    → SoFar v v reads reads mem region 0 0 part items
+begun v reads mem region part items part_is none =
+    subst (λ (p : Part). SoFar v v reads reads mem region 0 0 p items) (sym part_is)
+    (subst (λ (xs : List Owned). SoFar v v reads reads mem region 0 0 (record { first = region_at mem region; size = region_size mem; bytes = [] }) xs) (sym none) (record {
       first = refl;
       size = refl;
       near = omega arith;
@@ -106,30 +109,33 @@ begun v reads mem region part logged part_is none =
       each_once = omega arith;
     }))
 
-module _ (old mid new : View) (before between reads : ℕ) (mem region n at : ℕ) (part next : Part) (logged : List Logged) (sofar : SoFar old mid before between mem region n at part logged) where
+module _ (old mid new : View) (before between reads : ℕ) (mem region n at : ℕ) (part next : Part) (items : List Owned) (sofar : SoFar old mid before between mem region n at part items) where
+  abbrev logged : List Logged
+  logged = map logged_of items
+
   abbrev rest : Image → Result (List Logged) ℕ
   rest f = left f mem region (suc (mem - (n + 1))) at
 
   found_left : n < mem → (f : Image) → old.content ≡ Some f → region_records f mem region ≡ joined logged (rest f)
   found_left few f told = let m : mem - n ≡ suc (mem - (n + 1)) = omega arith in sofar.found f told ∙ ap (λ (k : ℕ). joined logged (left f mem region k at)) m
 
-  pub one_more : {T E : Type 0} (x : T) (l : Logged) (to : ℕ) → n < mem → ReadsOn {T = T} {E = E} mid new between reads part next (Ok x)
+  pub one_more : {T E : Type 0} (x : T) (l : Owned) (to : ℕ) → n < mem → ReadsOn {T = T} {E = E} mid new between reads part next (Ok x)
       → ((f : Image) → mid.content ≡ Some f → Shows f part → Stored f part at (Some (l, to))) → (to ≤ at + 1288) × (to ≤ length next.bytes)
-      → (all : List Logged) → all ≡ logged ++ l ∷ [] → SoFar old new before reads mem region (n + 1) to next all
+      → (all : List Owned) → all ≡ items ++ l ∷ [] → SoFar old new before reads mem region (n + 1) to next all
   one_more x l to few on there near all all_is = record {
     first = on.first ∙ sofar.first;
     size = on.size ∙ sofar.size;
     near = near.1;
     far = omega (arith, sofar.far, near.0);
     within = on.within;
-    count = omega (arith, ap length all_is, length-append logged (l ∷ []), sofar.count);
+    count = omega (arith, ap length all_is, length-append items (l ∷ []), sofar.count);
     looks = looks_trans sofar.looks on.looks;
     shows = λ f told. on.shows f (sofar.looks.same ∙ told) (sofar.shows f told);
     found = λ f told.
         found_left few f told
         ∙ ap (joined logged) (left_record f mem region part sofar.first sofar.size at (mem - (n + 1)) l to (there f (sofar.looks.same ∙ told) (sofar.shows f told)))
-        ∙ joined_first logged l (left f mem region (mem - (n + 1)) to)
-        ∙ ap (λ (xs : List Logged). joined xs (left f mem region (mem - (n + 1)) to)) (sym all_is);
+        ∙ joined_first logged (logged_of l) (left f mem region (mem - (n + 1)) to)
+        ∙ ap (λ (xs : List Logged). joined xs (left f mem region (mem - (n + 1)) to)) (sym (map-append logged_of items (l ∷ [])) ∙ ap (map logged_of) (sym all_is));
     fewest = omega (arith, sofar.fewest, on.fewest);
     each_once = omega (arith, sofar.each_once, on.each_once);
   }

@@ -9,9 +9,10 @@ use Rattle.strat_base.specs.Change.{Change, Put, Delete, Clone, change_bytes, ch
 use Rattle.strat_base.proofs.ImageLemmas.{length-window, window_at, window_split}
 use Rattle.strat_base.proofs.ChangeLemmas.{change_in-bytes, change_in-some}
 use Rattle.strat_base.proofs.TreeLemmas.{option_cases}
-use Rattle.strat_journal.specs.declared.journal.Logged.{Logged}
 use Rattle.strat_journal.specs.Laid.{Laid}
-use Rattle.strat_journal.specs.Records.{is_open, records_bytes, block_of, logged_from, put_first, record_then, records}
+use Rattle.strat_base.specs.Damage.{put_first}
+use Rattle.strat_base.specs.Records.{Logged, is_open, records_bytes, block_of, record_then, records}
+use Rattle.strat_journal.specs.Records.{logged_from}
 
 size_some : (change : Change) → 1 ≤ length (change_bytes change)
 size_some (Put version key value) = omega arith

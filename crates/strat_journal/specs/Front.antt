@@ -4,7 +4,7 @@ use Rattle.strat_base.specs.Image.{Image, window}
 use Rattle.strat_base.specs.Moments.{View, Passes, LeavesOld}
 use Rattle.strat_base.specs.Change.{Change, change_bytes, change_in}
 use Rattle.strat_journal.specs.declared.journal.Logged.{Logged}
-use Rattle.strat_journal.specs.Records.{block_of}
+use Rattle.strat_base.specs.Records.{block_of}
 
 -- where a region begins, how many bytes it has, and the first of them
 pub record Part : Type 0 where

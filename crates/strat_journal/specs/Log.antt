@@ -6,7 +6,8 @@ use Rattle.strat_base.specs.Image.{Image}
 use Rattle.strat_base.specs.Layout.{region_at, other_region}
 use Rattle.strat_base.specs.Moments.{View, Images}
 use Rattle.strat_journal.specs.declared.journal.Logged.{Logged}
-use Rattle.strat_journal.specs.Records.{records_bytes, changes_of}
+use Rattle.strat_base.specs.Records.{records_bytes}
+use Rattle.strat_journal.specs.Records.{changes_of}
 
 -- what a journal holds: how many changes a region takes, the active region, whether the other one is to be shut, the changes that are there for good, and those that become so together
 pub record Log : Type 0 where

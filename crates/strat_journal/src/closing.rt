@@ -6,8 +6,7 @@ ghost use Rattle.strat_base.specs.Image.{Image};
 ghost use Rattle.strat_base.specs.Layout as places;
 ghost use Rattle.strat_base.specs.Moments.{Images, Since, Passes, TearsOnly, Settled};
 ghost use Rattle.strat_gate.specs.Gates.{Closed};
-ghost use Rattle.strat_journal.specs.Records.{journal_of};
-ghost use Rattle.strat_journal.specs.declared.journal.Logged.{Logged};
+ghost use Rattle.strat_base.specs.Records.{Logged, journal_of};
 
 use crate::layout::region_at;
 use strat_base::Failed;

@@ -6,7 +6,7 @@ ghost use Rattle.std.specs.Bool.{OnTrue, OnFalse};
 ghost use Rattle.strat_base.specs.Image.{Image};
 ghost use Rattle.strat_base.specs.Layout as places;
 ghost use Rattle.strat_journal.specs.Front.{Shows, IsClear, IsUncut, ReadsOn, Holds, HoldsNone, Stored, StoredNone};
-ghost use Rattle.strat_journal.specs.Records.{block_of};
+ghost use Rattle.strat_base.specs.Records.{block_of};
 ghost use Rattle.strat_base.specs.Troubles.{HasTrouble};
 ghost use Rattle.strat_base.specs.declared.failures.Trouble.TheVariants.{Device, Damaged};
 

@@ -8,7 +8,7 @@ ghost use Rattle.strat_base.specs.Image.{Image, patch};
 ghost use Rattle.strat_base.specs.Layout as places;
 ghost use Rattle.strat_base.specs.Moments.{Since, Passes, TearsOnly, Settled};
 ghost use Rattle.strat_journal.specs.Log.{Stands, GivesAllOrNone, batch_joined, with_list, empty_log, gate_of};
-ghost use Rattle.strat_journal.specs.Records.{records_bytes};
+ghost use Rattle.strat_base.specs.Records.{records_bytes};
 
 use crate::layout::{RECORD_MAX, region_at};
 use crate::raising::raise_over;

@@ -6,8 +6,8 @@ ghost use Rattle.strat_base.specs.Change.{Change};
 ghost use Rattle.strat_base.specs.Image.{Image, HoldsBytes};
 ghost use Rattle.strat_base.specs.Layout.{region_at, region_size, other_region};
 ghost use Rattle.strat_journal.specs.Laid.{Laid};
-ghost use Rattle.strat_journal.specs.Records.{is_plain, logged_from, records, journal_of, journal_now};
-ghost use Rattle.strat_journal.specs.declared.journal.Logged.{Logged};
+ghost use Rattle.strat_base.specs.Records.{Logged, records, journal_of};
+ghost use Rattle.strat_journal.specs.Records.{is_plain, logged_from, journal_now};
 
 /// What an opening reads today is the journal, and each journal of plain records that has no more than a
 /// region takes is read. A journal is empty where the active region's first gate is closed.

@@ -1,6 +1,6 @@
 //! Reading a journal when a store is opened.
 
-ghost use Rattle.std.specs.Prelude.{◌≡◌, ◌≢◌, ◌≤◌, ◌<◌, ℕ, ◌+◌, not, find, length, Some, Ok, Err, IfOk, IfErr, OnOk, IsErrOf, IsTrue, ◌↔◌, vec_len};
+ghost use Rattle.std.specs.Prelude.{◌≡◌, ◌≢◌, ◌≤◌, ◌<◌, ℕ, ◌+◌, not, find, length, map, Some, Ok, Err, IfOk, IfErr, OnOk, IsErrOf, IsTrue, ◌↔◌, vec_len};
 ghost use Rattle.std.specs.Option.{option_copied};
 ghost use Rattle.strat_base.specs.Image.{Image};
 ghost use Rattle.strat_base.specs.Layout as places;
@@ -12,7 +12,8 @@ ghost use Rattle.strat_base.specs.declared.failures.Trouble.TheVariants.{Damaged
 ghost use Rattle.strat_gate.specs.SuperView.{super_of};
 ghost use Rattle.strat_journal.specs.Front.{Looks};
 ghost use Rattle.strat_journal.specs.Log.{Restores, IsStale};
-ghost use Rattle.strat_journal.specs.Records.{is_open, region_records, alone_then, journal_now};
+ghost use Rattle.strat_base.specs.Records.{is_open, region_records};
+ghost use Rattle.strat_journal.specs.Records.{logged_of, changes_of, alone_then, journal_now};
 ghost use Rattle.strat_journal.specs.Records.{is_plain as plain_change};
 
 use crate::front::Front;
@@ -34,7 +35,7 @@ fn read_region<D: Disk>(
     requires mem { mem ≤ 4096 }
     requires region { region ≤ 1 }
     ensures found { IfOk result (λ v. (f : Image) → (D.view disk.old).content ≡ Some f
-        → region_records f mem region ≡ Ok v.items) }
+        → region_records f mem region ≡ Ok (map logged_of v.items)) }
     ensures few { IfOk result (λ v. vec_len v ≤ mem) }
     ensures damaged { (b : ℕ) → IsErrOf result (Damaged b) → (f : Image)
         → (D.view disk.old).content ≡ Some f → region_records f mem region ≡ Err b }
@@ -77,14 +78,23 @@ fn first_other(logged: &[Logged]) -> Option<&Logged>
     logged.iter().find(|l| !is_plain(&l.change))
 }
 
+/// Whether records are as many as a region takes and others may follow in the other region.
+fn goes_on(len: usize, mem: u32, others: bool) -> bool
+    ensures { IsTrue result ↔ (IsTrue others × (len ≡ mem)) }
+{
+    others && len == mem as usize
+}
+
 /// Tests what holds as long as stores have one version and use one region at a time.
 fn test(logged: &[Logged], mem: u32, others: bool, block: u32) -> Result<(), Trouble>
-    ensures ok { OnOk result (alone_then mem others block (Ok logged.now) ≡ Ok logged.now) }
+    ensures ok { OnOk result (alone_then mem others block (map logged_of logged.now)
+        ≡ Ok (map logged_of logged.now)) }
     ensures apart { OnOk result (IsTrue others → length logged.now ≢ mem) }
     ensures damaged { IfErr result
-        (λ e. (b : ℕ) × (e ≡ Damaged b) × (alone_then mem others block (Ok logged.now) ≡ Err b)) }
+        (λ e. (b : ℕ) × (e ≡ Damaged b) × 
+          (alone_then mem others block (map logged_of logged.now) ≡ Err b)) }
 {
-    if others && logged.len() == mem as usize {
+    if goes_on(logged.len(), mem, others) {
         return Err(Trouble::Damaged { block });
     }
     match first_other(logged) {
@@ -103,7 +113,7 @@ fn read_records<D: Disk>(
     requires mem { mem ≤ 4096 }
     requires region { region ≤ 1 }
     ensures found { IfOk result (λ r. (f : Image) → (D.view disk.old).content ≡ Some f
-        → journal_now f mem region ≡ Ok r.0.items) }
+        → journal_now f mem region ≡ Ok (map logged_of r.0.items)) }
     ensures others { IfOk result (λ r. (f : Image) → (D.view disk.old).content ≡ Some f
         → r.1 ≡ is_open (f (places.region_at mem (places.other_region region)))) }
     ensures few { IfOk result (λ r. (vec_len r.0 ≤ mem) × (IsTrue r.1 → vec_len r.0 ≢ mem)) }
@@ -131,7 +141,9 @@ impl Journal {
     ) -> Result<(Journal, Vec<Logged>), Trouble>
         requires { IsLawful (super_of sb.now) }
         ensures found { IfOk result (λ r. (f : Image) → (D.view disk.old).content ≡ Some f
-            → journal_now f sb.now.mem sb.now.region ≡ Ok r.1.items) }
+            → journal_now f sb.now.mem sb.now.region ≡ Ok (map logged_of r.1.items)) }
+        ensures given { IfOk result (λ r. (f : Image) → (D.view disk.old).content ≡ Some f
+            → changes_of f sb.now.mem sb.now.region ≡ Ok r.0.list) }
         ensures log { IfOk result (λ r. Restores sb.now.mem sb.now.region r.1.items r.0) }
         ensures stale { IfOk result (λ r. (f : Image) → (D.view disk.old).content ≡ Some f
             → IsTrue r.0.stale ↔ IsStale f sb.now.mem sb.now.region (length r.0.list)) }

@@ -1,8 +1,9 @@
-use Rattle.std.proofs.Common.{length, map, arith, ap, length-append}
+use Rattle.std.proofs.Common.{◌∙◌, ◌++◌, length, map, arith, ap, length-append}
 use Rattle.std.proofs.lemmas.List.{length-map}
 use Rattle.strat_journal.specs.declared.journal.Logged.{Logged}
 use Rattle.strat_journal.specs.Log.{Log}
 use Rattle.strat_journal.proofs.ReadLemmas.{stale_is}
+use Rattle.strat_journal.proofs.NowLemmas.{changes_now}
 use Rattle.strat_journal.proofs.journal.Journal.read.Goals as goal
 
 pub returns-clause-stale : goal.returns-clause-stale
@@ -20,3 +21,9 @@ returns-clause-stale g c = λ f told.
       length-map c.deref.result.now (λ (l : Logged). l.change),
       c.deref.ensures.len,
     )))
+
+pub returns-clause-given : goal.returns-clause-given
+returns-clause-given g c = λ f told.
+    changes_now f c.args.sb.now.mem c.args.sb.now.region c.in_ok-logged.logged.items c.set_stale.new.self.list (c.in_ok-logged.ensures.found f told)
+    (ap (λ (j : Log). j.list) c.set_stale.ensures.ok ∙ ap (λ (j : Log). j.list) c.restore_all.ensures.ok
+    ∙ (λ i. (ap (λ (j : Log). j.list) c.in_ok-journal.ensures.ok) i ++ map (λ (l : Logged). l.change) (c.deref.ensures.value i)))
