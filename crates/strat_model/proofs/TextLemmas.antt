@@ -1,10 +1,10 @@
 -- Runs of versions, and the sparsest of some arrays.
 use Rattle.std.proofs.Common.{◌≡◌, ◌+◌, ◌*◌, ℕ, suc, Bool, true, false, cond, eqb, ltb, not, ◌&&◌, List, [], ◌∷◌, ◌++◌, Option, Some, None, refl, sym, ap, ◌∙◌, subst, arith}
 use Rattle.std.specs.Prelude.{flat_map, IsTrue}
-use Rattle.std.specs.List.{AllByRecursion, range_with_len}
-use Rattle.std.proofs.lemmas.Bool.{eqb-true, cond-true, cond-false, lt-ltb, le-ltb}
+use Rattle.std.specs.List.{AllByRecursion, range_with_len, list_all}
+use Rattle.std.proofs.lemmas.Bool.{and_from, and_parts, eqb-true, cond-true, cond-false, lt-ltb, le-ltb}
 use Rattle.strat_base.specs.Manifest.{ArrayDesc}
-use Rattle.strat_model.specs.Texts.{run_from, runs_of, numbers_of, are_separate, sparser, sparsest, IsSparser, IsNoDenser}
+use Rattle.strat_model.specs.Texts.{run_from, runs_of, numbers_of, are_separate, has_number, sparser, sparsest, IsSparser, IsNoDenser}
 
 numbers_from : (v : ℕ) (runs : List (ℕ × ℕ)) → flat_map numbers_of (run_from v runs) ≡ v ∷ flat_map numbers_of runs
 numbers_from v [] = refl
@@ -31,6 +31,19 @@ separate_from v (run ∷ runs) apart = by_test (eqb run.0 (v + 1)) refl
     by_test : (b : Bool) → eqb run.0 (v + 1) ≡ b → are_separate (cond b ((v, suc run.1) ∷ runs) ((v, 1) ∷ run ∷ runs)) ≡ true
     by_test true e = merged runs (eqb-true run.0 (v + 1) e) apart
     by_test false e = ap (λ (b : Bool). not b && are_separate (run ∷ runs)) e ∙ apart
+
+filled_from : (v : ℕ) (runs : List (ℕ × ℕ)) → list_all has_number runs ≡ true → list_all has_number (run_from v runs) ≡ true
+filled_from v [] filled = refl
+filled_from v (run ∷ runs) filled = by_test (eqb run.0 (v + 1)) refl
+  where
+    by_test : (b : Bool) → eqb run.0 (v + 1) ≡ b → list_all has_number (cond b ((v, suc run.1) ∷ runs) ((v, 1) ∷ run ∷ runs)) ≡ true
+    by_test true e = and_from (ltb 0 (suc run.1)) (list_all has_number runs) (lt-ltb 0 (suc run.1) (omega arith)) (and_parts (has_number run) (list_all has_number runs) filled).1
+    by_test false e = filled
+
+-- each run of a list has a number
+pub runs_filled : (vs : List ℕ) → IsTrue (list_all has_number (runs_of vs))
+runs_filled [] = refl
+runs_filled (v ∷ vs) = filled_from v (runs_of vs) (runs_filled vs)
 
 -- no run of a list goes on where the one before it ends
 pub runs_separate : (vs : List ℕ) → IsTrue (are_separate (runs_of vs))

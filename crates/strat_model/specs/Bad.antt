@@ -43,8 +43,8 @@ pub record IsMisplaced (c : Image) (versions : ℕ) (a : ArrayDesc) (b : ℕ) : 
   pub here : block_on c b ≡ Some entries
   pub misfit : fits_behind versions a before entries ≡ false
 
--- a block is bad: an opening refuses it; or it is of an array that is named, and is no block of entries or does not fit its place
-pub data IsBad (c : Image) (versions : ℕ) (named : List ArrayDesc) (b : ℕ) : Type 0 where
-  refused : head_in c ≡ Err b → IsBad c versions named b
-  unread : (a : ArrayDesc) → Contains named a → IsUnread c a b → IsBad c versions named b
-  misplaced : (a : ArrayDesc) → Contains named a → IsMisplaced c versions a b → IsBad c versions named b
+-- a block is bad: an opening refuses it; or it is of an array that is named, and is no block of entries; or it is of an array whose entries are merged into another, and does not fit its place
+pub data IsBad (c : Image) (versions : ℕ) (named merged : List ArrayDesc) (b : ℕ) : Type 0 where
+  refused : head_in c ≡ Err b → IsBad c versions named merged b
+  unread : (a : ArrayDesc) → Contains named a → IsUnread c a b → IsBad c versions named merged b
+  misplaced : (a : ArrayDesc) → Contains merged a → IsMisplaced c versions a b → IsBad c versions named merged b

@@ -4,7 +4,7 @@ use Rattle.strat_base.specs.Image.{Image, patch}
 use Rattle.strat_base.specs.Block.{entry_bytes}
 use Rattle.strat_base.specs.Numbers.{be}
 use Rattle.strat_base.specs.Change.{Put, change_bytes}
-use Rattle.strat_base.specs.Manifest.{Manifest, manifest_bytes}
+use Rattle.strat_base.specs.Manifest.{LevelDesc, Manifest, manifest_bytes}
 use Rattle.strat_base.specs.SuperBlock.{Super, spelled, fields}
 use Rattle.strat_base.specs.Worked.{says}
 use Rattle.strat_model.specs.Head.{Head}
@@ -59,8 +59,22 @@ chain_super = record { generation = 2; manifest = 8; length = 98; region = 1; me
 abbrev pub array_block : List ℕ
 array_block = 0x00 ∷ 0x01 ∷ 0x00 ∷ 0x04 ∷ entry_bytes (says 97 1 49)
 
--- the formatted disk with the array, the manifest, the superblock in slot 1, and a change in the region that it made active
+-- the formatted disk with the array, a manifest in block 8, a superblock in slot 1, and a change in the second region
+abbrev pub published_by : Super → Manifest → Image
+published_by sb m =
+    patch (patch (patch (patch formatted 28672 array_block) 32768 (be 4 0 ++ manifest_bytes m))
+    4096 (0xa7 ∷ spelled (fields sb))) 16384 (0xa7 ∷ change_bytes (Put 3 (98 ∷ []) (49 ∷ [])))
+
+-- the disk after that publication
 abbrev pub published : Image
-published =
-    patch (patch (patch (patch formatted 28672 array_block) 32768 (be 4 0 ++ manifest_bytes chain_manifest))
-    4096 (0xa7 ∷ spelled (fields chain_super))) 16384 (0xa7 ∷ change_bytes (Put 3 (98 ∷ []) (49 ∷ [])))
+published = published_by chain_super chain_manifest
+
+-- the chain's level with another horizon
+abbrev pub with_horizon : ℕ → LevelDesc → LevelDesc
+with_horizon horizon level = record level { horizon = horizon }
+
+-- the formatted disk with four changes in the first region, which are as many as it takes, and an open gate in the other
+abbrev pub doubly_open : Image
+doubly_open =
+    let change = 0xa7 ∷ change_bytes (Put 0 (97 ∷ []) (49 ∷ [])) in
+    patch (patch formatted 8192 (change ++ change ++ change ++ change)) 16384 (0xa7 ∷ [])

@@ -35,7 +35,7 @@ has_own_versions level =
     let versions = flat_map (λ a. a.versions) level.arrays in
     is_distinct versions && list_all (λ v. nat_lt v level.horizon) versions
 
--- at least half of an array's entries are leads, and each of its blocks has one
+-- at least half of an array's entries are leads, and it has no more blocks than entries
 abbrev pub is_filled : ArrayDesc → Bool
 is_filled a = nat_le a.entries (2 * a.leads) && nat_le (array_blocks a) a.entries
 

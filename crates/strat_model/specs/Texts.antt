@@ -38,6 +38,10 @@ are_separate [] = true
 are_separate (run ∷ []) = true
 are_separate (run ∷ next ∷ runs) = not (next.0 == run.0 + run.1) && are_separate (next ∷ runs)
 
+-- a run has a number
+abbrev pub has_number : ℕ × ℕ → Bool
+has_number run = nat_lt 0 run.1
+
 -- a run: its number, or its first and its last
 abbrev pub run_text : ℕ × ℕ → List ℕ
 run_text run = if run.1 == 1 then decimal run.0 else joined (decimal run.0 ∷ codes "-" ∷ decimal (run.0 + run.1 - 1) ∷ [])

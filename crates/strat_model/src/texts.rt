@@ -4,14 +4,14 @@
 #![tactic(auto)]
 
 ghost use Rattle.std.specs.Prelude.{◌≡◌, ℕ, List, [], ◌∷◌, ◌++◌, flat_map, codes, Some, None, IsTrue};
-ghost use Rattle.std.specs.List.{AllByRecursion};
+ghost use Rattle.std.specs.List.{AllByRecursion, list_all};
 ghost use Rattle.strat_base.specs.Breach.{breaches};
 ghost use Rattle.strat_base.specs.Broken.{wrong_descriptor};
 ghost use Rattle.strat_base.specs.State.{fresh_state};
 ghost use Rattle.strat_base.specs.Worked.{chain, fan, deleted_below};
 ghost use Rattle.strat_model.specs.Settings.{settings};
 ghost use Rattle.strat_model.specs.Head.{head_of};
-ghost use Rattle.strat_model.specs.Texts.{text, format_line, report, summary, check_line, damaged_line, versions_text, runs_of, numbers_of, are_separate, sparsest, IsSparser, IsNoDenser};
+ghost use Rattle.strat_model.specs.Texts.{text, format_line, report, summary, check_line, damaged_line, versions_text, runs_of, numbers_of, are_separate, has_number, sparsest, IsSparser, IsNoDenser};
 ghost use Rattle.strat_base.specs.Manifest.{ArrayDesc};
 
 /// The report of a chain of clones with one key at its second version.
@@ -93,9 +93,10 @@ pub fn texts_of_versions()
     ensures both { versions_text (0 ∷ 2 ∷ 3 ∷ 4 ∷ 6 ∷ 7 ∷ 11 ∷ []) ≡ codes "0,2-4,6-7,11" }
 {}
 
-/// The runs of a list are its numbers, and no run goes on where the one before it ends.
+/// The runs of a list are its numbers, each has one at least, and none goes on where the one before it ends.
 pub fn runs_are_the_longest()
     ensures same { (vs : List ℕ) → flat_map numbers_of (runs_of vs) ≡ vs }
+    ensures some { (vs : List ℕ) → IsTrue (list_all has_number (runs_of vs)) }
     ensures apart { (vs : List ℕ) → IsTrue (are_separate (runs_of vs)) }
 {}
 

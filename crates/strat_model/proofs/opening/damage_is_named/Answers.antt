@@ -10,4 +10,4 @@ use Rattle.strat_model.proofs.opening.damage_is_named.Goals as goal
 
 pub returns : goal.returns
 unfolding number be window over slot_of slot_in zeros change_in all_pass read_number read_items read_extent read_array read_level read_manifest manifest_in manifest_bytes chain_from records
-returns c = record { none = refl; region = refl; link = refl; fill = refl; gate = refl; refused = refl }
+returns c = record { none = refl; region = refl; link = refl; circle = refl; fill = refl; gate = refl; refused = refl; full = refl }
