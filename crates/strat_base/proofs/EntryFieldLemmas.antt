@@ -1,13 +1,11 @@
 -- How many bytes entries have, and how their fields are found.
-use Rattle.std.proofs.Common.{◌≡◌, ℕ, ◌+◌, ◌≤◌, ◌^◌, true, nat_lt, ◌&&◌, List, ◌++◌, length, drop, Option, Some, None, refl, sym, ap, ◌∙◌, arith, length-append}
+use Rattle.std.proofs.Common.{◌≡◌, ℕ, ◌+◌, ◌≤◌, List, ◌++◌, length, drop, Option, Some, None, sym, ap, ◌∙◌, arith, length-append}
 use Rattle.std.specs.Option.{option_map, option_and_then}
-use Rattle.std.proofs.lemmas.Bool.{and_parts}
 use Rattle.std.proofs.lemmas.List.{drop_all}
 use Rattle.strat_base.specs.Numbers.{be}
-use Rattle.strat_base.specs.Sizes.{is_key}
 use Rattle.strat_base.specs.Fields.{key_field, key_in}
 use Rattle.strat_base.specs.Entries.{Entry}
-use Rattle.strat_base.specs.Block.{is_markable, fits_fields, mark_field, entry_bytes, entry_of_key, entry_in, entry_at, BeginsWithEntry}
+use Rattle.strat_base.specs.Block.{mark_field, entry_bytes, entry_of_key, entry_in, entry_at, BeginsWithEntry}
 use Rattle.strat_base.proofs.NumberLemmas.{length-be}
 use Rattle.strat_base.proofs.BlockLemmas.{entry_in-bytes}
 

@@ -1,5 +1,4 @@
-use Rattle.std.proofs.Common.{◌+◌, length, ap, ◌∙◌, sym, arith}
-use Rattle.strat_base.specs.Block.{entry_of_key}
+use Rattle.std.proofs.Common.{◌+◌, length, arith}
 use Rattle.strat_base.proofs.PlacedLemmas.{rest_of}
 use Rattle.strat_base.proofs.EntryFieldLemmas.{entry_found}
 use Rattle.strat_base.proofs.entry_fields.entry_from.Goals as goal

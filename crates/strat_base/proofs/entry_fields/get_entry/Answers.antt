@@ -1,4 +1,4 @@
-use Rattle.std.proofs.Common.{◌≡◌, List, ℕ, drop, Some, None, sym, ap, ◌∙◌, arith}
+use Rattle.std.proofs.Common.{drop, None, sym, ap, ◌∙◌, arith}
 use Rattle.strat_base.specs.Block.{entry_in, BeginsWithEntry}
 use Rattle.strat_base.specs.EntryView.{entry_of}
 use Rattle.strat_base.proofs.NumberLemmas.{AreBytes-drop}

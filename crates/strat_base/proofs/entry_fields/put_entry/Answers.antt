@@ -1,4 +1,4 @@
-use Rattle.std.proofs.Common.{◌+◌, length, arith}
+use Rattle.std.proofs.Common.{◌+◌, arith}
 use Rattle.strat_base.specs.Numbers.{be}
 use Rattle.strat_base.specs.Fields.{key_field}
 use Rattle.strat_base.specs.Block.{mark_field}
