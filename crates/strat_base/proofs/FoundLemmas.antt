@@ -1,9 +1,8 @@
 -- A change is found exactly where its bytes stand.
-use Rattle.std.proofs.Common.{◌≡◌, ◌+◌, ◌≤◌, ℕ, List, ◌++◌, length, drop, Option, Some, None, refl, sym, ap, ◌∙◌, arith}
-use Rattle.std.specs.Option.{option_map, IsSome}
+use Rattle.std.proofs.Common.{◌≡◌, ◌+◌, ◌≤◌, ℕ, List, length, drop, Option, Some, None, sym, ap, ◌∙◌}
+use Rattle.std.specs.Option.{option_map}
 use Rattle.std.proofs.lemmas.List.{drop_all}
 use Rattle.strat_base.specs.Change.{Change, change_bytes, change_in, change_at, BeginsWith}
-use Rattle.strat_base.specs.Finds.{Finds}
 use Rattle.strat_base.proofs.ChangeLemmas.{change_in-bytes}
 
 pub begins_read : (bytes : List ℕ) (c : Change) → BeginsWith bytes c → change_in bytes ≡ Some c

@@ -27,3 +27,4 @@ pub mod FoundLemmas
 pub mod DamageLemmas
 pub mod ChainLemmas
 pub mod RegionLemmas
+pub mod EntryFieldLemmas

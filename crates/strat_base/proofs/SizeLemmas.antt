@@ -1,8 +1,8 @@
 -- How many bytes changes have, and how their fields are found.
-use Rattle.std.proofs.Common.{◌≡◌, ℕ, ◌+◌, List, ◌++◌, length, drop, Option, Some, None, refl, sym, ap, ◌∙◌, arith, length-append}
+use Rattle.std.proofs.Common.{◌≡◌, ℕ, ◌+◌, List, ◌++◌, length, drop, Option, Some, None, sym, ap, ◌∙◌, arith, length-append}
 use Rattle.std.specs.Option.{option_map, option_and_then}
 use Rattle.strat_base.specs.Numbers.{be}
-use Rattle.strat_base.specs.Change.{Change, Put, Delete, Clone, change_bytes, change_of_kind}
+use Rattle.strat_base.specs.Change.{Put, Delete, Clone, change_bytes, change_of_kind}
 use Rattle.strat_base.specs.Fields.{key_field, value_field, key_in, value_in}
 use Rattle.strat_base.proofs.NumberLemmas.{length-be}
 use Rattle.strat_base.proofs.FieldLemmas.{length-value_field}

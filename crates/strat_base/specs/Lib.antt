@@ -31,3 +31,4 @@ pub mod Opened
 pub mod Damage
 pub mod Chained
 pub mod Records
+pub mod EntryView

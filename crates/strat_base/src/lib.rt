@@ -4,6 +4,9 @@
 pub mod broken;
 mod changes;
 mod entries;
+mod entry_fields;
+#[cfg(test)]
+mod entry_tests;
 mod failures;
 mod fields;
 pub mod laws;
@@ -17,6 +20,7 @@ pub mod worked;
 
 pub use changes::{Change, OwnedChange, change_size, get_change, put_change};
 pub use entries::{Entry, Val, Version, entry_order, key_ok, value_ok};
+pub use entry_fields::{entry_size, get_entry, put_entry};
 pub use failures::{Failed, Fault, NoMemory, Trouble};
 pub use numbers::{get_u8, get_u16, get_u32, get_u64, put_u16, put_u32, put_u64};
 pub use pairs::PairBuf;

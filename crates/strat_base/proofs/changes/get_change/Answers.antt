@@ -1,7 +1,6 @@
-use Rattle.std.proofs.Common.{◌≡◌, List, ℕ, drop, Some, None, sym, ap, ◌∙◌, arith}
+use Rattle.std.proofs.Common.{drop, None, sym, ap, ◌∙◌, arith}
 use Rattle.strat_base.specs.Change.{change_in, BeginsWith}
 use Rattle.strat_base.specs.ChangeView.{change_of}
-use Rattle.strat_base.specs.Numbers.{AreBytes}
 use Rattle.strat_base.proofs.NumberLemmas.{AreBytes-drop}
 use Rattle.strat_base.proofs.ChangeLemmas.{change_in-some}
 use Rattle.strat_base.proofs.PlacedLemmas.{rest_of}

@@ -1,7 +1,5 @@
-use Rattle.std.proofs.Common.{◌≡◌, ◌+◌, ◌++◌, ◌∷◌, length, arith, length-append}
-use Rattle.strat_base.specs.Numbers.{be, placed}
-use Rattle.strat_base.specs.Change.{change_bytes}
-use Rattle.strat_base.specs.ChangeView.{change_of}
+use Rattle.std.proofs.Common.{◌∷◌, arith}
+use Rattle.strat_base.specs.Numbers.{be}
 use Rattle.strat_base.specs.Fields.{key_field, value_field}
 use Rattle.strat_base.proofs.NumberLemmas.{length-be}
 use Rattle.strat_base.proofs.FieldLemmas.{length-value_field}
