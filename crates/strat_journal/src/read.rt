@@ -91,8 +91,8 @@ fn test(logged: &[Logged], mem: u32, others: bool, block: u32) -> Result<(), Tro
         ≡ Ok (map logged_of logged.now)) }
     ensures apart { OnOk result (IsTrue others → length logged.now ≢ mem) }
     ensures damaged { IfErr result
-        (λ e. (b : ℕ) × (e ≡ Damaged b) × 
-          (alone_then mem others block (map logged_of logged.now) ≡ Err b)) }
+        (λ e. (b : ℕ) × (e ≡ Damaged b) ×
+        (alone_then mem others block (map logged_of logged.now) ≡ Err b)) }
 {
     if goes_on(logged.len(), mem, others) {
         return Err(Trouble::Damaged { block });
