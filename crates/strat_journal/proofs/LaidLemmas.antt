@@ -10,7 +10,7 @@ use Rattle.strat_base.specs.Layout.{region_at, region_size, other_region}
 use Rattle.strat_base.proofs.ChangeLemmas.{length-change_bytes}
 use Rattle.strat_journal.specs.Laid.{Laid}
 use Rattle.strat_base.specs.Damage.{Read, and_then}
-use Rattle.strat_base.specs.Records.{Logged, records_bytes, full_then, records, region_records, journal_of}
+use Rattle.strat_base.specs.Records.{Logged, records_bytes, full_then, region_records, journal_of}
 use Rattle.strat_journal.specs.Records.{logged_from, changes_in_order, changes_of}
 use Rattle.strat_journal.proofs.RecordLemmas.{changes, none_text, laid_read, read_laid}
 

@@ -1,13 +1,13 @@
 -- What an opening reads today, and the journal.
 use Rattle.std.proofs.Common.{map, ◌≡◌, ◌≢◌, ◌≤◌, ◌<◌, ◌+◌, ◌-◌, ℕ, zero, suc, Bool, true, false, eqb, cond, ◌&&◌, not, inl, inr, List, [], ◌∷◌, ◌++◌, length, find, Option, Some, None, Result, Ok, Err, refl, sym, ap, ◌∙◌, arith, length-append, true≢false}
 use Rattle.std.specs.List.{list_all}
-use Rattle.std.proofs.lemmas.Bool.{and_from, eqb-true, eq-eqb, and_parts, cond-true, cases_Bool, cases_eq}
+use Rattle.std.proofs.lemmas.Bool.{and_from, eqb-true, eq-eqb, and_parts, cases_Bool, cases_eq}
 use Rattle.std.proofs.lemmas.List.{append-nil, length-map}
 use Rattle.strat_base.specs.Image.{Image, window}
 use Rattle.strat_base.specs.Change.{Change, change_bytes, change_in}
 use Rattle.strat_base.specs.Layout.{region_first, region_at, region_size, other_region}
 use Rattle.strat_base.specs.Damage.{Read, and_then, passed_or, put_first}
-use Rattle.strat_base.specs.Records.{Logged, is_open, block_of, record_then, records, region_records, journal_of, is_other_open, journal_in_one}
+use Rattle.strat_base.specs.Records.{Logged, is_open, block_of, record_then, records, region_records, journal_of}
 use Rattle.strat_journal.specs.declared.journal.Logged.{Logged as Owned}
 use Rattle.std.specs.Option.{option_map}
 use Rattle.strat_journal.specs.Records.{changes_in_order, changes_of, logged_of, is_plain, plain_or, plain, alone_then, journal_now}

@@ -7,7 +7,7 @@ use Rattle.strat_base.specs.Moments.{View}
 use Rattle.strat_base.specs.Change.{change_bytes, change_in}
 use Rattle.strat_base.specs.Layout.{region_at, region_size}
 use Rattle.strat_journal.specs.declared.journal.Logged.{Logged as Owned}
-use Rattle.strat_base.specs.Damage.{Read, and_then, put_first}
+use Rattle.strat_base.specs.Damage.{put_first}
 use Rattle.strat_base.specs.Records.{Logged, is_open, block_of, record_then, records, region_records}
 use Rattle.strat_journal.specs.Records.{logged_of}
 use Rattle.strat_journal.proofs.LaidLemmas.{joined}

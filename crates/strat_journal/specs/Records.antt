@@ -1,5 +1,5 @@
 -- What a journal holds of a disk's records.
-use Rattle.std.specs.Prelude.{◌≡◌, ℕ, ◌+◌, ◌==◌, ◌&&◌, not, Bool, false, List, [], ◌∷◌, length, map, find, Option, Some, None, Ok, Err}
+use Rattle.std.specs.Prelude.{ℕ, ◌+◌, ◌==◌, ◌&&◌, not, Bool, false, List, [], ◌∷◌, length, map, find, Option, Some, None, Ok, Err}
 use Rattle.strat_base.specs.Image.{Image}
 use Rattle.strat_base.specs.Change.{Change, Put, change_bytes}
 use Rattle.strat_base.specs.Damage.{Read, and_then, passed_or}
