@@ -1,5 +1,5 @@
 -- How the calls on a disk compose: what holds of every image since the first of them.
-use Rattle.std.proofs.Common.{◌≡◌, ◌≤◌, ◌<◌, ℕ, ◌+◌, inl, inr, ◌⊎◌, List, length, Option, Some, IfSome, Result, IsErr, refl, sym, ap, subst, arith}
+use Rattle.std.proofs.Common.{◌≡◌, ◌≤◌, ℕ, ◌+◌, inl, inr, ◌⊎◌, List, length, Option, Some, IfSome, Result, IsErr, subst, arith}
 use Rattle.std.proofs.lemmas.Result.{IfOk-from_err}
 use Rattle.std.proofs.lemmas.Bool.{cases_lt}
 use Rattle.strat_base.specs.Image.{Image, Outside, patch}

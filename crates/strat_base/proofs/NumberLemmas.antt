@@ -1,5 +1,5 @@
 -- Numbers written into a slice.
-use Rattle.std.proofs.Common.{◌≡◌, ℕ, ◌+◌, ◌-◌, ◌^◌, ◌<◌, ◌≤◌, List, ◌++◌, [], length, get_or, take, drop, refl, sym, ap, ◌∙◌, append_assoc, length-drop, length-take, inl, inr, arith, Some, None, true, false, nat_le, ◌∷◌, ◌*◌, ◌%◌}
+use Rattle.std.proofs.Common.{◌≡◌, ℕ, ◌+◌, ◌-◌, ◌^◌, ◌<◌, ◌≤◌, List, ◌++◌, [], length, take, drop, refl, sym, ap, ◌∙◌, append_assoc, length-drop, length-take, inl, inr, arith, Some, None, true, false, nat_le, ◌∷◌, ◌*◌, ◌%◌}
 use Rattle.std.proofs.lemmas.List.{drop-drop, drop_all, take_all, append-nil, get_or-take, get_or-drop, get_or_past}
 use Rattle.std.proofs.lemmas.Bool.{cases_lt, lt-leb, le-leb}
 use Rattle.std.proofs.lemmas.Nat.{be_bytes_2, be_bytes_4, be_bytes_8}

@@ -1,5 +1,5 @@
 -- Numbers one after the other, written and read back.
-use Rattle.std.proofs.Common.{◌≡◌, ◌≤◌, ◌<◌, ◌==◌, ◌&&◌, ℕ, zero, suc, ◌+◌, ◌-◌, ◌^◌, Bool, true, if◌then◌else◌, List, [], ◌∷◌, ◌++◌, length, take, drop, get_or, Option, Some, None, refl, sym, ◌∙◌, ap, subst, arith, append_assoc, length-append, slice_index, lit<, ◌≢◌, IfSome, inl, inr}
+use Rattle.std.proofs.Common.{◌≡◌, ◌<◌, ℕ, zero, suc, ◌+◌, ◌^◌, true, List, [], ◌∷◌, ◌++◌, length, take, drop, get_or, Option, Some, None, refl, sym, ◌∙◌, ap, subst, arith, append_assoc, length-append, lit<, ◌≢◌, IfSome, inl, inr}
 use Rattle.std.proofs.lemmas.Bool.{cond-true, cond-false, and_from, and_left, eq-eqb, ne_eqb, le-leb, lt-ltb, le-ltb, cases_lt}
 use Rattle.std.proofs.Math.Seq.{drop-append-add}
 use Rattle.std.proofs.lemmas.List.{drop-drop, drop_at, take_at, append-nil, length-replicate}

@@ -6,7 +6,6 @@ use Rattle.std.proofs.lemmas.Bool.Decides.{nat_tests}
 use Rattle.strat_base.specs.Image.{Image}
 use Rattle.strat_base.specs.Moments.{View, Images, Since, Passes}
 use Rattle.strat_base.specs.Trail.{At, Trail}
-use Rattle.strat_base.proofs.MomentLemmas.{since_now}
 
 pub at_left : {T : Type 0} (xs ys : List T) (i : ℕ) (P : T → Type 0) → At xs i P → At (xs ++ ys) i P
 at_left [] ys i P h = absurd h
@@ -60,6 +59,21 @@ trail_of_one shows v start x rest later each = record {
   last = later;
   place = omega arith;
   each = λ k m c le low high left. (0, omega arith, each c (record { at = m; from = low; till = high; left = left }));
+}
+
+-- a call in which each image shows the table before or the one after
+pub trail_of_either : {T : Type 0} (shows : Image → T → Type 0) (v : View) (start : ℕ) (x y : T) (rest : List T) → start ≤ v.moment
+    → ((c : Image) → Since v start c → shows c x ⊎ shows c y) → Trail shows v start (x ∷ y ∷ rest) 0
+trail_of_either shows v start x y rest later each = record {
+  mark = λ _. start;
+  first = refl;
+  rise = λ k le. omega arith;
+  last = later;
+  place = omega arith;
+  each = λ k m c le low high left. elim (each c (record { at = m; from = low; till = high; left = left })) [
+    | inl old ↦ (0, omega arith, old)
+    | inr new ↦ (1, omega arith, new)
+  ];
 }
 
 -- a call in which each image shows the table before or the one after, and at whose end each shows the one after

@@ -1,5 +1,4 @@
 -- Changes in memory, as changes.
-use Rattle.std.specs.Prelude.{ℕ, List}
 use Rattle.strat_base.specs.declared.changes.Change.{Change as Borrowed}
 use Rattle.strat_base.specs.declared.changes.Change.TheVariants as borrowed
 use Rattle.strat_base.specs.declared.changes.Kind.{Kind}

@@ -14,7 +14,8 @@ use Rattle.strat_model.specs.Pairs.{Pairs}
 use Rattle.strat_model.specs.Answer.{Answer, plain}
 use Rattle.strat_model.specs.Spelling.{counted, status_byte, reply_fields, reply_body, is_given, FitsReply, SpellsReply}
 use Rattle.std.specs.Prelude.{IfSome, IfNone}
-use Rattle.strat_frame.specs.Fields.{Finds, number_then, counted_then, simple_reply, value_in, answer_in, reply_in}
+use Rattle.strat_base.specs.Finds.{Finds}
+use Rattle.strat_frame.specs.Fields.{number_then, counted_then, simple_reply, value_in, answer_in, reply_in}
 use Rattle.strat_frame.specs.Replies.{as_told}
 use Rattle.strat_frame.proofs.FieldLemmas.{bind_some, chosen, number_takes, number_again, counted_takes, counted_again, all_parts, front_parts}
 

@@ -1,5 +1,5 @@
 -- Reading the fields of a body from left to right.
-use Rattle.std.specs.Prelude.{◌≡◌, ℕ, ◌==◌, nat_le, if◌then◌else◌, List, [], ◌∷◌, length, take, drop, Option, Some, None}
+use Rattle.std.specs.Prelude.{ℕ, ◌==◌, nat_le, if◌then◌else◌, List, [], ◌∷◌, length, take, drop, Option, Some, None}
 use Rattle.std.specs.Option.{option_and_then, option_map}
 use Rattle.strat_base.specs.Numbers.{number}
 use Rattle.strat_model.specs.Request.{Request, Put, Get}
@@ -9,11 +9,6 @@ use Rattle.strat_model.specs.declared.replies.Reply.TheVariants as reply
 use Rattle.strat_model.specs.declared.replies.Refusal.TheVariants as why
 use Rattle.strat_model.specs.Answer.{Answer, plain}
 use Rattle.strat_model.specs.Spelling.{is_taken}
-
--- what a function found is what reading finds, seen by view
-abbrev pub Finds : {X Y : Type 0} → (X → Y) → Option X → Option Y → Type 0
-Finds view None read = read ≡ None
-Finds view (Some x) read = read ≡ Some (view x)
 
 -- a number of k bytes, and what follows it
 abbrev pub number_then : ℕ → List ℕ → Option (ℕ × List ℕ)

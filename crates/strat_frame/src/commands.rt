@@ -5,7 +5,8 @@ ghost use Rattle.strat_base.specs.Numbers.{be};
 ghost use Rattle.strat_model.specs.Command.{request_of};
 ghost use Rattle.strat_model.specs.Spelling.{Spells, counted, command_bytes, command_body, is_lawful};
 ghost use Rattle.strat_model.specs.Stream.{frame};
-ghost use Rattle.strat_frame.specs.Fields.{Finds, put_in, get_in, request_in, command_in};
+ghost use Rattle.strat_base.specs.Finds.{Finds};
+ghost use Rattle.strat_frame.specs.Fields.{put_in, get_in, request_in, command_in};
 ghost use Rattle.strat_frame.specs.Faults.{IsFaulty};
 
 use crate::buffer::{OutBuf, REPLY_MAX};

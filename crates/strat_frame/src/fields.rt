@@ -1,7 +1,8 @@
 //! The fields of a body, read from left to right: each answers its value and what follows it.
 
 ghost use Rattle.std.specs.Prelude.{◌≡◌};
-ghost use Rattle.strat_frame.specs.Fields.{Finds, number_then, counted_then};
+ghost use Rattle.strat_base.specs.Finds.{Finds};
+ghost use Rattle.strat_frame.specs.Fields.{number_then, counted_then};
 
 use strat_base::{get_u8, get_u16, get_u32};
 
