@@ -1,315 +1,373 @@
--- A serving run, from its first byte to its end.
-use Rattle.std.proofs.Common.{◌≡◌, ◌≢◌, ℕ, zero, suc, ◌+◌, ◌-◌, ◌<◌, ◌≤◌, Bool, true, false, cond, leb, ltb, eqb, ◌&&◌, ◌||◌, List, [], ◌∷◌, ◌++◌, length, take, drop, Option, Some, None, refl, sym, ap, subst, ◌∙◌, append_assoc, length-append, length-take, length-drop, inl, inr, ◌⊎◌, arith}
-use Rattle.std.proofs.lemmas.List.{append-nil, take-append-drop, take-append-le, take_at, take_all}
-use Rattle.strat_io.specs.Streams.{Appends, Gives}
-use Rattle.strat_io.proofs.StreamLemmas.{appends_then}
-use Rattle.std.specs.List.{flat_map}
-use Rattle.strat_base.specs.declared.limits.TheConstants.{CHANGES_MAX}
-use Rattle.strat_model.specs.Table.{Table, fresh}
-use Rattle.strat_model.specs.Stream.{frame, is_partial, is_too_long, Splits, Whole, Rest, Long, ending_of}
-use Rattle.strat_model.specs.Run.{Run, text}
+-- How a serving run ends.
+use Rattle.std.proofs.Common.{◌≡◌, ◌≢◌, ℕ, ◌+◌, ◌<◌, ◌≤◌, true, false, cond, eqb, List, [], ◌∷◌, ◌++◌, length, take, map, Option, Some, None, refl, sym, ap, subst, ◌∙◌, append_assoc, length-append, inl, inr, arith}
+use Rattle.std.specs.Prelude.{if◌then◌else◌}
+use Rattle.std.specs.List.{flat_map, AllByRecursion}
+use Rattle.std.proofs.lemmas.Bool.{and_right, or_left, or_right, eq-eqb, ne_eqb, cases_eq}
+use Rattle.std.proofs.lemmas.List.{append-nil, length-map, take_at}
+use Rattle.std.proofs.lemmas.List.Concat.{flat_map-append}
+use Rattle.strat_base.specs.Faults.{Rose}
+use Rattle.strat_base.specs.Image.{Image}
+use Rattle.strat_base.specs.Moments.{View, Passes}
 use Rattle.strat_base.specs.Numbers.{AreBytes}
+use Rattle.strat_base.specs.Trail.{Trail}
+use Rattle.strat_io.specs.Streams.{Appends}
+use Rattle.strat_io.proofs.StreamLemmas.{appends_then}
 use Rattle.strat_model.specs.declared.ended.Ended.{Ended}
 use Rattle.strat_model.specs.declared.ended.Ended.TheVariants as ended
-use Rattle.strat_base.specs.Faults.{Rose}
-use Rattle.strat_model.specs.Ended.{status_of}
-use Rattle.castle.specs.Job.{EndsAsInput}
-use Rattle.castle.specs.Batch.{at, Batch, SendsFront, too_long_bytes}
-use Rattle.castle.specs.Session.{Took, IsAtEnd, Progress, Session, IsSession, IsWhole, Served, HasCause, said, start}
-use Rattle.castle.proofs.BatchLemmas.{no_batch, batch_then, run_length, each_then}
+use Rattle.strat_model.specs.Stream.{frame, IsBody, is_partial, is_too_long, Splits, Whole, Rest, Long, ending_of}
+use Rattle.strat_model.specs.Table.{Table, bare}
+use Rattle.strat_model.specs.Run.{Told, told_bytes, ToldFault, Exchange, Halt, Talk, bodies_of, tolds_of, tables_of, text}
+use Rattle.castle.specs.Opened.{Shows, IsAlone, IsAtRest}
+use Rattle.castle.specs.Store.{Attached, place_of, StandsOn, Moves}
+use Rattle.castle.specs.Session.{IsAtEnd, SendsFront, too_long_bytes, IsTold, IsHalted, IsAnswered, Session, IsSession, IsWhole, said, said_last, Sends, EndsFor, Follows, Served, Progress}
+use Rattle.castle.proofs.ProgressLemmas.{tables_before, trail_more_by, text_more, answers}
 use Rattle.castle.proofs.StreamLemmas.{partial_not_long, frames_of}
-use Rattle.std.proofs.lemmas.Bool.{and_right, or_left, or_right, eq-eqb, ne_eqb, cases_eq}
-use Rattle.std.proofs.lemmas.List.Concat.{flat_map-append}
 
--- what was read was taken from the source
-pub took_piece : (before now : Option (List ℕ)) (into more : List ℕ) (n : ℕ) → Gives before now into n → n ≤ length into → Took before now (take n (into ++ more))
-took_piece before now into more n gives fits =
-    let front : take n (into ++ more) ≡ take n into = take-append-le n into more fits in
-    record {
-      told = λ left e. (drop n left, sym (take-append-drop n left) ∙ ap (λ (x : List ℕ). x ++ drop n left) (sym (front ∙ gives.bytes left e)), gives.rest left e);
-      untold = gives.untold;
-    }
+-- bodies one after the other that fit
+each_then : (xs : List (List ℕ)) (ys : List (List ℕ)) → AllByRecursion IsBody xs → AllByRecursion IsBody ys → AllByRecursion IsBody (xs ++ ys)
+each_then [] ys first second = second
+each_then (x ∷ xs) ys first second = (first.0, each_then xs ys first.1 second)
 
--- nothing given to a buffer with room is the end
-pub at_end : (before now : Option (List ℕ)) (into : List ℕ) (n : ℕ) → Gives before now into n → n ≡ 0 → 0 < length into → IsAtEnd now
-at_end None now into n gives none room = λ left e. absurd (let f : ◌≡◌ {A = Option (List ℕ)} None (Some left) = sym (gives.untold refl) ∙ e in cc)
-at_end (Some l) now into n gives none room = λ left e.
-    let nothing : l ≡ [] = gives.at_end l refl none room in
-    let f : Some (drop n l) ≡ Some left = sym (gives.rest l refl) ∙ e in
-    let same : drop n l ≡ left = cc in
-    sym same ∙ ap (drop n) nothing ∙ ap (λ (k : ℕ). drop k []) none
+-- the bodies of answers fit
+bodies_fit : (xs : List Exchange) → AllByRecursion (λ x. IsBody x.body) xs → AllByRecursion IsBody (map (λ (x : Exchange). x.body) xs)
+bodies_fit [] each = tt
+bodies_fit (x ∷ xs) each = (each.0, bodies_fit xs each.1)
 
--- bytes that were taken one after the other
-pub took_then : (a b c : Option (List ℕ)) (x y : List ℕ) → Took a b x → Took b c y → Took a c (x ++ y)
-took_then a b c x y first second = record {
-  told = λ left e.
-      let one = first.told left e in
-      let two = second.told one.0 one.2 in
-      (two.0, one.1 ∙ ap (λ (z : List ℕ). x ++ z) two.1 ∙ sym (append_assoc x y two.0), two.2);
-  untold = λ e. second.untold (first.untold e);
+-- the frames of answers are those of their bodies
+frames_same : (xs : List Exchange) → flat_map (λ (x : Exchange). frame x.body) xs ≡ flat_map frame (map (λ (x : Exchange). x.body) xs)
+frames_same [] = refl
+frames_same (x ∷ xs) = ap (λ (y : List ℕ). frame x.body ++ y) (frames_same xs)
+
+-- each image at the end of a trail shows a table at its number or behind it
+pub at_last : (before now : View) (talk : Talk) → Trail Shows now before.moment (tables_of talk) (length talk.exchanges) → Follows before now talk
+at_last before now talk trail = record {
+  trail = trail;
+  left = λ c left. trail.each (length talk.exchanges) now.moment c (omega arith) trail.last (omega arith) left;
 }
 
--- nothing was taken
-pub took_none : (s : Option (List ℕ)) → Took s s []
-took_none s = record { told = λ left e. (left, refl, e); untold = λ e. e }
+-- a run that was not broken, over the bodies answered and others behind them
+module _ (start now : Attached) (count budget : ℕ) (held : List ℕ) (s0 s1 k0 k1 : Option (List ℕ)) (d0 d1 : View) (e0 e1 : ℕ)
+    (p : Progress start now count held s0 s1 k0 k1 d0 d1) (within : count ≤ budget) where
+  abbrev talk : Talk
+  talk = record { exchanges = p.exchanges; after = place_of now; halt = None }
 
-module _ (mem : ℕ) (s0 s1 s2 k0 k1 k2 : Option (List ℕ)) where
-  -- a run begins with nothing taken
-  pub begins : Progress mem 0 (fresh CHANGES_MAX 1) [] s0 s0 k0 k0
-  begins = let none = no_batch mem 0 (fresh CHANGES_MAX 1) [] k0 in
-      record { taken = []; counted = refl; took = took_none s0; batch = none.0; sent = none.1 }
+  abbrev session : List (List ℕ) → List ℕ → Session
+  session others rest = record { taken = p.taken; bodies = map (λ (x : Exchange). x.body) p.exchanges ++ others; rest = rest; talk = talk }
 
-  -- more bytes were taken
-  pub takes_more : (count : ℕ) (table : Table) (rest piece : List ℕ) → Progress mem count table rest s0 s1 k0 k1 → Took s1 s2 piece → Progress mem (count + length piece) table (rest ++ piece) s0 s2 k0 k1
-  takes_more count table rest piece p took = record {
-    taken = p.taken ++ piece;
-    counted = length-append p.taken piece ∙ ap (λ (n : ℕ). n + length piece) p.counted;
-    took = took_then s0 s1 s2 p.taken piece p.took took;
-    batch = record {
-      bodies = p.batch.bodies;
-      tolds = p.batch.tolds;
-      fill = p.batch.fill;
-      parts = ap (λ (x : List ℕ). x ++ piece) p.batch.parts ∙ append_assoc (flat_map frame p.batch.bodies) rest piece;
-      each = p.batch.each;
-      run = p.batch.run;
-    };
-    sent = p.sent;
-  }
+  bodies_all : bodies_of talk ≡ map (λ (x : Exchange). x.body) p.exchanges
+  bodies_all = append-nil (map (λ (x : Exchange). x.body) p.exchanges)
 
-  -- nothing more was taken
-  pub takes_none : (count : ℕ) (table : Table) (rest : List ℕ) → Progress mem count table rest s0 s1 k0 k1 → Took s1 s2 [] → Progress mem count table rest s0 s2 k0 k1
-  takes_none count table rest p took = record {
-    taken = p.taken;
-    counted = p.counted;
-    took = subst (λ (x : List ℕ). Took s0 s2 x) (append-nil p.taken) (took_then s0 s1 s2 p.taken [] p.took took);
-    batch = p.batch;
-    sent = p.sent;
-  }
+  tolds_all : tolds_of talk ≡ map (λ (x : Exchange). x.told) p.exchanges
+  tolds_all = append-nil (map (λ (x : Exchange). x.told) p.exchanges)
 
-  -- the frames held were answered
-  pub answers_more : (count : ℕ) (t1 t2 : Table) (h1 h2 : List ℕ) → Progress mem count t1 h1 s0 s1 k0 k1
-      → ((m f : ℕ) → (b : Batch m (at t1 f) t2 h1 h2) × Appends k1 k2 (text b.tolds)) → Progress mem count t2 h2 s0 s1 k0 k2
-  answers_more count t1 t2 h1 h2 p more =
-      let next = more mem p.batch.fill in
-      let joined = batch_then mem start t1 t2 p.taken h1 h2 p.batch next.0 in
-      record {
-        taken = p.taken;
-        counted = p.counted;
-        took = p.took;
-        batch = joined.0;
-        sent = subst (λ (x : List ℕ). Appends k0 k2 x) (sym joined.1) (appends_then k0 k1 k2 (text p.batch.tolds) (text next.0.tolds) p.sent next.1);
-      }
-
--- answers in a row as a session, with bodies that were not answered
-abbrev session_of : (mem : ℕ) (t : Table) (taken h : List ℕ) → Batch mem start t taken h → List (List ℕ) → List ℕ → Session
-session_of mem t taken h b others rest = record { taken = taken; bodies = b.bodies ++ others; rest = rest; tolds = b.tolds; after = at t b.fill }
-
-module _ (mem budget : ℕ) (t : Table) (taken h : List ℕ) (b : Batch mem start t taken h) (within : length taken ≤ budget) where
-  -- they are those of a run over the first bodies, if what is held splits into these bodies and this rest
-  pub is_session : (others : List (List ℕ)) (rest : List ℕ) → Splits h others rest → IsSession mem budget (session_of mem t taken h b others rest)
+  is_session : (others : List (List ℕ)) (rest : List ℕ) → Splits held others rest → IsSession start.log.mem budget (place_of start) (session others rest)
   is_session others rest splits =
-      let first : take (length b.tolds) (b.bodies ++ others) ≡ b.bodies =
-      take_at b.bodies others (length b.tolds) (sym (run_length mem start (at t b.fill) b.bodies b.tolds b.run)) in
+      let bodies = map (λ (x : Exchange). x.body) p.exchanges in
       record {
         splits = record {
-          whole = b.parts ∙ ap (λ (x : List ℕ). flat_map frame b.bodies ++ x) splits.whole
-              ∙ sym (append_assoc (flat_map frame b.bodies) (flat_map frame others) rest)
-              ∙ ap (λ (x : List ℕ). x ++ rest) (sym (flat_map-append frame b.bodies others));
-          each = each_then b.bodies others b.each splits.each;
+          whole = p.parts ∙ ap (λ (x : List ℕ). x ++ held) (frames_same p.exchanges) ∙ ap (λ (x : List ℕ). flat_map frame bodies ++ x) splits.whole
+              ∙ sym (append_assoc (flat_map frame bodies) (flat_map frame others) rest)
+              ∙ ap (λ (x : List ℕ). x ++ rest) (sym (flat_map-append frame bodies others));
+          each = each_then bodies others (bodies_fit p.exchanges p.each) splits.each;
           last = splits.last;
         };
-        run = subst (λ (x : List (List ℕ)). Run mem start x b.tolds (at t b.fill)) (sym first) b.run;
-        within = within;
+        talk = record { run = p.run; halted = tt };
+        front = ap (λ (x : List (List ℕ)). take (length x) (bodies ++ others)) bodies_all ∙ take_at bodies others (length bodies) refl ∙ sym bodies_all;
+        within = omega (arith, p.counted);
       }
 
-  -- where no body is left unanswered
-  is_whole : IsWhole (session_of mem t taken h b [] h)
-  is_whole = run_length mem start (at t b.fill) b.bodies b.tolds b.run ∙ ap (λ (x : List (List ℕ)). length x) (sym (append-nil b.bodies))
+  is_whole : IsWhole (session [] held)
+  is_whole = record {
+    all = sym (length-map p.exchanges (λ (x : Exchange). x.body)) ∙ ap length (sym (append-nil (map (λ (x : Exchange). x.body) p.exchanges)));
+    unbroken = refl;
+  }
 
-  -- the front of the answers is the front of all there is to say
-  front_said : (others : List (List ℕ)) (rest : List ℕ) (k0 k1 : Option (List ℕ)) → SendsFront k0 k1 (text b.tolds) → SendsFront k0 k1 (said (session_of mem t taken h b others rest))
-  front_said others rest k0 k1 front =
-      let closing = cond (eqb (length b.tolds) (length (b.bodies ++ others)) && is_too_long rest) too_long_bytes [] in
-      record { sent = front.sent; later = front.later ++ closing; parts = ap (λ (x : List ℕ). x ++ closing) front.parts ∙ append_assoc front.sent front.later closing; appends = front.appends }
+  follows : (f : Image) → d0.content ≡ Some f → IsAlone d0 f → Follows d0 d1 talk
+  follows f e alone = at_last d0 d1 talk (p.trail f e alone)
 
-  -- a sink failed at an answer
-  pub served_cut : (s0 s1 k0 k1 : Option (List ℕ)) → AreBytes h → Took s0 s1 taken → SendsFront k0 k1 (text b.tolds) → Served mem budget ended.Sink s0 s1 k0 k1
-  served_cut s0 s1 k0 k1 fits took front =
-      let f = frames_of h fits in
-      record { session = session_of mem t taken h b f.bodies f.rest; is = is_session f.bodies f.rest f.splits; took = took; sends = front_said f.bodies f.rest k0 k1 front; ends = tt }
+  -- a crash leaves one image, as after each answer
+  rests : (f : Image) → d0.content ≡ Some f → IsAtRest d1
+  rests f e = let stands = p.stands f e in record { content = stands.holds.content; told = stands.holds.told; alone = stands.holds.settled }
+
+  -- all that was said so far
+  sent_so_far : Appends k0 k1 (text (tolds_of talk))
+  sent_so_far = subst (λ (x : List Told). Appends k0 k1 (text x)) (sym tolds_all) p.sent
+
+  -- the sink failed at the reply that went before
+  pub ends_cut : (k2 : Option (List ℕ)) → AreBytes held → SendsFront k0 k2 (text (map (λ (x : Exchange). x.told) p.exchanges)) → Served budget ended.Sink s0 s1 k0 k2 d0 d1 e0 e1
+  ends_cut k2 fits front =
+      let f = frames_of held fits in
+      let all = said (session f.bodies f.rest) in
+      let last = said_last None (eqb (length p.exchanges) (length (session f.bodies f.rest).bodies)) (is_too_long f.rest) in
+      record {
+        mem = start.log.mem;
+        start = place_of start;
+        session = session f.bodies f.rest;
+        is = is_session f.bodies f.rest f.splits;
+        took = p.took;
+        sends = record {
+          sent = front.sent;
+          later = front.later ++ last;
+          parts = ap (λ (x : List ℕ). x ++ last) (ap text tolds_all ∙ front.parts) ∙ append_assoc front.sent front.later last;
+          some = omega (arith, front.some, length-append front.later last);
+          appends = front.appends;
+        };
+        ends = tt;
+        faulted = λ some. absurd (some refl);
+        begins = p.begins;
+        follows = follows;
+        rests = λ f e unbroken. rests f e;
+      }
 
   -- behind the answers stands a frame that is too long
-  module _ (long : is_too_long h ≡ true) (s0 s1 k0 k1 k2 : Option (List ℕ)) (took : Took s0 s1 taken) (sent : Appends k0 k1 (text b.tolds)) where
-    splits_long : Splits h [] h
-    splits_long = record { whole = refl; each = tt; last = or_left (is_too_long h) (is_partial h) long }
+  module _ (long : is_too_long held ≡ true) where
+    splits_long : Splits held [] held
+    splits_long = record { whole = refl; each = tt; last = or_left (is_too_long held) (is_partial held) long }
 
-    said_long : said (session_of mem t taken h b [] h) ≡ text b.tolds ++ too_long_bytes
-    said_long = let all : eqb (length b.tolds) (length (b.bodies ++ [])) ≡ true = eq-eqb _ _ is_whole in rw (all, long) refl
+    said_long : said (session [] held) ≡ text (tolds_of talk) ++ too_long_bytes
+    said_long = let all : eqb (length p.exchanges) (length (session [] held).bodies) ≡ true = eq-eqb _ _ is_whole.all in rw (all, long) refl
 
-    pub served_long : Appends k1 k2 too_long_bytes → Served mem budget ended.FrameTooLong s0 s1 k0 k2
-    served_long more = record {
-      session = session_of mem t taken h b [] h;
-      is = is_session [] h splits_long;
-      took = took;
-      sends = subst (λ (x : List ℕ). Appends k0 k2 x) (sym said_long) (appends_then k0 k1 k2 (text b.tolds) too_long_bytes sent more);
-      ends = (is_whole, let e : ending_of h ≡ Long = rw long refl in e);
+    pub ends_long : (k2 : Option (List ℕ)) → Appends k1 k2 too_long_bytes → Served budget ended.FrameTooLong s0 s1 k0 k2 d0 d1 e0 e1
+    ends_long k2 more = record {
+      mem = start.log.mem;
+      start = place_of start;
+      session = session [] held;
+      is = is_session [] held splits_long;
+      took = p.took;
+      sends = subst (λ (x : List ℕ). Appends k0 k2 x) (sym said_long) (appends_then k0 k1 k2 (text (tolds_of talk)) too_long_bytes sent_so_far more);
+      ends = (is_whole, let e : ending_of held ≡ Long = rw long refl in e);
+      faulted = λ some. absurd (some refl);
+      begins = p.begins;
+      follows = follows;
+      rests = λ f e unbroken. rests f e;
     }
 
-    pub served_long_cut : SendsFront k1 k2 too_long_bytes → Served mem budget ended.Sink s0 s1 k0 k2
-    served_long_cut front = record {
-      session = session_of mem t taken h b [] h;
-      is = is_session [] h splits_long;
-      took = took;
+    pub ends_long_cut : (k2 : Option (List ℕ)) → SendsFront k1 k2 too_long_bytes → Served budget ended.Sink s0 s1 k0 k2 d0 d1 e0 e1
+    ends_long_cut k2 front = record {
+      mem = start.log.mem;
+      start = place_of start;
+      session = session [] held;
+      is = is_session [] held splits_long;
+      took = p.took;
       sends = subst (λ (x : List ℕ). SendsFront k0 k2 x) (sym said_long) (record {
-        sent = text b.tolds ++ front.sent;
+        sent = text (tolds_of talk) ++ front.sent;
         later = front.later;
-        parts = ap (λ (x : List ℕ). text b.tolds ++ x) front.parts ∙ sym (append_assoc (text b.tolds) front.sent front.later);
-        appends = appends_then k0 k1 k2 (text b.tolds) front.sent sent front.appends;
+        parts = ap (λ (x : List ℕ). text (tolds_of talk) ++ x) front.parts ∙ sym (append_assoc (text (tolds_of talk)) front.sent front.later);
+        some = front.some;
+        appends = appends_then k0 k1 k2 (text (tolds_of talk)) front.sent sent_so_far front.appends;
       });
       ends = tt;
+      faulted = λ some. absurd (some refl);
+      begins = p.begins;
+      follows = follows;
+      rests = λ f e unbroken. rests f e;
     }
 
   -- behind the answers stands less than a frame
-  module _ (part : is_partial h ≡ true) (s0 s1 k0 k1 : Option (List ℕ)) (took : Took s0 s1 taken) (sent : Appends k0 k1 (text b.tolds)) where
-    splits_none : Splits h [] h
-    splits_none = record { whole = refl; each = tt; last = or_right (is_too_long h) (is_partial h) part }
+  module _ (part : is_partial held ≡ true) where
+    splits_part : Splits held [] held
+    splits_part = record { whole = refl; each = tt; last = or_right (is_too_long held) (is_partial held) part }
 
-    said_all : said (session_of mem t taken h b [] h) ≡ text b.tolds
-    said_all = rw (partial_not_long h part) (rw (and_right (eqb (length b.tolds) (length (b.bodies ++ []))) false refl) (append-nil (text b.tolds)))
+    said_all : said (session [] held) ≡ text (tolds_of talk)
+    said_all = rw (partial_not_long held part) (rw (and_right (eqb (length p.exchanges) (length (session [] held).bodies)) false refl) (append-nil (text (tolds_of talk))))
 
-    not_long : ending_of h ≢ Long
-    not_long e = let f : cond (eqb (length h) 0) Whole Rest ≡ Long = rw (partial_not_long h part) at e in
-        elim (eqb (length h) 0) as (λ b. cond b Whole Rest ≡ Long → ⊥) [ true ↦ λ f. absurd cc | false ↦ λ f. absurd cc ] f
+    not_long : ending_of held ≢ Long
+    not_long e = let f : cond (eqb (length held) 0) Whole Rest ≡ Long = rw (partial_not_long held part) at e in
+        elim (eqb (length held) 0) as (λ b. cond b Whole Rest ≡ Long → ⊥) [ true ↦ λ f. absurd cc | false ↦ λ f. absurd cc ] f
 
-    sends_all : Appends k0 k1 (said (session_of mem t taken h b [] h))
-    sends_all = subst (λ (x : List ℕ). Appends k0 k1 x) (sym said_all) sent
+    sends_all : Appends k0 k1 (said (session [] held))
+    sends_all = subst (λ (x : List ℕ). Appends k0 k1 x) (sym said_all) sent_so_far
 
-    pub served_done : length taken < budget → length h ≡ 0 → IsAtEnd s1 → Served mem budget ended.Done s0 s1 k0 k1
-    served_done less none end = record {
-      session = session_of mem t taken h b [] h;
-      is = is_session [] h splits_none;
-      took = took;
-      sends = sends_all;
-      ends = (is_whole, let e : ending_of h ≡ Whole = rw (partial_not_long h part, none) refl in e, end, less);
+    served_so : (how : Ended) → Sends how k0 k1 (said (session [] held)) → EndsFor how budget (session [] held) s1 → Served budget how s0 s1 k0 k1 d0 d1 e0 e1
+    served_so how sends ends = record {
+      mem = start.log.mem;
+      start = place_of start;
+      session = session [] held;
+      is = is_session [] held splits_part;
+      took = p.took;
+      sends = sends;
+      ends = ends;
+      faulted = λ some. absurd (some refl);
+      begins = p.begins;
+      follows = follows;
+      rests = λ f e unbroken. rests f e;
     }
 
-    pub served_truncated : length taken < budget → eqb (length h) 0 ≡ false → IsAtEnd s1 → Served mem budget ended.Truncated s0 s1 k0 k1
-    served_truncated less some end = record {
-      session = session_of mem t taken h b [] h;
-      is = is_session [] h splits_none;
-      took = took;
-      sends = sends_all;
-      ends = (is_whole, let e : ending_of h ≡ Rest = rw (partial_not_long h part, some) refl in e, end, less);
-    }
+    -- the source ended
+    pub ends_at_end : count < budget → (how : Ended) → (length held ≡ 0 → how ≡ ended.Done) → (length held ≢ 0 → how ≡ ended.Truncated) → IsAtEnd s1 → Served budget how s0 s1 k0 k1 d0 d1 e0 e1
+    ends_at_end less how done truncated end =
+        let fewer : length p.taken < budget = omega (arith, p.counted) in
+        elim (cases_eq (length held) 0) [
+          | inl none ↦ subst (λ (x : Ended). Served budget x s0 s1 k0 k1 d0 d1 e0 e1) (sym (done none))
+              (served_so ended.Done sends_all (is_whole, let e : ending_of held ≡ Whole = rw (partial_not_long held part, none) refl in e, end, fewer))
+          | inr some ↦ subst (λ (x : Ended). Served budget x s0 s1 k0 k1 d0 d1 e0 e1) (sym (truncated some))
+              (let none : eqb (length held) 0 ≡ false = ne_eqb _ _ some in
+              served_so ended.Truncated sends_all (is_whole, let e : ending_of held ≡ Rest = rw (partial_not_long held part, none) refl in e, end, fewer))
+        ]
 
-    pub served_budget : length taken ≡ budget → Served mem budget ended.Budget s0 s1 k0 k1
-    served_budget all = record {
-      session = session_of mem t taken h b [] h;
-      is = is_session [] h splits_none;
-      took = took;
-      sends = sends_all;
-      ends = (is_whole, not_long, all);
-    }
+    -- the budget was used up
+    pub ends_budget : count ≡ budget → Served budget ended.Budget s0 s1 k0 k1 d0 d1 e0 e1
+    ends_budget all = served_so ended.Budget sends_all (is_whole, not_long, p.counted ∙ all)
 
-    pub served_source : Served mem budget ended.Source s0 s1 k0 k1
-    served_source = record {
-      session = session_of mem t taken h b [] h;
-      is = is_session [] h splits_none;
-      took = took;
-      sends = sends_all;
-      ends = (is_whole, not_long);
-    }
+    -- the source failed
+    pub ends_source : Served budget ended.Source s0 s1 k0 k1 d0 d1 e0 e1
+    ends_source = served_so ended.Source sends_all (is_whole, not_long)
 
--- nothing was taken, for want of memory
-pub served_short : (mem budget : ℕ) (s k : Option (List ℕ)) → Served mem budget ended.NoMemory s s k k
-served_short mem budget s k =
-    let none = no_batch mem 0 (fresh CHANGES_MAX 1) [] k in
-    record {
-      session = session_of mem (fresh CHANGES_MAX 1) [] [] none.0 [] [];
-      is = is_session mem budget (fresh CHANGES_MAX 1) [] [] none.0 (omega arith) [] [] (record { whole = refl; each = tt; last = refl });
-      took = took_none s;
-      sends = sends_all mem budget (fresh CHANGES_MAX 1) [] [] none.0 (omega arith) refl s s k k (took_none s) none.1;
-      ends = refl;
-    }
+-- what a sink would hold with these bytes more
+abbrev with_bytes : Option (List ℕ) → List ℕ → Option (List ℕ)
+with_bytes None bytes = None
+with_bytes (Some held) bytes = Some (held ++ bytes)
 
--- a run begins at the table and the bytes of a new server
-pub begins_at : (mem : ℕ) (s k : Option (List ℕ)) (t : Table) (h : List ℕ) → t ≡ fresh CHANGES_MAX 1 → h ≡ [] → Progress mem 0 t h s s k k
-begins_at mem s k t h new none =
-    subst (λ (x : List ℕ). Progress mem 0 t x s s k k) (sym none) (subst (λ (x : Table). Progress mem 0 x [] s s k k) (sym new) (begins mem s s s k k k))
+-- such a sink took them
+took_all : (s : Option (List ℕ)) (bytes : List ℕ) → Appends s (with_bytes s bytes) bytes
+took_all None bytes = record { told = λ held e. absurd (let f : ◌≡◌ {A = Option (List ℕ)} None (Some held) = e in cc); untold = λ e. refl }
+took_all (Some held) bytes = record {
+  told = λ other e. let same : held ≡ other = cc in ap (λ (x : List ℕ). Some (x ++ bytes)) same;
+  untold = λ e. absurd (let f : ◌≡◌ {A = Option (List ℕ)} (Some held) None = e in cc);
+}
 
--- the next piece of a run: read, held and answered
-pub goes_on_with : (mem count n : ℕ) (t1 t2 : Table) (h1 fed h2 piece : List ℕ) (s0 s1 s2 k0 k1 k2 : Option (List ℕ)) → Progress mem count t1 h1 s0 s1 k0 k1
-    → Took s1 s2 piece → length piece ≡ n → fed ≡ h1 ++ piece → ((m f : ℕ) → (b : Batch m (at t1 f) t2 fed h2) × Appends k1 k2 (text b.tolds))
-    → Progress mem (count + n) t2 h2 s0 s2 k0 k2
-goes_on_with mem count n t1 t2 h1 fed h2 piece s0 s1 s2 k0 k1 k2 p took len held more =
-    let q : Progress mem (count + length piece) t1 (h1 ++ piece) s0 s2 k0 k1 = takes_more mem s0 s1 s2 k0 k1 k2 count t1 h1 piece p took in
-    let r : Progress mem (count + n) t1 (h1 ++ piece) s0 s2 k0 k1 = subst (λ (x : ℕ). Progress mem (count + x) t1 (h1 ++ piece) s0 s2 k0 k1) len q in
-    let u : Progress mem (count + n) t1 fed s0 s2 k0 k1 = subst (λ (x : List ℕ). Progress mem (count + n) t1 x s0 s2 k0 k1) (sym held) r in
-    answers_more mem s0 s2 s2 k0 k1 k2 (count + n) t1 t2 fed h2 u more
+-- the next body was answered and kept, and the sink failed at its reply
+pub answers_cut : (start old new : Attached) (count budget : ℕ) (held rest body : List ℕ) (told : Told) (s0 s1 k0 k1 k2 : Option (List ℕ)) (d0 d1 d2 : View) (e0 e1 : ℕ)
+    → Progress start old count held s0 s1 k0 k1 d0 d1 → count ≤ budget → IsTold old body told new → held ≡ frame body ++ rest → IsBody body → AreBytes rest
+    → SendsFront k1 k2 (told_bytes told) → new.log.mem ≡ old.log.mem → (StandsOn d1 old → Moves d1 d2 old new) → Passes d1 d2 → Served budget ended.Sink s0 s1 k0 k2 d0 d2 e0 e1
+answers_cut start old new count budget held rest body told s0 s1 k0 k1 k2 d0 d1 d2 e0 e1 p within is front fits bytes cut mem moves passes =
+    let all = with_bytes k1 (told_bytes told) in
+    let q = answers start old new count held rest body told s0 s1 k0 k1 all d0 d1 d2 p is front fits (took_all k1 (told_bytes told)) mem moves passes in
+    let before = text (map (λ (x : Exchange). x.told) p.exchanges) in
+    ends_cut start new count budget rest s0 s1 k0 all d0 d2 e0 e1 q.0 within k2 bytes (record {
+      sent = before ++ cut.sent;
+      later = cut.later;
+      parts = ap (λ (xs : List Exchange). text (map (λ (x : Exchange). x.told) xs)) q.1
+          ∙ text_more start old new count held rest body told s0 s1 k0 k1 k2 d0 d1 d2 p
+          ∙ ap (λ (x : List ℕ). before ++ x) cut.parts ∙ sym (append_assoc before cut.sent cut.later);
+      some = cut.some;
+      appends = appends_then k0 k1 k2 before cut.sent p.sent cut.appends;
+    })
 
--- a piece that was read and held
-pub holds_piece : (mem count n : ℕ) (t : Table) (h fed piece : List ℕ) (s0 s1 s2 k0 k1 : Option (List ℕ)) → Progress mem count t h s0 s1 k0 k1
-    → Took s1 s2 piece → length piece ≡ n → fed ≡ h ++ piece → Progress mem (count + n) t fed s0 s2 k0 k1
-holds_piece mem count n t h fed piece s0 s1 s2 k0 k1 p took len held =
-    let q : Progress mem (count + length piece) t (h ++ piece) s0 s2 k0 k1 = takes_more mem s0 s1 s2 k0 k1 k1 count t h piece p took in
-    let r : Progress mem (count + n) t (h ++ piece) s0 s2 k0 k1 = subst (λ (x : ℕ). Progress mem (count + x) t (h ++ piece) s0 s2 k0 k1) len q in
-    subst (λ (x : List ℕ). Progress mem (count + n) t x s0 s2 k0 k1) (sym held) r
+-- the next body met a fault
+module _ (start old new : Attached) (count budget : ℕ) (held rest body : List ℕ) (told : Told) (s0 s1 k0 k1 : Option (List ℕ)) (d0 d1 d2 : View) (e0 e1 : ℕ)
+    (p : Progress start old count held s0 s1 k0 k1 d0 d1) (within : count ≤ budget) (is : IsHalted old body told new)
+    (front : held ≡ frame body ++ rest) (fits : IsBody body) (bytes : AreBytes rest) (moves : StandsOn d1 old → Moves d1 d2 old new) (passes : Passes d1 d2) (rose : Rose e0 e1) where
+  abbrev halt : Halt
+  halt = record { body = body; told = told; done = is.done }
 
-module _ (mem count budget : ℕ) (t : Table) (h : List ℕ) (s0 s1 k0 k1 : Option (List ℕ)) (p : Progress mem count t h s0 s1 k0 k1) (within : count ≤ budget) where
-  all_within : length p.taken ≤ budget
-  all_within = subst (λ (n : ℕ). n ≤ budget) (sym p.counted) within
+  abbrev halted : Talk
+  halted = record { exchanges = p.exchanges; after = place_of old; halt = Some halt }
 
-  -- the source failed
-  pub ends_source : is_partial h ≡ true → Served mem budget ended.Source s0 s1 k0 k1
-  ends_source part = served_source mem budget t p.taken h p.batch all_within part s0 s1 k0 k1 p.took p.sent
+  abbrev broken : Session
+  broken =
+      let f = frames_of rest bytes in
+      record { taken = p.taken; bodies = bodies_of halted ++ f.bodies; rest = f.rest; talk = halted }
 
-  -- the budget was used up
-  pub ends_budget : is_partial h ≡ true → budget ≤ count → Served mem budget ended.Budget s0 s1 k0 k1
-  ends_budget part all = served_budget mem budget t p.taken h p.batch all_within part s0 s1 k0 k1 p.took p.sent (omega (arith, p.counted))
+  is_broken : IsSession start.log.mem budget (place_of start) broken
+  is_broken =
+      let f = frames_of rest bytes in
+      let bodies = map (λ (x : Exchange). x.body) p.exchanges in
+      let frames : flat_map frame (bodies ++ body ∷ []) ≡ flat_map frame bodies ++ frame body =
+      flat_map-append frame bodies (body ∷ []) ∙ ap (λ (x : List ℕ). flat_map frame bodies ++ x) (append-nil (frame body)) in
+      record {
+        splits = record {
+          whole = p.parts ∙ ap (λ (x : List ℕ). x ++ held) (frames_same p.exchanges) ∙ ap (λ (x : List ℕ). flat_map frame bodies ++ x) front
+              ∙ sym (append_assoc (flat_map frame bodies) (frame body) rest)
+              ∙ ap (λ (x : List ℕ). x ++ rest) (sym frames)
+              ∙ ap (λ (x : List ℕ). flat_map frame (bodies ++ body ∷ []) ++ x) f.splits.whole
+              ∙ sym (append_assoc (flat_map frame (bodies ++ body ∷ [])) (flat_map frame f.bodies) f.rest)
+              ∙ ap (λ (x : List ℕ). x ++ f.rest) (sym (flat_map-append frame (bodies ++ body ∷ []) f.bodies));
+          each = each_then (bodies ++ body ∷ []) f.bodies (each_then bodies (body ∷ []) (bodies_fit p.exchanges p.each) (fits, tt)) f.splits.each;
+          last = f.splits.last;
+        };
+        talk = record { run = p.run; halted = subst (λ (m : ℕ). ToldFault m (place_of old) body told is.done) p.mem is.fault };
+        front = take_at (bodies ++ body ∷ []) f.bodies (length (bodies ++ body ∷ [])) refl;
+        within = omega (arith, p.counted);
+      }
 
-  -- the source ended
-  pub ends_at_end : count < budget → (how : Ended) → (length h ≡ 0 → how ≡ ended.Done) → (length h ≢ 0 → how ≡ ended.Truncated) → is_partial h ≡ true → IsAtEnd s1 → Served mem budget how s0 s1 k0 k1
-  ends_at_end less how done truncated part end =
-      let taken_less : length p.taken < budget = subst (λ (n : ℕ). n < budget) (sym p.counted) less in
-      elim (cases_eq (length h) 0) [
-        | inl none ↦ subst (λ (x : Ended). Served mem budget x s0 s1 k0 k1) (sym (done none)) (served_done mem budget t p.taken h p.batch all_within part s0 s1 k0 k1 p.took p.sent taken_less none end)
-        | inr some ↦ subst (λ (x : Ended). Served mem budget x s0 s1 k0 k1) (sym (truncated some)) (served_truncated mem budget t p.taken h p.batch all_within part s0 s1 k0 k1 p.took p.sent taken_less (ne_eqb _ _ some) end)
-      ]
+  said_broken : said broken ≡ text (map (λ (x : Exchange). x.told) p.exchanges) ++ told_bytes told
+  said_broken =
+      append-nil (text (tolds_of halted))
+      ∙ flat_map-append told_bytes (map (λ (x : Exchange). x.told) p.exchanges) (told ∷ [])
+      ∙ ap (λ (x : List ℕ). text (map (λ (y : Exchange). y.told) p.exchanges) ++ x) (append-nil (told_bytes told))
 
-  -- the sink failed at a reply
-  pub ends_cut : (t2 : Table) (h2 : List ℕ) (k2 : Option (List ℕ)) → AreBytes h2 → ((m f : ℕ) → (b : Batch m (at t f) t2 h h2) × SendsFront k1 k2 (text b.tolds)) → Served mem budget ended.Sink s0 s1 k0 k2
-  ends_cut t2 h2 k2 fits more =
-      let next = more mem p.batch.fill in
-      let joined = batch_then mem start t t2 p.taken h h2 p.batch next.0 in
-      let old = text p.batch.tolds in
-      let front : SendsFront k0 k2 (text joined.0.tolds) = record {
-        sent = old ++ next.1.sent;
-        later = next.1.later;
-        parts = joined.1 ∙ ap (λ (x : List ℕ). old ++ x) next.1.parts ∙ sym (append_assoc old next.1.sent next.1.later);
-        appends = appends_then k0 k1 k2 old next.1.sent p.sent next.1.appends;
-      } in
-      served_cut mem budget t2 p.taken h2 joined.0 all_within s0 s1 k0 k2 fits p.took front
+  -- the images follow the run, whether the body was carried out or not
+  follows_broken : (f : Image) → d0.content ≡ Some f → IsAlone d0 f → Follows d0 d2 halted
+  follows_broken f e alone =
+      let m = moves (p.stands f e) in
+      let last : Trail Shows d2 d1.moment (bare old.table ∷ bare new.table ∷ []) 0 =
+      subst (λ b. Trail Shows d2 d1.moment (bare old.table ∷ bare new.table ∷ []) (if b then 0 else 1)) is.spent m.trail in
+      let joined = trail_more_by d0.moment d1 d2 old new p.exchanges 0 passes (p.trail f e alone) last in
+      let same : length p.exchanges + 0 ≡ length p.exchanges = omega arith in
+      at_last d0 d2 halted
+      (subst (λ (t : Table). Trail Shows d2 d0.moment (tables_before p.exchanges ++ bare old.table ∷ bare t ∷ []) (length p.exchanges)) (sym is.table)
+      (subst (λ (n : ℕ). Trail Shows d2 d0.moment (tables_before p.exchanges ++ bare old.table ∷ bare new.table ∷ []) n) same joined))
 
-  -- a frame was too long, and the client was told so
-  pub ends_long : (k2 : Option (List ℕ)) → is_too_long h ≡ true → Appends k1 k2 too_long_bytes → Served mem budget ended.FrameTooLong s0 s1 k0 k2
-  ends_long k2 long more = served_long mem budget t p.taken h p.batch all_within long s0 s1 k0 k1 k2 p.took p.sent more
+  -- its reply was sent
+  pub ends_device : (k2 : Option (List ℕ)) → Appends k1 k2 (told_bytes told) → Served budget ended.Device s0 s1 k0 k2 d0 d2 e0 e1
+  ends_device k2 more = record {
+    mem = start.log.mem;
+    start = place_of start;
+    session = broken;
+    is = is_broken;
+    took = p.took;
+    sends = subst (λ (x : List ℕ). Appends k0 k2 x) (sym said_broken) (appends_then k0 k1 k2 (text (map (λ (x : Exchange). x.told) p.exchanges)) (told_bytes told) p.sent more);
+    ends = is.answer;
+    faulted = λ some. rose;
+    begins = p.begins;
+    follows = follows_broken;
+    rests = λ f e unbroken. absurd (let x : ◌≡◌ {A = Option Halt} (Some halt) None = unbroken in cc);
+  }
 
-  -- a frame was too long, and the sink failed at that reply
-  pub ends_long_cut : (k2 : Option (List ℕ)) → is_too_long h ≡ true → SendsFront k1 k2 too_long_bytes → Served mem budget ended.Sink s0 s1 k0 k2
-  ends_long_cut k2 long front = served_long_cut mem budget t p.taken h p.batch all_within long s0 s1 k0 k1 k2 p.took p.sent front
+  -- the sink failed at its reply
+  pub ends_device_cut : (k2 : Option (List ℕ)) → SendsFront k1 k2 (told_bytes told) → Served budget ended.Sink s0 s1 k0 k2 d0 d2 e0 e1
+  ends_device_cut k2 cut = record {
+    mem = start.log.mem;
+    start = place_of start;
+    session = broken;
+    is = is_broken;
+    took = p.took;
+    sends = subst (λ (x : List ℕ). SendsFront k0 k2 x) (sym said_broken) (record {
+      sent = text (map (λ (x : Exchange). x.told) p.exchanges) ++ cut.sent;
+      later = cut.later;
+      parts = ap (λ (x : List ℕ). text (map (λ (y : Exchange). y.told) p.exchanges) ++ x) cut.parts
+          ∙ sym (append_assoc (text (map (λ (x : Exchange). x.told) p.exchanges)) cut.sent cut.later);
+      some = cut.some;
+      appends = appends_then k0 k1 k2 (text (map (λ (x : Exchange). x.told) p.exchanges)) cut.sent p.sent cut.appends;
+    });
+    ends = tt;
+    faulted = λ some. rose;
+    begins = p.begins;
+    follows = follows_broken;
+    rests = λ f e unbroken. absurd (let x : ◌≡◌ {A = Option Halt} (Some halt) None = unbroken in cc);
+  }
 
--- where neither the source nor the sink failed a run ends as its input does, or at the budget, or for want of memory
-pub completes : (mem budget : ℕ) (how : Ended) (s0 s1 k0 k1 : Option (List ℕ)) (source_before source_now sink_before sink_now : ℕ)
-    → Served mem budget how s0 s1 k0 k1 → HasCause how source_before source_now sink_before sink_now → ¬ Rose source_before source_now → ¬ Rose sink_before sink_now → EndsAsInput (status_of how)
-completes mem budget ended.Done s0 s1 k0 k1 a b c d served cause source sink = inl refl
-completes mem budget ended.FrameTooLong s0 s1 k0 k1 a b c d served cause source sink = inr (inl refl)
-completes mem budget ended.Truncated s0 s1 k0 k1 a b c d served cause source sink = inr (inr (inl refl))
-completes mem budget ended.NoMemory s0 s1 k0 k1 a b c d served cause source sink = inr (inr (inr (inl refl)))
-completes mem budget ended.Budget s0 s1 k0 k1 a b c d served cause source sink = inr (inr (inr (inr refl)))
-completes mem budget ended.Source s0 s1 k0 k1 a b c d served cause source sink = absurd (source (cause.source refl))
-completes mem budget ended.Sink s0 s1 k0 k1 a b c d served cause source sink = absurd (sink (cause.sink refl))
-completes mem budget ended.Usage s0 s1 k0 k1 a b c d served cause source sink = absurd served.ends
-completes mem budget ended.NotAStore s0 s1 k0 k1 a b c d served cause source sink = absurd served.ends
-completes mem budget ended.Device s0 s1 k0 k1 a b c d served cause source sink = absurd served.ends
-completes mem budget (ended.Damaged block) s0 s1 k0 k1 a b c d served cause source sink = absurd served.ends
-completes mem budget ended.Unsound s0 s1 k0 k1 a b c d served cause source sink = absurd served.ends
+-- the sink failed at the reply to the next body, whether that met a fault or not
+pub ends_unsent : (start old new : Attached) (count budget : ℕ) (held rest body out : List ℕ) (s0 s1 k0 k1 k2 : Option (List ℕ)) (d0 d1 d2 : View) (e0 e1 : ℕ)
+    → Progress start old count held s0 s1 k0 k1 d0 d1 → count ≤ budget → IsAnswered old body new out → held ≡ frame body ++ rest → IsBody body → AreBytes rest
+    → SendsFront k1 k2 out → new.log.mem ≡ old.log.mem → (StandsOn d1 old → Moves d1 d2 old new) → Passes d1 d2
+    → (new.spent ≡ true → Rose e0 e1) → Served budget ended.Sink s0 s1 k0 k2 d0 d2 e0 e1
+ends_unsent start old new count budget held rest body out s0 s1 k0 k1 k2 d0 d1 d2 e0 e1 p within is front fits bytes cut mem moves passes rose =
+    let unsent : SendsFront k1 k2 (told_bytes is.told) = subst (λ (x : List ℕ). SendsFront k1 k2 x) is.spelled cut in
+    elim is.how [
+      | inl told ↦ answers_cut start old new count budget held rest body is.told s0 s1 k0 k1 k2 d0 d1 d2 e0 e1 p within told front fits bytes unsent mem moves passes
+      | inr halted ↦ ends_device_cut start old new count budget held rest body is.told s0 s1 k0 k1 d0 d1 d2 e0 e1 p within halted front fits bytes moves passes (rose halted.spent) k2 unsent
+    ]
+
+-- the next body met a fault, and its reply was sent
+pub ends_broken : (start old new : Attached) (count budget : ℕ) (held rest body out : List ℕ) (s0 s1 k0 k1 k2 : Option (List ℕ)) (d0 d1 d2 : View) (e0 e1 : ℕ)
+    → Progress start old count held s0 s1 k0 k1 d0 d1 → count ≤ budget → IsAnswered old body new out → new.spent ≡ true → held ≡ frame body ++ rest → IsBody body → AreBytes rest
+    → Appends k1 k2 out → (StandsOn d1 old → Moves d1 d2 old new) → Passes d1 d2
+    → (new.spent ≡ true → Rose e0 e1) → Served budget ended.Device s0 s1 k0 k2 d0 d2 e0 e1
+ends_broken start old new count budget held rest body out s0 s1 k0 k1 k2 d0 d1 d2 e0 e1 p within is spent front fits bytes sent moves passes rose =
+    elim is.how [
+      | inl told ↦ absurd (let f : true ≡ false = sym spent ∙ told.going in cc)
+      | inr halted ↦ ends_device start old new count budget held rest body is.told s0 s1 k0 k1 d0 d1 d2 e0 e1 p within halted front fits bytes moves passes (rose spent) k2
+          (subst (λ (x : List ℕ). Appends k1 k2 x) is.spelled sent)
+    ]
+
+-- the next body was answered, and the run goes on
+pub goes_on : (start old new : Attached) (count : ℕ) (held rest body out : List ℕ) (s0 s1 k0 k1 k2 : Option (List ℕ)) (d0 d1 d2 : View)
+    → Progress start old count held s0 s1 k0 k1 d0 d1 → IsAnswered old body new out → new.spent ≡ false → held ≡ frame body ++ rest → IsBody body
+    → Appends k1 k2 out → new.log.mem ≡ old.log.mem → (StandsOn d1 old → Moves d1 d2 old new) → Passes d1 d2 → Progress start new count rest s0 s1 k0 k2 d0 d2
+goes_on start old new count held rest body out s0 s1 k0 k1 k2 d0 d1 d2 p is going front fits sent mem moves passes =
+    elim is.how [
+      | inl told ↦ (answers start old new count held rest body is.told s0 s1 k0 k1 k2 d0 d1 d2 p told front fits (subst (λ (x : List ℕ). Appends k1 k2 x) is.spelled sent) mem moves passes).0
+      | inr halted ↦ absurd (let f : true ≡ false = sym halted.spent ∙ going in cc)
+    ]

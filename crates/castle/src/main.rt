@@ -1,21 +1,29 @@
 //! `castle`: serves a store of versioned dictionaries over standard input and output.
 #![tactic(auto)]
 
+mod formatting;
+mod manifest;
+mod opening;
 mod program;
 mod server;
 mod serving;
+mod store;
+mod words;
 
 use program::{run, status_text};
-use std::env;
+use std::fs::OpenOptions;
 use std::io::{Eprint, ErrorKind, Input, Print};
 use std::process::ExitCode;
-use std::rt::Env;
+use std::rt::{Env, Files};
+use std::{env, io};
+use strat_disk::FileDisk;
 use strat_io::{StdSink, StdSource};
 use strat_model::Ended;
+use words::path_of;
 
 /// The program's arguments without its name, or how a run ends that cannot have them: one that is no text
 /// is no word of the program.
-fn words<R: Env + AllocGlobal>(rt: &R) -> Result<Vec<String>, Ended> {
+fn arguments<R: Env + AllocGlobal>(rt: &R) -> Result<Vec<String>, Ended> {
     let args = match env::args(rt) {
         Ok(args) => args,
         Err(e) if e.kind() == ErrorKind::InvalidData => return Err(Ended::Usage),
@@ -28,17 +36,28 @@ fn words<R: Env + AllocGlobal>(rt: &R) -> Result<Vec<String>, Ended> {
     Ok(words)
 }
 
-/// Runs the program over the standard streams.
-fn start<R: Env + Input + Print + AllocGlobal>(rt: &R) -> u8 {
-    match words(rt) {
-        Ok(words) => run(
-            rt.alloc(),
-            &words,
-            &mut StdSource::new(rt),
-            &mut StdSink::new(rt),
-        ),
-        Err(ended) => ended.status(),
-    }
+/// The folder at the top, opened to be read: as a stream it can be neither read nor written.
+fn open_top<R: Files>(rt: &R) -> io::Result<R::File> {
+    OpenOptions::new().read(true).open(rt, "/")
+}
+
+/// Runs the program over the standard streams and the file that its words name.
+fn start<R: Env + Input + Print + Files + AllocGlobal>(rt: &R) -> u8 {
+    let words = match arguments(rt) {
+        Ok(words) => words,
+        Err(ended) => return ended.status(),
+    };
+    // A file takes the number of a standard stream that is closed: these three keep the store's from it.
+    let (Ok(_first), Ok(_second), Ok(_third)) = (open_top(rt), open_top(rt), open_top(rt)) else {
+        return Ended::NoMemory.status();
+    };
+    run(
+        rt.alloc(),
+        &words,
+        &mut StdSource::new(rt),
+        &mut StdSink::new(rt),
+        &mut FileDisk::new(rt, path_of(&words).unwrap_or("")),
+    )
 }
 
 fn main(rt: HostRuntime) -> ExitCode {
@@ -49,5 +68,7 @@ fn main(rt: HostRuntime) -> ExitCode {
     ExitCode::from(status)
 }
 
+#[cfg(test)]
+mod disk_tests;
 #[cfg(test)]
 mod tests;

@@ -1,52 +1,78 @@
 //! The jobs of the program, by its words.
 
-ghost use Rattle.std.specs.Prelude.{◌≡◌, map, string_bytes, IsSome, None};
-ghost use Rattle.std.specs.Option.{option_copied};
+ghost use Rattle.std.specs.Prelude.{◌≡◌, ◌⊎◌, ℕ, List, map, string_bytes, IsSome, Some, None};
 ghost use Rattle.strat_base.specs.Faults.{Rose};
-ghost use Rattle.castle.specs.Words.{path_in};
-ghost use Rattle.castle.specs.Job.{ServesFrames, StatusHasCause, EndsAsInput, text_of};
+ghost use Rattle.strat_base.specs.Image.{Image};
+ghost use Rattle.strat_base.specs.Moments.{Passes};
+ghost use Rattle.castle.specs.Opened.{head_now};
+ghost use Rattle.castle.specs.Words.{Format, Serve, job_in};
+ghost use Rattle.castle.specs.Job.{ServesFrames, FormatsDisk, StatusHasCause, EndsAsFound, text_of};
 
+use crate::formatting::make_store;
 use crate::serving::serve;
+use crate::words::{Job, job_of};
 use std::alloc::Global;
+use strat_disk::Disk;
 use strat_io::{Sink, Source};
 use strat_model::Ended;
 
 /// Bytes that one serving run reads at most: 2^40.
 const BUDGET: u64 = 1_099_511_627_776;
 
-/// The file that the words name, where they are a job of the program: `serve FILE`.
-pub fn path_of(words: &[String]) -> Option<&str>
-    ensures { option_copied result ≡ path_in (map string_bytes words.now) }
-{
-    match words {
-        [job, path] if job.as_str() == "serve" && !path.is_empty() => Some(path.as_str()),
-        _ => None,
-    }
-}
-
 /// Does the job that the words name, and says how it ended as an exit status. The words are the program's
 /// arguments without its name. Nothing is read or written where they name no job.
 ///
-/// Serving takes the memory for frames and replies at once, about 670 KB, and each put the memory of its pair. A
-/// get or a put looks through the pairs of the version.
-pub fn run<S: Source, K: Sink>(alloc: Global, words: &[String], source: &mut S, sink: &mut K) -> u8
-    ensures usage { path_in (map string_bytes words.now) ≡ None → result ≡ 1 }
-    ensures idle { path_in (map string_bytes words.now) ≡ None
-        → (source.new ≡ source.old) × (sink.new ≡ sink.old) }
-    ensures serve { IsSome (path_in (map string_bytes words.now))
+/// Serving takes the memory for frames, replies and the journal at its start, about 1 MB and 2.6 KB for each change that
+/// a journal region takes, and each put the memory of its pair. A get or a put looks through the pairs of the version, and
+/// a put makes two writes and two syncs.
+pub fn run<S: Source, K: Sink, D: Disk>(
+    alloc: Global,
+    words: &[String],
+    source: &mut S,
+    sink: &mut K,
+    disk: &mut D,
+) -> u8
+    ensures usage { job_in (map string_bytes words.now) ≡ None → result ≡ 1 }
+    ensures idle { job_in (map string_bytes words.now) ≡ None
+        → (source.new ≡ source.old) × (sink.new ≡ sink.old) × (disk.new ≡ disk.old) }
+    ensures serve { (path : List ℕ) → job_in (map string_bytes words.now) ≡ Some (Serve path)
         → ServesFrames BUDGET result (S.left source.old) (S.left source.new)
-        (K.held sink.old) (K.held sink.new) }
-    ensures cause { IsSome (path_in (map string_bytes words.now))
+        (K.held sink.old) (K.held sink.new) (D.view disk.old) (D.view disk.new)
+        (D.faults disk.old) (D.faults disk.new) }
+    ensures format { (path : List ℕ) (mem changes_max versions_max : ℕ)
+        → job_in (map string_bytes words.now) ≡ Some (Format path mem changes_max versions_max)
+        → (source.new ≡ source.old) × FormatsDisk mem changes_max versions_max result
+        (K.held sink.old) (K.held sink.new) (D.view disk.old) (D.view disk.new) }
+    ensures cause { IsSome (job_in (map string_bytes words.now))
         → StatusHasCause result (S.faults source.old) (S.faults source.new)
-        (K.faults sink.old) (K.faults sink.new) }
-    ensures complete { IsSome (path_in (map string_bytes words.now))
+        (K.faults sink.old) (K.faults sink.new) (D.faults disk.old) (D.faults disk.new) }
+    ensures complete { (path : List ℕ) (f : Image)
+        → job_in (map string_bytes words.now) ≡ Some (Serve path)
         → ¬ Rose (S.faults source.old) (S.faults source.new)
-        → ¬ Rose (K.faults sink.old) (K.faults sink.new) → EndsAsInput result }
+        → ¬ Rose (K.faults sink.old) (K.faults sink.new)
+        → ¬ Rose (D.faults disk.old) (D.faults disk.new)
+        → (D.view disk.old).content ≡ Some f → EndsAsFound (head_now f) result }
+    ensures formatted { (path : List ℕ) (mem changes_max versions_max : ℕ)
+        → job_in (map string_bytes words.now) ≡ Some (Format path mem changes_max versions_max)
+        → ¬ Rose (K.faults sink.old) (K.faults sink.new)
+        → ¬ Rose (D.faults disk.old) (D.faults disk.new) → (result ≡ 0) ⊎ (result ≡ 8) }
     ensures unread { result ≡ 8 → (source.new ≡ source.old) × (sink.new ≡ sink.old) }
+    ensures untouched { (path : List ℕ) (mem changes_max versions_max : ℕ)
+        → job_in (map string_bytes words.now) ≡ Some (Format path mem changes_max versions_max)
+        → result ≡ 8 → disk.new ≡ disk.old }
+    ensures time { Passes (D.view disk.old) (D.view disk.new) }
 {
-    match path_of(words) {
+    match job_of(words) {
         None => Ended::Usage.status(),
-        Some(_) => serve(alloc, source, sink, BUDGET).status(),
+        Some(Job::Serve { path: _ }) => serve(alloc, source, sink, disk, BUDGET).status(),
+        Some(
+            Job::Format {
+                path: _,
+                mem,
+                changes_max,
+                versions_max,
+            },
+        ) => make_store(alloc, sink, disk, mem, changes_max, versions_max).status(),
     }
 }
 

@@ -1,40 +1,35 @@
 //! What is kept while frames are served, and the answers to them.
 
-ghost use Rattle.std.specs.Prelude.{◌≡◌, ◌≢◌, ◌<◌, ℕ, ◌^◌, length, IfOk, OnOk, OnErr, []};
-ghost use Rattle.strat_io.specs.Streams.{Appends};
+ghost use Rattle.std.specs.Prelude.{◌≡◌, ◌≢◌, ◌≤◌, ◌⊎◌, ℕ, length, [], Some, Ok, IfOk, IfErr, IsErrOf, OnOk, OnErr, false};
+ghost use Rattle.strat_base.specs.Image.{Image};
 ghost use Rattle.strat_base.specs.Faults.{Counts};
-ghost use Rattle.strat_base.specs.Numbers.{AreBytes};
-ghost use Rattle.strat_base.specs.declared.limits.TheConstants.{CHANGES_MAX};
-ghost use Rattle.strat_model.specs.Table.{fresh};
-ghost use Rattle.strat_model.specs.Run.{text};
+ghost use Rattle.strat_base.specs.Moments.{Images, Since, Passes, LeavesOld};
+ghost use Rattle.strat_base.specs.SuperBlock.{newest_in};
+ghost use Rattle.strat_io.specs.Streams.{Appends};
+ghost use Rattle.strat_model.specs.Head.{Head};
+ghost use Rattle.castle.specs.declared.opening.AttachFault.TheVariants as fault;
+ghost use Rattle.castle.specs.Causes.{HasAttachCause};
+ghost use Rattle.castle.specs.Opened.{head_now};
 ghost use Rattle.castle.specs.Refusals.{refusal_for};
-ghost use Rattle.castle.specs.Batch.{at, IsAnswered, Batch, RestIs, SendsFront, too_long_bytes};
+ghost use Rattle.castle.specs.Session.{IsAnswered, SendsFront, too_long_bytes};
+ghost use Rattle.castle.specs.Store.{StandsOn, OpensFrom, Moves, BreaksByFault};
 
+use crate::opening::AttachFault;
+use crate::store::Store;
 use std::alloc::Global;
-use strat_base::limits::CHANGES_MAX;
-use strat_base::{Failed, NoMemory, PairBuf};
-use strat_frame::{BodyFault, Deframer, Next, OutBuf, parse_command, write_reply};
+use strat_base::{Failed, PairBuf};
+use strat_disk::Disk;
+use strat_frame::{BodyFault, Deframer, OutBuf, parse_command, write_reply};
 use strat_io::{Sink, put_all};
-use strat_model::{Ended, PlainTable, Refusal, Reply};
+use strat_model::{Ended, Refusal, Reply};
 
-/// Versions of the table that is served: there is no command yet that makes another.
-const VERSIONS: u32 = 1;
-
-/// The table that is served, the frames that come in, and the buffers for an answer.
+/// The store that is served, the frames that come in, and the buffers for an answer.
 #[derive(Drop)]
 pub struct Server {
-    pub table: PlainTable,
+    pub store: Store,
     pub deframer: Deframer,
     pairs: PairBuf,
-    out: OutBuf,
-}
-
-/// Why a server stopped answering the frames that it holds.
-pub enum Heard {
-    /// It answered them all.
-    All,
-    /// It answered all before a frame that is longer than a frame may be.
-    TooLong,
+    pub out: OutBuf,
 }
 
 /// How a body that is no command is refused.
@@ -50,64 +45,60 @@ fn refusal_of(fault: BodyFault) -> Refusal
 }
 
 impl Server {
-    /// A server of the empty table. It takes the memory for frames, pairs and replies; a change takes what
-    /// its pair needs.
-    pub fn new(alloc: Global) -> Result<Server, NoMemory>
-        ensures table { IfOk result (λ s. s.table ≡ fresh CHANGES_MAX 1) }
-        ensures held { IfOk result (λ s. s.deframer.held ≡ []) }
+    /// A server of the store on a disk. It takes the memory for frames, pairs and replies before it touches the disk.
+    pub fn open<D: Disk>(alloc: Global, disk: &mut D) -> Result<Server, AttachFault>
+        ensures stands { IfOk result (λ s. (f : Image) → (D.view disk.old).content ≡ Some f
+            → StandsOn (D.view disk.new) s.store) }
+        ensures found { IfOk result (λ s. (f : Image) → (D.view disk.old).content ≡ Some f
+            → OpensFrom f s.store) }
+        ensures new { IfOk result (λ s. (s.store.spent ≡ false) × (s.deframer.held ≡ [])) }
+        ensures none { IsErrOf result fault.NotAStore → (f : Image)
+            → (D.view disk.old).content ≡ Some f → newest_in f ≡ Ok None }
+        ensures damaged { (block : ℕ) → IsErrOf result (fault.Damaged block) → (f : Image)
+            → (D.view disk.old).content ≡ Some f → head_now f ≡ Err block }
+        ensures any_moment { (f : Image) (h : Head) → (D.view disk.old).content ≡ Some f
+            → head_now f ≡ Ok (Some h) → (c : Image)
+            → Since (D.view disk.new) (D.view disk.old).moment c
+            → Images (D.view disk.old) c ⊎ (head_now c ≡ Ok (Some h)) }
+        ensures kept { IfErr result (λ e. e ≢ fault.Device
+            → ((D.view disk.new).content ≡ (D.view disk.old).content)
+            × LeavesOld (D.view disk.old) (D.view disk.new)) }
+        ensures time { Passes (D.view disk.old) (D.view disk.new) }
+        ensures cause { HasAttachCause (D.faults disk.old) (D.faults disk.new) result }
     {
+        let deframer = Deframer::new(alloc)?;
+        let pairs = PairBuf::new(alloc)?;
+        let out = OutBuf::new(alloc)?;
+        let store = Store::attach(alloc, disk)?;
         Ok(Server {
-            table: PlainTable::new(alloc, CHANGES_MAX, VERSIONS)?,
-            deframer: Deframer::new(alloc)?,
-            pairs: PairBuf::new(alloc)?,
-            out: OutBuf::new(alloc)?,
+            store,
+            deframer,
+            pairs,
+            out,
         })
     }
 
-    /// Answers the last frame's body, in the buffer for replies.
-    fn answer(&mut self)
-        requires room { self.old.table.next_cursor < 2 ^ 63 }
-        ensures ok { (mem fill : ℕ) → IsAnswered mem (at self.old.table fill) self.old.deframer.body
-            self.new.table self.new.out }
+    /// Answers the last frame's body, in the buffer for replies. A change that is answered is durable.
+    pub fn answer<D: Disk>(&mut self, disk: &mut D)
+        requires going { self.old.store.spent ≡ false }
+        ensures ok { IsAnswered self.old.store self.old.deframer.body self.new.store self.new.out }
+        ensures moves { StandsOn (D.view disk.old) self.old.store
+            → Moves (D.view disk.old) (D.view disk.new) self.old.store self.new.store }
+        ensures mem { self.new.store.log.mem ≡ self.old.store.log.mem }
         ensures held { self.new.deframer ≡ self.old.deframer }
-        ensures room { self.new.table.next_cursor ≡ self.old.table.next_cursor }
+        ensures time { Passes (D.view disk.old) (D.view disk.new) }
+        ensures cause { BreaksByFault (D.faults disk.old) (D.faults disk.new) self.new.store }
     {
         self.out.clear();
         match parse_command(self.deframer.body()) {
             Ok((tag, command)) => {
-                let reply = self.table.step(&command, &mut self.pairs);
+                let reply = self.store.apply(disk, &command, &mut self.pairs);
                 write_reply(tag, &reply, &self.pairs, &mut self.out);
             }
             Err((tag, fault)) => {
                 self.pairs.clear();
                 let reply = Reply::Refused(refusal_of(fault));
                 write_reply(tag, &reply, &self.pairs, &mut self.out);
-            }
-        }
-    }
-
-    /// Answers the frames that are held, in order: each reply is written before the next frame is looked
-    /// at. It gives up where the sink fails.
-    pub fn answer_held<K: Sink>(&mut self, sink: &mut K) -> Result<Heard, Failed>
-        requires room { self.old.table.next_cursor < 2 ^ 63 }
-        ensures ok { IfOk result (λ h. RestIs h self.new.deframer.held × ((mem fill : ℕ) →
-            (b : Batch mem (at self.old.table fill) self.new.table self.old.deframer.held self.new.deframer.held)
-            × Appends (K.held sink.old) (K.held sink.new) (text b.tolds))) }
-        ensures err { OnErr result ((mem fill : ℕ) →
-            (b : Batch mem (at self.old.table fill) self.new.table self.old.deframer.held self.new.deframer.held)
-            × SendsFront (K.held sink.old) (K.held sink.new) (text b.tolds)) }
-        ensures bytes { AreBytes self.new.deframer.held }
-        ensures cause { Counts (K.faults sink.old) (K.faults sink.new) result }
-        ensures room { self.new.table.next_cursor ≡ self.old.table.next_cursor }
-    {
-        loop {
-            match self.deframer.next() {
-                Next::Frame => {
-                    self.answer();
-                    put_all(sink, self.out.bytes())?;
-                }
-                Next::NotYet => return Ok(Heard::All),
-                Next::TooLong { .. } => return Ok(Heard::TooLong),
             }
         }
     }

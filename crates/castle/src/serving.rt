@@ -2,16 +2,33 @@
 
 ghost use Rattle.std.specs.Prelude.{◌≡◌, ◌<◌, ◌≤◌, ℕ, length, take, [], IfOk, OnErr};
 ghost use Rattle.strat_base.specs.Faults.{Counts};
-ghost use Rattle.castle.specs.Session.{Took, IsAtEnd, Served, HasCause};
+ghost use Rattle.strat_base.specs.Moments.{Passes};
+ghost use Rattle.castle.specs.Causes.{ended_for};
+ghost use Rattle.castle.specs.Session.{Took, IsAtEnd, Outcome, OpensSo, HasCause};
 
-use crate::server::{Heard, Server};
+use crate::opening::AttachFault;
+use crate::server::Server;
 use std::alloc::Global;
 use strat_base::Failed;
-use strat_io::{Sink, Source};
+use strat_disk::Disk;
+use strat_frame::Next;
+use strat_io::{Sink, Source, put_all};
 use strat_model::Ended;
 
 /// Most bytes that are read at a time.
 const PIECE: usize = 4096;
+
+/// How a run ends whose opening gave up.
+fn ended_for(fault: AttachFault) -> Ended
+    ensures { result ≡ ended_for fault }
+{
+    match fault {
+        AttachFault::NotAStore => Ended::NotAStore,
+        AttachFault::Device => Ended::Device,
+        AttachFault::Damaged { block } => Ended::Damaged { block },
+        AttachFault::NoMemory => Ended::NoMemory,
+    }
+}
 
 /// Reads at most so many bytes into the front of a piece.
 fn read_piece<S: Source>(source: &mut S, piece: &mut [u8], most: usize) -> Result<usize, Failed>
@@ -26,41 +43,64 @@ fn read_piece<S: Source>(source: &mut S, piece: &mut [u8], most: usize) -> Resul
     Ok(n)
 }
 
-/// Serves frames from a source to a sink until the source ends or as many bytes were read as the budget
-/// has. It reads at most 4,096 bytes at a time, and answers each whole frame among them before it reads on.
-pub fn serve<S: Source, K: Sink>(alloc: Global, source: &mut S, sink: &mut K, budget: u64) -> Ended
-    ensures ok { (mem : ℕ) → Served mem budget result (S.left source.old) (S.left source.new)
-        (K.held sink.old) (K.held sink.new) }
+/// Opens the store on a disk and serves frames from a source to a sink, until the source ends or as many bytes were
+/// read as the budget has. It reads at most 4,096 bytes at a time, and answers each whole frame among them before it
+/// reads on. A reply goes out when the change that it answers is durable.
+#[tactic(auto, using(strat_base::proofs::MomentLemmas::passes_trans))]
+pub fn serve<S: Source, K: Sink, D: Disk>(
+    alloc: Global,
+    source: &mut S,
+    sink: &mut K,
+    disk: &mut D,
+    budget: u64,
+) -> Ended
+    ensures ok { Outcome budget result (S.left source.old) (S.left source.new)
+        (K.held sink.old) (K.held sink.new) (D.view disk.old) (D.view disk.new)
+        (D.faults disk.old) (D.faults disk.new) }
+    ensures opening { OpensSo result (D.view disk.old) }
+    ensures time { Passes (D.view disk.old) (D.view disk.new) }
     ensures cause { HasCause result (S.faults source.old) (S.faults source.new)
-        (K.faults sink.old) (K.faults sink.new) }
+        (K.faults sink.old) (K.faults sink.new) (D.faults disk.old) (D.faults disk.new) }
     ensures unread { result ≡ Ended.NoMemory
         → (source.new ≡ source.old) × (sink.new ≡ sink.old) }
 {
-    let Ok(mut server) = Server::new(alloc) else {
-        return Ended::NoMemory;
+    let mut server = match Server::open(alloc, disk) {
+        Ok(server) => server,
+        Err(fault) => return ended_for(fault),
     };
     let mut piece = [0; PIECE];
     let mut taken = 0;
-    while taken < budget {
-        let most = (budget - taken).min(PIECE as u64) as usize;
-        let Ok(n) = read_piece(source, &mut piece, most) else {
-            return Ended::Source;
-        };
-        if n == 0 {
-            return server.at_end();
-        }
-        taken += n as u64;
-        server.deframer.feed(&piece[..n]);
-        match server.answer_held(sink) {
-            Ok(Heard::All) => {}
-            Ok(Heard::TooLong) => {
+    loop {
+        match server.deframer.next() {
+            Next::Frame => {
+                server.answer(disk);
+                let Ok(()) = put_all(sink, server.out.bytes()) else {
+                    return Ended::Sink;
+                };
+                if server.store.is_spent() {
+                    return Ended::Device;
+                }
+            }
+            Next::NotYet => {
+                if taken == budget {
+                    return Ended::Budget;
+                }
+                let most = (budget - taken).min(PIECE as u64) as usize;
+                let Ok(n) = read_piece(source, &mut piece, most) else {
+                    return Ended::Source;
+                };
+                if n == 0 {
+                    return server.at_end();
+                }
+                taken += n as u64;
+                server.deframer.feed(&piece[..n]);
+            }
+            Next::TooLong { .. } => {
                 return match server.refuse_long(sink) {
                     Ok(()) => Ended::FrameTooLong,
                     Err(Failed) => Ended::Sink,
                 };
             }
-            Err(Failed) => return Ended::Sink,
         }
     }
-    Ended::Budget
 }

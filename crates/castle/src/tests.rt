@@ -1,12 +1,15 @@
-//! Worked streams through the program's top call, over sources and sinks in memory.
+//! Worked streams through the program's top call, over sources, sinks and disks in memory.
 
 ghost use Rattle.std.specs.Prelude.{◌≤◌, length};
 
-use crate::program::{path_of, run, status_text};
+use crate::program::{run, status_text};
 use crate::serving::serve;
+use crate::words::path_of;
 use std::alloc::Global;
+use std::process::Abort;
 use std::test::Fail;
 use strat_base::Failed;
+use strat_disk::{Disk, MemDisk};
 use strat_io::{MemSink, MemSource, Sink, Source};
 use strat_model::Ended;
 
@@ -24,7 +27,7 @@ const REPLIES: &[u8] = b"\x00\x00\x00\x05\x00\x00\x00\x07\x00\
 const ENDS: [usize; 3] = [9, 21, 30];
 
 /// The program's words.
-fn words(alloc: Global, texts: &[&str]) -> Result<Vec<String>, Fail> {
+pub fn words(alloc: Global, texts: &[&str]) -> Result<Vec<String>, Fail> {
     let mut words = Vec::new(alloc);
     for text in texts {
         words.push(String::from_str(alloc, text)?)?;
@@ -32,11 +35,27 @@ fn words(alloc: Global, texts: &[&str]) -> Result<Vec<String>, Fail> {
     Ok(words)
 }
 
-/// Serves a source, and answers the status and the output.
-fn served<S: Source>(alloc: Global, source: &mut S) -> Result<(u8, Vec<u8>), Fail> {
+/// A disk with a new store of these limits, which has counted no call.
+pub fn formatted(rt: &impl Abort, alloc: Global, limits: [&str; 3]) -> Result<MemDisk, Fail> {
+    let [mem, changes, versions] = limits;
+    let words = words(alloc, &["format", "f", mem, changes, versions])?;
+    let mut source = MemSource::new(alloc, b"", &[1], 1)?;
+    let mut sink = MemSink::new(alloc, &[], 4096)?;
+    let mut disk = MemDisk::new(alloc, &[])?;
+    let status = run(alloc, &words, &mut source, &mut sink, &mut disk);
+    assert_eq!(rt; status, 0, "format {mem} {changes} {versions}");
+    Ok(disk.crash(0)?)
+}
+
+/// Serves a source over a disk, and answers the status and the output.
+pub fn served<S: Source, D: Disk>(
+    alloc: Global,
+    source: &mut S,
+    disk: &mut D,
+) -> Result<(u8, Vec<u8>), Fail> {
     let words = words(alloc, &["serve", "store.bin"])?;
     let mut sink = MemSink::new(alloc, &[], 4096)?;
-    let status = run(alloc, &words, source, &mut sink);
+    let status = run(alloc, &words, source, &mut sink, disk);
     Ok((status, sink.bytes().to_vec(alloc)?))
 }
 
@@ -76,6 +95,7 @@ fn copy_front(into: &mut [u8], bytes: &[u8])
 
 #[test]
 fn streams_are_answered(rt: HostRuntime) -> Result<(), Fail> {
+    let store = formatted(&rt, rt.alloc(), ["4", "100", "10"])?;
     let rows: [(&[u8], &[u8], u8); 10] = [
         (b"", b"", 0),
         (STREAM, REPLIES, 0),
@@ -127,7 +147,7 @@ fn streams_are_answered(rt: HostRuntime) -> Result<(), Fail> {
     ];
     for (i, (input, output, status)) in rows.iter().enumerate() {
         let mut source = MemSource::new(rt.alloc(), input, &[], 4096)?;
-        let (got, bytes) = served(rt.alloc(), &mut source)?;
+        let (got, bytes) = served(rt.alloc(), &mut source, &mut store.crash(0)?)?;
         assert_eq!(rt; got, *status, "row {i}");
         assert_eq!(rt; bytes.as_slice(), *output, "row {i}");
     }
@@ -136,14 +156,15 @@ fn streams_are_answered(rt: HostRuntime) -> Result<(), Fail> {
 
 #[test]
 fn the_cutting_makes_no_difference(rt: HostRuntime) -> Result<(), Fail> {
+    let store = formatted(&rt, rt.alloc(), ["4", "100", "10"])?;
     for at in 0..=STREAM.len() {
         let (first, second) = STREAM.split_at(at);
-        let (status, bytes) = served(rt.alloc(), &mut Cut { first, second })?;
+        let (status, bytes) = served(rt.alloc(), &mut Cut { first, second }, &mut store.crash(0)?)?;
         assert_eq!(rt; status, 0, "cut at {at}");
         assert_eq!(rt; bytes.as_slice(), REPLIES, "cut at {at}");
     }
     let mut source = MemSource::new(rt.alloc(), STREAM, &[], 1)?;
-    let (status, bytes) = served(rt.alloc(), &mut source)?;
+    let (status, bytes) = served(rt.alloc(), &mut source, &mut store.crash(0)?)?;
     assert_eq!(rt; status, 0);
     assert_eq!(rt; bytes.as_slice(), REPLIES);
     Ok(())
@@ -151,9 +172,10 @@ fn the_cutting_makes_no_difference(rt: HostRuntime) -> Result<(), Fail> {
 
 #[test]
 fn a_failing_source_ends_the_run_behind_whole_frames(rt: HostRuntime) -> Result<(), Fail> {
+    let store = formatted(&rt, rt.alloc(), ["4", "100", "10"])?;
     for call in 1..=12u64 {
         let mut source = MemSource::new(rt.alloc(), STREAM, &[call], 5)?;
-        let (status, bytes) = served(rt.alloc(), &mut source)?;
+        let (status, bytes) = served(rt.alloc(), &mut source, &mut store.crash(0)?)?;
         let read = 5 * (call as usize - 1);
         let whole = FRAMES.iter().filter(|end| **end <= read).count();
         let sent = if whole == 0 { 0 } else { ENDS[whole - 1] };
@@ -168,24 +190,31 @@ fn a_failing_source_ends_the_run_behind_whole_frames(rt: HostRuntime) -> Result<
 fn a_failing_sink_ends_the_run_within_a_reply(rt: HostRuntime) -> Result<(), Fail> {
     // a sink that takes four bytes at a time takes each of these replies in three calls
     let sent = [0, 4, 8, 9, 13, 17, 21, 25, 29];
+    let store = formatted(&rt, rt.alloc(), ["4", "100", "10"])?;
     let words = words(rt.alloc(), &["serve", "store.bin"])?;
     for (i, sent) in sent.iter().enumerate() {
         let mut source = MemSource::new(rt.alloc(), STREAM, &[], 4096)?;
         let mut sink = MemSink::new(rt.alloc(), &[i as u64 + 1], 4)?;
-        let status = run(rt.alloc(), &words, &mut source, &mut sink);
+        let mut disk = store.crash(0)?;
+        let status = run(rt.alloc(), &words, &mut source, &mut sink, &mut disk);
         assert_eq!(rt; status, 7, "call {i}");
         assert_eq!(rt; sink.bytes(), &REPLIES[..*sent], "call {i}");
     }
     // the reply to a frame that is too long
     let mut source = MemSource::new(rt.alloc(), b"\x00\x00\x08\x01", &[], 4096)?;
     let mut sink = MemSink::new(rt.alloc(), &[2], 4)?;
-    assert_eq!(rt; run(rt.alloc(), &words, &mut source, &mut sink), 7);
+    let mut disk = store.crash(0)?;
+    assert_eq!(rt;
+        run(rt.alloc(), &words, &mut source, &mut sink, &mut disk),
+        7
+    );
     assert_eq!(rt; sink.bytes(), b"\x00\x00\x00\x05".as_slice());
     Ok(())
 }
 
 #[test]
 fn the_budget_ends_the_run_behind_whole_frames(rt: HostRuntime) -> Result<(), Fail> {
+    let store = formatted(&rt, rt.alloc(), ["4", "100", "10"])?;
     let rows: [(&[u8], &[u8], Ended); 4] = [
         (
             b"\x00\x00\x00\x00\xff\xff",
@@ -203,37 +232,57 @@ fn the_budget_ends_the_run_behind_whole_frames(rt: HostRuntime) -> Result<(), Fa
     for (i, (input, output, ended)) in rows.iter().enumerate() {
         let mut source = MemSource::new(rt.alloc(), input, &[], 3)?;
         let mut sink = MemSink::new(rt.alloc(), &[], 4096)?;
-        let how = serve(rt.alloc(), &mut source, &mut sink, 4);
+        let how = serve(rt.alloc(), &mut source, &mut sink, &mut store.crash(0)?, 4);
         assert_eq!(rt; how, *ended, "row {i}");
         assert_eq!(rt; sink.bytes(), *output, "row {i}");
     }
     Ok(())
 }
 
+/// Runs words that are no job over a source, a sink and a disk that they must not touch.
+fn refuse(rt: &impl Abort, alloc: Global, row: &[&str]) -> Result<(), Fail> {
+    let name = row.last().unwrap_or(&"no words");
+    let words = words(alloc, row)?;
+    let mut source = MemSource::new(alloc, STREAM, &[1], 4096)?;
+    let mut sink = MemSink::new(alloc, &[1], 4096)?;
+    let mut disk = MemDisk::new(alloc, &[1])?;
+    let status = run(alloc, &words, &mut source, &mut sink, &mut disk);
+    assert_eq!(rt; status, 1, "{name}");
+    assert!(rt; sink.bytes().is_empty(), "{name}");
+    assert_eq!(rt; disk.calls(), 0, "{name}");
+    assert!(rt; path_of(&words).is_none(), "{name}");
+    Ok(())
+}
+
 #[test]
 fn other_words_are_no_job(rt: HostRuntime) -> Result<(), Fail> {
-    let rows: [&[&str]; 6] = [
+    let rows: [&[&str]; 18] = [
         &[],
         &["serve"],
         &["serve", ""],
         &["levels", "store.bin"],
         &["serve", "store.bin", "now"],
-        &["format", "store.bin", "4", "100", "10"],
+        &["format"],
+        &["format", "f", "4", "100"],
+        &["format", "", "4", "100", "10"],
+        &["format", "f", "4", "100", "10", "11"],
+        &["format", "f", "3", "100", "10"],
+        &["format", "f", "04", "100", "10"],
+        &["format", "f", "+4", "100", "10"],
+        &["format", "f", "4097", "100", "10"],
+        &["format", "f", "4", "0", "10"],
+        &["format", "f", "4", "16777217", "10"],
+        &["format", "f", "4", "100", "16385"],
+        &["format", "f", "4", "100", ""],
+        &["format", "f", "4294967300", "100", "10"],
     ];
-    for (i, row) in rows.iter().enumerate() {
-        let words = words(rt.alloc(), row)?;
-        let mut source = MemSource::new(rt.alloc(), STREAM, &[1], 4096)?;
-        let mut sink = MemSink::new(rt.alloc(), &[], 4096)?;
-        assert_eq!(rt;
-            run(rt.alloc(), &words, &mut source, &mut sink),
-            1,
-            "row {i}"
-        );
-        assert!(rt; sink.bytes().is_empty(), "row {i}");
-        assert!(rt; path_of(&words).is_none(), "row {i}");
+    for row in rows {
+        refuse(&rt, rt.alloc(), row)?;
     }
-    let words = words(rt.alloc(), &["serve", "store.bin"])?;
-    assert_eq!(rt; path_of(&words), Some("store.bin"));
+    let serving = words(rt.alloc(), &["serve", "store.bin"])?;
+    assert_eq!(rt; path_of(&serving), Some("store.bin"));
+    let formatting = words(rt.alloc(), &["format", "f", "4096", "16777216", "16384"])?;
+    assert_eq!(rt; path_of(&formatting), Some("f"));
     Ok(())
 }
 

@@ -77,9 +77,12 @@ impl PlainTable {
         requires room { self.old.next_cursor < 2 ^ 63 }
         ensures ok { IsStepOrShort self.old (request_of command.now) result out.new self.new }
         ensures next { self.new.next_cursor ≤ self.old.next_cursor + 1 }
+        ensures within { self.old.changes ≤ self.old.changes_max }
         ensures none { grows (request_of command.now) ≡ false
             → IsStep self.old (request_of command.now) result out.new self.new }
     {
+        // What every table keeps is known where a field is used.
+        let _ = &self.changes;
         out.clear();
         match *command {
             Command::Put {

@@ -1,7 +1,5 @@
-use Rattle.std.proofs.Common.{length, length-take, drop, arith}
-use Rattle.castle.proofs.SessionLemmas.{took_piece, at_end}
-use Rattle.castle.proofs.StreamLemmas.{frames_of}
-use Rattle.castle.proofs.BatchLemmas.{batch_then}
+use Rattle.std.proofs.Common.{length-take, drop, arith}
+use Rattle.castle.proofs.ProgressLemmas.{took_piece, at_end}
 use Rattle.castle.proofs.serving.read_piece.Goals as goal
 
 pub returns-clause-ok : goal.returns-clause-ok
