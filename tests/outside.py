@@ -1,16 +1,21 @@
 #!/usr/bin/env python3
-"""Runs the built program as a user would: real pipes, input cut at odd places, closed streams.
+"""Runs the built program as a user would: real files, real pipes, input cut at odd places, runs that are killed.
 
 What the proofs can't see is tested here: that the program that was built is the program that was
-proved, that the standard streams are reached, and that each reply goes out before the next read. Every
-answer is compared with a model of a dozen lines. Run it at the top of the repository, or by `./test`.
+proved, that the standard streams and the file are reached, and that each reply goes out before the next read.
+Answers and files are compared with the model in `tests/model.py`. Run it at the top of the repository, or by
+`./test`.
 """
 
 import fcntl
+import itertools
 import os
 import pathlib
 import random
 import re
+import resource
+import shutil
+import signal
 import struct
 import subprocess
 import sys
@@ -19,96 +24,24 @@ import termios
 import threading
 import time
 
+import model
+from model import Store, bodies_of, frame, get, put, reply, sized, tag_of
+
 TOP = pathlib.Path(__file__).resolve().parent.parent
 LAUNCHER = str(TOP / "castle")
 PROGRAM = str(TOP / "crates" / "castle" / "out" / "castle")
-DEADLINE = 20  # seconds that any one run may take
+DEADLINE = 20  # seconds that a run may take, but one of thousands of puts
 
 TEXTS = {
     1: "usage: castle format FILE M C V, serve FILE, levels FILE, check FILE, workload FILE SEED COUNT",
+    2: "not a store",
     3: "frame too long",
     4: "truncated input",
+    5: "device fault",
     6: "source fault",
     7: "sink fault",
+    9: "damaged",
 }
-
-PUT, GET = 1, 3
-DONE, FOUND, ABSENT, UNKNOWN_VERSION, MALFORMED, FRAME_TOO_LONG = 0, 1, 2, 16, 22, 26
-BODY_MAX, KEY_MAX, VALUE_MAX = 2048, 255, 1024
-
-
-# Frames, and the model
-
-def frame(body):
-    return struct.pack(">I", len(body)) + body
-
-
-def sized(data):
-    return struct.pack(">H", len(data)) + data
-
-
-def put(tag, key, value, version=0):
-    return frame(struct.pack(">IBI", tag, PUT, version) + sized(key) + sized(value))
-
-
-def get(tag, key, version=0):
-    return frame(struct.pack(">IBI", tag, GET, version) + sized(key))
-
-
-def reply(tag, status, fields=b""):
-    return frame(struct.pack(">IB", tag, status) + fields)
-
-
-def fields_of(body, count):
-    """The version and the `count` byte strings of a body, or None where it holds anything else."""
-    if len(body) < 9:
-        return None
-    version, at, parts = struct.unpack_from(">I", body, 5)[0], 9, []
-    for _ in range(count):
-        if at + 2 > len(body):
-            return None
-        size = struct.unpack_from(">H", body, at)[0]
-        parts.append(body[at + 2:at + 2 + size])
-        at += 2 + size
-    return (version, parts) if at == len(body) else None
-
-
-def tag_of(body):
-    return struct.unpack_from(">I", body)[0] if len(body) >= 4 else 0
-
-
-def answer(table, body):
-    """The reply to one body, which may change the table."""
-    tag = tag_of(body)
-    opcode = body[4] if len(body) > 4 else 0
-    fields = fields_of(body, {PUT: 2, GET: 1}[opcode]) if opcode in (PUT, GET) else None
-    if fields is None:
-        return reply(tag, MALFORMED)
-    version, (key, *values) = fields
-    if not 1 <= len(key) <= KEY_MAX or any(len(value) > VALUE_MAX for value in values):
-        return reply(tag, MALFORMED)
-    if version != 0:
-        return reply(tag, UNKNOWN_VERSION)
-    if opcode == PUT:
-        table[key] = values[0]
-        return reply(tag, DONE)
-    if key in table:
-        return reply(tag, FOUND, sized(table[key]))
-    return reply(tag, ABSENT)
-
-
-def model(data):
-    """What `serve` writes for these bytes, and its status."""
-    table, out, at = {}, [], 0
-    while len(data) - at >= 4:
-        length = struct.unpack_from(">I", data, at)[0]
-        if length > BODY_MAX:
-            return b"".join(out) + reply(0, FRAME_TOO_LONG), 3
-        if len(data) - at - 4 < length:
-            break
-        out.append(answer(table, data[at + 4:at + 4 + length]))
-        at += 4 + length
-    return b"".join(out), 4 if at < len(data) else 0
 
 
 # Running the program
@@ -126,15 +59,24 @@ def complaint(status):
     return f"castle: {TEXTS[status]}\n".encode() if status else b""
 
 
-def wait_until_read(child):
+def run(words, **how):
+    """Output, status and complaint of a run that reads what it is given at once."""
+    ran = subprocess.run([PROGRAM, *words], capture_output=True, timeout=DEADLINE, **how)
+    return ran.stdout, ran.returncode, ran.stderr
+
+
+def wait_until_read(child, deadline):
     """Waits until the program has read all that was written, or has ended."""
-    end = time.monotonic() + DEADLINE
+    started = time.monotonic()
     left = bytearray(4)
-    while time.monotonic() < end:
+    while time.monotonic() < started + deadline:
         fcntl.ioctl(child.stdin, termios.FIONREAD, left)
         if int.from_bytes(left, sys.byteorder) == 0 or child.poll() is not None:
             return
-        os.sched_yield()
+        if time.monotonic() < started + 0.01:
+            os.sched_yield()
+        else:
+            time.sleep(0.001)
     raise Wrong("the program doesn't read its input")
 
 
@@ -148,10 +90,19 @@ def read_exactly(pipe, count):
     return got
 
 
-def serve(pieces, words=(b"serve", b"store.bin"), program=PROGRAM):
+def start(path, program=PROGRAM):
+    return subprocess.Popen([program, "serve", path], stdin=subprocess.PIPE, stdout=subprocess.PIPE,
+                            stderr=subprocess.PIPE, bufsize=0)
+
+
+def close(child):
+    for pipe in (child.stdin, child.stdout, child.stderr):
+        pipe.close()
+
+
+def serve(path, pieces, program=PROGRAM, deadline=DEADLINE):
     """Gives the pieces one by one, each only when the one before was read, and then the end."""
-    child = subprocess.Popen([program, *words], stdin=subprocess.PIPE, stdout=subprocess.PIPE,
-                             stderr=subprocess.PIPE, bufsize=0)
+    child = start(path, program)
     got = []
     reader = threading.Thread(target=lambda: got.append(child.stdout.read()))
     reader.start()
@@ -160,117 +111,142 @@ def serve(pieces, words=(b"serve", b"store.bin"), program=PROGRAM):
             view = memoryview(piece)
             while view:
                 view = view[child.stdin.write(view):]
-            wait_until_read(child)
+            wait_until_read(child, deadline)
     except BrokenPipeError:
         pass  # the program ended before the end of its input, as it does at a frame that is too long
     child.stdin.close()
     try:
-        status = child.wait(DEADLINE)
+        status = child.wait(deadline)
     except subprocess.TimeoutExpired:
         child.kill()
         raise Wrong("the program doesn't end") from None
     reader.join()
     errors = child.stderr.read()
-    child.stdout.close()
-    child.stderr.close()
+    close(child)
     return got[0], status, errors
 
 
-def expect_served(name, pieces, want=None):
-    data = b"".join(pieces)
-    out, status = want or model(data)
-    expect(name, serve(pieces), (out, status, complaint(status)))
+def bytes_of(path):
+    with open(path, "rb") as file:
+        return file.read()
+
+
+class StoreFile:
+    """A new store in a file, made by the program, and the model of it."""
+
+    numbers = itertools.count()
+
+    def __init__(self, folder, mem=64, changes=1000, versions=10):
+        self.path = os.path.join(folder, f"{next(self.numbers)}.store")
+        self.model = Store(mem, changes, versions)
+        words = ["format", self.path, str(mem), str(changes), str(versions)]
+        expect("format", run(words), (self.model.line(), 0, b""))
+        self.expect_bytes("format")
+
+    def expect_bytes(self, name):
+        if bytes_of(self.path) != self.model.file():
+            raise Wrong(f"{name}: the file doesn't have the bytes of the model")
+
+    def expect_served(self, name, pieces, want=None, **how):
+        """Serves the pieces in one run, and compares all that it did with the model and with what is wanted."""
+        out, status = self.model.serve(b"".join(pieces))
+        if want is not None:
+            expect(f"{name}, the model", (out, status), want)
+        expect(name, serve(self.path, pieces, **how), (out, status, complaint(status)))
+        self.expect_bytes(name)
 
 
 def hexed(text):
     return bytes.fromhex(text)
 
 
-def in_every_cutting(name, data, want):
-    """The whole, each cutting into two pieces, and one byte at a time."""
-    expect(f"{name}, the model", model(data), want)
-    expect_served(f"{name}, whole", [data], want)
+def in_every_cutting(folder, name, data, want):
+    """The whole, each cutting into two pieces, and one byte at a time; each over a new store."""
+    StoreFile(folder).expect_served(f"{name}, whole", [data], want)
     for place in range(1, len(data)):
-        expect_served(f"{name}, cut at {place}", [data[:place], data[place:]], want)
-    expect_served(f"{name}, byte by byte", [data[i:i + 1] for i in range(len(data))], want)
+        StoreFile(folder).expect_served(f"{name}, cut at {place}", [data[:place], data[place:]], want)
+    StoreFile(folder).expect_served(f"{name}, byte by byte", [data[i:i + 1] for i in range(len(data))], want)
 
 
-# The checks
+# Frames
 
 PUT_A = hexed("0000000f 00000007 01 00000000 0001 61 0001 31")
 GET_A = hexed("0000000c 00000008 03 00000000 0001 61")
 GET_B = hexed("0000000c 00000009 03 00000000 0001 62")
 
 
-def empty_input_is_answered_by_nothing():
-    expect_served("empty input", [], (b"", 0))
+def empty_input_is_answered_by_nothing(folder):
+    StoreFile(folder).expect_served("empty input", [], (b"", 0))
 
 
-def a_put_is_found_and_another_key_is_absent():
+def a_put_is_found_and_another_key_is_absent(folder):
     want = hexed("00000005 00000007 00  00000008 00000008 01 0001 31  00000005 00000009 02")
-    in_every_cutting("put a, get a, get b", PUT_A + GET_A + GET_B, (want, 0))
+    in_every_cutting(folder, "put a, get a, get b", PUT_A + GET_A + GET_B, (want, 0))
 
 
-def an_opcode_that_is_not_there_is_malformed():
-    in_every_cutting("opcode 10", hexed("00000005 00000001 0a"), (hexed("00000005 00000001 16"), 0))
+def an_opcode_that_is_not_there_is_malformed(folder):
+    in_every_cutting(folder, "opcode 10", hexed("00000005 00000001 0a"), (hexed("00000005 00000001 16"), 0))
 
 
-def a_short_body_is_malformed_and_the_run_goes_on():
+def a_short_body_is_malformed_and_the_run_goes_on(folder):
     data = hexed("00000003 aabbcc  00000004 00000009  00000000") + PUT_A
     want = hexed("00000005 00000000 16  00000005 00000009 16  00000005 00000000 16  00000005 00000007 00")
-    in_every_cutting("bodies of 3, 4 and 0 bytes", data, (want, 0))
+    in_every_cutting(folder, "bodies of 3, 4 and 0 bytes", data, (want, 0))
 
 
-def a_body_that_is_not_just_its_fields_is_malformed():
+def a_body_that_is_not_just_its_fields_is_malformed(folder):
     for whole in (PUT_A[4:], GET_A[4:]):
         bodies = [whole[:length] for length in range(len(whole))] + [whole + b"\0", whole + whole]
         data = b"".join(frame(body) for body in bodies)
-        want = b"".join(reply(tag_of(body), MALFORMED) for body in bodies)
-        expect_served("bodies cut short or with bytes left over", [data, GET_A], (want + reply(8, ABSENT), 0))
+        want = b"".join(reply(tag_of(body), model.MALFORMED) for body in bodies) + reply(8, model.ABSENT)
+        StoreFile(folder).expect_served("bodies cut short or with bytes left over", [data, GET_A], (want, 0))
 
 
-def a_frame_that_is_too_long_ends_the_run():
+def a_frame_that_is_too_long_ends_the_run(folder):
     data = PUT_A + hexed("00000801")
     want = hexed("00000005 00000007 00  00000005 00000000 1a")
-    in_every_cutting("length 2,049", data, (want, 3))
-    expect_served("length 2,049 and more", [data, GET_A], (want, 3))
+    in_every_cutting(folder, "length 2,049", data, (want, 3))
+    StoreFile(folder).expect_served("length 2,049 and more", [data, GET_A], (want, 3))
 
 
-def a_frame_that_is_cut_off_is_not_answered():
+def a_frame_that_is_cut_off_is_not_answered(folder):
     for length in range(1, len(PUT_A)):
-        expect_served(f"{length} bytes of a put", [PUT_A[:length]], (b"", 4))
-    in_every_cutting("a put without its last byte", PUT_A[:-1], (b"", 4))
+        StoreFile(folder).expect_served(f"{length} bytes of a put", [PUT_A[:length]], (b"", 4))
+    in_every_cutting(folder, "a put without its last byte", PUT_A[:-1], (b"", 4))
 
 
-def another_version_is_unknown():
+def another_version_is_unknown(folder):
     data = get(3, b"a", version=5) + put(4, b"a", b"1", version=1) + get(5, b"a")
-    want = reply(3, UNKNOWN_VERSION) + reply(4, UNKNOWN_VERSION) + reply(5, ABSENT)
-    expect_served("versions 5 and 1", [data], (want, 0))
+    want = reply(3, model.UNKNOWN_VERSION) + reply(4, model.UNKNOWN_VERSION) + reply(5, model.ABSENT)
+    StoreFile(folder).expect_served("versions 5 and 1", [data], (want, 0))
 
 
-def the_largest_key_and_value_are_taken_and_no_larger():
-    key, value = b"k" * KEY_MAX, b"v" * VALUE_MAX
+def the_largest_key_and_value_are_taken_and_no_larger(folder):
+    key, value = b"k" * model.KEY_MAX, b"v" * model.VALUE_MAX
     data = put(1, key, value) + get(2, key) + put(3, key + b"k", b"") + put(4, key, value + b"v") + put(5, b"", b"")
-    want = reply(1, DONE) + reply(2, FOUND, sized(value)) + b"".join(reply(tag, MALFORMED) for tag in (3, 4, 5))
-    expect_served("sizes", [data], (want, 0))
-    longest = frame(struct.pack(">IB", 6, PUT) + bytes(BODY_MAX - 5))
-    expect_served("a body of 2,048 bytes", [longest, GET_A], (reply(6, MALFORMED) + reply(8, ABSENT), 0))
+    malformed = b"".join(reply(tag, model.MALFORMED) for tag in (3, 4, 5))
+    store = StoreFile(folder)
+    store.expect_served("sizes", [data], (reply(1, model.DONE) + reply(2, model.FOUND, sized(value)) + malformed, 0))
+    store.expect_served("sizes, again", [get(2, key)], (reply(2, model.FOUND, sized(value)), 0))
+    longest = frame(struct.pack(">IB", 6, model.PUT) + bytes(model.BODY_MAX - 5))
+    want = reply(6, model.MALFORMED) + reply(8, model.ABSENT)
+    StoreFile(folder).expect_served("a body of 2,048 bytes", [longest, GET_A], (want, 0))
 
 
-def the_last_value_of_a_key_counts():
+def the_last_value_of_a_key_counts(folder):
     data = b"".join(put(i, b"a", b"%d" % i) + get(i, b"a") for i in range(300))
-    expect_served("a key put again and again", [data])
+    StoreFile(folder, mem=300).expect_served("a key put again and again", [data])
 
 
-def each_reply_comes_before_the_next_frame_is_sent():
-    child = subprocess.Popen([PROGRAM, "serve", "store.bin"], stdin=subprocess.PIPE,
-                             stdout=subprocess.PIPE, bufsize=0)
+def each_reply_comes_before_the_next_frame_is_sent(folder):
+    child = start(StoreFile(folder).path)
     guard = threading.Timer(DEADLINE, child.kill)
     guard.start()
     try:
         for i in range(50):
             value = b"%d" % i
-            for sent, want in ((put(i, b"k", value), reply(i, DONE)), (get(i, b"k"), reply(i, FOUND, sized(value)))):
+            for sent, want in ((put(i, b"k", value), reply(i, model.DONE)),
+                               (get(i, b"k"), reply(i, model.FOUND, sized(value)))):
                 child.stdin.write(sent)
                 expect(f"round {i}", read_exactly(child.stdout, len(want)), want)
         child.stdin.close()
@@ -279,24 +255,24 @@ def each_reply_comes_before_the_next_frame_is_sent():
         guard.cancel()
         child.kill()
         child.wait()
-        child.stdin.close()
-        child.stdout.close()
+        close(child)
 
 
-def thousands_of_frames_are_answered_as_the_model_does():
+def thousands_of_frames_are_answered_as_the_model_does(folder):
     chance = random.Random(1)
     for count, keys in ((3000, 40), (3000, 700)):
         frames = []
         for tag in range(count):
             key = b"key/%d" % chance.randrange(keys)
-            if chance.random() < 0.5:
+            if chance.random() < 0.3:
                 frames.append(put(tag, key, chance.randbytes(chance.choice((0, 1, 10, 100)))))
             else:
                 frames.append(get(tag, key))
-        expect_served(f"{count} frames over {keys} keys", [b"".join(frames)])
+        store = StoreFile(folder, mem=800, changes=100000)
+        store.expect_served(f"{count} frames over {keys} keys", [b"".join(frames)], deadline=120)
 
 
-def damaged_streams_end_with_a_named_status():
+def damaged_streams_end_with_a_named_status(folder):
     chance = random.Random(2)
     for turn in range(150):
         data = bytearray()
@@ -309,75 +285,305 @@ def damaged_streams_end_with_a_named_status():
         if chance.random() < 0.3:
             data = data[:chance.randrange(len(data) + 1)]
         cut = chance.randrange(len(data) + 1)
-        expect_served(f"damaged stream {turn}", [bytes(data[:cut]), bytes(data[cut:])])
+        StoreFile(folder, mem=4).expect_served(f"damaged stream {turn}", [bytes(data[:cut]), bytes(data[cut:])])
 
 
-def noise_ends_with_a_named_status():
+def noise_ends_with_a_named_status(folder):
     chance = random.Random(3)
     for turn in range(60):
         data = chance.randbytes(chance.choice((0, 1, 3, 4, 5, 50, 5000)))
         if turn % 2:
             data = bytes(3) + data  # so that the first length is small
-        expect_served(f"noise {turn}", [data])
+        StoreFile(folder).expect_served(f"noise {turn}", [data])
 
 
-def wrong_words_are_refused_and_nothing_is_read():
-    for words in ([], [b"serve"], [b"serve", b""], [b"serve", b"a", b"b"], [b"SERVE", b"a"], [b"", b"a"],
-                  [b"format", b"f", b"3", b"100", b"10"], [b"format", b"f", b"04", b"100", b"10"],
-                  [b"serve", b"\xff"], [b"help"], [b"--help"], [b"serve "]):
+# Words and streams
+
+WRONG_WORDS = [
+    [], [b"serve"], [b"serve", b""], [b"serve", b"a", b"b"], [b"SERVE", b"a"], [b"", b"a"], [b"serve", b"\xff"],
+    [b"help"], [b"--help"], [b"serve "], [b"format"], [b"format", b"f"], [b"format", b"f", b"4", b"100"],
+    [b"format", b"", b"4", b"100", b"10"], [b"format", b"f", b"4", b"100", b"10", b"11"],
+    [b"format", b"f", b"3", b"100", b"10"], [b"format", b"f", b"4097", b"100", b"10"],
+    [b"format", b"f", b"04", b"100", b"10"], [b"format", b"f", b"+4", b"100", b"10"],
+    [b"format", b"f", b" 4", b"100", b"10"], [b"format", b"f", b"4.0", b"100", b"10"],
+    [b"format", b"f", b"4", b"0", b"10"], [b"format", b"f", b"4", b"16777217", b"10"],
+    [b"format", b"f", b"4", b"100", b"0"], [b"format", b"f", b"4", b"100", b"16385"],
+    [b"format", b"f", b"4", b"100", b"-1"], [b"format", b"f", b"18446744073709551620", b"100", b"10"],
+]
+
+
+def wrong_words_are_refused_and_nothing_is_touched(folder):
+    for words in WRONG_WORDS:
         inside, outside = os.pipe()
         os.write(outside, PUT_A)
-        ran = subprocess.run([PROGRAM, *words], stdin=inside, capture_output=True, timeout=DEADLINE)
-        expect(f"words {words}", (ran.returncode, ran.stdout, ran.stderr), (1, b"", complaint(1)))
+        expect(f"words {words}", run(words, stdin=inside, cwd=folder), (b"", 1, complaint(1)))
         expect(f"words {words}, input left", os.read(inside, 100), PUT_A)
         os.close(inside)
         os.close(outside)
+        expect(f"words {words}, files", os.listdir(folder), [])
 
 
-def a_closed_output_is_a_sink_fault():
+def a_closed_output_is_a_sink_fault(folder):
     inside, outside = os.pipe()
     os.close(inside)
-    ran = subprocess.run([PROGRAM, "serve", "store.bin"], input=PUT_A, stdout=outside, stderr=subprocess.PIPE,
-                         timeout=DEADLINE)
-    os.close(outside)
+    store = StoreFile(folder)
+    how = {"stdout": outside, "stderr": subprocess.PIPE, "timeout": DEADLINE}
+    ran = subprocess.run([PROGRAM, "serve", store.path], input=PUT_A, **how)
     expect("closed output", (ran.returncode, ran.stderr), (7, complaint(7)))
+    formatted = os.path.join(folder, "formatted")
+    ran = subprocess.run([PROGRAM, "format", formatted, "4", "100", "10"], **how)
+    expect("closed output of format", (ran.returncode, ran.stderr), (7, complaint(7)))
+    expect("closed output of format, the file", bytes_of(formatted) == Store(4, 100, 10).file(), True)
+    os.close(outside)
     if os.path.exists("/dev/full"):
         with open("/dev/full", "wb") as full:
-            ran = subprocess.run([PROGRAM, "serve", "store.bin"], input=PUT_A, stdout=full, stderr=subprocess.PIPE,
-                                 timeout=DEADLINE)
-        expect("a full device", (ran.returncode, ran.stderr), (7, complaint(7)))
-    ran = subprocess.run([PROGRAM, "serve", "store.bin"], input=b"", capture_output=True, timeout=DEADLINE)
-    expect("no reply, so no fault", (ran.returncode, ran.stdout), (0, b""))
+            ran = subprocess.run([PROGRAM, "serve", store.path], input=PUT_A, **{**how, "stdout": full})
+        expect("a full device as output", (ran.returncode, ran.stderr), (7, complaint(7)))
+    expect("no reply, so no fault", run(["serve", store.path], input=b""), (b"", 0, b""))
 
 
-def an_input_that_cannot_be_read_is_a_source_fault():
-    folder = os.open("/", os.O_RDONLY)
-    ran = subprocess.run([PROGRAM, "serve", "store.bin"], stdin=folder, capture_output=True, timeout=DEADLINE)
-    os.close(folder)
-    expect("a folder", (ran.returncode, ran.stdout, ran.stderr), (6, b"", complaint(6)))
-    ran = subprocess.run(["/bin/sh", "-c", '"$0" serve store.bin <&-', PROGRAM], capture_output=True, timeout=DEADLINE)
-    expect("a closed input", (ran.returncode, ran.stdout, ran.stderr), (6, b"", complaint(6)))
+def an_input_that_cannot_be_read_is_a_source_fault(folder):
+    store = StoreFile(folder)
+    inside = os.open("/", os.O_RDONLY)
+    expect("a folder as input", run(["serve", store.path], stdin=inside), (b"", 6, complaint(6)))
+    os.close(inside)
+    store.expect_bytes("a folder as input")
 
 
-def the_launcher_passes_words_input_and_status_on():
+def a_closed_stream_does_not_reach_the_store(folder):
+    # the next file that a program opens takes the number of a stream that is closed
+    sent, done = PUT_A + b"\0", reply(7, model.DONE)
+    for closed, want in (("<&-", (b"", 6, complaint(6))), (">&-", (b"", 7, complaint(7))), ("2>&-", (done, 4, b""))):
+        store = StoreFile(folder)
+        if closed != "<&-":
+            store.model.serve(PUT_A)
+        ran = subprocess.run(["/bin/sh", "-c", f'"$0" serve "$1" {closed}', PROGRAM, store.path], input=sent,
+                             capture_output=True, timeout=DEADLINE)
+        expect(f"serve {closed}", (ran.stdout, ran.returncode, ran.stderr), want)
+        store.expect_bytes(f"serve {closed}")
+    formatted = os.path.join(folder, "formatted")
+    ran = subprocess.run(["/bin/sh", "-c", '"$0" format "$1" 4 100 10 >&-', PROGRAM, formatted], capture_output=True,
+                         timeout=DEADLINE)
+    expect("format >&-", (ran.returncode, ran.stderr), (7, complaint(7)))
+    expect("format >&-, the file", bytes_of(formatted) == Store(4, 100, 10).file(), True)
+
+
+def the_launcher_passes_words_input_and_status_on(folder):
     for data in (PUT_A + GET_A, hexed("00000801"), PUT_A[:-1]):
-        out, status = model(data)
-        expect("through the launcher", serve([data], program=LAUNCHER), (out, status, complaint(status)))
-    expect("no words", serve([], words=(), program=LAUNCHER), (b"", 1, complaint(1)))
+        StoreFile(folder).expect_served("through the launcher", [data], program=LAUNCHER)
+    ran = subprocess.run([LAUNCHER], stdin=subprocess.DEVNULL, capture_output=True, timeout=DEADLINE)
+    expect("no words", (ran.stdout, ran.returncode, ran.stderr), (b"", 1, complaint(1)))
 
 
-def the_examples_of_the_readme_are_as_shown():
+def the_examples_of_the_readme_are_as_shown(folder):
     text = (TOP / "README.md").read_text()
     blocks = re.findall(r"^```console\n(.*?)^```$", text, re.M | re.S)
     if not blocks:
         raise Wrong("README.md shows no example")
-    with tempfile.TemporaryDirectory() as folder:
-        os.symlink(LAUNCHER, os.path.join(folder, "castle"))
-        for block in blocks:
-            for command, shown in re.findall(r"^\$ (.*\n(?:> .*\n)*)((?:(?!\$ ).*\n)*)", block, re.M):
-                command = command.replace("\n> ", "\n")
-                ran = subprocess.run(["/bin/sh", "-c", command], cwd=folder, capture_output=True, timeout=DEADLINE)
-                expect(command.strip(), (ran.stdout.decode(), ran.stderr), (shown, b""))
+    os.symlink(LAUNCHER, os.path.join(folder, "castle"))
+    for block in blocks:
+        for command, shown in re.findall(r"^\$ (.*\n(?:> .*\n)*)((?:(?!\$ ).*\n)*)", block, re.M):
+            command = command.replace("\n> ", "\n")
+            ran = subprocess.run(["/bin/sh", "-c", command], cwd=folder, capture_output=True, timeout=DEADLINE)
+            expect(command.strip(), (ran.stdout.decode(), ran.stderr), (shown, b""))
+
+
+def the_examples_of_the_protocol_are_frames(folder):
+    commands, replies = (re.findall(r"^\| (\d+) \| (.*?) \|.*?\| `([0-9a-f ]+)` \|", page, re.M)
+                         for page in (TOP / "docs" / "PROTOCOL.md").read_text().split("## Replies"))
+    expect("examples", (len(commands), len(replies)), (10, 22))
+    for number, name, digits in commands + replies:
+        data = hexed(digits)
+        expect(f"{name}, its length", struct.unpack(">I", data[:4])[0], len(data) - 4)
+        expect(f"{name}, its number", data[8], int(number))
+    # a command that is marked as open is malformed, and no other is
+    out, status, _ = serve(StoreFile(folder).path, [hexed(digits) for _, _, digits in commands])
+    malformed = [body[4] == model.MALFORMED for body in bodies_of(out)]
+    expect("what is open", (malformed, status), (["*open*" in name for _, name, _ in commands], 0))
+
+
+# Files
+
+def formatting_writes_the_bytes_of_a_new_store(folder):
+    path = StoreFile(folder, 4, 100, 10).path
+    data = bytes_of(path)
+    head = hexed("a7 5354524154425431 0001 0000000000000001 00000006 0000001d 00 00000004 00000064 0000000a")
+    expect("the superblock", data[:40], head)
+    expect("the manifest", data[24576:24612], hexed(8 * "00" + "00" * 12 + "0000000000000001 00000001 00 000000"))
+    for limits in ((4, 1, 1), (4096, 2 ** 24, 2 ** 14), (5, 7, 9)):
+        StoreFile(folder, *limits).expect_served(f"limits {limits}", [GET_A], (reply(8, model.ABSENT), 0))
+    # whatever was there is gone: other bytes, or a store with pairs
+    used = StoreFile(folder)
+    used.expect_served("a put", [PUT_A])
+    for name, data in (("noise", random.Random(4).randbytes(40000)), ("a store", bytes_of(used.path))):
+        with open(used.path, "wb") as file:
+            file.write(data)
+        expect(f"format over {name}", run(["format", used.path, "4", "100", "10"]), (Store(4, 100, 10).line(), 0, b""))
+        want = reply(8, model.ABSENT), 0, b""
+        expect(f"serve after format over {name}", serve(used.path, [GET_A]), want)
+
+
+def a_second_run_has_what_the_first_acknowledged(folder):
+    chance = random.Random(5)
+    store = StoreFile(folder)
+    for turn in range(20):
+        keys = [b"%d" % chance.randrange(12) for _ in range(4)]
+        puts = [put(i, key, chance.randbytes(chance.randrange(40))) for i, key in enumerate(keys[:3])]
+        gets = [get(i, key) for i, key in enumerate(keys)]
+        store.expect_served(f"run {turn}", [b"".join(puts + gets)])
+
+
+def a_full_store_takes_no_put(folder):
+    puts = [put(i, b"%d" % i, b"x") for i in range(6)]
+    gets = [get(i, b"%d" % i) for i in range(6)]
+    for limits, most in (((4, 2, 2), 2), ((4, 100, 10), 4), ((5, 5, 1), 5)):
+        store = StoreFile(folder, *limits)
+        want = b"".join(reply(i, model.DONE if i < most else model.CHANGE_LIMIT) for i in range(6))
+        store.expect_served(f"limits {limits}", [b"".join(puts)], (want, 0))
+        store.expect_served(f"limits {limits}, again", [b"".join(gets + puts)])
+
+
+def thousands_of_puts_are_kept(folder):
+    store = StoreFile(folder, 4096, 100000, 100)
+    puts = [put(i, b"key/%d" % (i % 1500), b"value/%d" % i) for i in range(4000)]
+    want = b"".join(reply(i, model.DONE) for i in range(4000))
+    store.expect_served("4,000 puts", [b"".join(puts)], (want, 0), deadline=600)
+    store.expect_served("4,000 puts, again", [b"".join(get(i, b"key/%d" % i) for i in range(1600))], deadline=120)
+
+
+def kill_amid_puts(path, frames, replies, pause):
+    """Sends the frames to a run that is killed after so many bytes of replies and a pause; how many it answered."""
+    child = start(path)
+
+    def send():
+        try:
+            for piece in frames:
+                child.stdin.write(piece)
+        except OSError:
+            pass  # it was killed
+
+    writer = threading.Thread(target=send)
+    writer.start()
+    got = read_exactly(child.stdout, replies)
+    time.sleep(pause)
+    child.kill()
+    child.wait(DEADLINE)
+    got += child.stdout.read()
+    writer.join()
+    close(child)
+    answered = len(got) // 9
+    expect("replies", got[:9 * answered], b"".join(reply(tag, model.DONE) for tag in range(answered)))
+    return answered
+
+
+def a_killed_run_loses_nothing_that_it_acknowledged(folder):
+    chance = random.Random(6)
+    for turn in range(50):
+        pairs = [(b"key/%d" % chance.randrange(40), chance.randbytes(chance.choice((0, 1, 30, 1024))))
+                 for _ in range(400)]
+        store = StoreFile(folder, 400, 1000, 10)
+        frames = [put(tag, key, value) for tag, (key, value) in enumerate(pairs)]
+        answered = kill_amid_puts(store.path, frames, chance.randrange(9 * 300), chance.random() / 500)
+        status, store.model = model.opened(bytes_of(store.path))
+        expect(f"turn {turn}, the file", status, 0)
+        kept = store.model.puts
+        if kept != pairs[:len(kept)] or len(kept) < answered:
+            raise Wrong(f"turn {turn}: {len(kept)} puts are kept, which aren't the first that were sent, "
+                        f"or fewer than the {answered} that were acknowledged")
+        gets = b"".join(get(i, b"key/%d" % i) for i in range(40))
+        out, status = store.model.serve(gets + PUT_A + GET_A)
+        expect(f"turn {turn}, again", serve(store.path, [gets + PUT_A + GET_A]), (out, status, complaint(status)))
+        os.remove(store.path)
+
+
+def expect_opened(name, path, data):
+    """Serves a file with these bytes: as the model does, or with a named status and every byte as it was."""
+    with open(path, "wb") as file:
+        file.write(data)
+    status, store = model.opened(data)
+    if store is None:
+        expect(name, serve(path, [GET_A]), (b"", status, complaint(status)))
+        expect(f"{name}, the file's bytes are the same", bytes_of(path) == data, True)
+    else:
+        sent = b"".join(get(i, b"%d" % i) for i in range(10))
+        out, status = store.serve(sent)
+        expect(name, serve(path, [sent]), (out, status, complaint(status)))
+    return status
+
+
+def used_store(folder):
+    """A file with four puts in a journal region for four, and its bytes."""
+    store = StoreFile(folder, 4, 100, 10)
+    store.expect_served("puts", [b"".join(put(i, b"%d" % i, b"%d" % i) for i in range(4))])
+    return store.path, bytes_of(store.path)
+
+
+def a_store_cut_short_is_refused_by_name(folder):
+    path, data = used_store(folder)
+    places = [0, 1, 8, 9, 10, 39, 40, 41, 4096, 8191, 8192, 8193, 8235, 8236, 8237, 16384, 24575, 24576, 24580, 24607,
+              24608, 28671, 28672]
+    chance = random.Random(7)
+    for place in places + [chance.randrange(len(data)) for _ in range(20)]:
+        expect_opened(f"cut at {place}", path, data[:place])
+
+
+def a_store_overwritten_with_noise_is_refused_by_name(folder):
+    path, data = used_store(folder)
+    chance = random.Random(8)
+    seen = set()
+    # superblock slots, the first records of both regions, and the manifest's block
+    places = [0, 0, 0, 4096, 8192, 8192, 8192, 16384, 24576]
+    for turn in range(200):
+        noisy = bytearray(data)
+        at = chance.choice(places) + chance.randrange(50)
+        noise = chance.randbytes(chance.choice((1, 1, 2, 8, 40)))
+        noisy[at:at + len(noise)] = noise
+        seen.add(expect_opened(f"noise {turn}, {len(noise)} bytes at {at}", path, bytes(noisy)))
+    for turn in range(10):
+        seen.add(expect_opened(f"all noise {turn}", path, chance.randbytes(chance.randrange(40000))))
+    expect("statuses", seen, {0, 2, 9})
+    # each gate alone, open and shut
+    for at in (0, 4096, 8192, 8203, 8236, 16384):
+        for gate in (0, 0xa6, 0xa7):
+            expect_opened(f"gate {gate} at {at}", path, data[:at] + bytes([gate]) + data[at + 1:])
+
+
+def what_is_no_file_is_refused_by_name(folder):
+    inner = os.path.join(folder, "folder")
+    os.mkdir(inner)
+    for words in (["serve", inner], ["format", inner, "4", "100", "10"], ["serve", os.path.join(folder, "no", "where")]):
+        expect(f"{words}", run(words, input=PUT_A), (b"", 5, complaint(5)))
+    expect("the folder", os.listdir(inner), [])
+    absent = os.path.join(folder, "absent")
+    expect("an absent file", run(["serve", absent], input=PUT_A), (b"", 2, complaint(2)))
+    expect("an absent file, now", bytes_of(absent), b"")
+
+
+def a_full_device_is_a_device_fault(folder):
+    if os.path.exists("/dev/full"):
+        for words in (["format", "/dev/full", "4", "100", "10"], ["serve", "/dev/full"]):
+            expect(f"{words}", run(words, input=PUT_A), (b"", 5, complaint(5)))
+
+    def limited(most):
+        """Makes every write behind so many bytes of a file fail, as on a full device."""
+        signal.signal(signal.SIGXFSZ, signal.SIG_IGN)
+        resource.setrlimit(resource.RLIMIT_FSIZE, (most, most))
+
+    path = os.path.join(folder, "small.store")
+    words = ["format", path, "4", "100", "10"]
+    expect("format", run(words, preexec_fn=lambda: limited(9000)), (b"", 5, complaint(5)))
+    expect("serve after it", run(["serve", path], input=PUT_A), (b"", 2, complaint(2)))
+    # the record of the third put lies across the end of what may be written
+    store = StoreFile(folder)
+    puts = [put(tag, b"%d" % tag, b"value") for tag in range(5)]
+    want = reply(0, model.DONE) + reply(1, model.DONE) + reply(2, model.DEVICE_FAULT)
+    most = 2 * model.BLOCK + 2 * len(model.record(b"0", b"value")) + 5
+    got = run(["serve", store.path], input=b"".join(puts), preexec_fn=lambda: limited(most))
+    expect("puts", got, (want, 5, complaint(5)))
+    status, store.model = model.opened(bytes_of(store.path))
+    expect("kept", (status, store.model.puts), (0, [(b"0", b"value"), (b"1", b"value")]))
+    out, status = store.model.serve(b"".join(puts))
+    expect("again", serve(store.path, [b"".join(puts)]), (out, status, b""))
 
 
 CHECKS = [
@@ -395,11 +601,22 @@ CHECKS = [
     thousands_of_frames_are_answered_as_the_model_does,
     damaged_streams_end_with_a_named_status,
     noise_ends_with_a_named_status,
-    wrong_words_are_refused_and_nothing_is_read,
+    wrong_words_are_refused_and_nothing_is_touched,
     a_closed_output_is_a_sink_fault,
     an_input_that_cannot_be_read_is_a_source_fault,
+    a_closed_stream_does_not_reach_the_store,
     the_launcher_passes_words_input_and_status_on,
     the_examples_of_the_readme_are_as_shown,
+    the_examples_of_the_protocol_are_frames,
+    formatting_writes_the_bytes_of_a_new_store,
+    a_second_run_has_what_the_first_acknowledged,
+    a_full_store_takes_no_put,
+    thousands_of_puts_are_kept,
+    a_killed_run_loses_nothing_that_it_acknowledged,
+    a_store_cut_short_is_refused_by_name,
+    a_store_overwritten_with_noise_is_refused_by_name,
+    what_is_no_file_is_refused_by_name,
+    a_full_device_is_a_device_fault,
 ]
 
 
@@ -426,7 +643,8 @@ def main():
             continue
         name = check.__name__.replace("_", " ")
         try:
-            check()
+            with tempfile.TemporaryDirectory() as folder:
+                check(folder)
         except (Wrong, subprocess.SubprocessError, OSError) as wrong:
             print(f"outside: FAILED: {name}: {wrong}")
             failed += 1
