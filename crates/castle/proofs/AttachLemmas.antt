@@ -1,12 +1,12 @@
 -- What an opening leaves of a disk that it read, and that it may have written to last.
-use Rattle.std.proofs.Common.{◌≡◌, ◌⊎◌, ℕ, inl, inr, Option, Some, Result, Ok, Err, IfSome, IfErr, ◌≢◌, sym, ap, ◌∙◌, subst}
+use Rattle.std.proofs.Common.{◌≡◌, ℕ, Option, Some, Result, Ok, Err, IfSome, IfErr, ◌≢◌, sym, ap, ◌∙◌, subst}
 use Rattle.strat_base.specs.Damage.{Read, and_then}
 use Rattle.strat_base.specs.Image.{Image}
-use Rattle.strat_base.specs.Moments.{View, Images, Since, Passes, LeavesOld, Settled}
+use Rattle.strat_base.specs.Moments.{View, Images, LeavesOld, Settled}
 use Rattle.strat_base.specs.SuperBlock.{Super, newest_in}
 use Rattle.strat_base.specs.declared.failures.Fault.{Fault}
 use Rattle.strat_base.specs.declared.failures.Fault.TheVariants as fault
-use Rattle.strat_base.proofs.MomentLemmas.{each_then, now_since_start, settled_at}
+use Rattle.strat_base.proofs.MomentLemmas.{now_since_start, settled_at}
 use Rattle.strat_journal.specs.Front.{Looks}
 use Rattle.strat_model.specs.Head.{Head}
 use Rattle.castle.specs.declared.opening.AttachFault.{AttachFault}
@@ -21,20 +21,10 @@ settled_looks old new f told settled looks =
     λ c left. settled_at old f told settled c (looks.images.each c (now_since_start old new c looks.time left)) in
     subst (λ (o : Option Image). IfSome o (λ g. (c : Image) → Images new c → c ≡ g)) (sym (looks.same ∙ told)) each
 
--- what is left of a disk that was only read was left before
-pub left_before : (old new : View) (h : Head) → Looks old new → (c : Image) → Since new old.moment c → Images old c ⊎ (head_now c ≡ Ok (Some h))
-left_before old new h looks c since = inl (looks.images.each c since)
-
--- and so is all else of it, whatever the outcome
+-- a disk that was only read is as it was, whatever the outcome
 pub looks_kept : {T : Type 0} (r : Result T AttachFault) (old new : View) → Looks old new → IfErr r (λ e. e ≢ Device → (new.content ≡ old.content) × LeavesOld old new)
 looks_kept (Ok x) old new looks = tt
 looks_kept (Err e) old new looks = λ _. (looks.same, looks.images)
-
--- and from then on there is one head
-pub left_after : (old mid new : View) (f : Image) (h found : Head) → Looks old mid → Passes mid new → head_now f ≡ Ok (Some h) → head_now f ≡ Ok (Some found)
-    → ((c : Image) → Since new mid.moment c → head_now c ≡ Ok (Some found)) → (c : Image) → Since new old.moment c → Images old c ⊎ (head_now c ≡ Ok (Some h))
-left_after old mid new f h found looks passes is same after =
-    each_then mid new old.moment (λ c. Images old c ⊎ (head_now c ≡ Ok (Some h))) passes (left_before old mid h looks) (λ c since. inr (after c since ∙ sym same ∙ is))
 
 -- damage behind the newest superblock is that of the store
 pub damaged_now : (f : Image) (slot : ℕ) (sb : Super) (block : ℕ) → newest_in f ≡ Ok (Some (slot, sb)) → head_now_behind f sb ≡ Err block → head_now f ≡ Err block

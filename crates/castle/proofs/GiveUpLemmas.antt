@@ -1,21 +1,16 @@
 -- A serving run whose opening gave up, and what an end says of the opening.
 use Rattle.std.proofs.Common.{◌≡◌, ◌≢◌, ℕ, List, length, Option, Some, refl, sym, ap, subst, ◌∙◌, inl, inr, ◌⊎◌}
-use Rattle.std.specs.Prelude.{Ok}
 use Rattle.std.proofs.lemmas.Bool.{cases_eq}
 use Rattle.strat_base.specs.Image.{Image}
-use Rattle.strat_base.specs.Moments.{View, Images, Since, LeavesOld}
-use Rattle.strat_base.specs.State.{State}
+use Rattle.strat_base.specs.Moments.{View, LeavesOld}
 use Rattle.strat_model.specs.declared.ended.Ended.{Ended}
 use Rattle.strat_model.specs.declared.ended.Ended.TheVariants as ended
-use Rattle.strat_model.specs.Head.{Head}
-use Rattle.strat_model.specs.StateTable.{table_of}
 use Rattle.strat_model.specs.Table.{Table}
 use Rattle.castle.specs.declared.opening.AttachFault.{AttachFault}
 use Rattle.castle.specs.declared.opening.AttachFault.TheVariants as fault
 use Rattle.castle.specs.Causes.{ended_for}
-use Rattle.castle.specs.Opened.{head_now, state_now, limited, Shows}
+use Rattle.castle.specs.Opened.{Opens}
 use Rattle.castle.specs.Session.{IsGivenUp, GaveUp, OpensSo}
-use Rattle.castle.proofs.OpenedLemmas.{reads_now, sound_now}
 
 -- an opening that gave up ends a run so
 ends_given_up : (f : AttachFault) → IsGivenUp (ended_for f)
@@ -24,33 +19,25 @@ ends_given_up fault.Device = tt
 ends_given_up (fault.Damaged block) = tt
 ends_given_up fault.NoMemory = tt
 
--- images with one head show one table
-shows_same : (f c : Image) (t : Table) (s : Shows f t) → head_now c ≡ Ok (Some s.head) → Shows c t
-shows_same f c t s found =
-    let e : ◌≡◌ {A = Option State} (Some s.state) (Some (state_now s.head)) = sym s.reads ∙ reads_now f s.head s.found in
-    let same : s.state ≡ state_now s.head = cc in
-    record {
-      head = s.head;
-      found = found;
-      state = state_now s.head;
-      reads = reads_now c s.head found;
-      sound = sound_now c s.head found;
-      table = ap (λ (x : State). table_of (limited x)) (sym same) ∙ s.table;
-    }
+-- where the device did not fail the images are those of before
+images_left : (f : AttachFault) (before now : View) → (f ≡ fault.Device → (g : Image) → before.content ≡ Some g → LeavesOld before now ⊎ ((t : Table) × Opens before now g t))
+    → (f ≢ fault.Device → (now.content ≡ before.content) × LeavesOld before now)
+    → (g : Image) → before.content ≡ Some g → LeavesOld before now ⊎ ((t : Table) × Opens before now g t)
+images_left fault.NotAStore before now device kept g told = inl (kept (λ e. absurd (let f : fault.NotAStore ≡ fault.Device = e in cc))).1
+images_left fault.Device before now device kept g told = device refl g told
+images_left (fault.Damaged block) before now device kept g told = inl (kept (λ e. absurd (let f : fault.Damaged block ≡ fault.Device = e in cc))).1
+images_left fault.NoMemory before now device kept g told = inl (kept (λ e. absurd (let f : fault.NoMemory ≡ fault.Device = e in cc))).1
 
 -- nothing was read or sent, and the disk shows what it showed
 pub gave_up : (how : Ended) (f : AttachFault) (s k : Option (List ℕ)) (before now : View) → how ≡ ended_for f
-    → ((f : Image) (h : Head) → before.content ≡ Some f → head_now f ≡ Ok (Some h) → (c : Image) → Since now before.moment c → Images before c ⊎ (head_now c ≡ Ok (Some h)))
+    → (f ≡ fault.Device → (g : Image) → before.content ≡ Some g → LeavesOld before now ⊎ ((t : Table) × Opens before now g t))
     → (f ≢ fault.Device → (now.content ≡ before.content) × LeavesOld before now) → GaveUp how s s k k before now
-gave_up how f s k before now is moments kept = record {
+gave_up how f s k before now is device kept = record {
   ends = subst IsGivenUp (sym is) (ends_given_up f);
   source = refl;
   sink = refl;
-  shows = λ g t told alone shows c since. elim (moments g shows.head told shows.found c since) [
-    | inl old ↦ subst (λ (x : Image). Shows x t) (sym (alone c old)) shows
-    | inr found ↦ shows_same g c t shows found
-  ];
   kept = λ other. kept (λ device. other (is ∙ ap ended_for device));
+  images = images_left f before now device kept;
 }
 
 -- an opening that gave up says of the disk what the run's end says

@@ -3,6 +3,7 @@ pub mod AppliedLemmas
 pub mod AttachLemmas
 pub mod ChangeLemmas
 pub mod CompleteLemmas
+pub mod FollowLemmas
 pub mod FormatLemmas
 pub mod FormattedLemmas
 pub mod GiveUpLemmas

@@ -1,23 +1,22 @@
 -- A serving run while it goes on.
-use Rattle.std.proofs.Common.{◌≡◌, ◌≤◌, ◌<◌, ℕ, ◌+◌, false, List, [], ◌∷◌, ◌++◌, length, take, drop, map, Option, Some, None, refl, sym, ap, subst, ◌∙◌, append_assoc, length-append, inl, inr, ◌⊎◌, arith}
-use Rattle.std.specs.Prelude.{if◌then◌else◌, Ok}
+use Rattle.std.proofs.Common.{◌≡◌, ◌≤◌, ◌<◌, ℕ, ◌+◌, false, List, [], ◌∷◌, ◌++◌, length, take, drop, map, Option, Some, None, refl, sym, ap, subst, ◌∙◌, append_assoc, length-append, arith}
+use Rattle.std.specs.Prelude.{if◌then◌else◌}
 use Rattle.std.specs.List.{flat_map, AllByRecursion}
 use Rattle.std.proofs.lemmas.List.{append-nil, length-map, map-append, take-append-drop, take-append-le}
 use Rattle.std.proofs.lemmas.List.Concat.{flat_map-append}
 use Rattle.strat_base.specs.Image.{Image}
-use Rattle.strat_base.specs.Moments.{View, Images, Since, Passes}
+use Rattle.strat_base.specs.Moments.{View, Passes}
 use Rattle.strat_base.specs.Trail.{Trail}
-use Rattle.strat_base.proofs.TrailLemmas.{trail_of_one, trail_join}
 use Rattle.strat_io.specs.Streams.{Appends, Gives}
 use Rattle.strat_io.proofs.StreamLemmas.{appends_then}
-use Rattle.strat_model.specs.Head.{Head}
 use Rattle.strat_model.specs.Stream.{frame, IsBody}
 use Rattle.strat_model.specs.Table.{Table, bare}
 use Rattle.strat_model.specs.Run.{Place, Told, told_bytes, Exchange, Answers, Run, text}
-use Rattle.castle.specs.Opened.{head_now, Shows}
+use Rattle.castle.specs.Opened.{Shows, Follows, Opens}
 use Rattle.castle.specs.Store.{Attached, place_of, StandsOn, OpensFrom, Moves}
 use Rattle.castle.specs.Session.{Took, IsAtEnd, IsTold, Progress}
-use Rattle.castle.proofs.StandLemmas.{shows_bare, opens_begins}
+use Rattle.castle.proofs.FollowLemmas.{follows_on}
+use Rattle.castle.proofs.StandLemmas.{opens_begins}
 
 -- what was read was taken from the source
 pub took_piece : (before now : Option (List ℕ)) (into more : List ℕ) (n : ℕ) → Gives before now into n → n ≤ length into → Took before now (take n (into ++ more))
@@ -67,12 +66,12 @@ each_more [] x each fits = (fits, tt)
 each_more (y ∷ ys) x each fits = (each.0, each_more ys x each.1 fits)
 
 -- a run begins with the store that was opened
-pub begins : (s : Attached) (held : List ℕ) (s0 k0 : Option (List ℕ)) (before now : View) → s.spent ≡ false → held ≡ [] → before.moment ≤ now.moment
+pub begins : (s : Attached) (held : List ℕ) (s0 k0 : Option (List ℕ)) (before now : View) → s.spent ≡ false → held ≡ []
     → ((f : Image) → before.content ≡ Some f → StandsOn now s)
     → ((f : Image) → before.content ≡ Some f → OpensFrom f s)
-    → ((f : Image) (h : Head) → before.content ≡ Some f → head_now f ≡ Ok (Some h) → (c : Image) → Since now before.moment c → Images before c ⊎ (head_now c ≡ Ok (Some h)))
+    → ((f : Image) → before.content ≡ Some f → Opens before now f (bare s.table))
     → Progress s s 0 held s0 s0 k0 k0 before now
-begins s held s0 k0 before now going empty later stands opens moments = record {
+begins s held s0 k0 before now going empty stands found opens = record {
   taken = [];
   counted = refl;
   took = took_none s0;
@@ -83,14 +82,9 @@ begins s held s0 k0 before now going empty later stands opens moments = record {
   sent = sent_none k0;
   mem = refl;
   going = going;
-  begins = λ f told. opens_begins f s (opens f told);
+  begins = λ f told. opens_begins f s (found f told);
   stands = stands;
-  trail = λ f told alone.
-      let o = opens f told in
-      trail_of_one Shows now before.moment (bare s.table) [] later (λ c since. elim (moments f o.head told o.found c since) [
-        | inl old ↦ shows_bare c o.head s.table (ap head_now (alone c old) ∙ o.found) o.table
-        | inr found ↦ shows_bare c o.head s.table found o.table
-      ]);
+  follows = λ f told. (opens f told).follows;
 }
 
 -- more bytes were taken and are held
@@ -110,7 +104,7 @@ reads start now count n held piece fed s0 s1 s2 k0 k1 d0 d1 p took len feeds = r
   going = p.going;
   begins = p.begins;
   stands = p.stands;
-  trail = p.trail;
+  follows = p.follows;
 }
 
 -- nothing more was taken
@@ -129,7 +123,7 @@ reads_none start now count held s0 s1 s2 k0 k1 d0 d1 p took = record {
   going = p.going;
   begins = p.begins;
   stands = p.stands;
-  trail = p.trail;
+  follows = p.follows;
 }
 
 -- the tables at which bodies were answered
@@ -137,15 +131,15 @@ abbrev pub tables_before : List Exchange → List Table
 tables_before xs = map (λ (x : Exchange). bare x.at.table) xs
 
 -- the images followed one answer more
-pub trail_more_by : (start : ℕ) (mid now : View) (old new : Attached) (xs : List Exchange) (n : ℕ) → Passes mid now
-    → Trail Shows mid start (tables_before xs ++ bare old.table ∷ []) (length xs)
+pub follows_more : (before mid now : View) (old new : Attached) (xs : List Exchange) (n : ℕ) → Passes mid now
+    → Follows before mid (tables_before xs ++ bare old.table ∷ []) (length xs)
     → Trail Shows now mid.moment (bare old.table ∷ bare new.table ∷ []) n
-    → Trail Shows now start (tables_before xs ++ bare old.table ∷ bare new.table ∷ []) (length xs + n)
-trail_more_by start mid now old new xs n passes so_far more =
+    → Follows before now (tables_before xs ++ bare old.table ∷ bare new.table ∷ []) (length xs + n)
+follows_more before mid now old new xs n passes so_far more =
     let len : length (tables_before xs) ≡ length xs = length-map xs (λ (x : Exchange). bare x.at.table) in
-    subst (λ (k : ℕ). Trail Shows now start (tables_before xs ++ bare old.table ∷ bare new.table ∷ []) (k + n)) len
-    (trail_join Shows mid now start (tables_before xs) (bare new.table ∷ []) (bare old.table) n passes
-    (subst (λ (k : ℕ). Trail Shows mid start (tables_before xs ++ bare old.table ∷ []) k) (sym len) so_far) more)
+    subst (λ (k : ℕ). Follows before now (tables_before xs ++ bare old.table ∷ bare new.table ∷ []) (k + n)) len
+    (follows_on before mid now (tables_before xs) (bare new.table ∷ []) (bare old.table) n passes
+    (subst (λ (k : ℕ). Follows before mid (tables_before xs ++ bare old.table ∷ []) k) (sym len) so_far) more)
 
 -- where a store goes on the images show its table after the answer
 moves_on : (before now : View) (old new : Attached) → new.spent ≡ false → Moves before now old new → Trail Shows now before.moment (bare old.table ∷ bare new.table ∷ []) 1
@@ -191,14 +185,14 @@ module _ (start old new : Attached) (count : ℕ) (held rest body : List ℕ) (t
       going = is.going;
       begins = p.begins;
       stands = λ f e. (moves (p.stands f e)).stands is.going;
-      trail = λ f e alone.
-          let joined = trail_more_by d0.moment d1 d2 old new p.exchanges 1 passes (p.trail f e alone) (moves_on d1 d2 old new is.going (moves (p.stands f e))) in
+      follows = λ f e.
+          let joined = follows_more d0 d1 d2 old new p.exchanges 1 passes (p.follows f e) (moves_on d1 d2 old new is.going (moves (p.stands f e))) in
           let len : length p.exchanges + 1 ≡ length (p.exchanges ++ latest ∷ []) = sym (length-append p.exchanges (latest ∷ [])) in
           let before : tables_before (p.exchanges ++ latest ∷ []) ≡ tables_before p.exchanges ++ bare old.table ∷ [] = map-append (λ (x : Exchange). bare x.at.table) p.exchanges (latest ∷ []) in
           let list : tables_before p.exchanges ++ bare old.table ∷ bare new.table ∷ [] ≡ tables_before (p.exchanges ++ latest ∷ []) ++ bare new.table ∷ [] =
           sym (append_assoc (tables_before p.exchanges) (bare old.table ∷ []) (bare new.table ∷ [])) ∙ ap (λ (l : List Table). l ++ bare new.table ∷ []) (sym before) in
-          subst (λ (n : ℕ). Trail Shows d2 d0.moment (tables_before (p.exchanges ++ latest ∷ []) ++ bare new.table ∷ []) n) len
-          (subst (λ (l : List Table). Trail Shows d2 d0.moment l (length p.exchanges + 1)) list joined);
+          subst (λ (n : ℕ). Follows d0 d2 (tables_before (p.exchanges ++ latest ∷ []) ++ bare new.table ∷ []) n) len
+          (subst (λ (l : List Table). Follows d0 d2 l (length p.exchanges + 1)) list joined);
     },
     refl,
   )

@@ -17,10 +17,10 @@ use Rattle.strat_model.specs.declared.ended.Ended.TheVariants as ended
 use Rattle.strat_model.specs.Stream.{frame, IsBody, is_partial, is_too_long, Splits, Whole, Rest, Long, ending_of}
 use Rattle.strat_model.specs.Table.{Table, bare}
 use Rattle.strat_model.specs.Run.{Told, told_bytes, ToldFault, Exchange, Halt, Talk, bodies_of, tolds_of, tables_of, text}
-use Rattle.castle.specs.Opened.{Shows, IsAlone, IsAtRest}
+use Rattle.castle.specs.Opened.{Shows, IsAtRest, Follows}
 use Rattle.castle.specs.Store.{Attached, place_of, StandsOn, Moves}
-use Rattle.castle.specs.Session.{IsAtEnd, SendsFront, too_long_bytes, IsTold, IsHalted, IsAnswered, Session, IsSession, IsWhole, said, said_last, Sends, EndsFor, Follows, Served, Progress}
-use Rattle.castle.proofs.ProgressLemmas.{tables_before, trail_more_by, text_more, answers}
+use Rattle.castle.specs.Session.{IsAtEnd, SendsFront, too_long_bytes, IsTold, IsHalted, IsAnswered, Session, IsSession, IsWhole, said, said_last, Sends, EndsFor, Served, Progress}
+use Rattle.castle.proofs.ProgressLemmas.{tables_before, follows_more, text_more, answers}
 use Rattle.castle.proofs.StreamLemmas.{partial_not_long, frames_of}
 
 -- bodies one after the other that fit
@@ -37,13 +37,6 @@ bodies_fit (x ∷ xs) each = (each.0, bodies_fit xs each.1)
 frames_same : (xs : List Exchange) → flat_map (λ (x : Exchange). frame x.body) xs ≡ flat_map frame (map (λ (x : Exchange). x.body) xs)
 frames_same [] = refl
 frames_same (x ∷ xs) = ap (λ (y : List ℕ). frame x.body ++ y) (frames_same xs)
-
--- each image at the end of a trail shows a table at its number or behind it
-pub at_last : (before now : View) (talk : Talk) → Trail Shows now before.moment (tables_of talk) (length talk.exchanges) → Follows before now talk
-at_last before now talk trail = record {
-  trail = trail;
-  left = λ c left. trail.each (length talk.exchanges) now.moment c (omega arith) trail.last (omega arith) left;
-}
 
 -- a run that was not broken, over the bodies answered and others behind them
 module _ (start now : Attached) (count budget : ℕ) (held : List ℕ) (s0 s1 k0 k1 : Option (List ℕ)) (d0 d1 : View) (e0 e1 : ℕ)
@@ -82,9 +75,6 @@ module _ (start now : Attached) (count budget : ℕ) (held : List ℕ) (s0 s1 k0
     unbroken = refl;
   }
 
-  follows : (f : Image) → d0.content ≡ Some f → IsAlone d0 f → Follows d0 d1 talk
-  follows f e alone = at_last d0 d1 talk (p.trail f e alone)
-
   -- a crash leaves one image, as after each answer
   rests : (f : Image) → d0.content ≡ Some f → IsAtRest d1
   rests f e = let stands = p.stands f e in record { content = stands.holds.content; told = stands.holds.told; alone = stands.holds.settled }
@@ -115,7 +105,7 @@ module _ (start now : Attached) (count budget : ℕ) (held : List ℕ) (s0 s1 k0
         ends = tt;
         faulted = λ some. absurd (some refl);
         begins = p.begins;
-        follows = follows;
+        follows = p.follows;
         rests = λ f e unbroken. rests f e;
       }
 
@@ -138,7 +128,7 @@ module _ (start now : Attached) (count budget : ℕ) (held : List ℕ) (s0 s1 k0
       ends = (is_whole, let e : ending_of held ≡ Long = rw long refl in e);
       faulted = λ some. absurd (some refl);
       begins = p.begins;
-      follows = follows;
+      follows = p.follows;
       rests = λ f e unbroken. rests f e;
     }
 
@@ -159,7 +149,7 @@ module _ (start now : Attached) (count budget : ℕ) (held : List ℕ) (s0 s1 k0
       ends = tt;
       faulted = λ some. absurd (some refl);
       begins = p.begins;
-      follows = follows;
+      follows = p.follows;
       rests = λ f e unbroken. rests f e;
     }
 
@@ -189,7 +179,7 @@ module _ (start now : Attached) (count budget : ℕ) (held : List ℕ) (s0 s1 k0
       ends = ends;
       faulted = λ some. absurd (some refl);
       begins = p.begins;
-      follows = follows;
+      follows = p.follows;
       rests = λ f e unbroken. rests f e;
     }
 
@@ -288,16 +278,15 @@ module _ (start old new : Attached) (count budget : ℕ) (held rest body : List 
       ∙ ap (λ (x : List ℕ). text (map (λ (y : Exchange). y.told) p.exchanges) ++ x) (append-nil (told_bytes told))
 
   -- the images follow the run, whether the body was carried out or not
-  follows_broken : (f : Image) → d0.content ≡ Some f → IsAlone d0 f → Follows d0 d2 halted
-  follows_broken f e alone =
+  follows_broken : (f : Image) → d0.content ≡ Some f → Follows d0 d2 (tables_of halted) (length p.exchanges)
+  follows_broken f e =
       let m = moves (p.stands f e) in
       let last : Trail Shows d2 d1.moment (bare old.table ∷ bare new.table ∷ []) 0 =
       subst (λ b. Trail Shows d2 d1.moment (bare old.table ∷ bare new.table ∷ []) (if b then 0 else 1)) is.spent m.trail in
-      let joined = trail_more_by d0.moment d1 d2 old new p.exchanges 0 passes (p.trail f e alone) last in
+      let joined = follows_more d0 d1 d2 old new p.exchanges 0 passes (p.follows f e) last in
       let same : length p.exchanges + 0 ≡ length p.exchanges = omega arith in
-      at_last d0 d2 halted
-      (subst (λ (t : Table). Trail Shows d2 d0.moment (tables_before p.exchanges ++ bare old.table ∷ bare t ∷ []) (length p.exchanges)) (sym is.table)
-      (subst (λ (n : ℕ). Trail Shows d2 d0.moment (tables_before p.exchanges ++ bare old.table ∷ bare new.table ∷ []) n) same joined))
+      subst (λ (t : Table). Follows d0 d2 (tables_before p.exchanges ++ bare old.table ∷ bare t ∷ []) (length p.exchanges)) (sym is.table)
+      (subst (λ (n : ℕ). Follows d0 d2 (tables_before p.exchanges ++ bare old.table ∷ bare new.table ∷ []) n) same joined)
 
   -- its reply was sent
   pub ends_device : (k2 : Option (List ℕ)) → Appends k1 k2 (told_bytes told) → Served budget ended.Device s0 s1 k0 k2 d0 d2 e0 e1

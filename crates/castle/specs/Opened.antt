@@ -1,18 +1,20 @@
 -- What an opening finds, as long as stores have one version and keep all that they took in one journal region. It finds less than the general
 -- opening does (`Opening` of strat_model), whose manifests and journals are of any kind: what it finds the general one finds too.
-use Rattle.std.specs.Prelude.{◌≡◌, ℕ, ◌*◌, ◌==◌, ◌&&◌, min, Bool, true, List, [], ◌∷◌, ◌++◌, bytes_eq, Option, Some, None, Ok, IsTrue}
+use Rattle.std.specs.Prelude.{◌≡◌, ◌≤◌, ℕ, ◌*◌, ◌==◌, ◌&&◌, min, Bool, true, List, [], ◌∷◌, ◌++◌, bytes_eq, Option, Some, None, Ok, IsTrue}
 use Rattle.strat_base.specs.declared.limits.TheConstants.{BLOCK}
 use Rattle.strat_base.specs.Chain.{link_bytes}
 use Rattle.strat_base.specs.Change.{Change, is_lawful}
 use Rattle.strat_base.specs.Damage.{Read, and_then, passed_or}
-use Rattle.strat_base.specs.Image.{Image, window}
+use Rattle.strat_base.specs.Image.{Image, Outside, window}
+use Rattle.strat_base.specs.Layout.{region_at, other_region}
 use Rattle.strat_base.specs.Manifest.{Manifest, manifest_bytes}
-use Rattle.strat_base.specs.Moments.{View, Images}
+use Rattle.strat_base.specs.Moments.{View, Images, Since}
 use Rattle.strat_base.specs.Opened.{parents_in}
 use Rattle.strat_base.specs.Records.{Logged}
 use Rattle.strat_base.specs.Sound.{IsSound, accepts_change}
 use Rattle.strat_base.specs.State.{State, fresh_state}
 use Rattle.strat_base.specs.SuperBlock.{Super, newest_in}
+use Rattle.strat_base.specs.Trail.{At, Trail}
 use Rattle.strat_model.specs.Disks.{new_manifest}
 use Rattle.strat_model.specs.Head.{Head}
 use Rattle.strat_model.specs.Opening.{accepted_in, reads_as}
@@ -87,12 +89,24 @@ pub record Shows (c : Image) (t : Table) : Type 0 where
   pub sound : IsSound state
   pub table : table_of (limited state) ≡ t
 
--- a crash leaves this image and no other
-abbrev pub IsAlone : View → Image → Type 0
-IsAlone v f = (c : Image) → Images v c → c ≡ f
-
 -- a crash leaves one image, the content
 pub record IsAtRest (v : View) : Type 0 where
   pub content : Image
   pub told : v.content ≡ Some content
-  pub alone : IsAlone v content
+  pub alone : (c : Image) → Images v c → c ≡ content
+
+-- a disk follows tables: until a sync that succeeded a crash leaves what it might have left before, from then on the images show the tables in their order, and each image of now shows one behind the first n
+pub record Follows (before now : View) (tables : List Table) (n : ℕ) : Type 0 where
+  pub synced : ℕ
+  pub from : before.moment ≤ synced
+  pub till : synced ≤ now.moment
+  pub until : (m : ℕ) (c : Image) → before.moment ≤ m → m ≤ synced → now.images_at m c → Images before c
+  pub trail : Trail Shows now synced tables n
+  pub left : (c : Image) → Images now c → (i : ℕ) × (n ≤ i) × At tables i (Shows c)
+
+-- a disk that tells this content goes through an opening: it follows the one table that the content shows, and from the sync on nothing differs from the content but the first gate of the journal region that is not in use
+pub record Opens (before now : View) (f : Image) (t : Table) : Type 0 where
+  pub shows : Shows f t
+  pub follows : Follows before now (t ∷ []) 0
+  pub gate : (c : Image) → Since now follows.synced c
+      → Outside (region_at shows.head.sb.mem (other_region shows.head.sb.region)) 1 f c

@@ -3,9 +3,8 @@ use Rattle.std.specs.Prelude.{◌≡◌, ◌≢◌, ◌≤◌, ◌<◌, ◌⊎�
 use Rattle.std.specs.List.{flat_map, AllByRecursion}
 use Rattle.strat_base.specs.Faults.{Rose}
 use Rattle.strat_base.specs.Image.{Image}
-use Rattle.strat_base.specs.Moments.{View, Images, Since, LeavesOld}
+use Rattle.strat_base.specs.Moments.{View, LeavesOld}
 use Rattle.strat_base.specs.SuperBlock.{newest_in}
-use Rattle.strat_base.specs.Trail.{At, Trail}
 use Rattle.strat_io.specs.Streams.{Appends}
 use Rattle.strat_model.specs.declared.ended.Ended.{Ended}
 use Rattle.strat_model.specs.declared.ended.Ended.TheVariants as ended
@@ -15,7 +14,7 @@ use Rattle.strat_model.specs.Spelling.{reply_body}
 use Rattle.strat_model.specs.Stream.{frame, IsBody, Splits, Whole, Rest, Long, ending_of, is_too_long}
 use Rattle.strat_model.specs.Table.{Table, bare}
 use Rattle.strat_model.specs.Run.{Place, Told, told_bytes, Answers, ToldFault, Exchange, Halt, Run, Talk, IsTalk, bodies_of, tolds_of, tables_of, text}
-use Rattle.castle.specs.Opened.{head_now, Shows, IsAlone, IsAtRest}
+use Rattle.castle.specs.Opened.{head_now, Shows, IsAtRest, Follows, Opens}
 use Rattle.castle.specs.Store.{Attached, place_of, StandsOn}
 
 -- these bytes were taken from the front of a source
@@ -114,12 +113,7 @@ EndsFor ended.Device budget s left = HaltsWith s.talk.halt (refusal why.DeviceFa
 EndsFor (ended.Damaged block) budget s left = HaltsWith s.talk.halt (refusal (why.Damaged block))
 EndsFor _ budget s left = ⊥
 
--- a disk went with a session: from the run's start on its images show the tables of the session in their order, and at its end each shows one behind all that was answered otherwise than by a fault
-pub record Follows (before now : View) (talk : Talk) : Type 0 where
-  pub trail : Trail Shows now before.moment (tables_of talk) (length talk.exchanges)
-  pub left : (c : Image) → Images now c → (i : ℕ) × (length talk.exchanges ≤ i) × At (tables_of talk) i (Shows c)
-
--- a serving run opened the store and ended so: it took these bytes and no others, answered them as the table does, or by a fault where the disk failed, and sent that; and where the disk tells its content, its images followed, and the next run finds one image
+-- a serving run opened the store and ended so: it took these bytes and no others, answered them as the table does, or by a fault where the disk failed, and sent that; and where the disk tells its content, it followed the tables of the session, at its end one behind all that was answered otherwise than by a fault, and the next run finds one image
 pub record Served (budget : ℕ) (how : Ended) (source_before source_now sink_before sink_now : Option (List ℕ)) (disk_before disk_now : View) (faults_before faults_now : ℕ) : Type 0 where
   pub mem : ℕ
   pub start : Place
@@ -130,7 +124,7 @@ pub record Served (budget : ℕ) (how : Ended) (source_before source_now sink_be
   pub ends : EndsFor how budget session source_now
   pub faulted : session.talk.halt ≢ None → Rose faults_before faults_now
   pub begins : (f : Image) → disk_before.content ≡ Some f → Begins f mem start
-  pub follows : (f : Image) → disk_before.content ≡ Some f → IsAlone disk_before f → Follows disk_before disk_now session.talk
+  pub follows : (f : Image) → disk_before.content ≡ Some f → Follows disk_before disk_now (tables_of session.talk) (length session.talk.exchanges)
   pub rests : (f : Image) → disk_before.content ≡ Some f → session.talk.halt ≡ None → IsAtRest disk_now
 
 -- how a run may end whose opening gave up
@@ -141,14 +135,14 @@ IsGivenUp (ended.Damaged block) = Unit {0}
 IsGivenUp ended.NoMemory = Unit {0}
 IsGivenUp _ = ⊥
 
--- a serving run gave up before its first read: nothing was read or sent, an image that showed a table shows it still, and unless the disk failed no byte of it was changed
+-- a serving run gave up before its first read: nothing was read or sent, and unless the disk failed no byte of it was changed; where it failed a crash leaves what it might have left before, or the sync that an opening begins with succeeded, and the disk went through the opening
 pub record GaveUp (how : Ended) (source_before source_now sink_before sink_now : Option (List ℕ)) (disk_before disk_now : View) : Type 0 where
   pub ends : IsGivenUp how
   pub source : source_now ≡ source_before
   pub sink : sink_now ≡ sink_before
-  pub shows : (f : Image) (t : Table) → disk_before.content ≡ Some f → IsAlone disk_before f → Shows f t
-      → (c : Image) → Since disk_now disk_before.moment c → Shows c t
   pub kept : how ≢ ended.Device → (disk_now.content ≡ disk_before.content) × LeavesOld disk_before disk_now
+  pub images : (f : Image) → disk_before.content ≡ Some f
+      → LeavesOld disk_before disk_now ⊎ ((t : Table) × Opens disk_before disk_now f t)
 
 -- what a serving run did, whether it opened the store or gave up
 abbrev pub Outcome : ℕ → Ended → Option (List ℕ) → Option (List ℕ) → Option (List ℕ) → Option (List ℕ) → View → View → ℕ → ℕ → Type 0
@@ -184,5 +178,5 @@ pub record Progress (start now : Attached) (count : ℕ) (held : List ℕ) (sour
   pub going : now.spent ≡ false
   pub begins : (f : Image) → disk_before.content ≡ Some f → Begins f start.log.mem (place_of start)
   pub stands : (f : Image) → disk_before.content ≡ Some f → StandsOn disk_now now
-  pub trail : (f : Image) → disk_before.content ≡ Some f → IsAlone disk_before f
-      → Trail Shows disk_now disk_before.moment (map (λ x. bare x.at.table) exchanges ++ bare now.table ∷ []) (length exchanges)
+  pub follows : (f : Image) → disk_before.content ≡ Some f
+      → Follows disk_before disk_now (map (λ x. bare x.at.table) exchanges ++ bare now.table ∷ []) (length exchanges)

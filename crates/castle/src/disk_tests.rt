@@ -212,7 +212,7 @@ fn calls_to_open(alloc: Global, store: &MemDisk) -> Result<u64, Fail> {
     Ok(disk.calls())
 }
 
-/// Serves the four puts behind a fuse, and looks at what each crash leaves of them.
+/// Serves the four puts behind a fuse, and looks at what each crash leaves of them, and no crash.
 fn put_behind_fuse(
     rt: &impl Abort,
     alloc: Global,
@@ -225,7 +225,7 @@ fn put_behind_fuse(
         .chunks(9)
         .filter(|reply| reply.last() == Some(&0))
         .count();
-    let disk = disk.into_inner();
+    let mut disk = disk.into_inner();
     for choice in 0..3 {
         let kept = puts_on(alloc, &mut disk.crash(choice)?)?;
         assert!(rt;
@@ -233,6 +233,13 @@ fn put_behind_fuse(
             "{calls} calls, choice {choice}"
         );
     }
+    // served as it was left, it has what a crash behind the opening leaves
+    let kept = puts_on(alloc, &mut disk)?;
+    assert!(rt; kept.is_some_and(|puts| done <= puts), "{calls} calls");
+    assert!(rt;
+        puts_on(alloc, &mut disk.crash(2)?)? == kept,
+        "{calls} calls"
+    );
     Ok(status)
 }
 

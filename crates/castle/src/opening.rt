@@ -3,7 +3,8 @@
 ghost use Rattle.std.specs.Prelude.{◌≡◌, ◌≢◌, ◌≤◌, ◌⊎◌, ℕ, length, map, Some, None, Ok, Err, IfOk, IfErr, OnOk, IsErrOf, true, false};
 ghost use Rattle.strat_base.specs.Faults.{Counts};
 ghost use Rattle.strat_base.specs.Image.{Image};
-ghost use Rattle.strat_base.specs.Moments.{Images, Since, Passes, LeavesOld, Settled};
+ghost use Rattle.strat_base.specs.Layout.{region_at, other_region};
+ghost use Rattle.strat_base.specs.Moments.{Since, Passes, TearsOnly, LeavesOld, Settled};
 ghost use Rattle.strat_base.specs.SuperBlock.{IsLawful, newest_in};
 ghost use Rattle.strat_gate.specs.SuperView.{super_of};
 ghost use Rattle.strat_journal.specs.Front.{Looks};
@@ -13,10 +14,11 @@ ghost use Rattle.strat_model.specs.Head.{Head};
 ghost use Rattle.strat_model.specs.StateTable.{request_for};
 ghost use Rattle.strat_model.specs.Answer.{accepts};
 ghost use Rattle.strat_model.specs.Step.{step};
+ghost use Rattle.strat_model.specs.Table.{Table, bare};
 ghost use Rattle.strat_base.specs.declared.failures.Trouble.TheVariants.{Device, Damaged};
 ghost use Rattle.strat_journal.specs.Records.{logged_of};
 ghost use Rattle.castle.specs.declared.opening.AttachFault.TheVariants as fault;
-ghost use Rattle.castle.specs.Opened.{head_now, head_now_behind, head_from, accepted_now, table_now};
+ghost use Rattle.castle.specs.Opened.{head_now, head_now_behind, head_from, accepted_now, table_now, Opens};
 ghost use Rattle.castle.specs.Store.{Holds, StandsOn, OpensFrom, IsLogFor, IsRead, IsOpenedBy};
 ghost use Rattle.castle.specs.Causes.{HasAttachCause};
 
@@ -194,6 +196,8 @@ fn shut_other<D: Disk>(disk: &mut D, sb: &SuperBlock, journal: &Journal) -> Resu
     ensures holds { OnOk result ((f : Image) → (D.view disk.old).content ≡ Some f
         → Settled (D.view disk.old) → IsOpenedBy f (super_of sb.now) journal.now
         → Holds (D.view disk.new) journal.now (head_from (super_of sb.now) journal.now.list)) }
+    ensures images { TearsOnly (D.view disk.old) (D.view disk.new)
+        (region_at sb.now.mem (other_region sb.now.region)) 1 }
     ensures time { Passes (D.view disk.old) (D.view disk.new) }
     ensures cause { Counts (D.faults disk.old) (D.faults disk.new) result }
 {
@@ -205,8 +209,9 @@ fn shut_other<D: Disk>(disk: &mut D, sb: &SuperBlock, journal: &Journal) -> Resu
 
 impl Store {
     /// Opens the store on a disk. It syncs, reads the superblock, the manifest and the journal, and shuts the region that is
-    /// not active where a crash left it open. It takes the memory for the journal and for the pairs of its changes. It reads
-    /// each block of the journal once; each change walks the pairs of its version.
+    /// not active where a crash left it open. Until the sync succeeds a crash leaves what it might have left before. It takes
+    /// the memory for the journal and for the pairs of its changes. It reads each block of the journal once; each change
+    /// walks the pairs of its version.
     pub fn attach<D: Disk>(alloc: Global, disk: &mut D) -> Result<Store, AttachFault>
         ensures stands { IfOk result (λ s. (f : Image) → (D.view disk.old).content ≡ Some f
             → StandsOn (D.view disk.new) s) }
@@ -217,10 +222,11 @@ impl Store {
             → (D.view disk.old).content ≡ Some f → newest_in f ≡ Ok None }
         ensures damaged { (block : ℕ) → IsErrOf result (fault.Damaged block) → (f : Image)
             → (D.view disk.old).content ≡ Some f → head_now f ≡ Err block }
-        ensures any_moment { (f : Image) (h : Head) → (D.view disk.old).content ≡ Some f
-            → head_now f ≡ Ok (Some h) → (c : Image)
-            → Since (D.view disk.new) (D.view disk.old).moment c
-            → Images (D.view disk.old) c ⊎ (head_now c ≡ Ok (Some h)) }
+        ensures opens { IfOk result (λ s. (f : Image) → (D.view disk.old).content ≡ Some f
+            → Opens (D.view disk.old) (D.view disk.new) f (bare s.table)) }
+        ensures device { IsErrOf result fault.Device → (f : Image) → (D.view disk.old).content ≡ Some f
+            → LeavesOld (D.view disk.old) (D.view disk.new)
+            ⊎ ((t : Table) × Opens (D.view disk.old) (D.view disk.new) f t) }
         ensures kept { IfErr result (λ e. e ≢ fault.Device
             → ((D.view disk.new).content ≡ (D.view disk.old).content)
             × LeavesOld (D.view disk.old) (D.view disk.new)) }

@@ -3,13 +3,13 @@
 ghost use Rattle.std.specs.Prelude.{◌≡◌, ◌≢◌, ◌≤◌, ◌⊎◌, ℕ, length, [], Some, Ok, IfOk, IfErr, IsErrOf, OnOk, OnErr, false};
 ghost use Rattle.strat_base.specs.Image.{Image};
 ghost use Rattle.strat_base.specs.Faults.{Counts};
-ghost use Rattle.strat_base.specs.Moments.{Images, Since, Passes, LeavesOld};
+ghost use Rattle.strat_base.specs.Moments.{Passes, LeavesOld};
 ghost use Rattle.strat_base.specs.SuperBlock.{newest_in};
 ghost use Rattle.strat_io.specs.Streams.{Appends};
-ghost use Rattle.strat_model.specs.Head.{Head};
+ghost use Rattle.strat_model.specs.Table.{Table, bare};
 ghost use Rattle.castle.specs.declared.opening.AttachFault.TheVariants as fault;
 ghost use Rattle.castle.specs.Causes.{HasAttachCause};
-ghost use Rattle.castle.specs.Opened.{head_now};
+ghost use Rattle.castle.specs.Opened.{head_now, Opens};
 ghost use Rattle.castle.specs.Refusals.{refusal_for};
 ghost use Rattle.castle.specs.Session.{IsAnswered, SendsFront, too_long_bytes};
 ghost use Rattle.castle.specs.Store.{StandsOn, OpensFrom, Moves, BreaksByFault};
@@ -56,10 +56,11 @@ impl Server {
             → (D.view disk.old).content ≡ Some f → newest_in f ≡ Ok None }
         ensures damaged { (block : ℕ) → IsErrOf result (fault.Damaged block) → (f : Image)
             → (D.view disk.old).content ≡ Some f → head_now f ≡ Err block }
-        ensures any_moment { (f : Image) (h : Head) → (D.view disk.old).content ≡ Some f
-            → head_now f ≡ Ok (Some h) → (c : Image)
-            → Since (D.view disk.new) (D.view disk.old).moment c
-            → Images (D.view disk.old) c ⊎ (head_now c ≡ Ok (Some h)) }
+        ensures opens { IfOk result (λ s. (f : Image) → (D.view disk.old).content ≡ Some f
+            → Opens (D.view disk.old) (D.view disk.new) f (bare s.store.table)) }
+        ensures device { IsErrOf result fault.Device → (f : Image) → (D.view disk.old).content ≡ Some f
+            → LeavesOld (D.view disk.old) (D.view disk.new)
+            ⊎ ((t : Table) × Opens (D.view disk.old) (D.view disk.new) f t) }
         ensures kept { IfErr result (λ e. e ≢ fault.Device
             → ((D.view disk.new).content ≡ (D.view disk.old).content)
             × LeavesOld (D.view disk.old) (D.view disk.new)) }

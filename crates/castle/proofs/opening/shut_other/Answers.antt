@@ -1,6 +1,6 @@
 use Rattle.std.proofs.Common.{sym, ◌∙◌}
 use Rattle.std.specs.Prelude.{IsTrue}
-use Rattle.strat_base.proofs.MomentLemmas.{at_told, since_now, now_since_start}
+use Rattle.strat_base.proofs.MomentLemmas.{at_told, since_now, now_since_start, leaves_refl, leaves_tears}
 use Rattle.strat_gate.specs.SuperView.{super_of}
 use Rattle.castle.proofs.StaleLemmas.{found_left, found_torn, holds_shut}
 use Rattle.castle.proofs.opening.shut_other.Goals as goal
@@ -26,3 +26,6 @@ returns-in_ok-close_region-clause-holds g c = λ f told settled opened.
 pub returns-else-stale-clause-any_moment : goal.returns-else-stale-clause-any_moment
 returns-else-stale-clause-any_moment g c = λ f told settled opened image since.
     found_left (g.D.Disk.view c.args.disk.now) f (super_of c.args.sb.now) c.args.journal.now told settled opened image (since_now (g.D.Disk.view c.args.disk.now) image since)
+
+pub returns-else-stale-clause-images : goal.returns-else-stale-clause-images
+returns-else-stale-clause-images g c = leaves_tears _ _ _ 1 (leaves_refl (g.D.Disk.view c.args.disk.now))

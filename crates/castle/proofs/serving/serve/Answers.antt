@@ -1,4 +1,4 @@
-use Rattle.std.proofs.Common.{◌≡◌, ◌≤◌, ◌<◌, ◌≢◌, ℕ, List, [], ◌++◌, take, length, true, false, refl, sym, ap, subst, ◌∙◌, length-take, inl, inr, arith}
+use Rattle.std.proofs.Common.{◌≡◌, ◌≤◌, ◌<◌, ◌≢◌, ℕ, List, [], ◌++◌, take, length, true, false, Err, refl, sym, ap, subst, ◌∙◌, length-take, inl, inr, arith}
 use Rattle.strat_base.specs.Faults.{Rose}
 use Rattle.strat_base.specs.Numbers.{AreBytes}
 use Rattle.strat_base.proofs.MomentLemmas.{passes_trans}
@@ -6,6 +6,7 @@ use Rattle.strat_frame.specs.Deframing.{Deframing}
 use Rattle.strat_io.specs.Streams.{Appends}
 use Rattle.strat_model.specs.declared.ended.Ended.{Ended}
 use Rattle.strat_model.specs.Stream.{frame}
+use Rattle.castle.specs.declared.opening.AttachFault.{AttachFault}
 use Rattle.castle.specs.Session.{Took, SendsFront, Served}
 use Rattle.castle.proofs.GiveUpLemmas.{gave_up, ends_open}
 use Rattle.castle.proofs.ProgressLemmas.{begins, reads, reads_none}
@@ -16,12 +17,12 @@ use Rattle.castle.proofs.serving.serve.Goals.{in-Ok-refuse_long, in-Err-refuse_l
 
 pub returns-in-Err-clause-ok : goal.returns-in-Err-clause-ok
 returns-in-Err-clause-ok g c =
-    inl (gave_up c.ended_for.result c.in-Err.fault (g.S.Source.left c.args.source.now) (g.K.Sink.held c.args.sink.now) (g.D.Disk.view c.args.disk.now) (g.D.Disk.view c.open.new.disk) c.ended_for.ensures c.open.ensures.any_moment c.in-Err.ensures.kept)
+    inl (gave_up c.ended_for.result c.in-Err.fault (g.S.Source.left c.args.source.now) (g.K.Sink.held c.args.sink.now) (g.D.Disk.view c.args.disk.now) (g.D.Disk.view c.open.new.disk) c.ended_for.ensures (λ e. c.in-Err.ensures.device (ap (λ (x : AttachFault). Err x) e)) c.in-Err.ensures.kept)
 
 pub loop-server-init : goal.loop-server-init
 loop-server-init g c = record {
   progress = begins c.in-Ok.server.store c.in-Ok.server.deframer.held (g.S.Source.left c.args.source.now) (g.K.Sink.held c.args.sink.now) (g.D.Disk.view c.args.disk.now) (g.D.Disk.view c.open.new.disk)
-      c.in-Ok.ensures.new.0 c.in-Ok.ensures.new.1 c.open.ensures.time.later c.in-Ok.ensures.stands c.in-Ok.ensures.found c.open.ensures.any_moment;
+      c.in-Ok.ensures.new.0 c.in-Ok.ensures.new.1 c.in-Ok.ensures.stands c.in-Ok.ensures.found c.in-Ok.ensures.opens;
   time = c.in-Ok.ensures.time;
   within = omega arith;
   source_same = refl;

@@ -1,39 +1,42 @@
-use Rattle.std.proofs.Common.{◌≡◌, ◌⊎◌, Some, Ok, sym, ap, ◌∙◌, subst}
+use Rattle.std.proofs.Common.{◌≡◌, inl, inr, Some, Ok, sym, ap, ◌∙◌, subst}
 use Rattle.std.proofs.lemmas.Result.{err_from_is_err_and}
 use Rattle.strat_base.specs.Image.{Image}
-use Rattle.strat_base.specs.Moments.{Images, Since, Settled}
+use Rattle.strat_base.specs.Moments.{Settled}
 use Rattle.strat_base.specs.SuperBlock.{newest_in}
 use Rattle.strat_gate.specs.SuperView.{super_of, seen}
 use Rattle.strat_journal.specs.Front.{Looks}
 use Rattle.strat_journal.proofs.FrontLemmas.{looks_trans}
 use Rattle.strat_journal.proofs.ReadLemmas.{same_err}
-use Rattle.strat_model.specs.Head.{Head}
-use Rattle.castle.specs.Opened.{head_from, head_now}
+use Rattle.strat_model.specs.Table.{bare}
+use Rattle.castle.specs.Opened.{head_from, Opens}
 use Rattle.castle.specs.Store.{Attached, StandsOn, OpensFrom, IsOpenedBy}
-use Rattle.castle.proofs.AttachLemmas.{settled_looks, looks_kept, left_before, left_after, damaged_now, newest_damaged, damage_is}
+use Rattle.castle.proofs.AttachLemmas.{settled_looks, looks_kept, damaged_now, newest_damaged, damage_is}
+use Rattle.castle.proofs.FollowLemmas.{opens_by}
 use Rattle.castle.proofs.StaleLemmas.{found_now}
 use Rattle.castle.proofs.store.Store.attach.Given.{Over}
 use Rattle.castle.proofs.store.Store.attach.Goals as goal
 use Rattle.castle.proofs.store.Store.attach.Goals.{After-newest, After-read_store, In_ok-journal, After-shut_other}
 
+-- a sync leaves the disk as it was read
+synced : (g : Over) (c : After-newest g) → Looks (g.D.Disk.view c.args.disk.now) (g.D.Disk.view c.settle.new.disk)
+synced g c = record { same = c.settle.ensures.same; images = c.settle.ensures.images; time = c.settle.ensures.time }
+
 -- until the superblock is known the disk was only read
 sb_looks : (g : Over) (c : After-newest g) → Looks (g.D.Disk.view c.args.disk.now) (g.D.Disk.view c.newest.new.disk)
-sb_looks g c =
-    let synced : Looks (g.D.Disk.view c.args.disk.now) (g.D.Disk.view c.settle.new.disk) = record { same = c.settle.ensures.same; images = c.settle.ensures.images; time = c.settle.ensures.time } in
-    looks_trans synced (record { same = c.newest.ensures.same; images = c.newest.ensures.images; time = c.newest.ensures.time })
+sb_looks g c = looks_trans (synced g c) (record { same = c.newest.ensures.same; images = c.newest.ensures.images; time = c.newest.ensures.time })
 
--- and until the store is
+-- and until the store is, from the sync on
+read_looks : (g : Over) (c : After-read_store g) → Looks (g.D.Disk.view c.settle.new.disk) (g.D.Disk.view c.read_store.new.disk)
+read_looks g c = looks_trans (record { same = c.newest.ensures.same; images = c.newest.ensures.images; time = c.newest.ensures.time }) c.read_store.ensures.looks
+
+-- and from the start on
 store_looks : (g : Over) (c : After-read_store g) → Looks (g.D.Disk.view c.args.disk.now) (g.D.Disk.view c.read_store.new.disk)
-store_looks g c =
-    let synced : Looks (g.D.Disk.view c.args.disk.now) (g.D.Disk.view c.settle.new.disk) = record { same = c.settle.ensures.same; images = c.settle.ensures.images; time = c.settle.ensures.time } in
-    let looked : Looks (g.D.Disk.view c.settle.new.disk) (g.D.Disk.view c.newest.new.disk) = record { same = c.newest.ensures.same; images = c.newest.ensures.images; time = c.newest.ensures.time } in
-    looks_trans synced (looks_trans looked c.read_store.ensures.looks)
+store_looks g c = looks_trans (synced g (goal.at.After-read_store g c).After-newest) (read_looks g c)
 
 -- then it is settled
 store_settled : (g : Over) (c : After-read_store g) (f : Image) → (g.D.Disk.view c.args.disk.now).content ≡ Some f → Settled (g.D.Disk.view c.read_store.new.disk)
 store_settled g c f told =
-    settled_looks (g.D.Disk.view c.settle.new.disk) (g.D.Disk.view c.read_store.new.disk) f (c.settle.ensures.same ∙ told) c.in_ok-settle.ensures.ok
-    (looks_trans (record { same = c.newest.ensures.same; images = c.newest.ensures.images; time = c.newest.ensures.time }) c.read_store.ensures.looks)
+    settled_looks (g.D.Disk.view c.settle.new.disk) (g.D.Disk.view c.read_store.new.disk) f (c.settle.ensures.same ∙ told) c.in_ok-settle.ensures.ok (read_looks g c)
 
 -- the store that was read is that of the content
 opened_by : (g : Over) (c : In_ok-journal g) (f : Image) → (g.D.Disk.view c.args.disk.now).content ≡ Some f → IsOpenedBy f (super_of c.in-Some.sb) c.in_ok-journal.journal
@@ -43,24 +46,28 @@ opened_by g c f told = record {
   read = c.in_ok-journal.ensures.found f (c.newest.ensures.same ∙ c.settle.ensures.same ∙ told);
 }
 
--- until the other region is shut an image is one of before, or has the same head
-any_left : (g : Over) (c : After-shut_other g) (f : Image) (h : Head) → (g.D.Disk.view c.args.disk.now).content ≡ Some f → head_now f ≡ Ok (Some h)
-    → (image : Image) → Since (g.D.Disk.view c.shut_other.new.disk) (g.D.Disk.view c.args.disk.now).moment image
-    → Images (g.D.Disk.view c.args.disk.now) image ⊎ (head_now image ≡ Ok (Some h))
-any_left g c f h told is =
+-- the disk went through the opening
+opens : (g : Over) (c : After-shut_other g) (f : Image) → (g.D.Disk.view c.args.disk.now).content ≡ Some f
+    → Opens (g.D.Disk.view c.args.disk.now) (g.D.Disk.view c.shut_other.new.disk) f (bare c.in_ok-journal.table)
+opens g c f told =
     let before : After-read_store g = (goal.at.After-shut_other g c).After-read_store in
-    let read : In_ok-journal g = (goal.at.After-shut_other g c).In_ok-journal in
-    let looks = store_looks g before in
-    let there : (g.D.Disk.view c.read_store.new.disk).content ≡ Some f = looks.same ∙ told in
-    let opened = opened_by g read f told in
+    let there : (g.D.Disk.view c.read_store.new.disk).content ≡ Some f = (store_looks g before).same ∙ told in
+    let opened = opened_by g (goal.at.After-shut_other g c).In_ok-journal f told in
     let settled = store_settled g before f told in
-    left_after _ (g.D.Disk.view c.read_store.new.disk) _ f h (head_from (super_of c.in-Some.sb) c.in_ok-journal.journal.list) looks c.shut_other.ensures.time is
-    (found_now (g.D.Disk.view c.read_store.new.disk) f (super_of c.in-Some.sb) c.in_ok-journal.journal there settled opened)
-    (c.shut_other.ensures.any_moment f there settled opened)
+    opens_by _ (g.D.Disk.view c.settle.new.disk) (g.D.Disk.view c.read_store.new.disk) _ f (head_from (super_of c.in-Some.sb) c.in_ok-journal.journal.list) c.in_ok-journal.table told
+    (synced g (goal.at.After-read_store g before).After-newest) c.in_ok-settle.ensures.ok (read_looks g before) c.shut_other.ensures.time
+    (found_now (g.D.Disk.view c.read_store.new.disk) f (super_of c.in-Some.sb) c.in_ok-journal.journal there settled opened) (sym c.in_ok-journal.ensures.table)
+    (c.shut_other.ensures.any_moment f there settled opened) c.shut_other.ensures.images
 
-pub returns-in_err-sb-clause-any_moment : goal.returns-in_err-sb-clause-any_moment
-returns-in_err-sb-clause-any_moment g c = λ f h told is image since.
-    left_before _ _ h (sb_looks g (goal.at.returns-in_err-sb-clause-any_moment g c).After-newest) image since
+pub returns-in_err-sb-clause-device : goal.returns-in_err-sb-clause-device
+returns-in_err-sb-clause-device g c = λ failed f told. inl (sb_looks g (goal.at.returns-in_err-sb-clause-device g c).After-newest).images
+
+pub returns-in_err-journal-clause-device : goal.returns-in_err-journal-clause-device
+returns-in_err-journal-clause-device g c = λ failed f told. inl (store_looks g (goal.at.returns-in_err-journal-clause-device g c).After-read_store).images
+
+pub returns-in_err-shut_other-clause-device : goal.returns-in_err-shut_other-clause-device
+returns-in_err-shut_other-clause-device g c = λ failed f told.
+    inr (bare c.in_ok-journal.table, opens g (goal.at.returns-in_err-shut_other-clause-device g c).After-shut_other f told)
 
 pub returns-in_err-sb-clause-kept : goal.returns-in_err-sb-clause-kept
 returns-in_err-sb-clause-kept g c =
@@ -88,13 +95,6 @@ returns-in_err-journal-clause-damaged g c = λ block damaged f told.
     damaged_now f c.in-Some.field-0-0 (super_of c.in-Some.sb) block newest
     (c.in_err-journal.ensures.damaged block (same_err c.from_residual-in_err-journal.result p.0 _ _ p.1 p.2 damaged) f (c.newest.ensures.same ∙ there))
 
-pub returns-in_err-journal-clause-any_moment : goal.returns-in_err-journal-clause-any_moment
-returns-in_err-journal-clause-any_moment g c = λ f h told is image since.
-    left_before _ _ h (store_looks g (goal.at.returns-in_err-journal-clause-any_moment g c).After-read_store) image since
-
-pub returns-in_err-shut_other-clause-any_moment : goal.returns-in_err-shut_other-clause-any_moment
-returns-in_err-shut_other-clause-any_moment g c = any_left g (goal.at.returns-in_err-shut_other-clause-any_moment g c).After-shut_other
-
 pub returns-clause-stands : goal.returns-clause-stands
 returns-clause-stands g c = λ f told.
     let before : After-read_store g = (goal.at.returns-clause-stands g c).After-read_store in
@@ -117,5 +117,7 @@ returns-clause-found g c = λ f told.
       list = λ i. c.in_ok-journal.journal.list;
     })
 
-pub returns-clause-any_moment : goal.returns-clause-any_moment
-returns-clause-any_moment g c = any_left g (goal.at.returns-clause-any_moment g c).After-shut_other
+pub returns-clause-opens : goal.returns-clause-opens
+returns-clause-opens g c = λ f told.
+    subst (λ (s : Attached). Opens (g.D.Disk.view c.args.disk.now) (g.D.Disk.view c.shut_other.new.disk) f (bare s.table)) (sym c.new.ensures)
+    (opens g (goal.at.returns-clause-opens g c).After-shut_other f told)
