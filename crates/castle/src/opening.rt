@@ -30,17 +30,22 @@ use strat_disk::Disk;
 use strat_gate::{SuperBlock, newest};
 use strat_journal::{Journal, Logged, close_region};
 use strat_model::{Command, PlainTable, Refusal, Reply};
+use thiserror::Error;
 
 /// Why a store could not be opened.
-#[derive(Clone, Copy, Debug, PartialEq, Eq)]
+#[derive(Clone, Copy, Debug, PartialEq, Eq, Error)]
 pub enum AttachFault {
     /// No superblock slot is open with the text of a store.
+    #[error("not a store")]
     NotAStore,
     /// The disk failed.
+    #[error("the device failed")]
     Device,
     /// The bytes of this block are not what should stand there.
+    #[error("block {block} is damaged")]
     Damaged { block: u32 },
     /// Memory ran out.
+    #[error("out of memory")]
     NoMemory,
 }
 
