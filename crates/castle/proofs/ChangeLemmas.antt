@@ -13,9 +13,9 @@ use Rattle.strat_base.specs.Tree.{Parents}
 use Rattle.strat_journal.specs.Records.{changes_of, is_plain}
 use Rattle.strat_model.specs.Disks.{new_manifest}
 use Rattle.strat_model.specs.Head.{Head}
-use Rattle.castle.specs.Opened.{head_now, head_with, MayFollow}
+use Rattle.castle.specs.Opened.{head_now, head_with, MayFollow, SameButJournal}
 use Rattle.castle.proofs.OpenedLemmas.{Parts, parts_of, few_now, fits_of, head_is}
-use Rattle.castle.proofs.HeadSameLemmas.{SameButJournal, same_but, Changes, changes_behind, head_of_changes}
+use Rattle.castle.proofs.HeadSameLemmas.{same_but, Changes, changes_behind, head_of_changes}
 
 -- a plain change more
 plain_push : (journal : List Change) (change : Change) → list_all is_plain journal ≡ true → is_plain change ≡ true → list_all is_plain (journal ++ change ∷ []) ≡ true

@@ -38,7 +38,7 @@ none_newest c first second =
 pub none_yet : (mem changes_max versions_max : ℕ) (old new : View) → StaysBlank old new → (c : Image) → Since new old.moment c → IsNoneOrNew mem changes_max versions_max c
 none_yet mem changes_max versions_max old new stays c since = let shut = stays.each c since in inl (none_newest c shut.0 shut.1)
 
--- once the manifest is there: each image is the content, in which both slots and the active region are shut, and the manifest has its block
+-- once the manifest is there: each image is the content, in which both slots and both regions are shut, and the manifest has its block
 pub record Prepared (mem : ℕ) (v : View) : Type 0 where
   pub content : Image
   pub told : v.content ≡ Some content
@@ -46,6 +46,7 @@ pub record Prepared (mem : ℕ) (v : View) : Type 0 where
   pub first : content 0 ≢ 0xa7
   pub second : content 4096 ≢ 0xa7
   pub active : content (region_at mem 0) ≢ 0xa7
+  pub other : content (region_at mem 1) ≢ 0xa7
   pub block : window content (4096 * first_free mem) 4096 ≡ new_block
 
 -- after the gates were shut and the manifest was written
@@ -62,6 +63,7 @@ prepared mem v1 v2 shut writes settled =
       first = λ up. shut.first (sym (over_below at (length new_block) _ f 0 (omega arith)) ∙ up);
       second = λ up. shut.second (sym (over_below at (length new_block) _ f 4096 (omega arith)) ∙ up);
       active = λ up. shut.active (sym (over_below at (length new_block) _ f (region_at mem 0) (omega arith)) ∙ up);
+      other = λ up. shut.other (sym (over_below at (length new_block) _ f (region_at mem 1) (omega arith)) ∙ up);
       block = ap (λ (n : ℕ). window (patch f at new_block) at n) (sym length-new_block) ∙ window_patch f at new_block;
     }
 
@@ -90,7 +92,12 @@ module _ (mem changes_max versions_max : ℕ) (some : 0 < mem) (v : View) (p : P
       ap (λ (r : Read (Option (ℕ × Super))). and_then r (head_now_of_slot c)) newest
       ∙ (λ j. and_then (and_then (passed_or sb.manifest (has j) new_manifest) (λ _. and_then (none j) (λ logged.
       and_then (accepted_now sb logged) (λ journal. Ok (head_from sb journal))))) (λ h. Ok (Some h))) in
-      record { found = found; reads = reads_now c (head_for mem changes_max versions_max) found }
+      record {
+        found = found;
+        reads = reads_now c (head_for mem changes_max versions_max) found;
+        slot = λ up. p.second (sym (out.above 4096 (omega arith)) ∙ up);
+        region = λ up. p.other (sym (out.above (region_at mem 1) (omega arith)) ∙ up);
+      }
 
   -- the superblock of a new store, with the number of its manifest's block as it was reckoned
   abbrev super_at : ℕ → Super

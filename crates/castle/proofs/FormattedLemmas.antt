@@ -1,40 +1,54 @@
 -- How a run that formats ends.
-use Rattle.std.proofs.Common.{◌≡◌, ℕ, List, Option, Some, refl, subst, inl, inr, ◌⊎◌}
+use Rattle.std.proofs.Common.{◌≡◌, ℕ, List, Option, Some, refl, subst, inl, inr, ◌⊎◌, arith}
 use Rattle.strat_base.specs.Faults.{Rose}
 use Rattle.strat_base.specs.Image.{Image}
-use Rattle.strat_base.specs.Moments.{View}
 use Rattle.strat_model.specs.declared.ended.Ended.{Ended}
 use Rattle.strat_model.specs.declared.ended.Ended.TheVariants as ended
 use Rattle.strat_model.specs.Ended.{status_of}
 use Rattle.castle.specs.Format.{IsNewDisk}
 use Rattle.castle.specs.Job.{SendsLine, Formats, FormatsDisk, format_text}
-use Rattle.castle.specs.Session.{HasCause}
+use Rattle.castle.specs.Session.{EndHasCause}
 use Rattle.castle.specs.Words.{Job, Format}
+use Rattle.castle.specs.World.{World}
 
 -- a run that formats for these numbers does so for those of the words
-pub formats_as_asked : (p q : List ℕ) (m c v x y z status : ℕ) (how : Ended) (k0 k1 : Option (List ℕ)) (d0 d1 : View) → ◌≡◌ {A = Option Job} (Some (Format p m c v)) (Some (Format q x y z))
-    → status ≡ status_of how → SendsLine how k0 k1 (format_text m c v)
-    → (Formats how → (f : Image) → d0.content ≡ Some f → IsNewDisk m c v d1) → FormatsDisk x y z status k0 k1 d0 d1
-formats_as_asked p q m c v x y z status how k0 k1 d0 d1 e is sends left =
+pub formats_as_asked : (p q : List ℕ) (m c v x y z status : ℕ) (how : Ended) (before now : World) → ◌≡◌ {A = Option Job} (Some (Format p m c v)) (Some (Format q x y z))
+    → status ≡ status_of how → SendsLine how before.held now.held (format_text m c v)
+    → (Formats how → (f : Image) → before.disk.content ≡ Some f → IsNewDisk m c v now.disk) → EndHasCause how before now → FormatsDisk x y z status before now
+formats_as_asked p q m c v x y z status how before now e is sends left cause =
     let a : m ≡ x = cc in
     let b : c ≡ y = cc in
     let d : v ≡ z = cc in
-    let made : FormatsDisk m c v status k0 k1 d0 d1 = record { how = how; status_is = is; sends = sends; left = left } in
-    subst (λ (n : ℕ). FormatsDisk x y n status k0 k1 d0 d1) d (subst (λ (n : ℕ). FormatsDisk x n v status k0 k1 d0 d1) b (subst (λ (n : ℕ). FormatsDisk n c v status k0 k1 d0 d1) a made))
+    let made : FormatsDisk m c v status before now = record { how = how; status_is = is; sends = sends; left = left; cause = cause } in
+    subst (λ (n : ℕ). FormatsDisk x y n status before now) d (subst (λ (n : ℕ). FormatsDisk x n v status before now) b (subst (λ (n : ℕ). FormatsDisk n c v status before now) a made))
 
 -- where neither the sink nor the disk failed it is done, or found no memory
-pub formatted_ends : (how : Ended) (k0 k1 : Option (List ℕ)) (line : List ℕ) (source_before source_now sink_before sink_now disk_before disk_now : ℕ)
-    → SendsLine how k0 k1 line → HasCause how source_before source_now sink_before sink_now disk_before disk_now → ¬ Rose sink_before sink_now → ¬ Rose disk_before disk_now
-    → (status_of how ≡ 0) ⊎ (status_of how ≡ 8)
-formatted_ends ended.Done k0 k1 line a b c d e f sends cause sink disk = inl refl
-formatted_ends ended.NoMemory k0 k1 line a b c d e f sends cause sink disk = inr refl
-formatted_ends ended.Sink k0 k1 line a b c d e f sends cause sink disk = absurd (sink (cause.sink refl))
-formatted_ends ended.Device k0 k1 line a b c d e f sends cause sink disk = absurd (disk (cause.device refl))
-formatted_ends ended.Usage k0 k1 line a b c d e f sends cause sink disk = absurd sends
-formatted_ends ended.NotAStore k0 k1 line a b c d e f sends cause sink disk = absurd sends
-formatted_ends ended.FrameTooLong k0 k1 line a b c d e f sends cause sink disk = absurd sends
-formatted_ends ended.Truncated k0 k1 line a b c d e f sends cause sink disk = absurd sends
-formatted_ends ended.Source k0 k1 line a b c d e f sends cause sink disk = absurd sends
-formatted_ends (ended.Damaged block) k0 k1 line a b c d e f sends cause sink disk = absurd sends
-formatted_ends ended.Budget k0 k1 line a b c d e f sends cause sink disk = absurd sends
-formatted_ends ended.Unsound k0 k1 line a b c d e f sends cause sink disk = absurd sends
+pub formatted_ends : (how : Ended) (line : List ℕ) (before now : World) → SendsLine how before.held now.held line → EndHasCause how before now
+    → ¬ Rose before.sink_faults now.sink_faults → ¬ Rose before.disk_faults now.disk_faults → (status_of how ≡ 0) ⊎ (status_of how ≡ 8)
+formatted_ends ended.Done line a b sends cause sink disk = inl refl
+formatted_ends ended.NoMemory line a b sends cause sink disk = inr refl
+formatted_ends ended.Sink line a b sends cause sink disk = absurd (sink (cause.sink refl))
+formatted_ends ended.Device line a b sends cause sink disk = absurd (disk (cause.device refl))
+formatted_ends ended.Usage line a b sends cause sink disk = absurd sends
+formatted_ends ended.NotAStore line a b sends cause sink disk = absurd sends
+formatted_ends ended.FrameTooLong line a b sends cause sink disk = absurd sends
+formatted_ends ended.Truncated line a b sends cause sink disk = absurd sends
+formatted_ends ended.Source line a b sends cause sink disk = absurd sends
+formatted_ends (ended.Damaged block) line a b sends cause sink disk = absurd sends
+formatted_ends ended.Budget line a b sends cause sink disk = absurd sends
+formatted_ends ended.Unsound line a b sends cause sink disk = absurd sends
+
+-- a run that formats found no memory where its status is one of these
+pub formatting_gave_up : (how : Ended) (line : List ℕ) (k0 k1 : Option (List ℕ)) → SendsLine how k0 k1 line → (status_of how ≡ 2) ⊎ (status_of how ≡ 8) ⊎ (status_of how ≡ 9) → how ≡ ended.NoMemory
+formatting_gave_up ended.NoMemory line k0 k1 sends is = refl
+formatting_gave_up ended.Done line k0 k1 sends is = absurd (omega (arith, is))
+formatting_gave_up ended.Sink line k0 k1 sends is = absurd (omega (arith, is))
+formatting_gave_up ended.Device line k0 k1 sends is = absurd (omega (arith, is))
+formatting_gave_up ended.Usage line k0 k1 sends is = absurd sends
+formatting_gave_up ended.NotAStore line k0 k1 sends is = absurd sends
+formatting_gave_up ended.FrameTooLong line k0 k1 sends is = absurd sends
+formatting_gave_up ended.Truncated line k0 k1 sends is = absurd sends
+formatting_gave_up ended.Source line k0 k1 sends is = absurd sends
+formatting_gave_up (ended.Damaged block) line k0 k1 sends is = absurd sends
+formatting_gave_up ended.Budget line k0 k1 sends is = absurd sends
+formatting_gave_up ended.Unsound line k0 k1 sends is = absurd sends

@@ -1,16 +1,16 @@
 -- A serving run whose opening gave up, and what an end says of the opening.
-use Rattle.std.proofs.Common.{◌≡◌, ◌≢◌, ℕ, List, length, Option, Some, refl, sym, ap, subst, ◌∙◌, inl, inr, ◌⊎◌}
+use Rattle.std.proofs.Common.{◌≡◌, ◌≢◌, ℕ, List, length, Some, refl, sym, ap, subst, ◌∙◌, inl, inr}
 use Rattle.std.proofs.lemmas.Bool.{cases_eq}
 use Rattle.strat_base.specs.Image.{Image}
 use Rattle.strat_base.specs.Moments.{View, LeavesOld}
 use Rattle.strat_model.specs.declared.ended.Ended.{Ended}
 use Rattle.strat_model.specs.declared.ended.Ended.TheVariants as ended
-use Rattle.strat_model.specs.Table.{Table}
 use Rattle.castle.specs.declared.opening.AttachFault.{AttachFault}
 use Rattle.castle.specs.declared.opening.AttachFault.TheVariants as fault
 use Rattle.castle.specs.Causes.{ended_for}
-use Rattle.castle.specs.Opened.{Opens}
-use Rattle.castle.specs.Session.{IsGivenUp, GaveUp, OpensSo}
+use Rattle.castle.specs.Opened.{FailsToOpen}
+use Rattle.castle.specs.Session.{IsGivenUp, GaveUp, RefusesFor}
+use Rattle.castle.specs.World.{World}
 
 -- an opening that gave up ends a run so
 ends_given_up : (f : AttachFault) → IsGivenUp (ended_for f)
@@ -20,43 +20,42 @@ ends_given_up (fault.Damaged block) = tt
 ends_given_up fault.NoMemory = tt
 
 -- where the device did not fail the images are those of before
-images_left : (f : AttachFault) (before now : View) → (f ≡ fault.Device → (g : Image) → before.content ≡ Some g → LeavesOld before now ⊎ ((t : Table) × Opens before now g t))
-    → (f ≢ fault.Device → (now.content ≡ before.content) × LeavesOld before now)
-    → (g : Image) → before.content ≡ Some g → LeavesOld before now ⊎ ((t : Table) × Opens before now g t)
+images_left : (f : AttachFault) (before now : View) → (f ≡ fault.Device → (g : Image) → before.content ≡ Some g → FailsToOpen before now g)
+    → (f ≢ fault.Device → (now.content ≡ before.content) × LeavesOld before now) → (g : Image) → before.content ≡ Some g → FailsToOpen before now g
 images_left fault.NotAStore before now device kept g told = inl (kept (λ e. absurd (let f : fault.NotAStore ≡ fault.Device = e in cc))).1
 images_left fault.Device before now device kept g told = device refl g told
 images_left (fault.Damaged block) before now device kept g told = inl (kept (λ e. absurd (let f : fault.Damaged block ≡ fault.Device = e in cc))).1
 images_left fault.NoMemory before now device kept g told = inl (kept (λ e. absurd (let f : fault.NoMemory ≡ fault.Device = e in cc))).1
 
--- nothing was read or sent, and the disk shows what it showed
-pub gave_up : (how : Ended) (f : AttachFault) (s k : Option (List ℕ)) (before now : View) → how ≡ ended_for f
-    → (f ≡ fault.Device → (g : Image) → before.content ≡ Some g → LeavesOld before now ⊎ ((t : Table) × Opens before now g t))
-    → (f ≢ fault.Device → (now.content ≡ before.content) × LeavesOld before now) → GaveUp how s s k k before now
-gave_up how f s k before now is device kept = record {
+-- nothing was read or sent, and nothing became of the disk but what an opening may make of it
+pub gave_up : (how : Ended) (f : AttachFault) (before : World) (disk : View) (faults : ℕ) → how ≡ ended_for f
+    → (f ≡ fault.Device → (g : Image) → before.disk.content ≡ Some g → FailsToOpen before.disk disk g)
+    → (f ≢ fault.Device → (disk.content ≡ before.disk.content) × LeavesOld before.disk disk) → GaveUp how before (record before { disk = disk; disk_faults = faults })
+gave_up how f before disk faults is device kept = record {
   ends = subst IsGivenUp (sym is) (ends_given_up f);
   source = refl;
   sink = refl;
   kept = λ other. kept (λ device. other (is ∙ ap ended_for device));
-  images = images_left f before now device kept;
+  images = images_left f before.disk disk device kept;
 }
 
 -- an opening that gave up says of the disk what the run's end says
-pub opens_so : (how : Ended) (f : AttachFault) (before : View) → how ≡ ended_for f
-    → (f ≡ fault.NotAStore → OpensSo (ended_for f) before) → ((block : ℕ) → f ≡ fault.Damaged block → OpensSo (ended_for f) before) → OpensSo how before
-opens_so how fault.NotAStore before is none damaged = subst (λ (x : Ended). OpensSo x before) (sym is) (none refl)
-opens_so how fault.Device before is none damaged = subst (λ (x : Ended). OpensSo x before) (sym is) (record {
+pub refuses_for : (how : Ended) (f : AttachFault) (before : View) → how ≡ ended_for f
+    → (f ≡ fault.NotAStore → RefusesFor (ended_for f) before) → ((block : ℕ) → f ≡ fault.Damaged block → RefusesFor (ended_for f) before) → RefusesFor how before
+refuses_for how fault.NotAStore before is none damaged = subst (λ (x : Ended). RefusesFor x before) (sym is) (none refl)
+refuses_for how fault.Device before is none damaged = subst (λ (x : Ended). RefusesFor x before) (sym is) (record {
   none = λ e. absurd (let f : ended.Device ≡ ended.NotAStore = e in cc);
   damaged = λ block e. absurd (let f : ended.Device ≡ ended.Damaged block = e in cc);
 })
-opens_so how (fault.Damaged block) before is none damaged = subst (λ (x : Ended). OpensSo x before) (sym is) (damaged block refl)
-opens_so how fault.NoMemory before is none damaged = subst (λ (x : Ended). OpensSo x before) (sym is) (record {
+refuses_for how (fault.Damaged block) before is none damaged = subst (λ (x : Ended). RefusesFor x before) (sym is) (damaged block refl)
+refuses_for how fault.NoMemory before is none damaged = subst (λ (x : Ended). RefusesFor x before) (sym is) (record {
   none = λ e. absurd (let f : ended.NoMemory ≡ ended.NotAStore = e in cc);
   damaged = λ block e. absurd (let f : ended.NoMemory ≡ ended.Damaged block = e in cc);
 })
 
 -- a run that ended with its input says nothing of the opening
-pub ends_open : (how : Ended) (held : List ℕ) (before : View) → (length held ≡ 0 → how ≡ ended.Done) → (length held ≢ 0 → how ≡ ended.Truncated) → OpensSo how before
-ends_open how held before done truncated = elim (cases_eq (length held) 0) [
+pub ends_by_input : (how : Ended) (held : List ℕ) (before : View) → (length held ≡ 0 → how ≡ ended.Done) → (length held ≢ 0 → how ≡ ended.Truncated) → RefusesFor how before
+ends_by_input how held before done truncated = elim (cases_eq (length held) 0) [
   | inl none ↦ let is : how ≡ ended.Done = done none in record {
     none = λ e. absurd (let f : ended.Done ≡ ended.NotAStore = sym is ∙ e in cc);
     damaged = λ block e. absurd (let f : ended.Done ≡ ended.Damaged block = sym is ∙ e in cc);

@@ -22,15 +22,17 @@ use Rattle.strat_journal.specs.Records.{is_plain, plain_or, plain, changes_in_or
 use Rattle.strat_journal.proofs.NowLemmas.{narrow, wide}
 use Rattle.strat_model.specs.Disks.{new_manifest}
 use Rattle.strat_model.specs.Opening.{accepted_in}
-use Rattle.castle.specs.Opened.{new_block, has_new_manifest, accepted_now, head_from, head_now}
+use Rattle.castle.specs.Opened.{new_block, has_new_manifest, accepted_now, head_from, head_now, SameButJournal}
 use Rattle.castle.proofs.OpenedLemmas.{Behind, fits_of, head_from_parts}
 
--- two images are the same in both superblocks, and behind both journal regions of so many changes
-pub record SameButJournal (mem : ℕ) (f c : Image) : Type 0 where
-  pub front : (i : ℕ) → i < 8192 → c i ≡ f i
-  pub rest : (i : ℕ) → BLOCK * first_free mem ≤ i → c i ≡ f i
+-- an image is the same as itself, and as one that is the same as another that is the same
+pub same_journal_refl : (mem : ℕ) (f : Image) → SameButJournal mem f f
+same_journal_refl mem f = record { front = λ i is. refl; rest = λ i is. refl }
 
--- images that are the same outside a part of a journal region are so
+pub same_journal_trans : {mem : ℕ} {f d c : Image} → SameButJournal mem f d → SameButJournal mem d c → SameButJournal mem f c
+same_journal_trans first second = record { front = λ i is. second.front i is ∙ first.front i is; rest = λ i is. second.rest i is ∙ first.rest i is }
+
+-- images that are the same outside a part of a journal region are the same but for the journal
 pub same_but : (f c : Image) (mem region at n : ℕ) → region ≤ 1 → region_at mem region ≤ at → at + n ≤ region_at mem region + region_size mem
     → Outside at n f c → SameButJournal mem f c
 same_but f c mem region at n few low high o =

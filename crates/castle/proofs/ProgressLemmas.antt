@@ -5,16 +5,17 @@ use Rattle.std.specs.List.{flat_map, AllByRecursion}
 use Rattle.std.proofs.lemmas.List.{append-nil, length-map, map-append, take-append-drop, take-append-le}
 use Rattle.std.proofs.lemmas.List.Concat.{flat_map-append}
 use Rattle.strat_base.specs.Image.{Image}
-use Rattle.strat_base.specs.Moments.{View, Passes}
+use Rattle.strat_base.specs.Moments.{View, Images, Since, Passes}
 use Rattle.strat_base.specs.Trail.{Trail}
 use Rattle.strat_io.specs.Streams.{Appends, Gives}
 use Rattle.strat_io.proofs.StreamLemmas.{appends_then}
 use Rattle.strat_model.specs.Stream.{frame, IsBody}
 use Rattle.strat_model.specs.Table.{Table, bare}
 use Rattle.strat_model.specs.Run.{Place, Told, told_bytes, Exchange, Answers, Run, text}
-use Rattle.castle.specs.Opened.{Shows, Follows, Opens}
-use Rattle.castle.specs.Store.{Attached, place_of, StandsOn, OpensFrom, Moves}
+use Rattle.castle.specs.Opened.{Shows, SameButJournal, Follows, Opens}
+use Rattle.castle.specs.Store.{Attached, place_of, StandsOn, OpensFrom, Moves, BreaksByFault}
 use Rattle.castle.specs.Session.{Took, IsAtEnd, IsTold, Progress}
+use Rattle.castle.specs.World.{World}
 use Rattle.castle.proofs.FollowLemmas.{follows_on}
 use Rattle.castle.proofs.StandLemmas.{opens_begins}
 
@@ -66,34 +67,36 @@ each_more [] x each fits = (fits, tt)
 each_more (y ∷ ys) x each fits = (each.0, each_more ys x each.1 fits)
 
 -- a run begins with the store that was opened
-pub begins : (s : Attached) (held : List ℕ) (s0 k0 : Option (List ℕ)) (before now : View) → s.spent ≡ false → held ≡ []
-    → ((f : Image) → before.content ≡ Some f → StandsOn now s)
-    → ((f : Image) → before.content ≡ Some f → OpensFrom f s)
-    → ((f : Image) → before.content ≡ Some f → Opens before now f (bare s.table))
-    → Progress s s 0 held s0 s0 k0 k0 before now
-begins s held s0 k0 before now going empty stands found opens = record {
+pub begins : (s : Attached) (held : List ℕ) (before : World) (disk : View) (faults : ℕ) → s.spent ≡ false → held ≡ [] → faults ≡ before.disk_faults
+    → ((f : Image) → before.disk.content ≡ Some f → StandsOn disk s)
+    → ((f : Image) → before.disk.content ≡ Some f → OpensFrom f s)
+    → ((f : Image) → before.disk.content ≡ Some f → Opens before.disk disk f s.log.mem (bare s.table))
+    → Progress s s 0 held before (record before { disk = disk; disk_faults = faults })
+begins s held before disk faults going empty calm stands found opens = record {
   taken = [];
   counted = refl;
-  took = took_none s0;
+  took = took_none before.left;
   exchanges = [];
   run = refl;
   parts = sym empty;
   each = tt;
-  sent = sent_none k0;
+  sent = sent_none before.held;
   mem = refl;
   going = going;
+  calm = calm;
   begins = λ f told. opens_begins f s (found f told);
   stands = stands;
   follows = λ f told. (opens f told).follows;
 }
 
 -- more bytes were taken and are held
-pub reads : (start now : Attached) (count n : ℕ) (held piece fed : List ℕ) (s0 s1 s2 k0 k1 : Option (List ℕ)) (d0 d1 : View)
-    → Progress start now count held s0 s1 k0 k1 d0 d1 → Took s1 s2 piece → length piece ≡ n → fed ≡ held ++ piece → Progress start now (count + n) fed s0 s2 k0 k1 d0 d1
-reads start now count n held piece fed s0 s1 s2 k0 k1 d0 d1 p took len feeds = record {
+pub reads : (start current : Attached) (count n : ℕ) (held piece fed : List ℕ) (before now : World) (left : Option (List ℕ)) (faults : ℕ)
+    → Progress start current count held before now → Took now.left left piece → length piece ≡ n → fed ≡ held ++ piece
+    → Progress start current (count + n) fed before (record now { left = left; source_faults = faults })
+reads start current count n held piece fed before now left faults p took len feeds = record {
   taken = p.taken ++ piece;
   counted = length-append p.taken piece ∙ omega (arith, p.counted);
-  took = took_then s0 s1 s2 p.taken piece p.took took;
+  took = took_then before.left now.left left p.taken piece p.took took;
   exchanges = p.exchanges;
   run = p.run;
   parts = ap (λ (x : List ℕ). x ++ piece) p.parts ∙ append_assoc (flat_map (λ (x : Exchange). frame x.body) p.exchanges) held piece
@@ -102,18 +105,19 @@ reads start now count n held piece fed s0 s1 s2 k0 k1 d0 d1 p took len feeds = r
   sent = p.sent;
   mem = p.mem;
   going = p.going;
+  calm = p.calm;
   begins = p.begins;
   stands = p.stands;
   follows = p.follows;
 }
 
 -- nothing more was taken
-pub reads_none : (start now : Attached) (count : ℕ) (held : List ℕ) (s0 s1 s2 k0 k1 : Option (List ℕ)) (d0 d1 : View)
-    → Progress start now count held s0 s1 k0 k1 d0 d1 → Took s1 s2 [] → Progress start now count held s0 s2 k0 k1 d0 d1
-reads_none start now count held s0 s1 s2 k0 k1 d0 d1 p took = record {
+pub reads_none : (start current : Attached) (count : ℕ) (held : List ℕ) (before now : World) (left : Option (List ℕ)) (faults : ℕ)
+    → Progress start current count held before now → Took now.left left [] → Progress start current count held before (record now { left = left; source_faults = faults })
+reads_none start current count held before now left faults p took = record {
   taken = p.taken;
   counted = p.counted;
-  took = subst (λ (x : List ℕ). Took s0 s2 x) (append-nil p.taken) (took_then s0 s1 s2 p.taken [] p.took took);
+  took = subst (λ (x : List ℕ). Took before.left left x) (append-nil p.taken) (took_then before.left now.left left p.taken [] p.took took);
   exchanges = p.exchanges;
   run = p.run;
   parts = p.parts;
@@ -121,6 +125,7 @@ reads_none start now count held s0 s1 s2 k0 k1 d0 d1 p took = record {
   sent = p.sent;
   mem = p.mem;
   going = p.going;
+  calm = p.calm;
   begins = p.begins;
   stands = p.stands;
   follows = p.follows;
@@ -130,24 +135,32 @@ reads_none start now count held s0 s1 s2 k0 k1 d0 d1 p took = record {
 abbrev pub tables_before : List Exchange → List Table
 tables_before xs = map (λ (x : Exchange). bare x.at.table) xs
 
--- the images followed one answer more
-pub follows_more : (before mid now : View) (old new : Attached) (xs : List Exchange) (n : ℕ) → Passes mid now
-    → Follows before mid (tables_before xs ++ bare old.table ∷ []) (length xs)
-    → Trail Shows now mid.moment (bare old.table ∷ bare new.table ∷ []) n
-    → Follows before now (tables_before xs ++ bare old.table ∷ bare new.table ∷ []) (length xs + n)
-follows_more before mid now old new xs n passes so_far more =
+-- the disk followed the tables one answer more
+pub follows_more : (before mid now : View) (f : Image) (mem : ℕ) (old new : Attached) (xs : List Exchange) (n : ℕ) → Passes mid now
+    → Follows before mid f mem (tables_before xs ++ bare old.table ∷ []) (length xs) → mem ≡ old.log.mem
+    → Trail Shows now mid.moment (bare old.table ∷ bare new.table ∷ []) n → ((c : Image) → Since now mid.moment c → (d : Image) × Images mid d × SameButJournal old.log.mem d c)
+    → Follows before now f mem (tables_before xs ++ bare old.table ∷ bare new.table ∷ []) (length xs + n)
+follows_more before mid now f mem old new xs n passes so_far same more journal =
     let len : length (tables_before xs) ≡ length xs = length-map xs (λ (x : Exchange). bare x.at.table) in
-    subst (λ (k : ℕ). Follows before now (tables_before xs ++ bare old.table ∷ bare new.table ∷ []) (k + n)) len
-    (follows_on before mid now (tables_before xs) (bare new.table ∷ []) (bare old.table) n passes
-    (subst (λ (k : ℕ). Follows before mid (tables_before xs ++ bare old.table ∷ []) k) (sym len) so_far) more)
+    subst (λ (k : ℕ). Follows before now f mem (tables_before xs ++ bare old.table ∷ bare new.table ∷ []) (k + n)) len
+    (follows_on before mid now f mem (tables_before xs) (bare new.table ∷ []) (bare old.table) n passes
+    (subst (λ (k : ℕ). Follows before mid f mem (tables_before xs ++ bare old.table ∷ []) k) (sym len) so_far) more
+    (subst (λ (m : ℕ). (c : Image) → Since now mid.moment c → (d : Image) × Images mid d × SameButJournal m d c) (sym same) journal))
 
 -- where a store goes on the images show its table after the answer
 moves_on : (before now : View) (old new : Attached) → new.spent ≡ false → Moves before now old new → Trail Shows now before.moment (bare old.table ∷ bare new.table ∷ []) 1
 moves_on before now old new going moves =
     subst (λ b. Trail Shows now before.moment (bare old.table ∷ bare new.table ∷ []) (if b then 0 else 1)) going moves.trail
 
-module _ (start old new : Attached) (count : ℕ) (held rest body : List ℕ) (told : Told) (s0 s1 k0 k1 k2 : Option (List ℕ)) (d0 d1 d2 : View)
-    (p : Progress start old count held s0 s1 k0 k1 d0 d1) where
+-- the world after one answer more
+pub record Answered (old new : Attached) (mid now : World) : Type 0 where
+  pub mem : new.log.mem ≡ old.log.mem
+  pub left : now.left ≡ mid.left
+  pub moves : StandsOn mid.disk old → Moves mid.disk now.disk old new
+  pub passes : Passes mid.disk now.disk
+  pub breaks : BreaksByFault mid.disk_faults now.disk_faults new
+
+module _ (start old new : Attached) (count : ℕ) (held rest body : List ℕ) (told : Told) (before mid now : World) (p : Progress start old count held before mid) where
   abbrev pub latest : Exchange
   latest = record { body = body; told = told; at = place_of old }
 
@@ -168,31 +181,33 @@ module _ (start old new : Attached) (count : ℕ) (held rest body : List ℕ) (t
       ∙ ap (λ (x : List ℕ). text (map (λ (y : Exchange). y.told) p.exchanges) ++ x) (append-nil (told_bytes told))
 
   -- one more body was answered, sent and kept, and is the last of those answered
-  pub answers : IsTold old body told new → held ≡ frame body ++ rest → IsBody body → Appends k1 k2 (told_bytes told) → new.log.mem ≡ old.log.mem
-      → (StandsOn d1 old → Moves d1 d2 old new) → Passes d1 d2 → (q : Progress start new count rest s0 s1 k0 k2 d0 d2) × (q.exchanges ≡ p.exchanges ++ latest ∷ [])
-  answers is front fits sent mem moves passes = (
+  pub answers : IsTold old body told new → Answered old new mid now → held ≡ frame body ++ rest → IsBody body → Appends mid.held now.held (told_bytes told)
+      → (q : Progress start new count rest before now) × (q.exchanges ≡ p.exchanges ++ latest ∷ [])
+  answers is done front fits sent = (
     record {
       taken = p.taken;
       counted = p.counted;
-      took = p.took;
+      took = subst (λ (x : Option (List ℕ)). Took before.left x p.taken) (sym done.left) p.took;
       exchanges = p.exchanges ++ latest ∷ [];
       run = run_more start.log.mem (place_of start) (place_of old) (place_of new) p.exchanges body told p.run
           (subst (λ (m : ℕ). Answers m (place_of old) body told (place_of new)) p.mem is.answers);
       parts = parts_more front;
       each = each_more p.exchanges latest p.each fits;
-      sent = subst (λ (x : List ℕ). Appends k0 k2 x) (sym text_more) (appends_then k0 k1 k2 (text (map (λ (x : Exchange). x.told) p.exchanges)) (told_bytes told) p.sent sent);
-      mem = mem ∙ p.mem;
+      sent = subst (λ (x : List ℕ). Appends before.held now.held x) (sym text_more) (appends_then before.held mid.held now.held (text (map (λ (x : Exchange). x.told) p.exchanges)) (told_bytes told) p.sent sent);
+      mem = done.mem ∙ p.mem;
       going = is.going;
+      calm = done.breaks.same is.going ∙ p.calm;
       begins = p.begins;
-      stands = λ f e. (moves (p.stands f e)).stands is.going;
+      stands = λ f e. (done.moves (p.stands f e)).stands is.going;
       follows = λ f e.
-          let joined = follows_more d0 d1 d2 old new p.exchanges 1 passes (p.follows f e) (moves_on d1 d2 old new is.going (moves (p.stands f e))) in
+          let moves = done.moves (p.stands f e) in
+          let joined = follows_more before.disk mid.disk now.disk f start.log.mem old new p.exchanges 1 done.passes (p.follows f e) (sym p.mem) (moves_on mid.disk now.disk old new is.going moves) moves.journal in
           let len : length p.exchanges + 1 ≡ length (p.exchanges ++ latest ∷ []) = sym (length-append p.exchanges (latest ∷ [])) in
-          let before : tables_before (p.exchanges ++ latest ∷ []) ≡ tables_before p.exchanges ++ bare old.table ∷ [] = map-append (λ (x : Exchange). bare x.at.table) p.exchanges (latest ∷ []) in
+          let earlier : tables_before (p.exchanges ++ latest ∷ []) ≡ tables_before p.exchanges ++ bare old.table ∷ [] = map-append (λ (x : Exchange). bare x.at.table) p.exchanges (latest ∷ []) in
           let list : tables_before p.exchanges ++ bare old.table ∷ bare new.table ∷ [] ≡ tables_before (p.exchanges ++ latest ∷ []) ++ bare new.table ∷ [] =
-          sym (append_assoc (tables_before p.exchanges) (bare old.table ∷ []) (bare new.table ∷ [])) ∙ ap (λ (l : List Table). l ++ bare new.table ∷ []) (sym before) in
-          subst (λ (n : ℕ). Follows d0 d2 (tables_before (p.exchanges ++ latest ∷ []) ++ bare new.table ∷ []) n) len
-          (subst (λ (l : List Table). Follows d0 d2 l (length p.exchanges + 1)) list joined);
+          sym (append_assoc (tables_before p.exchanges) (bare old.table ∷ []) (bare new.table ∷ [])) ∙ ap (λ (l : List Table). l ++ bare new.table ∷ []) (sym earlier) in
+          subst (λ (n : ℕ). Follows before.disk now.disk f start.log.mem (tables_before (p.exchanges ++ latest ∷ []) ++ bare new.table ∷ []) n) len
+          (subst (λ (l : List Table). Follows before.disk now.disk f start.log.mem l (length p.exchanges + 1)) list joined);
     },
     refl,
   )

@@ -6,16 +6,16 @@ use Rattle.strat_base.specs.Numbers.{be}
 use Rattle.strat_base.proofs.NumberLemmas.{length-be}
 use Rattle.strat_io.specs.Streams.{Appends}
 use Rattle.strat_model.specs.Stream.{frame}
-use Rattle.castle.specs.Session.{SendsFront}
+use Rattle.castle.specs.Session.{SendsPrefix}
 
 -- a fact that holds whatever the outcome
 pub on_err : {T E P : Type 0} (r : Result T E) → P → OnErr r P
 on_err (Ok x) p = tt
 on_err (Err e) p = p
 
--- the front of bytes that are known
-pub sends_front : (n : ℕ) (bytes all : List ℕ) (s0 s1 : Option (List ℕ)) → bytes ≡ all → n < length bytes → Appends s0 s1 (take n bytes) → SendsFront s0 s1 all
-sends_front n bytes all s0 s1 e fewer sent = record {
+-- a prefix of bytes that are known
+pub sends_prefix : (n : ℕ) (bytes all : List ℕ) (s0 s1 : Option (List ℕ)) → bytes ≡ all → n < length bytes → Appends s0 s1 (take n bytes) → SendsPrefix s0 s1 all
+sends_prefix n bytes all s0 s1 e fewer sent = record {
   sent = take n bytes;
   later = drop n bytes;
   parts = sym e ∙ sym (take-append-drop n bytes);

@@ -7,7 +7,6 @@ use Rattle.std.proofs.lemmas.List.{append-nil, length-map, take_at}
 use Rattle.std.proofs.lemmas.List.Concat.{flat_map-append}
 use Rattle.strat_base.specs.Faults.{Rose}
 use Rattle.strat_base.specs.Image.{Image}
-use Rattle.strat_base.specs.Moments.{View, Passes}
 use Rattle.strat_base.specs.Numbers.{AreBytes}
 use Rattle.strat_base.specs.Trail.{Trail}
 use Rattle.strat_io.specs.Streams.{Appends}
@@ -18,9 +17,10 @@ use Rattle.strat_model.specs.Stream.{frame, IsBody, is_partial, is_too_long, Spl
 use Rattle.strat_model.specs.Table.{Table, bare}
 use Rattle.strat_model.specs.Run.{Told, told_bytes, ToldFault, Exchange, Halt, Talk, bodies_of, tolds_of, tables_of, text}
 use Rattle.castle.specs.Opened.{Shows, IsAtRest, Follows}
-use Rattle.castle.specs.Store.{Attached, place_of, StandsOn, Moves}
-use Rattle.castle.specs.Session.{IsAtEnd, SendsFront, too_long_bytes, IsTold, IsHalted, IsAnswered, Session, IsSession, IsWhole, said, said_last, Sends, EndsFor, Served, Progress}
-use Rattle.castle.proofs.ProgressLemmas.{tables_before, follows_more, text_more, answers}
+use Rattle.castle.specs.Store.{Attached, place_of}
+use Rattle.castle.specs.Session.{Took, IsAtEnd, SendsPrefix, too_long_bytes, IsTold, IsHalted, IsAnswered, Session, IsSession, IsWhole, said, said_last, Sends, EndsFor, Served, Progress}
+use Rattle.castle.specs.World.{World}
+use Rattle.castle.proofs.ProgressLemmas.{Answered, tables_before, follows_more, text_more, answers}
 use Rattle.castle.proofs.StreamLemmas.{partial_not_long, frames_of}
 
 -- bodies one after the other that fit
@@ -39,10 +39,9 @@ frames_same [] = refl
 frames_same (x ∷ xs) = ap (λ (y : List ℕ). frame x.body ++ y) (frames_same xs)
 
 -- a run that was not broken, over the bodies answered and others behind them
-module _ (start now : Attached) (count budget : ℕ) (held : List ℕ) (s0 s1 k0 k1 : Option (List ℕ)) (d0 d1 : View) (e0 e1 : ℕ)
-    (p : Progress start now count held s0 s1 k0 k1 d0 d1) (within : count ≤ budget) where
+module _ (start current : Attached) (count budget : ℕ) (held : List ℕ) (before now : World) (p : Progress start current count held before now) (within : count ≤ budget) where
   abbrev talk : Talk
-  talk = record { exchanges = p.exchanges; after = place_of now; halt = None }
+  talk = record { exchanges = p.exchanges; after = place_of current; halt = None }
 
   abbrev session : List (List ℕ) → List ℕ → Session
   session others rest = record { taken = p.taken; bodies = map (λ (x : Exchange). x.body) p.exchanges ++ others; rest = rest; talk = talk }
@@ -76,38 +75,47 @@ module _ (start now : Attached) (count budget : ℕ) (held : List ℕ) (s0 s1 k0
   }
 
   -- a crash leaves one image, as after each answer
-  rests : (f : Image) → d0.content ≡ Some f → IsAtRest d1
-  rests f e = let stands = p.stands f e in record { content = stands.holds.content; told = stands.holds.told; alone = stands.holds.settled }
+  one_image : (f : Image) → before.disk.content ≡ Some f → IsAtRest now.disk
+  one_image f e = let stands = p.stands f e in record { content = stands.holds.content; told = stands.holds.told; alone = stands.holds.settled }
 
   -- all that was said so far
-  sent_so_far : Appends k0 k1 (text (tolds_of talk))
-  sent_so_far = subst (λ (x : List Told). Appends k0 k1 (text x)) (sym tolds_all) p.sent
+  sent_so_far : Appends before.held now.held (text (tolds_of talk))
+  sent_so_far = subst (λ (x : List Told). Appends before.held now.held (text x)) (sym tolds_all) p.sent
+
+  -- the run ended so, with these bytes sent
+  served : (how : Ended) (others : List (List ℕ)) (rest : List ℕ) → Splits held others rest → (sent : Option (List ℕ)) (faults : ℕ)
+      → Sends how before.held sent (said (session others rest)) → EndsFor how budget (session others rest) now.left
+      → Served budget how before (record now { held = sent; sink_faults = faults })
+  served how others rest splits sent faults sends ends = record {
+    mem = start.log.mem;
+    start = place_of start;
+    session = session others rest;
+    is = is_session others rest splits;
+    took = p.took;
+    sends = sends;
+    ends = ends;
+    faulted = λ some. absurd (some refl);
+    unbroken = λ none. p.calm;
+    begins = p.begins;
+    follows = p.follows;
+    one_image = λ f e none. one_image f e;
+  }
 
   -- the sink failed at the reply that went before
-  pub ends_cut : (k2 : Option (List ℕ)) → AreBytes held → SendsFront k0 k2 (text (map (λ (x : Exchange). x.told) p.exchanges)) → Served budget ended.Sink s0 s1 k0 k2 d0 d1 e0 e1
-  ends_cut k2 fits front =
+  pub ends_cut : (sent : Option (List ℕ)) (faults : ℕ) → AreBytes held → SendsPrefix before.held sent (text (map (λ (x : Exchange). x.told) p.exchanges))
+      → Served budget ended.Sink before (record now { held = sent; sink_faults = faults })
+  ends_cut sent faults fits front =
       let f = frames_of held fits in
-      let all = said (session f.bodies f.rest) in
       let last = said_last None (eqb (length p.exchanges) (length (session f.bodies f.rest).bodies)) (is_too_long f.rest) in
-      record {
-        mem = start.log.mem;
-        start = place_of start;
-        session = session f.bodies f.rest;
-        is = is_session f.bodies f.rest f.splits;
-        took = p.took;
-        sends = record {
-          sent = front.sent;
-          later = front.later ++ last;
-          parts = ap (λ (x : List ℕ). x ++ last) (ap text tolds_all ∙ front.parts) ∙ append_assoc front.sent front.later last;
-          some = omega (arith, front.some, length-append front.later last);
-          appends = front.appends;
-        };
-        ends = tt;
-        faulted = λ some. absurd (some refl);
-        begins = p.begins;
-        follows = p.follows;
-        rests = λ f e unbroken. rests f e;
-      }
+      served ended.Sink f.bodies f.rest f.splits sent faults
+      (record {
+        sent = front.sent;
+        later = front.later ++ last;
+        parts = ap (λ (x : List ℕ). x ++ last) (ap text tolds_all ∙ front.parts) ∙ append_assoc front.sent front.later last;
+        some = omega (arith, front.some, length-append front.later last);
+        appends = front.appends;
+      })
+      tt
 
   -- behind the answers stands a frame that is too long
   module _ (long : is_too_long held ≡ true) where
@@ -117,41 +125,23 @@ module _ (start now : Attached) (count budget : ℕ) (held : List ℕ) (s0 s1 k0
     said_long : said (session [] held) ≡ text (tolds_of talk) ++ too_long_bytes
     said_long = let all : eqb (length p.exchanges) (length (session [] held).bodies) ≡ true = eq-eqb _ _ is_whole.all in rw (all, long) refl
 
-    pub ends_long : (k2 : Option (List ℕ)) → Appends k1 k2 too_long_bytes → Served budget ended.FrameTooLong s0 s1 k0 k2 d0 d1 e0 e1
-    ends_long k2 more = record {
-      mem = start.log.mem;
-      start = place_of start;
-      session = session [] held;
-      is = is_session [] held splits_long;
-      took = p.took;
-      sends = subst (λ (x : List ℕ). Appends k0 k2 x) (sym said_long) (appends_then k0 k1 k2 (text (tolds_of talk)) too_long_bytes sent_so_far more);
-      ends = (is_whole, let e : ending_of held ≡ Long = rw long refl in e);
-      faulted = λ some. absurd (some refl);
-      begins = p.begins;
-      follows = p.follows;
-      rests = λ f e unbroken. rests f e;
-    }
+    pub ends_long : (sent : Option (List ℕ)) (faults : ℕ) → Appends now.held sent too_long_bytes → Served budget ended.FrameTooLong before (record now { held = sent; sink_faults = faults })
+    ends_long sent faults more =
+        served ended.FrameTooLong [] held splits_long sent faults
+        (subst (λ (x : List ℕ). Appends before.held sent x) (sym said_long) (appends_then before.held now.held sent (text (tolds_of talk)) too_long_bytes sent_so_far more))
+        (is_whole, let e : ending_of held ≡ Long = rw long refl in e)
 
-    pub ends_long_cut : (k2 : Option (List ℕ)) → SendsFront k1 k2 too_long_bytes → Served budget ended.Sink s0 s1 k0 k2 d0 d1 e0 e1
-    ends_long_cut k2 front = record {
-      mem = start.log.mem;
-      start = place_of start;
-      session = session [] held;
-      is = is_session [] held splits_long;
-      took = p.took;
-      sends = subst (λ (x : List ℕ). SendsFront k0 k2 x) (sym said_long) (record {
-        sent = text (tolds_of talk) ++ front.sent;
-        later = front.later;
-        parts = ap (λ (x : List ℕ). text (tolds_of talk) ++ x) front.parts ∙ sym (append_assoc (text (tolds_of talk)) front.sent front.later);
-        some = front.some;
-        appends = appends_then k0 k1 k2 (text (tolds_of talk)) front.sent sent_so_far front.appends;
-      });
-      ends = tt;
-      faulted = λ some. absurd (some refl);
-      begins = p.begins;
-      follows = p.follows;
-      rests = λ f e unbroken. rests f e;
-    }
+    pub ends_long_cut : (sent : Option (List ℕ)) (faults : ℕ) → SendsPrefix now.held sent too_long_bytes → Served budget ended.Sink before (record now { held = sent; sink_faults = faults })
+    ends_long_cut sent faults front =
+        served ended.Sink [] held splits_long sent faults
+        (subst (λ (x : List ℕ). SendsPrefix before.held sent x) (sym said_long) (record {
+          sent = text (tolds_of talk) ++ front.sent;
+          later = front.later;
+          parts = ap (λ (x : List ℕ). text (tolds_of talk) ++ x) front.parts ∙ sym (append_assoc (text (tolds_of talk)) front.sent front.later);
+          some = front.some;
+          appends = appends_then before.held now.held sent (text (tolds_of talk)) front.sent sent_so_far front.appends;
+        }))
+        tt
 
   -- behind the answers stands less than a frame
   module _ (part : is_partial held ≡ true) where
@@ -165,43 +155,28 @@ module _ (start now : Attached) (count budget : ℕ) (held : List ℕ) (s0 s1 k0
     not_long e = let f : cond (eqb (length held) 0) Whole Rest ≡ Long = rw (partial_not_long held part) at e in
         elim (eqb (length held) 0) as (λ b. cond b Whole Rest ≡ Long → ⊥) [ true ↦ λ f. absurd cc | false ↦ λ f. absurd cc ] f
 
-    sends_all : Appends k0 k1 (said (session [] held))
-    sends_all = subst (λ (x : List ℕ). Appends k0 k1 x) (sym said_all) sent_so_far
-
-    served_so : (how : Ended) → Sends how k0 k1 (said (session [] held)) → EndsFor how budget (session [] held) s1 → Served budget how s0 s1 k0 k1 d0 d1 e0 e1
-    served_so how sends ends = record {
-      mem = start.log.mem;
-      start = place_of start;
-      session = session [] held;
-      is = is_session [] held splits_part;
-      took = p.took;
-      sends = sends;
-      ends = ends;
-      faulted = λ some. absurd (some refl);
-      begins = p.begins;
-      follows = p.follows;
-      rests = λ f e unbroken. rests f e;
-    }
+    sends_all : Appends before.held now.held (said (session [] held))
+    sends_all = subst (λ (x : List ℕ). Appends before.held now.held x) (sym said_all) sent_so_far
 
     -- the source ended
-    pub ends_at_end : count < budget → (how : Ended) → (length held ≡ 0 → how ≡ ended.Done) → (length held ≢ 0 → how ≡ ended.Truncated) → IsAtEnd s1 → Served budget how s0 s1 k0 k1 d0 d1 e0 e1
+    pub ends_at_end : count < budget → (how : Ended) → (length held ≡ 0 → how ≡ ended.Done) → (length held ≢ 0 → how ≡ ended.Truncated) → IsAtEnd now.left → Served budget how before now
     ends_at_end less how done truncated end =
         let fewer : length p.taken < budget = omega (arith, p.counted) in
         elim (cases_eq (length held) 0) [
-          | inl none ↦ subst (λ (x : Ended). Served budget x s0 s1 k0 k1 d0 d1 e0 e1) (sym (done none))
-              (served_so ended.Done sends_all (is_whole, let e : ending_of held ≡ Whole = rw (partial_not_long held part, none) refl in e, end, fewer))
-          | inr some ↦ subst (λ (x : Ended). Served budget x s0 s1 k0 k1 d0 d1 e0 e1) (sym (truncated some))
+          | inl none ↦ subst (λ (x : Ended). Served budget x before now) (sym (done none))
+              (served ended.Done [] held splits_part now.held now.sink_faults sends_all (is_whole, let e : ending_of held ≡ Whole = rw (partial_not_long held part, none) refl in e, end, fewer))
+          | inr some ↦ subst (λ (x : Ended). Served budget x before now) (sym (truncated some))
               (let none : eqb (length held) 0 ≡ false = ne_eqb _ _ some in
-              served_so ended.Truncated sends_all (is_whole, let e : ending_of held ≡ Rest = rw (partial_not_long held part, none) refl in e, end, fewer))
+              served ended.Truncated [] held splits_part now.held now.sink_faults sends_all (is_whole, let e : ending_of held ≡ Rest = rw (partial_not_long held part, none) refl in e, end, fewer))
         ]
 
     -- the budget was used up
-    pub ends_budget : count ≡ budget → Served budget ended.Budget s0 s1 k0 k1 d0 d1 e0 e1
-    ends_budget all = served_so ended.Budget sends_all (is_whole, not_long, p.counted ∙ all)
+    pub ends_budget : count ≡ budget → Served budget ended.Budget before now
+    ends_budget all = served ended.Budget [] held splits_part now.held now.sink_faults sends_all (is_whole, not_long, p.counted ∙ all)
 
     -- the source failed
-    pub ends_source : Served budget ended.Source s0 s1 k0 k1 d0 d1 e0 e1
-    ends_source = served_so ended.Source sends_all (is_whole, not_long)
+    pub ends_source : Served budget ended.Source before now
+    ends_source = served ended.Source [] held splits_part now.held now.sink_faults sends_all (is_whole, not_long)
 
 -- what a sink would hold with these bytes more
 abbrev with_bytes : Option (List ℕ) → List ℕ → Option (List ℕ)
@@ -217,27 +192,28 @@ took_all (Some held) bytes = record {
 }
 
 -- the next body was answered and kept, and the sink failed at its reply
-pub answers_cut : (start old new : Attached) (count budget : ℕ) (held rest body : List ℕ) (told : Told) (s0 s1 k0 k1 k2 : Option (List ℕ)) (d0 d1 d2 : View) (e0 e1 : ℕ)
-    → Progress start old count held s0 s1 k0 k1 d0 d1 → count ≤ budget → IsTold old body told new → held ≡ frame body ++ rest → IsBody body → AreBytes rest
-    → SendsFront k1 k2 (told_bytes told) → new.log.mem ≡ old.log.mem → (StandsOn d1 old → Moves d1 d2 old new) → Passes d1 d2 → Served budget ended.Sink s0 s1 k0 k2 d0 d2 e0 e1
-answers_cut start old new count budget held rest body told s0 s1 k0 k1 k2 d0 d1 d2 e0 e1 p within is front fits bytes cut mem moves passes =
-    let all = with_bytes k1 (told_bytes told) in
-    let q = answers start old new count held rest body told s0 s1 k0 k1 all d0 d1 d2 p is front fits (took_all k1 (told_bytes told)) mem moves passes in
-    let before = text (map (λ (x : Exchange). x.told) p.exchanges) in
-    ends_cut start new count budget rest s0 s1 k0 all d0 d2 e0 e1 q.0 within k2 bytes (record {
-      sent = before ++ cut.sent;
+pub answers_cut : (start old new : Attached) (count budget : ℕ) (held rest body : List ℕ) (told : Told) (before mid now : World) → Progress start old count held before mid → count ≤ budget
+    → IsTold old body told new → Answered old new mid now → held ≡ frame body ++ rest → IsBody body → AreBytes rest → SendsPrefix mid.held now.held (told_bytes told)
+    → Served budget ended.Sink before now
+answers_cut start old new count budget held rest body told before mid now p within is done front fits bytes cut =
+    let all = with_bytes mid.held (told_bytes told) in
+    let sent : World = record now { held = all } in
+    let q = answers start old new count held rest body told before mid sent p is (record { mem = done.mem; left = done.left; moves = done.moves; passes = done.passes; breaks = done.breaks }) front fits
+    (took_all mid.held (told_bytes told)) in
+    let earlier = text (map (λ (x : Exchange). x.told) p.exchanges) in
+    ends_cut start new count budget rest before sent q.0 within now.held now.sink_faults bytes (record {
+      sent = earlier ++ cut.sent;
       later = cut.later;
       parts = ap (λ (xs : List Exchange). text (map (λ (x : Exchange). x.told) xs)) q.1
-          ∙ text_more start old new count held rest body told s0 s1 k0 k1 k2 d0 d1 d2 p
-          ∙ ap (λ (x : List ℕ). before ++ x) cut.parts ∙ sym (append_assoc before cut.sent cut.later);
+          ∙ text_more start old new count held rest body told before mid now p
+          ∙ ap (λ (x : List ℕ). earlier ++ x) cut.parts ∙ sym (append_assoc earlier cut.sent cut.later);
       some = cut.some;
-      appends = appends_then k0 k1 k2 before cut.sent p.sent cut.appends;
+      appends = appends_then before.held mid.held now.held earlier cut.sent p.sent cut.appends;
     })
 
 -- the next body met a fault
-module _ (start old new : Attached) (count budget : ℕ) (held rest body : List ℕ) (told : Told) (s0 s1 k0 k1 : Option (List ℕ)) (d0 d1 d2 : View) (e0 e1 : ℕ)
-    (p : Progress start old count held s0 s1 k0 k1 d0 d1) (within : count ≤ budget) (is : IsHalted old body told new)
-    (front : held ≡ frame body ++ rest) (fits : IsBody body) (bytes : AreBytes rest) (moves : StandsOn d1 old → Moves d1 d2 old new) (passes : Passes d1 d2) (rose : Rose e0 e1) where
+module _ (start old new : Attached) (count budget : ℕ) (held rest body : List ℕ) (told : Told) (before mid now : World) (p : Progress start old count held before mid) (within : count ≤ budget)
+    (is : IsHalted old body told new) (done : Answered old new mid now) (front : held ≡ frame body ++ rest) (fits : IsBody body) (bytes : AreBytes rest) where
   abbrev halt : Halt
   halt = record { body = body; told = told; done = is.done }
 
@@ -277,86 +253,80 @@ module _ (start old new : Attached) (count budget : ℕ) (held rest body : List 
       ∙ flat_map-append told_bytes (map (λ (x : Exchange). x.told) p.exchanges) (told ∷ [])
       ∙ ap (λ (x : List ℕ). text (map (λ (y : Exchange). y.told) p.exchanges) ++ x) (append-nil (told_bytes told))
 
-  -- the images follow the run, whether the body was carried out or not
-  follows_broken : (f : Image) → d0.content ≡ Some f → Follows d0 d2 (tables_of halted) (length p.exchanges)
+  -- the disk followed the run, whether the body was carried out or not
+  follows_broken : (f : Image) → before.disk.content ≡ Some f → Follows before.disk now.disk f start.log.mem (tables_of halted) (length p.exchanges)
   follows_broken f e =
-      let m = moves (p.stands f e) in
-      let last : Trail Shows d2 d1.moment (bare old.table ∷ bare new.table ∷ []) 0 =
-      subst (λ b. Trail Shows d2 d1.moment (bare old.table ∷ bare new.table ∷ []) (if b then 0 else 1)) is.spent m.trail in
-      let joined = follows_more d0 d1 d2 old new p.exchanges 0 passes (p.follows f e) last in
+      let moves = done.moves (p.stands f e) in
+      let last : Trail Shows now.disk mid.disk.moment (bare old.table ∷ bare new.table ∷ []) 0 =
+      subst (λ b. Trail Shows now.disk mid.disk.moment (bare old.table ∷ bare new.table ∷ []) (if b then 0 else 1)) is.spent moves.trail in
+      let joined = follows_more before.disk mid.disk now.disk f start.log.mem old new p.exchanges 0 done.passes (p.follows f e) (sym p.mem) last moves.journal in
       let same : length p.exchanges + 0 ≡ length p.exchanges = omega arith in
-      subst (λ (t : Table). Follows d0 d2 (tables_before p.exchanges ++ bare old.table ∷ bare t ∷ []) (length p.exchanges)) (sym is.table)
-      (subst (λ (n : ℕ). Follows d0 d2 (tables_before p.exchanges ++ bare old.table ∷ bare new.table ∷ []) n) same joined)
+      subst (λ (t : Table). Follows before.disk now.disk f start.log.mem (tables_before p.exchanges ++ bare old.table ∷ bare t ∷ []) (length p.exchanges)) (sym is.table)
+      (subst (λ (n : ℕ). Follows before.disk now.disk f start.log.mem (tables_before p.exchanges ++ bare old.table ∷ bare new.table ∷ []) n) same joined)
+
+  -- the run ended so, with the device's fault told or not
+  halts : (how : Ended) → Sends how before.held now.held (said broken) → EndsFor how budget broken now.left → Served budget how before now
+  halts how sends ends = record {
+    mem = start.log.mem;
+    start = place_of start;
+    session = broken;
+    is = is_broken;
+    took = subst (λ (x : Option (List ℕ)). Took before.left x p.taken) (sym done.left) p.took;
+    sends = sends;
+    ends = ends;
+    faulted = λ some. subst (λ (n : ℕ). Rose n now.disk_faults) p.calm (done.breaks.rose is.spent);
+    unbroken = λ none. absurd (let x : ◌≡◌ {A = Option Halt} (Some halt) None = none in cc);
+    begins = p.begins;
+    follows = follows_broken;
+    one_image = λ f e none. absurd (let x : ◌≡◌ {A = Option Halt} (Some halt) None = none in cc);
+  }
 
   -- its reply was sent
-  pub ends_device : (k2 : Option (List ℕ)) → Appends k1 k2 (told_bytes told) → Served budget ended.Device s0 s1 k0 k2 d0 d2 e0 e1
-  ends_device k2 more = record {
-    mem = start.log.mem;
-    start = place_of start;
-    session = broken;
-    is = is_broken;
-    took = p.took;
-    sends = subst (λ (x : List ℕ). Appends k0 k2 x) (sym said_broken) (appends_then k0 k1 k2 (text (map (λ (x : Exchange). x.told) p.exchanges)) (told_bytes told) p.sent more);
-    ends = is.answer;
-    faulted = λ some. rose;
-    begins = p.begins;
-    follows = follows_broken;
-    rests = λ f e unbroken. absurd (let x : ◌≡◌ {A = Option Halt} (Some halt) None = unbroken in cc);
-  }
+  pub ends_device : Appends mid.held now.held (told_bytes told) → Served budget ended.Device before now
+  ends_device more =
+      halts ended.Device
+      (subst (λ (x : List ℕ). Appends before.held now.held x) (sym said_broken) (appends_then before.held mid.held now.held (text (map (λ (x : Exchange). x.told) p.exchanges)) (told_bytes told) p.sent more))
+      is.answer
 
   -- the sink failed at its reply
-  pub ends_device_cut : (k2 : Option (List ℕ)) → SendsFront k1 k2 (told_bytes told) → Served budget ended.Sink s0 s1 k0 k2 d0 d2 e0 e1
-  ends_device_cut k2 cut = record {
-    mem = start.log.mem;
-    start = place_of start;
-    session = broken;
-    is = is_broken;
-    took = p.took;
-    sends = subst (λ (x : List ℕ). SendsFront k0 k2 x) (sym said_broken) (record {
-      sent = text (map (λ (x : Exchange). x.told) p.exchanges) ++ cut.sent;
-      later = cut.later;
-      parts = ap (λ (x : List ℕ). text (map (λ (y : Exchange). y.told) p.exchanges) ++ x) cut.parts
-          ∙ sym (append_assoc (text (map (λ (x : Exchange). x.told) p.exchanges)) cut.sent cut.later);
-      some = cut.some;
-      appends = appends_then k0 k1 k2 (text (map (λ (x : Exchange). x.told) p.exchanges)) cut.sent p.sent cut.appends;
-    });
-    ends = tt;
-    faulted = λ some. rose;
-    begins = p.begins;
-    follows = follows_broken;
-    rests = λ f e unbroken. absurd (let x : ◌≡◌ {A = Option Halt} (Some halt) None = unbroken in cc);
-  }
+  pub ends_device_cut : SendsPrefix mid.held now.held (told_bytes told) → Served budget ended.Sink before now
+  ends_device_cut cut =
+      halts ended.Sink
+      (subst (λ (x : List ℕ). SendsPrefix before.held now.held x) (sym said_broken) (record {
+        sent = text (map (λ (x : Exchange). x.told) p.exchanges) ++ cut.sent;
+        later = cut.later;
+        parts = ap (λ (x : List ℕ). text (map (λ (y : Exchange). y.told) p.exchanges) ++ x) cut.parts
+            ∙ sym (append_assoc (text (map (λ (x : Exchange). x.told) p.exchanges)) cut.sent cut.later);
+        some = cut.some;
+        appends = appends_then before.held mid.held now.held (text (map (λ (x : Exchange). x.told) p.exchanges)) cut.sent p.sent cut.appends;
+      }))
+      tt
 
--- the sink failed at the reply to the next body, whether that met a fault or not
-pub ends_unsent : (start old new : Attached) (count budget : ℕ) (held rest body out : List ℕ) (s0 s1 k0 k1 k2 : Option (List ℕ)) (d0 d1 d2 : View) (e0 e1 : ℕ)
-    → Progress start old count held s0 s1 k0 k1 d0 d1 → count ≤ budget → IsAnswered old body new out → held ≡ frame body ++ rest → IsBody body → AreBytes rest
-    → SendsFront k1 k2 out → new.log.mem ≡ old.log.mem → (StandsOn d1 old → Moves d1 d2 old new) → Passes d1 d2
-    → (new.spent ≡ true → Rose e0 e1) → Served budget ended.Sink s0 s1 k0 k2 d0 d2 e0 e1
-ends_unsent start old new count budget held rest body out s0 s1 k0 k1 k2 d0 d1 d2 e0 e1 p within is front fits bytes cut mem moves passes rose =
-    let unsent : SendsFront k1 k2 (told_bytes is.told) = subst (λ (x : List ℕ). SendsFront k1 k2 x) is.spelled cut in
-    elim is.how [
-      | inl told ↦ answers_cut start old new count budget held rest body is.told s0 s1 k0 k1 k2 d0 d1 d2 e0 e1 p within told front fits bytes unsent mem moves passes
-      | inr halted ↦ ends_device_cut start old new count budget held rest body is.told s0 s1 k0 k1 d0 d1 d2 e0 e1 p within halted front fits bytes moves passes (rose halted.spent) k2 unsent
-    ]
+-- the next body was answered
+module _ (start old new : Attached) (count budget : ℕ) (held rest body out : List ℕ) (before mid now : World) (p : Progress start old count held before mid) (within : count ≤ budget)
+    (is : IsAnswered old body new out) (done : Answered old new mid now) (front : held ≡ frame body ++ rest) (fits : IsBody body) (bytes : AreBytes rest) where
+  -- the sink failed at its reply, whether it met a fault or not
+  pub ends_unsent : SendsPrefix mid.held now.held out → Served budget ended.Sink before now
+  ends_unsent cut =
+      let unsent : SendsPrefix mid.held now.held (told_bytes is.told) = subst (λ (x : List ℕ). SendsPrefix mid.held now.held x) is.spelled cut in
+      elim is.how [
+        | inl told ↦ answers_cut start old new count budget held rest body is.told before mid now p within told done front fits bytes unsent
+        | inr halted ↦ ends_device_cut start old new count budget held rest body is.told before mid now p within halted done front fits bytes unsent
+      ]
 
--- the next body met a fault, and its reply was sent
-pub ends_broken : (start old new : Attached) (count budget : ℕ) (held rest body out : List ℕ) (s0 s1 k0 k1 k2 : Option (List ℕ)) (d0 d1 d2 : View) (e0 e1 : ℕ)
-    → Progress start old count held s0 s1 k0 k1 d0 d1 → count ≤ budget → IsAnswered old body new out → new.spent ≡ true → held ≡ frame body ++ rest → IsBody body → AreBytes rest
-    → Appends k1 k2 out → (StandsOn d1 old → Moves d1 d2 old new) → Passes d1 d2
-    → (new.spent ≡ true → Rose e0 e1) → Served budget ended.Device s0 s1 k0 k2 d0 d2 e0 e1
-ends_broken start old new count budget held rest body out s0 s1 k0 k1 k2 d0 d1 d2 e0 e1 p within is spent front fits bytes sent moves passes rose =
-    elim is.how [
-      | inl told ↦ absurd (let f : true ≡ false = sym spent ∙ told.going in cc)
-      | inr halted ↦ ends_device start old new count budget held rest body is.told s0 s1 k0 k1 d0 d1 d2 e0 e1 p within halted front fits bytes moves passes (rose spent) k2
-          (subst (λ (x : List ℕ). Appends k1 k2 x) is.spelled sent)
-    ]
+  -- it met a fault, and its reply was sent
+  pub ends_broken : new.spent ≡ true → Appends mid.held now.held out → Served budget ended.Device before now
+  ends_broken spent sent =
+      elim is.how [
+        | inl told ↦ absurd (let f : true ≡ false = sym spent ∙ told.going in cc)
+        | inr halted ↦ ends_device start old new count budget held rest body is.told before mid now p within halted done front fits bytes
+            (subst (λ (x : List ℕ). Appends mid.held now.held x) is.spelled sent)
+      ]
 
--- the next body was answered, and the run goes on
-pub goes_on : (start old new : Attached) (count : ℕ) (held rest body out : List ℕ) (s0 s1 k0 k1 k2 : Option (List ℕ)) (d0 d1 d2 : View)
-    → Progress start old count held s0 s1 k0 k1 d0 d1 → IsAnswered old body new out → new.spent ≡ false → held ≡ frame body ++ rest → IsBody body
-    → Appends k1 k2 out → new.log.mem ≡ old.log.mem → (StandsOn d1 old → Moves d1 d2 old new) → Passes d1 d2 → Progress start new count rest s0 s1 k0 k2 d0 d2
-goes_on start old new count held rest body out s0 s1 k0 k1 k2 d0 d1 d2 p is going front fits sent mem moves passes =
-    elim is.how [
-      | inl told ↦ (answers start old new count held rest body is.told s0 s1 k0 k1 k2 d0 d1 d2 p told front fits (subst (λ (x : List ℕ). Appends k1 k2 x) is.spelled sent) mem moves passes).0
-      | inr halted ↦ absurd (let f : true ≡ false = sym halted.spent ∙ going in cc)
-    ]
+  -- its reply was sent, and the run goes on
+  pub goes_on : new.spent ≡ false → Appends mid.held now.held out → Progress start new count rest before now
+  goes_on going sent =
+      elim is.how [
+        | inl told ↦ (answers start old new count held rest body is.told before mid now p told done front fits (subst (λ (x : List ℕ). Appends mid.held now.held x) is.spelled sent)).0
+        | inr halted ↦ absurd (let f : true ≡ false = sym halted.spent ∙ going in cc)
+      ]

@@ -24,7 +24,7 @@ twice_other : (region : ℕ) → region ≤ 1 → other_region (other_region reg
 twice_other region few = omega arith
 
 -- the first gate of a region lies in it
-first_within : (mem at : ℕ) → at + 1 ≤ at + 4096 * ((1288 * mem + 4096) / 4096)
+pub first_within : (mem at : ℕ) → at + 1 ≤ at + 4096 * ((1288 * mem + 4096) / 4096)
 first_within mem at = omega arith
 
 module _ (old : View) (f : Image) (sb : Super) (log : Log) (told : old.content ≡ Some f) (settled : Settled old) (opened : IsOpenedBy f sb log) where

@@ -12,6 +12,7 @@ use Rattle.strat_model.specs.Table.{Table, bare}
 use Rattle.castle.specs.Opened.{head_now, state_now, table_now, Shows}
 use Rattle.castle.specs.Store.{Attached, place_of, Holds, StandsOn, OpensFrom, Moves}
 use Rattle.castle.specs.Session.{Begins}
+use Rattle.castle.proofs.HeadSameLemmas.{same_journal_refl}
 use Rattle.castle.proofs.OpenedLemmas.{reads_now, sound_now}
 
 -- an image with a head shows the table that the head means, without cursors
@@ -38,6 +39,7 @@ stays v old new table log going stands =
           (trail_of_two Shows v v.moment (bare old.table) (bare new.table) [] (omega arith)
           (λ c since. inl (stands_shows v old stands c (since_now v c since)))
           (λ c left. stands_shows v new after c left));
+      journal = λ c since. (c, since_now v c since, same_journal_refl old.log.mem c);
       stands = λ _. after;
     }
 

@@ -2,7 +2,8 @@
 use Rattle.std.proofs.Common.{◌≡◌, ◌≤◌, ◌<◌, Bool, true, false, ◌⊎◌, inl, inr, List, [], ◌∷◌, ◌++◌, length, Some, Ok, sym, ap, ◌∙◌, subst, arith, length-append, true≢false}
 use Rattle.strat_base.specs.Change.{Change}
 use Rattle.strat_base.specs.Image.{Image}
-use Rattle.strat_base.specs.Moments.{View, Since, Passes}
+use Rattle.strat_base.specs.Layout.{region_at, region_size}
+use Rattle.strat_base.specs.Moments.{View, Images, Since, Passes, TearsOnly}
 use Rattle.strat_base.proofs.TrailLemmas.{trail_of_either, trail_of_two}
 use Rattle.strat_journal.specs.Log.{Log}
 use Rattle.strat_model.specs.Answer.{accepts}
@@ -11,8 +12,10 @@ use Rattle.strat_model.specs.Request.{Request}
 use Rattle.strat_model.specs.Spelling.{is_taken}
 use Rattle.strat_model.specs.Step.{step}
 use Rattle.strat_model.specs.Table.{Table, bare}
-use Rattle.castle.specs.Opened.{head_now, table_now, head_with, MayFollow, Shows}
+use Rattle.castle.specs.Opened.{head_now, table_now, head_with, MayFollow, Shows, SameButJournal}
 use Rattle.castle.specs.Store.{Attached, IsReady, Holds, StandsOn, Moves, change_asked}
+use Rattle.castle.proofs.HeadSameLemmas.{same_but}
+use Rattle.castle.proofs.OpenedLemmas.{parts_of, fits_of}
 use Rattle.castle.proofs.StandLemmas.{shows_bare, stands_shows}
 use Rattle.castle.proofs.StepLemmas.{IsMade, is_made, asked_for, may_follow, table_after}
 
@@ -44,6 +47,7 @@ module _ (t : Table) (log : Log) (spent : Bool) (r : Request) (c : Change) (take
 
   module _ (before now : View) (passes : Passes before now)
       (each : (h : Head) → Holds before log h → MayFollow h c → (x : Image) → Since now before.moment x → (head_now x ≡ Ok (Some h)) ⊎ (head_now x ≡ Ok (Some (head_with h c))))
+      (tears : TearsOnly before now (region_at log.mem log.active) (region_size log.mem))
       (after : Table) (next : Log) (after_is : after ≡ (step t r).table) (stands : StandsOn before old) where
     abbrev content : Image
     content = stands.holds.content
@@ -65,10 +69,19 @@ module _ (t : Table) (log : Log) (spent : Bool) (r : Request) (c : Change) (take
       | inr found ↦ inr (shows_bare x (head_with stands.head c) after found new_table)
     ]
 
+    journal : (x : Image) → Since now before.moment x → (d : Image) × Images before d × SameButJournal log.mem d x
+    journal x since =
+        let torn = tears.each x since in
+        let parts = parts_of content stands.head stands.holds.found in
+        let fits = fits_of content parts.slot stands.head.sb parts.newest in
+        let few : log.active ≤ 1 = omega (arith, stands.holds.active, fits.region) in
+        (torn.0, torn.1, same_but torn.0 x log.mem log.active (region_at log.mem log.active) (region_size log.mem) few (omega arith) (omega arith) torn.2)
+
     -- where a fault came between, each image shows the table before or the one after
     pub breaks : Moves before now old (record { table = after; log = next; spent = true })
     breaks = record {
       trail = trail_of_either Shows now before.moment (bare t) (bare after) [] passes.later either;
+      journal = journal;
       stands = λ e. absurd (true≢false e);
     }
 
@@ -78,5 +91,6 @@ module _ (t : Table) (log : Log) (spent : Bool) (r : Request) (c : Change) (take
         let there : StandsOn now (record { table = after; log = next; spent = false }) = record { head = head_with stands.head c; holds = kept stands.head stands.holds follows; table = new_table } in
         record {
           trail = trail_of_two Shows now before.moment (bare t) (bare after) [] passes.later either (stands_shows now (record { table = after; log = next; spent = false }) there);
+          journal = journal;
           stands = λ _. there;
         }

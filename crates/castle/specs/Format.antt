@@ -27,10 +27,12 @@ abbrev pub head_for : ℕ → ℕ → ℕ → Head
 head_for mem changes_max versions_max =
     record { sb = super_for mem changes_max versions_max; manifest = new_manifest; journal = [] }
 
--- an image is a new store with these limits: an opening finds its head, and it reads as the state of a new store
+-- an image is a new store with these limits: an opening finds its head, it reads as the state of a new store, and the second superblock slot and the second journal region are shut
 pub record IsNewStore (mem changes_max versions_max : ℕ) (c : Image) : Type 0 where
   pub found : head_now c ≡ Ok (Some (head_for mem changes_max versions_max))
   pub reads : reads_as c ≡ Some (fresh_state mem changes_max versions_max)
+  pub slot : c 4096 ≢ 0xa7
+  pub region : c (region_at mem 1) ≢ 0xa7
 
 -- a crash leaves one image of the disk, a new store with these limits
 pub record IsNewDisk (mem changes_max versions_max : ℕ) (v : View) : Type 0 where

@@ -2,7 +2,6 @@
 use Rattle.std.specs.Prelude.{◌≡◌, ◌⊎◌, ℕ, ◌==◌, if◌then◌else◌, List, [], ◌∷◌, Option, Some, None, Ok, Err, codes}
 use Rattle.strat_base.specs.Damage.{Read}
 use Rattle.strat_base.specs.Image.{Image}
-use Rattle.strat_base.specs.Moments.{View}
 use Rattle.strat_io.specs.Streams.{Appends}
 use Rattle.strat_model.specs.declared.ended.Ended.{Ended}
 use Rattle.strat_model.specs.declared.ended.Ended.TheVariants as ended
@@ -10,20 +9,16 @@ use Rattle.strat_model.specs.Ended.{status_of}
 use Rattle.strat_model.specs.Head.{Head}
 use Rattle.strat_model.specs.Texts as texts
 use Rattle.castle.specs.Format.{IsNewDisk}
-use Rattle.castle.specs.Session.{SendsFront, Outcome, OpensSo, HasCause}
+use Rattle.castle.specs.Session.{SendsPrefix, Outcome, RefusesFor, EndHasCause}
+use Rattle.castle.specs.World.{World}
 
 -- the program ended with this status, having served the store on the disk, or having given up
-pub record ServesFrames (budget status : ℕ) (source_before source_now sink_before sink_now : Option (List ℕ)) (disk_before disk_now : View) (faults_before faults_now : ℕ) : Type 0 where
+pub record ServesFrames (budget status : ℕ) (before now : World) : Type 0 where
   pub how : Ended
   pub status_is : status ≡ status_of how
-  pub outcome : Outcome budget how source_before source_now sink_before sink_now disk_before disk_now faults_before faults_now
-  pub opens : OpensSo how disk_before
-
--- when the program's status may be that of a fault, and which counts of faults stay
-pub record StatusHasCause (status source_before source_now sink_before sink_now disk_before disk_now : ℕ) : Type 0 where
-  pub how : Ended
-  pub status_is : status ≡ status_of how
-  pub cause : HasCause how source_before source_now sink_before sink_now disk_before disk_now
+  pub outcome : Outcome budget how before now
+  pub refuses : RefusesFor how before.disk
+  pub cause : EndHasCause how before now
 
 -- a run ended as its input does, or at the budget, or before it began for want of memory
 abbrev pub EndsAsInput : ℕ → Type 0
@@ -42,7 +37,7 @@ format_text mem changes_max versions_max = texts.text (texts.format_line mem cha
 -- what is sent by a run that formats and ends so
 abbrev pub SendsLine : Ended → Option (List ℕ) → Option (List ℕ) → List ℕ → Type 0
 SendsLine ended.Done before now line = Appends before now line
-SendsLine ended.Sink before now line = SendsFront before now line
+SendsLine ended.Sink before now line = SendsPrefix before now line
 SendsLine ended.Device before now line = now ≡ before
 SendsLine ended.NoMemory before now line = now ≡ before
 SendsLine _ before now line = ⊥
@@ -54,11 +49,12 @@ Formats ended.Sink = Unit {0}
 Formats _ = ⊥
 
 -- the program ended with this status, having made a new store and said so; or the disk or the sink failed
-pub record FormatsDisk (mem changes_max versions_max status : ℕ) (sink_before sink_now : Option (List ℕ)) (disk_before disk_now : View) : Type 0 where
+pub record FormatsDisk (mem changes_max versions_max status : ℕ) (before now : World) : Type 0 where
   pub how : Ended
   pub status_is : status ≡ status_of how
-  pub sends : SendsLine how sink_before sink_now (format_text mem changes_max versions_max)
-  pub left : Formats how → (f : Image) → disk_before.content ≡ Some f → IsNewDisk mem changes_max versions_max disk_now
+  pub sends : SendsLine how before.held now.held (format_text mem changes_max versions_max)
+  pub left : Formats how → (f : Image) → before.disk.content ≡ Some f → IsNewDisk mem changes_max versions_max now.disk
+  pub cause : EndHasCause how before now
 
 -- what a status means
 abbrev pub text_of : ℕ → List ℕ

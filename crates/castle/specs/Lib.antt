@@ -4,5 +4,6 @@ pub mod Causes
 pub mod Format
 pub mod Refusals
 pub mod Words
+pub mod World
 pub mod Session
 pub mod Job

@@ -1,6 +1,6 @@
 -- What an opening finds, as long as stores have one version and keep all that they took in one journal region. It finds less than the general
 -- opening does (`Opening` of strat_model), whose manifests and journals are of any kind: what it finds the general one finds too.
-use Rattle.std.specs.Prelude.{◌≡◌, ◌≤◌, ℕ, ◌*◌, ◌==◌, ◌&&◌, min, Bool, true, List, [], ◌∷◌, ◌++◌, bytes_eq, Option, Some, None, Ok, IsTrue}
+use Rattle.std.specs.Prelude.{◌≡◌, ◌≤◌, ◌<◌, ◌⊎◌, ℕ, ◌*◌, ◌==◌, ◌&&◌, min, Bool, true, List, [], ◌∷◌, ◌++◌, bytes_eq, Option, Some, None, Ok, IsTrue}
 use Rattle.strat_base.specs.declared.limits.TheConstants.{BLOCK}
 use Rattle.strat_base.specs.Chain.{link_bytes}
 use Rattle.strat_base.specs.Change.{Change, is_lawful}
@@ -8,12 +8,12 @@ use Rattle.strat_base.specs.Damage.{Read, and_then, passed_or}
 use Rattle.strat_base.specs.Image.{Image, Outside, window}
 use Rattle.strat_base.specs.Layout.{region_at, other_region}
 use Rattle.strat_base.specs.Manifest.{Manifest, manifest_bytes}
-use Rattle.strat_base.specs.Moments.{View, Images, Since}
+use Rattle.strat_base.specs.Moments.{View, Images, Since, LeavesOld}
 use Rattle.strat_base.specs.Opened.{parents_in}
 use Rattle.strat_base.specs.Records.{Logged}
 use Rattle.strat_base.specs.Sound.{IsSound, accepts_change}
 use Rattle.strat_base.specs.State.{State, fresh_state}
-use Rattle.strat_base.specs.SuperBlock.{Super, newest_in}
+use Rattle.strat_base.specs.SuperBlock.{Super, first_free, newest_in}
 use Rattle.strat_base.specs.Trail.{At, Trail}
 use Rattle.strat_model.specs.Disks.{new_manifest}
 use Rattle.strat_model.specs.Head.{Head}
@@ -95,18 +95,33 @@ pub record IsAtRest (v : View) : Type 0 where
   pub told : v.content ≡ Some content
   pub alone : (c : Image) → Images v c → c ≡ content
 
--- a disk follows tables: until a sync that succeeded a crash leaves what it might have left before, from then on the images show the tables in their order, and each image of now shows one behind the first n
-pub record Follows (before now : View) (tables : List Table) (n : ℕ) : Type 0 where
+-- two images are the same in both superblock slots, and behind both journal regions of so many changes
+pub record SameButJournal (mem : ℕ) (f c : Image) : Type 0 where
+  pub front : (i : ℕ) → i < 8192 → c i ≡ f i
+  pub rest : (i : ℕ) → BLOCK * first_free mem ≤ i → c i ≡ f i
+
+-- a disk with this content was synced, and from then on followed tables
+pub record Follows (before now : View) (f : Image) (mem : ℕ) (tables : List Table) (n : ℕ) : Type 0 where
+  -- the moment of the sync, at which a crash leaves the content
   pub synced : ℕ
   pub from : before.moment ≤ synced
   pub till : synced ≤ now.moment
+  pub one : (c : Image) → now.images_at synced c → c ≡ f
+  -- until then a crash leaves what it might have left before
   pub until : (m : ℕ) (c : Image) → before.moment ≤ m → m ≤ synced → now.images_at m c → Images before c
+  -- from then on the images show the tables as a trail does, and differ from the content in the journal alone
   pub trail : Trail Shows now synced tables n
+  pub journal : (c : Image) → Since now synced c → SameButJournal mem f c
+  -- each image of now shows a table at place n or behind it
   pub left : (c : Image) → Images now c → (i : ℕ) × (n ≤ i) × At tables i (Shows c)
 
--- a disk that tells this content goes through an opening: it follows the one table that the content shows, and from the sync on nothing differs from the content but the first gate of the journal region that is not in use
-pub record Opens (before now : View) (f : Image) (t : Table) : Type 0 where
+-- a disk with this content was opened as a store whose journal regions take so many changes: it followed the one table that the content shows, and nothing changed but the first gate of the region that is not active
+pub record Opens (before now : View) (f : Image) (mem : ℕ) (t : Table) : Type 0 where
   pub shows : Shows f t
-  pub follows : Follows before now (t ∷ []) 0
-  pub gate : (c : Image) → Since now follows.synced c
-      → Outside (region_at shows.head.sb.mem (other_region shows.head.sb.region)) 1 f c
+  pub mem_is : mem ≡ shows.head.sb.mem
+  pub follows : Follows before now f mem (t ∷ []) 0
+  pub gate : (c : Image) → Since now follows.synced c → Outside (region_at mem (other_region shows.head.sb.region)) 1 f c
+
+-- an opening of a disk with this content failed: a crash leaves what it might have left before, or the disk was opened up to the last step
+abbrev pub FailsToOpen : View → View → Image → Type 0
+FailsToOpen before now f = LeavesOld before now ⊎ ((mem : ℕ) × ((t : Table) × Opens before now f mem t))

@@ -12,10 +12,11 @@ use Rattle.strat_model.specs.declared.replies.Refusal.TheVariants as why
 use Rattle.strat_model.specs.Answer.{Answer, refusal}
 use Rattle.strat_model.specs.Spelling.{reply_body}
 use Rattle.strat_model.specs.Stream.{frame, IsBody, Splits, Whole, Rest, Long, ending_of, is_too_long}
-use Rattle.strat_model.specs.Table.{Table, bare}
+use Rattle.strat_model.specs.Table.{bare}
 use Rattle.strat_model.specs.Run.{Place, Told, told_bytes, Answers, ToldFault, Exchange, Halt, Run, Talk, IsTalk, bodies_of, tolds_of, tables_of, text}
-use Rattle.castle.specs.Opened.{head_now, Shows, IsAtRest, Follows, Opens}
+use Rattle.castle.specs.Opened.{head_now, Shows, IsAtRest, Follows, FailsToOpen}
 use Rattle.castle.specs.Store.{Attached, place_of, StandsOn}
+use Rattle.castle.specs.World.{World}
 
 -- these bytes were taken from the front of a source
 pub record Took (before now : Option (List ℕ)) (bytes : List ℕ) : Type 0 where
@@ -26,8 +27,8 @@ pub record Took (before now : Option (List ℕ)) (bytes : List ℕ) : Type 0 whe
 abbrev pub IsAtEnd : Option (List ℕ) → Type 0
 IsAtEnd now = (left : List ℕ) → now ≡ Some left → left ≡ []
 
--- a sink took the front of what it was given, and not all of it
-pub record SendsFront (before now : Option (List ℕ)) (all : List ℕ) : Type 0 where
+-- a sink took a prefix of what it was given, and not all of it
+pub record SendsPrefix (before now : Option (List ℕ)) (all : List ℕ) : Type 0 where
   pub sent : List ℕ
   pub later : List ℕ
   pub parts : all ≡ sent ++ later
@@ -57,7 +58,7 @@ pub record IsAnswered (old : Attached) (body : List ℕ) (new : Attached) (bytes
   pub spelled : bytes ≡ told_bytes told
   pub how : IsTold old body told new ⊎ IsHalted old body told new
 
--- a run begins where this image leads: at its table, with as many changes in the journal, of which a region takes so many
+-- a run begins where this image leads: at the table that it shows, with as many changes as its journal has, of which a region takes so many
 pub record Begins (f : Image) (mem : ℕ) (start : Place) : Type 0 where
   pub shows : Shows f start.table
   pub fill : start.fill ≡ length shows.state.journal
@@ -93,7 +94,7 @@ said s = text (tolds_of s.talk) ++ said_last s.talk.halt (length s.talk.exchange
 
 -- what the sink took of what there was to say: all, but where the sink failed a front
 abbrev pub Sends : Ended → Option (List ℕ) → Option (List ℕ) → List ℕ → Type 0
-Sends ended.Sink before now all = SendsFront before now all
+Sends ended.Sink before now all = SendsPrefix before now all
 Sends _ before now all = Appends before now all
 
 -- the last answer told of this fault
@@ -113,19 +114,25 @@ EndsFor ended.Device budget s left = HaltsWith s.talk.halt (refusal why.DeviceFa
 EndsFor (ended.Damaged block) budget s left = HaltsWith s.talk.halt (refusal (why.Damaged block))
 EndsFor _ budget s left = ⊥
 
--- a serving run opened the store and ended so: it took these bytes and no others, answered them as the table does, or by a fault where the disk failed, and sent that; and where the disk tells its content, it followed the tables of the session, at its end one behind all that was answered otherwise than by a fault, and the next run finds one image
-pub record Served (budget : ℕ) (how : Ended) (source_before source_now sink_before sink_now : Option (List ℕ)) (disk_before disk_now : View) (faults_before faults_now : ℕ) : Type 0 where
+-- a serving run opened the store, and ended so
+pub record Served (budget : ℕ) (how : Ended) (before now : World) : Type 0 where
+  -- the store's journal regions take so many changes, and the run began at this place
   pub mem : ℕ
   pub start : Place
+  -- it took these bytes and no others, answered the bodies among them as the table does, and sent that
   pub session : Session
   pub is : IsSession mem budget start session
-  pub took : Took source_before source_now session.taken
-  pub sends : Sends how sink_before sink_now (said session)
-  pub ends : EndsFor how budget session source_now
-  pub faulted : session.talk.halt ≢ None → Rose faults_before faults_now
-  pub begins : (f : Image) → disk_before.content ≡ Some f → Begins f mem start
-  pub follows : (f : Image) → disk_before.content ≡ Some f → Follows disk_before disk_now (tables_of session.talk) (length session.talk.exchanges)
-  pub rests : (f : Image) → disk_before.content ≡ Some f → session.talk.halt ≡ None → IsAtRest disk_now
+  pub took : Took before.left now.left session.taken
+  pub sends : Sends how before.held now.held (said session)
+  pub ends : EndsFor how budget session now.left
+  -- a command met a fault exactly where the disk failed
+  pub faulted : session.talk.halt ≢ None → Rose before.disk_faults now.disk_faults
+  pub unbroken : session.talk.halt ≡ None → now.disk_faults ≡ before.disk_faults
+  -- where the disk tells its content, the run began at the table that it shows, and the disk followed the run's tables up to all that was answered otherwise than by a fault
+  pub begins : (f : Image) → before.disk.content ≡ Some f → Begins f mem start
+  pub follows : (f : Image) → before.disk.content ≡ Some f → Follows before.disk now.disk f mem (tables_of session.talk) (length session.talk.exchanges)
+  -- and where no command met a fault a crash leaves one image
+  pub one_image : (f : Image) → before.disk.content ≡ Some f → session.talk.halt ≡ None → IsAtRest now.disk
 
 -- how a run may end whose opening gave up
 abbrev pub IsGivenUp : Ended → Type 0
@@ -135,48 +142,48 @@ IsGivenUp (ended.Damaged block) = Unit {0}
 IsGivenUp ended.NoMemory = Unit {0}
 IsGivenUp _ = ⊥
 
--- a serving run gave up before its first read: nothing was read or sent, and unless the disk failed no byte of it was changed; where it failed a crash leaves what it might have left before, or the sync that an opening begins with succeeded, and the disk went through the opening
-pub record GaveUp (how : Ended) (source_before source_now sink_before sink_now : Option (List ℕ)) (disk_before disk_now : View) : Type 0 where
+-- a serving run gave up before its first read
+pub record GaveUp (how : Ended) (before now : World) : Type 0 where
   pub ends : IsGivenUp how
-  pub source : source_now ≡ source_before
-  pub sink : sink_now ≡ sink_before
-  pub kept : how ≢ ended.Device → (disk_now.content ≡ disk_before.content) × LeavesOld disk_before disk_now
-  pub images : (f : Image) → disk_before.content ≡ Some f
-      → LeavesOld disk_before disk_now ⊎ ((t : Table) × Opens disk_before disk_now f t)
+  -- nothing was read or sent
+  pub source : now.left ≡ before.left
+  pub sink : now.held ≡ before.held
+  -- where the disk did not fail it has the content of before, and a crash leaves nothing that it could not leave before
+  pub kept : how ≢ ended.Device → (now.disk.content ≡ before.disk.content) × LeavesOld before.disk now.disk
+  pub images : (f : Image) → before.disk.content ≡ Some f → FailsToOpen before.disk now.disk f
 
 -- what a serving run did, whether it opened the store or gave up
-abbrev pub Outcome : ℕ → Ended → Option (List ℕ) → Option (List ℕ) → Option (List ℕ) → Option (List ℕ) → View → View → ℕ → ℕ → Type 0
-Outcome budget how source_before source_now sink_before sink_now disk_before disk_now faults_before faults_now =
-    GaveUp how source_before source_now sink_before sink_now disk_before disk_now
-    ⊎ Served budget how source_before source_now sink_before sink_now disk_before disk_now faults_before faults_now
+abbrev pub Outcome : ℕ → Ended → World → World → Type 0
+Outcome budget how before now = GaveUp how before now ⊎ Served budget how before now
 
 -- what the disk's bytes say where a run ends so for them: no slot of a store, or this block is damaged
-pub record OpensSo (how : Ended) (before : View) : Type 0 where
+pub record RefusesFor (how : Ended) (before : View) : Type 0 where
   pub none : how ≡ ended.NotAStore → (f : Image) → before.content ≡ Some f → newest_in f ≡ Ok None
   pub damaged : (block : ℕ) → how ≡ ended.Damaged block → (f : Image) → before.content ≡ Some f → head_now f ≡ Err block
 
 -- when a count of faults may have risen: that of the source, the sink or the disk where the end names it, and no other; a sink that cannot take the news of the disk hides it
-pub record HasCause (how : Ended) (source_before source_now sink_before sink_now disk_before disk_now : ℕ) : Type 0 where
-  pub source : how ≡ ended.Source → Rose source_before source_now
-  pub sink : how ≡ ended.Sink → Rose sink_before sink_now
-  pub device : how ≡ ended.Device → Rose disk_before disk_now
-  pub source_same : how ≢ ended.Source → source_now ≡ source_before
-  pub sink_same : how ≢ ended.Sink → sink_now ≡ sink_before
-  pub disk_same : how ≢ ended.Device → how ≢ ended.Sink → disk_now ≡ disk_before
+pub record EndHasCause (how : Ended) (before now : World) : Type 0 where
+  pub source : how ≡ ended.Source → Rose before.source_faults now.source_faults
+  pub sink : how ≡ ended.Sink → Rose before.sink_faults now.sink_faults
+  pub device : how ≡ ended.Device → Rose before.disk_faults now.disk_faults
+  pub source_same : how ≢ ended.Source → now.source_faults ≡ before.source_faults
+  pub sink_same : how ≢ ended.Sink → now.sink_faults ≡ before.sink_faults
+  pub disk_same : how ≢ ended.Device → how ≢ ended.Sink → now.disk_faults ≡ before.disk_faults
 
 -- a serving run so far: all whole frames in front of those held were answered, sent and kept
-pub record Progress (start now : Attached) (count : ℕ) (held : List ℕ) (source_before source_now sink_before sink_now : Option (List ℕ)) (disk_before disk_now : View) : Type 0 where
+pub record Progress (start current : Attached) (count : ℕ) (held : List ℕ) (before now : World) : Type 0 where
   pub taken : List ℕ
   pub counted : length taken ≡ count
-  pub took : Took source_before source_now taken
+  pub took : Took before.left now.left taken
   pub exchanges : List Exchange
-  pub run : Run start.log.mem (place_of start) exchanges (place_of now)
+  pub run : Run start.log.mem (place_of start) exchanges (place_of current)
   pub parts : taken ≡ flat_map (λ x. frame x.body) exchanges ++ held
   pub each : AllByRecursion (λ x. IsBody x.body) exchanges
-  pub sent : Appends sink_before sink_now (text (map (λ x. x.told) exchanges))
-  pub mem : now.log.mem ≡ start.log.mem
-  pub going : now.spent ≡ false
-  pub begins : (f : Image) → disk_before.content ≡ Some f → Begins f start.log.mem (place_of start)
-  pub stands : (f : Image) → disk_before.content ≡ Some f → StandsOn disk_now now
-  pub follows : (f : Image) → disk_before.content ≡ Some f
-      → Follows disk_before disk_now (map (λ x. bare x.at.table) exchanges ++ bare now.table ∷ []) (length exchanges)
+  pub sent : Appends before.held now.held (text (map (λ x. x.told) exchanges))
+  pub mem : current.log.mem ≡ start.log.mem
+  pub going : current.spent ≡ false
+  pub calm : now.disk_faults ≡ before.disk_faults
+  pub begins : (f : Image) → before.disk.content ≡ Some f → Begins f start.log.mem (place_of start)
+  pub stands : (f : Image) → before.disk.content ≡ Some f → StandsOn now.disk current
+  pub follows : (f : Image) → before.disk.content ≡ Some f
+      → Follows before.disk now.disk f start.log.mem (map (λ x. bare x.at.table) exchanges ++ bare current.table ∷ []) (length exchanges)

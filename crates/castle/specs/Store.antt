@@ -5,7 +5,7 @@ use Rattle.strat_base.specs.Change as change
 use Rattle.strat_base.specs.Faults.{Rose}
 use Rattle.strat_base.specs.Image.{Image}
 use Rattle.strat_base.specs.Layout.{region_at, other_region}
-use Rattle.strat_base.specs.Moments.{View, Images}
+use Rattle.strat_base.specs.Moments.{View, Images, Since}
 use Rattle.strat_base.specs.Trail.{Trail}
 use Rattle.strat_base.specs.SuperBlock.{Super, newest_in}
 use Rattle.strat_journal.specs.Log.{Log, IsStale}
@@ -16,7 +16,7 @@ use Rattle.strat_model.specs.Request.{Request, Put, Delete, Clone}
 use Rattle.strat_model.specs.Run.{Place, place_after, takes_memory, reaches_disk}
 use Rattle.strat_model.specs.Step.{step}
 use Rattle.strat_model.specs.Table.{Table, bare}
-use Rattle.castle.specs.Opened.{head_now, head_now_behind, head_from, table_now, Shows}
+use Rattle.castle.specs.Opened.{head_now, head_now_behind, head_from, table_now, Shows, SameButJournal}
 
 -- a store as its callers see it: its table, its journal, and whether a fault left it unfit for use
 pub record Attached : Type 0 where
@@ -112,9 +112,10 @@ abbrev pub IsApplied : Attached → Request → Answer → Attached → Type 0
 IsApplied old request answer new =
     IsCarriedOut old request answer new ⊎ (IsShort old request answer new ⊎ IsBroken old request answer new)
 
--- while a store goes from one table to another the images of its disk do so too, and where it did not break it stands on the disk again
+-- while a store goes from one table to another the images of its disk do so too, and nothing is torn but the journal; where it did not break it stands on the disk again
 pub record Moves (before now : View) (old new : Attached) : Type 0 where
   pub trail : Trail Shows now before.moment (bare old.table ∷ bare new.table ∷ []) (if new.spent then 0 else 1)
+  pub journal : (c : Image) → Since now before.moment c → (d : Image) × Images before d × SameButJournal old.log.mem d c
   pub stands : new.spent ≡ false → StandsOn now new
 
 -- over a call a count of faults rises where the store broke in it, and stays where it did not

@@ -1,6 +1,6 @@
 //! Making a new store.
 
-ghost use Rattle.std.specs.Prelude.{◌≡◌, ◌≢◌, ◌≤◌, ◌<◌, ℕ, Some, IfOk, OnOk, string_bytes};
+ghost use Rattle.std.specs.Prelude.{◌≡◌, ◌≢◌, ◌≤◌, ◌<◌, ℕ, List, Option, Some, IfOk, OnOk, string_bytes};
 ghost use Rattle.strat_base.specs.declared.limits.TheConstants.{CHANGES_MAX, VERSIONS_MAX};
 ghost use Rattle.strat_base.specs.Faults.{Counts};
 ghost use Rattle.strat_base.specs.Image.{Image};
@@ -8,7 +8,8 @@ ghost use Rattle.strat_base.specs.Moments.{View, Images, Since, Passes, Settled}
 ghost use Rattle.strat_io.specs.Streams.{Appends};
 ghost use Rattle.castle.specs.Format.{IsNewDisk, IsBlank, IsShut, IsNoneOrNew};
 ghost use Rattle.castle.specs.Job.{SendsLine, Formats, format_text};
-ghost use Rattle.castle.specs.Session.{HasCause};
+ghost use Rattle.castle.specs.Session.{EndHasCause};
+ghost use Rattle.castle.specs.World.{world};
 
 use crate::manifest::{MANIFEST_LEN, manifest_block, write_manifest};
 use std::alloc::{AllocError, Global};
@@ -109,8 +110,11 @@ pub fn make_store<K: Sink, D: Disk>(
     ensures left { Formats result → (f : Image) → (D.view disk.old).content ≡ Some f
         → IsNewDisk mem changes_max versions_max (D.view disk.new) }
     ensures time { Passes (D.view disk.old) (D.view disk.new) }
-    ensures cause { (source : ℕ) → HasCause result source source
-        (K.faults sink.old) (K.faults sink.new) (D.faults disk.old) (D.faults disk.new) }
+    ensures cause { (left : Option (List ℕ)) (source_faults : ℕ) → EndHasCause result
+        (world left source_faults (K.held sink.old) (K.faults sink.old)
+        (D.view disk.old) (D.faults disk.old))
+        (world left source_faults (K.held sink.new) (K.faults sink.new)
+        (D.view disk.new) (D.faults disk.new)) }
     ensures untouched { result ≡ Ended.NoMemory
         → (sink.new ≡ sink.old) × (disk.new ≡ disk.old) }
 {

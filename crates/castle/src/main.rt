@@ -41,23 +41,31 @@ fn open_top<R: Files>(rt: &R) -> io::Result<R::File> {
     OpenOptions::new().read(true).open(rt, "/")
 }
 
+/// Runs the program over the standard streams and the file at a path.
+fn run_over<R: Input + Print + Files + AllocGlobal>(rt: &R, words: &[String], path: &str) -> u8 {
+    run(
+        rt.alloc(),
+        words,
+        &mut StdSource::new(rt),
+        &mut StdSink::new(rt),
+        &mut FileDisk::new(rt, path),
+    )
+}
+
 /// Runs the program over the standard streams and the file that its words name.
 fn start<R: Env + Input + Print + Files + AllocGlobal>(rt: &R) -> u8 {
     let words = match arguments(rt) {
         Ok(words) => words,
         Err(ended) => return ended.status(),
     };
+    let Some(path) = path_of(&words) else {
+        return run_over(rt, &words, "");
+    };
     // A file takes the number of a standard stream that is closed: these three keep the store's from it.
     let (Ok(_first), Ok(_second), Ok(_third)) = (open_top(rt), open_top(rt), open_top(rt)) else {
         return Ended::NoMemory.status();
     };
-    run(
-        rt.alloc(),
-        &words,
-        &mut StdSource::new(rt),
-        &mut StdSink::new(rt),
-        &mut FileDisk::new(rt, path_of(&words).unwrap_or("")),
-    )
+    run_over(rt, &words, path)
 }
 
 fn main(rt: HostRuntime) -> ExitCode {

@@ -14,11 +14,11 @@ ghost use Rattle.strat_model.specs.Head.{Head};
 ghost use Rattle.strat_model.specs.StateTable.{request_for};
 ghost use Rattle.strat_model.specs.Answer.{accepts};
 ghost use Rattle.strat_model.specs.Step.{step};
-ghost use Rattle.strat_model.specs.Table.{Table, bare};
+ghost use Rattle.strat_model.specs.Table.{bare};
 ghost use Rattle.strat_base.specs.declared.failures.Trouble.TheVariants.{Device, Damaged};
 ghost use Rattle.strat_journal.specs.Records.{logged_of};
 ghost use Rattle.castle.specs.declared.opening.AttachFault.TheVariants as fault;
-ghost use Rattle.castle.specs.Opened.{head_now, head_now_behind, head_from, accepted_now, table_now, Opens};
+ghost use Rattle.castle.specs.Opened.{head_now, head_now_behind, head_from, accepted_now, table_now, Opens, FailsToOpen};
 ghost use Rattle.castle.specs.Store.{Holds, StandsOn, OpensFrom, IsLogFor, IsRead, IsOpenedBy};
 ghost use Rattle.castle.specs.Causes.{HasAttachCause};
 
@@ -228,10 +228,9 @@ impl Store {
         ensures damaged { (block : ℕ) → IsErrOf result (fault.Damaged block) → (f : Image)
             → (D.view disk.old).content ≡ Some f → head_now f ≡ Err block }
         ensures opens { IfOk result (λ s. (f : Image) → (D.view disk.old).content ≡ Some f
-            → Opens (D.view disk.old) (D.view disk.new) f (bare s.table)) }
+            → Opens (D.view disk.old) (D.view disk.new) f s.log.mem (bare s.table)) }
         ensures device { IsErrOf result fault.Device → (f : Image) → (D.view disk.old).content ≡ Some f
-            → LeavesOld (D.view disk.old) (D.view disk.new)
-            ⊎ ((t : Table) × Opens (D.view disk.old) (D.view disk.new) f t) }
+            → FailsToOpen (D.view disk.old) (D.view disk.new) f }
         ensures kept { IfErr result (λ e. e ≢ fault.Device
             → ((D.view disk.new).content ≡ (D.view disk.old).content)
             × LeavesOld (D.view disk.old) (D.view disk.new)) }

@@ -1,12 +1,13 @@
 //! The jobs of the program, by its words.
 
-ghost use Rattle.std.specs.Prelude.{◌≡◌, ◌⊎◌, ℕ, List, map, string_bytes, IsSome, Some, None};
+ghost use Rattle.std.specs.Prelude.{◌≡◌, ◌⊎◌, ℕ, List, map, string_bytes, Some, None};
 ghost use Rattle.strat_base.specs.Faults.{Rose};
 ghost use Rattle.strat_base.specs.Image.{Image};
 ghost use Rattle.strat_base.specs.Moments.{Passes};
 ghost use Rattle.castle.specs.Opened.{head_now};
 ghost use Rattle.castle.specs.Words.{Format, Serve, job_in};
-ghost use Rattle.castle.specs.Job.{ServesFrames, FormatsDisk, StatusHasCause, EndsAsFound, text_of};
+ghost use Rattle.castle.specs.Job.{ServesFrames, FormatsDisk, EndsAsFound, text_of};
+ghost use Rattle.castle.specs.World.{world};
 
 use crate::formatting::make_store;
 use crate::serving::serve;
@@ -36,16 +37,18 @@ pub fn run<S: Source, K: Sink, D: Disk>(
     ensures idle { job_in (map string_bytes words.now) ≡ None
         → (source.new ≡ source.old) × (sink.new ≡ sink.old) × (disk.new ≡ disk.old) }
     ensures serve { (path : List ℕ) → job_in (map string_bytes words.now) ≡ Some (Serve path)
-        → ServesFrames BUDGET result (S.left source.old) (S.left source.new)
-        (K.held sink.old) (K.held sink.new) (D.view disk.old) (D.view disk.new)
-        (D.faults disk.old) (D.faults disk.new) }
+        → ServesFrames BUDGET result
+        (world (S.left source.old) (S.faults source.old) (K.held sink.old) (K.faults sink.old)
+        (D.view disk.old) (D.faults disk.old))
+        (world (S.left source.new) (S.faults source.new) (K.held sink.new) (K.faults sink.new)
+        (D.view disk.new) (D.faults disk.new)) }
     ensures format { (path : List ℕ) (mem changes_max versions_max : ℕ)
         → job_in (map string_bytes words.now) ≡ Some (Format path mem changes_max versions_max)
         → (source.new ≡ source.old) × FormatsDisk mem changes_max versions_max result
-        (K.held sink.old) (K.held sink.new) (D.view disk.old) (D.view disk.new) }
-    ensures cause { IsSome (job_in (map string_bytes words.now))
-        → StatusHasCause result (S.faults source.old) (S.faults source.new)
-        (K.faults sink.old) (K.faults sink.new) (D.faults disk.old) (D.faults disk.new) }
+        (world (S.left source.old) (S.faults source.old) (K.held sink.old) (K.faults sink.old)
+        (D.view disk.old) (D.faults disk.old))
+        (world (S.left source.new) (S.faults source.new) (K.held sink.new) (K.faults sink.new)
+        (D.view disk.new) (D.faults disk.new)) }
     ensures complete { (path : List ℕ) (f : Image)
         → job_in (map string_bytes words.now) ≡ Some (Serve path)
         → ¬ Rose (S.faults source.old) (S.faults source.new)
@@ -56,7 +59,8 @@ pub fn run<S: Source, K: Sink, D: Disk>(
         → job_in (map string_bytes words.now) ≡ Some (Format path mem changes_max versions_max)
         → ¬ Rose (K.faults sink.old) (K.faults sink.new)
         → ¬ Rose (D.faults disk.old) (D.faults disk.new) → (result ≡ 0) ⊎ (result ≡ 8) }
-    ensures unread { result ≡ 8 → (source.new ≡ source.old) × (sink.new ≡ sink.old) }
+    ensures unread { (result ≡ 2) ⊎ (result ≡ 8) ⊎ (result ≡ 9)
+        → (source.new ≡ source.old) × (sink.new ≡ sink.old) }
     ensures untouched { (path : List ℕ) (mem changes_max versions_max : ℕ)
         → job_in (map string_bytes words.now) ≡ Some (Format path mem changes_max versions_max)
         → result ≡ 8 → disk.new ≡ disk.old }

@@ -6,12 +6,12 @@ ghost use Rattle.strat_base.specs.Faults.{Counts};
 ghost use Rattle.strat_base.specs.Moments.{Passes, LeavesOld};
 ghost use Rattle.strat_base.specs.SuperBlock.{newest_in};
 ghost use Rattle.strat_io.specs.Streams.{Appends};
-ghost use Rattle.strat_model.specs.Table.{Table, bare};
+ghost use Rattle.strat_model.specs.Table.{bare};
 ghost use Rattle.castle.specs.declared.opening.AttachFault.TheVariants as fault;
 ghost use Rattle.castle.specs.Causes.{HasAttachCause};
-ghost use Rattle.castle.specs.Opened.{head_now, Opens};
+ghost use Rattle.castle.specs.Opened.{head_now, Opens, FailsToOpen};
 ghost use Rattle.castle.specs.Refusals.{refusal_for};
-ghost use Rattle.castle.specs.Session.{IsAnswered, SendsFront, too_long_bytes};
+ghost use Rattle.castle.specs.Session.{IsAnswered, SendsPrefix, too_long_bytes};
 ghost use Rattle.castle.specs.Store.{StandsOn, OpensFrom, Moves, BreaksByFault};
 
 use crate::opening::AttachFault;
@@ -57,10 +57,9 @@ impl Server {
         ensures damaged { (block : ℕ) → IsErrOf result (fault.Damaged block) → (f : Image)
             → (D.view disk.old).content ≡ Some f → head_now f ≡ Err block }
         ensures opens { IfOk result (λ s. (f : Image) → (D.view disk.old).content ≡ Some f
-            → Opens (D.view disk.old) (D.view disk.new) f (bare s.store.table)) }
+            → Opens (D.view disk.old) (D.view disk.new) f s.store.log.mem (bare s.store.table)) }
         ensures device { IsErrOf result fault.Device → (f : Image) → (D.view disk.old).content ≡ Some f
-            → LeavesOld (D.view disk.old) (D.view disk.new)
-            ⊎ ((t : Table) × Opens (D.view disk.old) (D.view disk.new) f t) }
+            → FailsToOpen (D.view disk.old) (D.view disk.new) f }
         ensures kept { IfErr result (λ e. e ≢ fault.Device
             → ((D.view disk.new).content ≡ (D.view disk.old).content)
             × LeavesOld (D.view disk.old) (D.view disk.new)) }
@@ -107,7 +106,7 @@ impl Server {
     /// Answers that a frame is too long, whatever its tag may be.
     pub fn refuse_long<K: Sink>(&mut self, sink: &mut K) -> Result<(), Failed>
         ensures ok { OnOk result (Appends (K.held sink.old) (K.held sink.new) too_long_bytes) }
-        ensures err { OnErr result (SendsFront (K.held sink.old) (K.held sink.new) too_long_bytes) }
+        ensures err { OnErr result (SendsPrefix (K.held sink.old) (K.held sink.new) too_long_bytes) }
         ensures cause { Counts (K.faults sink.old) (K.faults sink.new) result }
     {
         self.out.clear();

@@ -1,10 +1,11 @@
 //! The serving run.
 
-ghost use Rattle.std.specs.Prelude.{◌≡◌, ◌<◌, ◌≤◌, ℕ, length, take, [], IfOk, OnErr};
+ghost use Rattle.std.specs.Prelude.{◌≡◌, ◌≢◌, ◌<◌, ◌≤◌, ℕ, length, take, [], IfOk, OnErr};
 ghost use Rattle.strat_base.specs.Faults.{Counts};
 ghost use Rattle.strat_base.specs.Moments.{Passes};
 ghost use Rattle.castle.specs.Causes.{ended_for};
-ghost use Rattle.castle.specs.Session.{Took, IsAtEnd, Outcome, OpensSo, HasCause};
+ghost use Rattle.castle.specs.Session.{Took, IsAtEnd, Outcome, RefusesFor, IsGivenUp, EndHasCause};
+ghost use Rattle.castle.specs.World.{world};
 
 use crate::opening::AttachFault;
 use crate::server::Server;
@@ -54,14 +55,19 @@ pub fn serve<S: Source, K: Sink, D: Disk>(
     disk: &mut D,
     budget: u64,
 ) -> Ended
-    ensures ok { Outcome budget result (S.left source.old) (S.left source.new)
-        (K.held sink.old) (K.held sink.new) (D.view disk.old) (D.view disk.new)
-        (D.faults disk.old) (D.faults disk.new) }
-    ensures opening { OpensSo result (D.view disk.old) }
+    ensures ok { Outcome budget result
+        (world (S.left source.old) (S.faults source.old) (K.held sink.old) (K.faults sink.old)
+        (D.view disk.old) (D.faults disk.old))
+        (world (S.left source.new) (S.faults source.new) (K.held sink.new) (K.faults sink.new)
+        (D.view disk.new) (D.faults disk.new)) }
+    ensures refuses { RefusesFor result (D.view disk.old) }
     ensures time { Passes (D.view disk.old) (D.view disk.new) }
-    ensures cause { HasCause result (S.faults source.old) (S.faults source.new)
-        (K.faults sink.old) (K.faults sink.new) (D.faults disk.old) (D.faults disk.new) }
-    ensures unread { result ≡ Ended.NoMemory
+    ensures cause { EndHasCause result
+        (world (S.left source.old) (S.faults source.old) (K.held sink.old) (K.faults sink.old)
+        (D.view disk.old) (D.faults disk.old))
+        (world (S.left source.new) (S.faults source.new) (K.held sink.new) (K.faults sink.new)
+        (D.view disk.new) (D.faults disk.new)) }
+    ensures unread { IsGivenUp result → result ≢ Ended.Device
         → (source.new ≡ source.old) × (sink.new ≡ sink.old) }
 {
     let mut server = match Server::open(alloc, disk) {

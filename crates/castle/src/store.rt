@@ -6,7 +6,8 @@ ghost use Rattle.strat_base.specs.ChangeView.{change_of};
 ghost use Rattle.strat_base.specs.Faults.{Counts};
 ghost use Rattle.strat_base.specs.Finds.{Finds};
 ghost use Rattle.strat_base.specs.Image.{Image};
-ghost use Rattle.strat_base.specs.Moments.{Since, Passes};
+ghost use Rattle.strat_base.specs.Layout.{region_at, region_size};
+ghost use Rattle.strat_base.specs.Moments.{Since, Passes, TearsOnly};
 ghost use Rattle.strat_frame.specs.Replies.{as_told};
 ghost use Rattle.strat_model.specs.Answer.{accepts};
 ghost use Rattle.strat_model.specs.Command.{request_of};
@@ -86,6 +87,8 @@ fn log_change<D: Disk>(
         → Holds (D.view disk.new) journal.new (head_with h (change_of change.now))) }
     ensures ok { OnOk result (journal.new ≡ record journal.old { list = journal.old.list ++ change_of change.now ∷ [] }) }
     ensures mem { journal.new.mem ≡ journal.old.mem }
+    ensures images { TearsOnly (D.view disk.old) (D.view disk.new)
+        (region_at journal.old.mem journal.old.active) (region_size journal.old.mem) }
     ensures time { Passes (D.view disk.old) (D.view disk.new) }
     ensures cause { Counts (D.faults disk.old) (D.faults disk.new) result }
 {

@@ -38,10 +38,11 @@ since_kept mid new t c passes since =
     record { at = since.at; from = since.from; till = omega (arith, since.till, passes.later); left = passes.kept since.at c since.till since.left }
 
 pub passes_refl : (v : View) → Passes v v
-passes_refl v = record { later = omega arith; past = λ m c le left. left; kept = λ m c le left. left }
+passes_refl v = record { told = λ some. some; later = omega arith; past = λ m c le left. left; kept = λ m c le left. left }
 
 pub passes_trans : {old mid new : View} → Passes old mid → Passes mid new → Passes old new
 passes_trans a b = record {
+  told = λ some. b.told (a.told some);
   later = omega (arith, a.later, b.later);
   past = λ m c le left. a.past m c le (b.past m c (omega (arith, a.later)) left);
   kept = λ m c le left. b.kept m c (omega (arith, a.later)) (a.kept m c le left);

@@ -1,5 +1,5 @@
 -- What a crash may leave at each moment in the life of a disk, and how a call may change that.
-use Rattle.std.specs.Prelude.{◌≡◌, ◌≤◌, ℕ, List, length, Option, Some, IfSome, IsSomeAnd, Result, OnOk}
+use Rattle.std.specs.Prelude.{◌≡◌, ◌≤◌, ℕ, List, length, Option, Some, IsSome, IfSome, IsSomeAnd, Result, OnOk}
 use Rattle.strat_base.specs.Image.{Image, HoldsBytes, Outside, window, patch}
 
 -- a disk as its users see it: its content where told, the moment, and what a crash at each moment so far might have left
@@ -31,8 +31,9 @@ pub record Since (v : View) (start : ℕ) (c : Image) : Type 0 where
   pub till : at ≤ v.moment
   pub left : v.images_at at c
 
--- time goes on: no moment that has passed gains or loses an image
+-- time goes on: no moment that has passed gains or loses an image, and a disk that tells its content goes on telling it
 pub record Passes (old new : View) : Type 0 where
+  pub told : IsSome old.content → IsSome new.content
   pub later : old.moment ≤ new.moment
   pub past : (m : ℕ) (c : Image) → m ≤ old.moment → new.images_at m c → old.images_at m c
   pub kept : (m : ℕ) (c : Image) → m ≤ old.moment → old.images_at m c → new.images_at m c

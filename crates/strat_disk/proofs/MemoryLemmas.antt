@@ -44,6 +44,7 @@ to_now l c left = subst (λ (m : Medium). Leaves m c) (now_at l) left
 module _ (old new : Log) (time : Continues (plane_of old.first) old.events.items (plane_of new.first) new.events.items) where
   pub passes : Passes (log_view old) (log_view new)
   passes = record {
+    told = λ some. refl;
     later = time.later;
     past = λ n c le left. subst (λ (m : Medium). Leaves m c) (time.past n le) left;
     kept = λ n c le left. subst (λ (m : Medium). Leaves m c) (sym (time.past n le)) left;

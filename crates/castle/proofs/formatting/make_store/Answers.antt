@@ -1,10 +1,10 @@
 use Rattle.std.proofs.Common.{◌∙◌}
 use Rattle.castle.specs.Job.{format_text}
-use Rattle.castle.proofs.SendLemmas.{sends_front}
+use Rattle.castle.proofs.SendLemmas.{sends_prefix}
 use Rattle.castle.proofs.formatting.make_store.Goals as goal
 
 pub returns-clause-sends : goal.returns-clause-sends
 returns-clause-sends g c =
     let sent = c.in-Err.ensures.err in
-    sends_front sent.0 c.as_bytes.result.now (format_text c.args.mem c.args.changes_max c.args.versions_max)
+    sends_prefix sent.0 c.as_bytes.result.now (format_text c.args.mem c.args.changes_max c.args.versions_max)
     (g.K.Sink.held c.args.sink.now) (g.K.Sink.held c.put_all.new.sink) (c.as_bytes.ensures.value ∙ c.in-Ok.ensures) sent.1 sent.2

@@ -1,11 +1,14 @@
 use Rattle.std.proofs.Common.{◌≡◌, ◌≤◌, ◌-◌, ◌+◌, ◌*◌, length}
 use Rattle.strat_base.specs.Moments.{Passes}
 use Rattle.castle.specs.Session.{Progress}
+use Rattle.castle.specs.World.{world}
 use Rattle.castle.proofs.serving.serve.Given as goal
 
 abbrev pub invariant-loop-server : goal.invariant-loop-server
 invariant-loop-server g l = record {
-  progress : Progress l.initial.server.store l.server.store l.taken l.server.deframer.held (g.S.Source.left l.fn.source) (g.S.Source.left l.source) (g.K.Sink.held l.fn.sink) (g.K.Sink.held l.sink) (g.D.Disk.view l.fn.disk) (g.D.Disk.view l.disk);
+  progress : Progress l.initial.server.store l.server.store l.taken l.server.deframer.held
+      (world (g.S.Source.left l.fn.source) (g.S.Source.faults l.fn.source) (g.K.Sink.held l.fn.sink) (g.K.Sink.faults l.fn.sink) (g.D.Disk.view l.fn.disk) (g.D.Disk.faults l.fn.disk))
+      (world (g.S.Source.left l.source) (g.S.Source.faults l.source) (g.K.Sink.held l.sink) (g.K.Sink.faults l.sink) (g.D.Disk.view l.disk) (g.D.Disk.faults l.disk));
   time : Passes (g.D.Disk.view l.fn.disk) (g.D.Disk.view l.disk);
   within : l.taken ≤ l.budget;
   source_same : g.S.Source.faults l.source ≡ g.S.Source.faults l.fn.source;

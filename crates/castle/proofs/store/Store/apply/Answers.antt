@@ -31,7 +31,7 @@ returns-in_default-log_change-clause-moves g c =
     let accepted = step_accepts s.table _ _ _ _ true is (sym c.if-not-accepts.ensures) in
     rw (← c.self.view_is)
     (breaks s.table s.journal s.spent _ _ c.requires.taken c.in-Some.ensures accepted (c.self.invariant going) c.step-reply.ensures.within
-    (g.D.Disk.view c.args.disk.now) (g.D.Disk.view c.log_change.new.disk) c.log_change.ensures.time c.log_change.ensures.any_moment c.step-reply.new.self c.log_change.new.journal is.table)
+    (g.D.Disk.view c.args.disk.now) (g.D.Disk.view c.log_change.new.disk) c.log_change.ensures.time c.log_change.ensures.any_moment c.log_change.ensures.images c.step-reply.new.self c.log_change.new.journal is.table)
 
 pub invariant_of-self-2 : goal.invariant_of-self-2
 invariant_of-self-2 g c _ =
@@ -50,5 +50,5 @@ returns-clause-moves g c =
     let accepted = step_accepts s.table _ _ _ _ true is (sym c.if-not-accepts.ensures) in
     rw (← c.self.view_is)
     (λ stands. moves s.table s.journal s.spent _ _ c.requires.taken c.in-Some.ensures accepted (c.self.invariant going) c.step-reply.ensures.within
-    (g.D.Disk.view c.args.disk.now) (g.D.Disk.view c.log_change.new.disk) c.log_change.ensures.time c.log_change.ensures.any_moment c.step-reply.new.self c.log_change.new.journal is.table stands
+    (g.D.Disk.view c.args.disk.now) (g.D.Disk.view c.log_change.new.disk) c.log_change.ensures.time c.log_change.ensures.any_moment c.log_change.ensures.images c.step-reply.new.self c.log_change.new.journal is.table stands
     c.in-Ok.ensures.holds)

@@ -1,4 +1,4 @@
-use Rattle.std.proofs.Common.{◌≡◌, inl, inr, Some, Ok, sym, ap, ◌∙◌, subst}
+use Rattle.std.proofs.Common.{◌≡◌, ℕ, inl, inr, Some, Ok, sym, ap, ◌∙◌, subst}
 use Rattle.std.proofs.lemmas.Result.{err_from_is_err_and}
 use Rattle.strat_base.specs.Image.{Image}
 use Rattle.strat_base.specs.Moments.{Settled}
@@ -48,7 +48,7 @@ opened_by g c f told = record {
 
 -- the disk went through the opening
 opens : (g : Over) (c : After-shut_other g) (f : Image) → (g.D.Disk.view c.args.disk.now).content ≡ Some f
-    → Opens (g.D.Disk.view c.args.disk.now) (g.D.Disk.view c.shut_other.new.disk) f (bare c.in_ok-journal.table)
+    → Opens (g.D.Disk.view c.args.disk.now) (g.D.Disk.view c.shut_other.new.disk) f (super_of c.in-Some.sb).mem (bare c.in_ok-journal.table)
 opens g c f told =
     let before : After-read_store g = (goal.at.After-shut_other g c).After-read_store in
     let there : (g.D.Disk.view c.read_store.new.disk).content ≡ Some f = (store_looks g before).same ∙ told in
@@ -67,7 +67,7 @@ returns-in_err-journal-clause-device g c = λ failed f told. inl (store_looks g 
 
 pub returns-in_err-shut_other-clause-device : goal.returns-in_err-shut_other-clause-device
 returns-in_err-shut_other-clause-device g c = λ failed f told.
-    inr (bare c.in_ok-journal.table, opens g (goal.at.returns-in_err-shut_other-clause-device g c).After-shut_other f told)
+    inr ((super_of c.in-Some.sb).mem, (bare c.in_ok-journal.table, opens g (goal.at.returns-in_err-shut_other-clause-device g c).After-shut_other f told))
 
 pub returns-in_err-sb-clause-kept : goal.returns-in_err-sb-clause-kept
 returns-in_err-sb-clause-kept g c =
@@ -119,5 +119,8 @@ returns-clause-found g c = λ f told.
 
 pub returns-clause-opens : goal.returns-clause-opens
 returns-clause-opens g c = λ f told.
-    subst (λ (s : Attached). Opens (g.D.Disk.view c.args.disk.now) (g.D.Disk.view c.shut_other.new.disk) f (bare s.table)) (sym c.new.ensures)
-    (opens g (goal.at.returns-clause-opens g c).After-shut_other f told)
+    let before = g.D.Disk.view c.args.disk.now in
+    let now = g.D.Disk.view c.shut_other.new.disk in
+    subst (λ (s : Attached). Opens before now f s.log.mem (bare s.table)) (sym c.new.ensures)
+    (subst (λ (m : ℕ). Opens before now f m (bare c.in_ok-journal.table)) (sym c.in_ok-journal.ensures.log.mem)
+    (opens g (goal.at.returns-clause-opens g c).After-shut_other f told))
