@@ -40,6 +40,7 @@ TEXTS = {
     5: "device fault",
     6: "source fault",
     7: "sink fault",
+    8: "no memory",
     9: "damaged",
 }
 
@@ -368,6 +369,20 @@ def a_closed_stream_does_not_reach_the_store(folder):
     expect("format >&-, the file", bytes_of(formatted) == Store(4, 100, 10).file(), True)
 
 
+def a_program_that_may_open_no_file_touches_none(folder):
+    def limited():
+        """Leaves room for one file beside the standard streams, which the loader of the program takes."""
+        resource.setrlimit(resource.RLIMIT_NOFILE, (4, 4))
+
+    store = StoreFile(folder)
+    expect("serve", run(["serve", store.path], input=PUT_A, preexec_fn=limited), (b"", 8, complaint(8)))
+    store.expect_bytes("serve")
+    absent = os.path.join(folder, "absent")
+    expect("format", run(["format", absent, "4", "100", "10"], preexec_fn=limited), (b"", 8, complaint(8)))
+    expect("the absent file", os.path.exists(absent), False)
+    expect("no job", run(["serve"], preexec_fn=limited), (b"", 1, complaint(1)))
+
+
 def the_launcher_passes_words_input_and_status_on(folder):
     for data in (PUT_A + GET_A, hexed("00000801"), PUT_A[:-1]):
         StoreFile(folder).expect_served("through the launcher", [data], program=LAUNCHER)
@@ -605,6 +620,7 @@ CHECKS = [
     a_closed_output_is_a_sink_fault,
     an_input_that_cannot_be_read_is_a_source_fault,
     a_closed_stream_does_not_reach_the_store,
+    a_program_that_may_open_no_file_touches_none,
     the_launcher_passes_words_input_and_status_on,
     the_examples_of_the_readme_are_as_shown,
     the_examples_of_the_protocol_are_frames,
