@@ -32,6 +32,7 @@ follows_on before mid now f mem xs ys x n passes so_far more journal =
       synced = so_far.synced;
       from = so_far.from;
       till = omega (arith, so_far.till, passes.later);
+      content = passes.kept so_far.synced f so_far.till so_far.content;
       one = λ c left. so_far.one c (passes.past so_far.synced c so_far.till left);
       until = λ m c low high left. so_far.until m c low high (passes.past m c (omega (arith, high, so_far.till)) left);
       trail = trail;
@@ -47,10 +48,10 @@ record IsOpening (f : Image) (h : Head) (c : Image) : Type 0 where
   pub gate : Outside (region_at h.sb.mem (other_region h.sb.region)) 1 f c
 
 -- a disk was synced and looked at, and then one gate was shut
-pub opens_by : (before synced read now : View) (f : Image) (h : Head) (t : Table) → before.content ≡ Some f → Looks before synced → Settled synced → Looks synced read → Passes read now
+pub opens_by : (before synced read now : View) (f : Image) (h : Head) (t : Table) → before.content ≡ Some f → Looks before synced → Settled synced → Images synced f → Looks synced read → Passes read now
     → head_now f ≡ Ok (Some h) → table_now h ≡ t → ((c : Image) → Since now read.moment c → head_now c ≡ Ok (Some h))
     → TearsOnly read now (region_at h.sb.mem (other_region h.sb.region)) 1 → Opens before now f h.sb.mem (bare t)
-opens_by before synced read now f h t told syncs settled looks passes found table heads tears =
+opens_by before synced read now f h t told syncs settled left looks passes found table heads tears =
     let there : synced.content ≡ Some f = syncs.same ∙ told in
     let on : Passes synced now = passes_trans looks.time passes in
     let is_content : (c : Image) → Images synced c → IsOpening f h c = λ c left.
@@ -70,6 +71,7 @@ opens_by before synced read now f h t told syncs settled looks passes found tabl
         synced = synced.moment;
         from = syncs.time.later;
         till = on.later;
+        content = on.kept synced.moment f (omega arith) left;
         one = λ c left. settled_at synced f there settled c (on.past synced.moment c (omega arith) left);
         until = λ m c low high left. syncs.images.each c (record { at = m; from = low; till = high; left = on.past m c high left });
         trail = trail;

@@ -8,7 +8,7 @@ use Rattle.strat_model.specs.declared.ended.Ended.TheVariants as ended
 use Rattle.castle.specs.declared.opening.AttachFault.{AttachFault}
 use Rattle.castle.specs.declared.opening.AttachFault.TheVariants as fault
 use Rattle.castle.specs.Causes.{ended_for}
-use Rattle.castle.specs.Opened.{FailsToOpen}
+use Rattle.castle.specs.Opened.{IsLeft, FailsToOpen}
 use Rattle.castle.specs.Session.{IsGivenUp, GaveUp, RefusesFor}
 use Rattle.castle.specs.World.{World}
 
@@ -19,24 +19,23 @@ ends_given_up fault.Device = tt
 ends_given_up (fault.Damaged block) = tt
 ends_given_up fault.NoMemory = tt
 
--- where the device did not fail the images are those of before
-images_left : (f : AttachFault) (before now : View) → (f ≡ fault.Device → (g : Image) → before.content ≡ Some g → FailsToOpen before now g)
-    → (f ≢ fault.Device → (now.content ≡ before.content) × LeavesOld before now) → (g : Image) → before.content ≡ Some g → FailsToOpen before now g
-images_left fault.NotAStore before now device kept g told = inl (kept (λ e. absurd (let f : fault.NotAStore ≡ fault.Device = e in cc))).1
-images_left fault.Device before now device kept g told = device refl g told
-images_left (fault.Damaged block) before now device kept g told = inl (kept (λ e. absurd (let f : fault.Damaged block ≡ fault.Device = e in cc))).1
-images_left fault.NoMemory before now device kept g told = inl (kept (λ e. absurd (let f : fault.NoMemory ≡ fault.Device = e in cc))).1
+-- only the device's fault ends a run so
+device_is : (f : AttachFault) → ended_for f ≡ ended.Device → f ≡ fault.Device
+device_is fault.NotAStore e = absurd (let x : ended.NotAStore ≡ ended.Device = e in cc)
+device_is fault.Device e = refl
+device_is (fault.Damaged block) e = absurd (let x : ended.Damaged block ≡ ended.Device = e in cc)
+device_is fault.NoMemory e = absurd (let x : ended.NoMemory ≡ ended.Device = e in cc)
 
 -- nothing was read or sent, and nothing became of the disk but what an opening may make of it
 pub gave_up : (how : Ended) (f : AttachFault) (before : World) (disk : View) (faults : ℕ) → how ≡ ended_for f
     → (f ≡ fault.Device → (g : Image) → before.disk.content ≡ Some g → FailsToOpen before.disk disk g)
-    → (f ≢ fault.Device → (disk.content ≡ before.disk.content) × LeavesOld before.disk disk) → GaveUp how before (record before { disk = disk; disk_faults = faults })
+    → (f ≢ fault.Device → IsLeft before.disk disk) → GaveUp how before (record before { disk = disk; disk_faults = faults })
 gave_up how f before disk faults is device kept = record {
   ends = subst IsGivenUp (sym is) (ends_given_up f);
   source = refl;
   sink = refl;
   kept = λ other. kept (λ device. other (is ∙ ap ended_for device));
-  images = images_left f before.disk disk device kept;
+  failed = λ fails. device (device_is f (sym is ∙ fails));
 }
 
 -- an opening that gave up says of the disk what the run's end says

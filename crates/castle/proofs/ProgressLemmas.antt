@@ -14,10 +14,28 @@ use Rattle.strat_model.specs.Table.{Table, bare}
 use Rattle.strat_model.specs.Run.{Place, Told, told_bytes, Exchange, Answers, Run, text}
 use Rattle.castle.specs.Opened.{Shows, SameButJournal, Follows, Opens}
 use Rattle.castle.specs.Store.{Attached, place_of, StandsOn, OpensFrom, Moves, BreaksByFault}
-use Rattle.castle.specs.Session.{Took, IsAtEnd, IsTold, Progress}
+use Rattle.castle.specs.Session.{Took, IsAtEnd, Begins, IsTold}
 use Rattle.castle.specs.World.{World}
 use Rattle.castle.proofs.FollowLemmas.{follows_on}
 use Rattle.castle.proofs.StandLemmas.{opens_begins}
+
+-- a serving run so far: all whole frames in front of the bytes held were answered, the replies sent, and the changes kept
+pub record Progress (start current : Attached) (count : ℕ) (held : List ℕ) (before now : World) : Type 0 where
+  pub taken : List ℕ
+  pub counted : length taken ≡ count
+  pub took : Took before.left now.left taken
+  pub exchanges : List Exchange
+  pub run : Run start.log.mem (place_of start) exchanges (place_of current)
+  pub parts : taken ≡ flat_map (λ x. frame x.body) exchanges ++ held
+  pub each : AllByRecursion (λ x. IsBody x.body) exchanges
+  pub sent : Appends before.held now.held (text (map (λ x. x.told) exchanges))
+  pub mem : current.log.mem ≡ start.log.mem
+  pub going : current.spent ≡ false
+  pub calm : now.disk_faults ≡ before.disk_faults
+  pub begins : (f : Image) → before.disk.content ≡ Some f → Begins f start.log.mem (place_of start)
+  pub stands : (f : Image) → before.disk.content ≡ Some f → StandsOn now.disk current
+  pub follows : (f : Image) → before.disk.content ≡ Some f
+      → Follows before.disk now.disk f start.log.mem (map (λ x. bare x.at.table) exchanges ++ bare current.table ∷ []) (length exchanges)
 
 -- what was read was taken from the source
 pub took_piece : (before now : Option (List ℕ)) (into more : List ℕ) (n : ℕ) → Gives before now into n → n ≤ length into → Took before now (take n (into ++ more))

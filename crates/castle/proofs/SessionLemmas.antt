@@ -18,9 +18,9 @@ use Rattle.strat_model.specs.Table.{Table, bare}
 use Rattle.strat_model.specs.Run.{Told, told_bytes, ToldFault, Exchange, Halt, Talk, bodies_of, tolds_of, tables_of, text}
 use Rattle.castle.specs.Opened.{Shows, IsAtRest, Follows}
 use Rattle.castle.specs.Store.{Attached, place_of}
-use Rattle.castle.specs.Session.{Took, IsAtEnd, SendsPrefix, too_long_bytes, IsTold, IsHalted, IsAnswered, Session, IsSession, IsWhole, said, said_last, Sends, EndsFor, Served, Progress}
+use Rattle.castle.specs.Session.{Took, IsAtEnd, SendsPrefix, too_long_bytes, IsTold, IsHalted, IsAnswered, Session, IsSession, IsWhole, said, said_last, Sends, EndsFor, Served}
 use Rattle.castle.specs.World.{World}
-use Rattle.castle.proofs.ProgressLemmas.{Answered, tables_before, follows_more, text_more, answers}
+use Rattle.castle.proofs.ProgressLemmas.{Progress, Answered, tables_before, follows_more, text_more, answers}
 use Rattle.castle.proofs.StreamLemmas.{partial_not_long, frames_of}
 
 -- bodies one after the other that fit
@@ -95,7 +95,7 @@ module _ (start current : Attached) (count budget : ℕ) (held : List ℕ) (befo
     sends = sends;
     ends = ends;
     faulted = λ some. absurd (some refl);
-    unbroken = λ none. p.calm;
+    calm = λ none. p.calm;
     begins = p.begins;
     follows = p.follows;
     one_image = λ f e none. one_image f e;
@@ -275,7 +275,7 @@ module _ (start old new : Attached) (count budget : ℕ) (held rest body : List 
     sends = sends;
     ends = ends;
     faulted = λ some. subst (λ (n : ℕ). Rose n now.disk_faults) p.calm (done.breaks.rose is.spent);
-    unbroken = λ none. absurd (let x : ◌≡◌ {A = Option Halt} (Some halt) None = none in cc);
+    calm = λ none. absurd (let x : ◌≡◌ {A = Option Halt} (Some halt) None = none in cc);
     begins = p.begins;
     follows = follows_broken;
     one_image = λ f e none. absurd (let x : ◌≡◌ {A = Option Halt} (Some halt) None = none in cc);

@@ -1,14 +1,15 @@
 -- What the program does for its words.
-use Rattle.std.specs.Prelude.{◌≡◌, ◌⊎◌, ℕ, ◌==◌, if◌then◌else◌, List, [], ◌∷◌, Option, Some, None, Ok, Err, codes}
+use Rattle.std.specs.Prelude.{◌≡◌, ◌≢◌, ◌⊎◌, ℕ, ◌==◌, if◌then◌else◌, List, [], ◌∷◌, Option, Some, None, Ok, Err, codes}
 use Rattle.strat_base.specs.Damage.{Read}
 use Rattle.strat_base.specs.Image.{Image}
+use Rattle.strat_base.specs.Moments.{Since}
 use Rattle.strat_io.specs.Streams.{Appends}
 use Rattle.strat_model.specs.declared.ended.Ended.{Ended}
 use Rattle.strat_model.specs.declared.ended.Ended.TheVariants as ended
 use Rattle.strat_model.specs.Ended.{status_of}
 use Rattle.strat_model.specs.Head.{Head}
 use Rattle.strat_model.specs.Texts as texts
-use Rattle.castle.specs.Format.{IsNewDisk}
+use Rattle.castle.specs.Format.{IsNewDisk, IsBlank, IsNoneOrNew}
 use Rattle.castle.specs.Session.{SendsPrefix, Outcome, RefusesFor, EndHasCause}
 use Rattle.castle.specs.World.{World}
 
@@ -42,7 +43,7 @@ SendsLine ended.Device before now line = now ≡ before
 SendsLine ended.NoMemory before now line = now ≡ before
 SendsLine _ before now line = ⊥
 
--- a run that formats ends so where the disk was made a new store
+-- the ends of a run that formats which leave a new store
 abbrev pub Formats : Ended → Type 0
 Formats ended.Done = Unit {0}
 Formats ended.Sink = Unit {0}
@@ -54,7 +55,11 @@ pub record FormatsDisk (mem changes_max versions_max status : ℕ) (before now :
   pub status_is : status ≡ status_of how
   pub sends : SendsLine how before.held now.held (format_text mem changes_max versions_max)
   pub left : Formats how → (f : Image) → before.disk.content ≡ Some f → IsNewDisk mem changes_max versions_max now.disk
+  -- on the way a disk whose slots were shut is no store, or the whole new one
+  pub moments : (f : Image) → before.disk.content ≡ Some f → IsBlank before.disk
+      → (c : Image) → Since now.disk before.disk.moment c → IsNoneOrNew mem changes_max versions_max c
   pub cause : EndHasCause how before now
+  pub calm : how ≢ ended.Device → now.disk_faults ≡ before.disk_faults
 
 -- what a status means
 abbrev pub text_of : ℕ → List ℕ

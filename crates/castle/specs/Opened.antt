@@ -102,17 +102,18 @@ pub record SameButJournal (mem : ℕ) (f c : Image) : Type 0 where
 
 -- a disk with this content was synced, and from then on followed tables
 pub record Follows (before now : View) (f : Image) (mem : ℕ) (tables : List Table) (n : ℕ) : Type 0 where
-  -- the moment of the sync, at which a crash leaves the content
+  -- the moment of the sync, at which a crash leaves the content and nothing else
   pub synced : ℕ
   pub from : before.moment ≤ synced
   pub till : synced ≤ now.moment
+  pub content : now.images_at synced f
   pub one : (c : Image) → now.images_at synced c → c ≡ f
-  -- until then a crash leaves what it might have left before
+  -- until then a crash leaves only what it might have left before
   pub until : (m : ℕ) (c : Image) → before.moment ≤ m → m ≤ synced → now.images_at m c → Images before c
-  -- from then on the images show the tables as a trail does, and differ from the content in the journal alone
+  -- from then on there is a trail of the tables, and no image differs from the content but in the journal
   pub trail : Trail Shows now synced tables n
   pub journal : (c : Image) → Since now synced c → SameButJournal mem f c
-  -- each image of now shows a table at place n or behind it
+  -- which says of now: each image shows a table at place n or behind it
   pub left : (c : Image) → Images now c → (i : ℕ) × (n ≤ i) × At tables i (Shows c)
 
 -- a disk with this content was opened as a store whose journal regions take so many changes: it followed the one table that the content shows, and nothing changed but the first gate of the region that is not active
@@ -122,6 +123,10 @@ pub record Opens (before now : View) (f : Image) (mem : ℕ) (t : Table) : Type 
   pub follows : Follows before now f mem (t ∷ []) 0
   pub gate : (c : Image) → Since now follows.synced c → Outside (region_at mem (other_region shows.head.sb.region)) 1 f c
 
--- an opening of a disk with this content failed: a crash leaves what it might have left before, or the disk was opened up to the last step
+-- a disk is left as it was: it has the content of before, and a crash leaves only what it might have left before
+abbrev pub IsLeft : View → View → Type 0
+IsLeft before now = (now.content ≡ before.content) × LeavesOld before now
+
+-- an opening of a disk with this content failed: the disk is left as it was, or the sync succeeded and the last step failed, which shuts a gate
 abbrev pub FailsToOpen : View → View → Image → Type 0
-FailsToOpen before now f = LeavesOld before now ⊎ ((mem : ℕ) × ((t : Table) × Opens before now f mem t))
+FailsToOpen before now f = IsLeft before now ⊎ ((mem : ℕ) × ((t : Table) × Opens before now f mem t))

@@ -14,7 +14,7 @@ use Rattle.strat_model.specs.Spelling.{reply_body}
 use Rattle.strat_model.specs.Stream.{frame, IsBody, Splits, Whole, Rest, Long, ending_of, is_too_long}
 use Rattle.strat_model.specs.Table.{bare}
 use Rattle.strat_model.specs.Run.{Place, Told, told_bytes, Answers, ToldFault, Exchange, Halt, Run, Talk, IsTalk, bodies_of, tolds_of, tables_of, text}
-use Rattle.castle.specs.Opened.{head_now, Shows, IsAtRest, Follows, FailsToOpen}
+use Rattle.castle.specs.Opened.{head_now, Shows, IsAtRest, Follows, IsLeft, FailsToOpen}
 use Rattle.castle.specs.Store.{Attached, place_of, StandsOn}
 use Rattle.castle.specs.World.{World}
 
@@ -92,7 +92,7 @@ said_last (Some halt) all long = []
 abbrev pub said : Session → List ℕ
 said s = text (tolds_of s.talk) ++ said_last s.talk.halt (length s.talk.exchanges == length s.bodies) (is_too_long s.rest)
 
--- what the sink took of what there was to say: all, but where the sink failed a front
+-- what the sink took of what there was to say: all, but where the sink failed a prefix
 abbrev pub Sends : Ended → Option (List ℕ) → Option (List ℕ) → List ℕ → Type 0
 Sends ended.Sink before now all = SendsPrefix before now all
 Sends _ before now all = Appends before now all
@@ -127,7 +127,7 @@ pub record Served (budget : ℕ) (how : Ended) (before now : World) : Type 0 whe
   pub ends : EndsFor how budget session now.left
   -- a command met a fault exactly where the disk failed
   pub faulted : session.talk.halt ≢ None → Rose before.disk_faults now.disk_faults
-  pub unbroken : session.talk.halt ≡ None → now.disk_faults ≡ before.disk_faults
+  pub calm : session.talk.halt ≡ None → now.disk_faults ≡ before.disk_faults
   -- where the disk tells its content, the run began at the table that it shows, and the disk followed the run's tables up to all that was answered otherwise than by a fault
   pub begins : (f : Image) → before.disk.content ≡ Some f → Begins f mem start
   pub follows : (f : Image) → before.disk.content ≡ Some f → Follows before.disk now.disk f mem (tables_of session.talk) (length session.talk.exchanges)
@@ -148,9 +148,9 @@ pub record GaveUp (how : Ended) (before now : World) : Type 0 where
   -- nothing was read or sent
   pub source : now.left ≡ before.left
   pub sink : now.held ≡ before.held
-  -- where the disk did not fail it has the content of before, and a crash leaves nothing that it could not leave before
-  pub kept : how ≢ ended.Device → (now.disk.content ≡ before.disk.content) × LeavesOld before.disk now.disk
-  pub images : (f : Image) → before.disk.content ≡ Some f → FailsToOpen before.disk now.disk f
+  -- where the disk did not fail it is left as it was, and where it failed the opening did
+  pub kept : how ≢ ended.Device → IsLeft before.disk now.disk
+  pub failed : how ≡ ended.Device → (f : Image) → before.disk.content ≡ Some f → FailsToOpen before.disk now.disk f
 
 -- what a serving run did, whether it opened the store or gave up
 abbrev pub Outcome : ℕ → Ended → World → World → Type 0
@@ -161,7 +161,7 @@ pub record RefusesFor (how : Ended) (before : View) : Type 0 where
   pub none : how ≡ ended.NotAStore → (f : Image) → before.content ≡ Some f → newest_in f ≡ Ok None
   pub damaged : (block : ℕ) → how ≡ ended.Damaged block → (f : Image) → before.content ≡ Some f → head_now f ≡ Err block
 
--- when a count of faults may have risen: that of the source, the sink or the disk where the end names it, and no other; a sink that cannot take the news of the disk hides it
+-- when a count of faults may have risen: that of the source, the sink or the disk where the end names it, and no other; where the end is that of the sink, the disk may have failed too
 pub record EndHasCause (how : Ended) (before now : World) : Type 0 where
   pub source : how ≡ ended.Source → Rose before.source_faults now.source_faults
   pub sink : how ≡ ended.Sink → Rose before.sink_faults now.sink_faults
@@ -169,21 +169,3 @@ pub record EndHasCause (how : Ended) (before now : World) : Type 0 where
   pub source_same : how ≢ ended.Source → now.source_faults ≡ before.source_faults
   pub sink_same : how ≢ ended.Sink → now.sink_faults ≡ before.sink_faults
   pub disk_same : how ≢ ended.Device → how ≢ ended.Sink → now.disk_faults ≡ before.disk_faults
-
--- a serving run so far: all whole frames in front of those held were answered, sent and kept
-pub record Progress (start current : Attached) (count : ℕ) (held : List ℕ) (before now : World) : Type 0 where
-  pub taken : List ℕ
-  pub counted : length taken ≡ count
-  pub took : Took before.left now.left taken
-  pub exchanges : List Exchange
-  pub run : Run start.log.mem (place_of start) exchanges (place_of current)
-  pub parts : taken ≡ flat_map (λ x. frame x.body) exchanges ++ held
-  pub each : AllByRecursion (λ x. IsBody x.body) exchanges
-  pub sent : Appends before.held now.held (text (map (λ x. x.told) exchanges))
-  pub mem : current.log.mem ≡ start.log.mem
-  pub going : current.spent ≡ false
-  pub calm : now.disk_faults ≡ before.disk_faults
-  pub begins : (f : Image) → before.disk.content ≡ Some f → Begins f start.log.mem (place_of start)
-  pub stands : (f : Image) → before.disk.content ≡ Some f → StandsOn now.disk current
-  pub follows : (f : Image) → before.disk.content ≡ Some f
-      → Follows before.disk now.disk f start.log.mem (map (λ x. bare x.at.table) exchanges ++ bare current.table ∷ []) (length exchanges)

@@ -11,7 +11,7 @@ pub record World : Type 1 where
   pub disk : View
   pub disk_faults : ℕ
 
--- the same by its parts
+-- a world, by its parts
 abbrev pub world : Option (List ℕ) → ℕ → Option (List ℕ) → ℕ → View → ℕ → World
 world left source_faults held sink_faults disk disk_faults = record {
   left = left;

@@ -109,12 +109,16 @@ pub fn make_store<K: Sink, D: Disk>(
         (format_text mem changes_max versions_max) }
     ensures left { Formats result → (f : Image) → (D.view disk.old).content ≡ Some f
         → IsNewDisk mem changes_max versions_max (D.view disk.new) }
+    ensures any_moment { (f : Image) → (D.view disk.old).content ≡ Some f → IsBlank (D.view disk.old)
+        → (c : Image) → Since (D.view disk.new) (D.view disk.old).moment c
+        → IsNoneOrNew mem changes_max versions_max c }
     ensures time { Passes (D.view disk.old) (D.view disk.new) }
     ensures cause { (left : Option (List ℕ)) (source_faults : ℕ) → EndHasCause result
         (world left source_faults (K.held sink.old) (K.faults sink.old)
         (D.view disk.old) (D.faults disk.old))
         (world left source_faults (K.held sink.new) (K.faults sink.new)
         (D.view disk.new) (D.faults disk.new)) }
+    ensures calm { result ≢ Ended.Device → D.faults disk.new ≡ D.faults disk.old }
     ensures untouched { result ≡ Ended.NoMemory
         → (sink.new ≡ sink.old) × (disk.new ≡ disk.old) }
 {

@@ -36,9 +36,12 @@ fn arguments<R: Env + AllocGlobal>(rt: &R) -> Result<Vec<String>, Ended> {
     Ok(words)
 }
 
-/// The folder at the top, opened to be read: as a stream it can be neither read nor written.
-fn open_top<R: Files>(rt: &R) -> io::Result<R::File> {
-    OpenOptions::new().read(true).open(rt, "/")
+/// A folder, opened to be read: as a stream it can be neither read nor written.
+fn open_folder<R: Files>(rt: &R) -> io::Result<R::File> {
+    match OpenOptions::new().read(true).open(rt, "/") {
+        Ok(folder) => Ok(folder),
+        Err(_) => OpenOptions::new().read(true).open(rt, "."),
+    }
 }
 
 /// Runs the program over the standard streams and the file at a path.
@@ -59,10 +62,13 @@ fn start<R: Env + Input + Print + Files + AllocGlobal>(rt: &R) -> u8 {
         Err(ended) => return ended.status(),
     };
     let Some(path) = path_of(&words) else {
+        // `run` says that these words are no job, and opens no file.
         return run_over(rt, &words, "");
     };
-    // A file takes the number of a standard stream that is closed: these three keep the store's from it.
-    let (Ok(_first), Ok(_second), Ok(_third)) = (open_top(rt), open_top(rt), open_top(rt)) else {
+    // The system gives an opened file the lowest free number, which is a standard stream's where that is closed. These
+    // three take such numbers before the store's file can, and keep them until the run has ended.
+    let (Ok(_first), Ok(_second), Ok(_third)) = (open_folder(rt), open_folder(rt), open_folder(rt))
+    else {
         return Ended::NoMemory.status();
     };
     run_over(rt, &words, path)

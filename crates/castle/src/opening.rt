@@ -18,7 +18,7 @@ ghost use Rattle.strat_model.specs.Table.{bare};
 ghost use Rattle.strat_base.specs.declared.failures.Trouble.TheVariants.{Device, Damaged};
 ghost use Rattle.strat_journal.specs.Records.{logged_of};
 ghost use Rattle.castle.specs.declared.opening.AttachFault.TheVariants as fault;
-ghost use Rattle.castle.specs.Opened.{head_now, head_now_behind, head_from, accepted_now, table_now, Opens, FailsToOpen};
+ghost use Rattle.castle.specs.Opened.{head_now, head_now_behind, head_from, accepted_now, table_now, Opens, IsLeft, FailsToOpen};
 ghost use Rattle.castle.specs.Store.{Holds, StandsOn, OpensFrom, IsLogFor, IsRead, IsOpenedBy};
 ghost use Rattle.castle.specs.Causes.{HasAttachCause};
 
@@ -214,7 +214,7 @@ fn shut_other<D: Disk>(disk: &mut D, sb: &SuperBlock, journal: &Journal) -> Resu
 
 impl Store {
     /// Opens the store on a disk. It syncs, reads the superblock, the manifest and the journal, and shuts the region that is
-    /// not active where a crash left it open. Until the sync succeeds a crash leaves what it might have left before. It takes
+    /// not active where a crash left it open. Until the sync succeeds a crash leaves only what it might have left before. It takes
     /// the memory for the journal and for the pairs of its changes. It reads each block of the journal once; each change
     /// walks the pairs of its version.
     pub fn attach<D: Disk>(alloc: Global, disk: &mut D) -> Result<Store, AttachFault>
@@ -232,8 +232,7 @@ impl Store {
         ensures device { IsErrOf result fault.Device → (f : Image) → (D.view disk.old).content ≡ Some f
             → FailsToOpen (D.view disk.old) (D.view disk.new) f }
         ensures kept { IfErr result (λ e. e ≢ fault.Device
-            → ((D.view disk.new).content ≡ (D.view disk.old).content)
-            × LeavesOld (D.view disk.old) (D.view disk.new)) }
+            → IsLeft (D.view disk.old) (D.view disk.new)) }
         ensures time { Passes (D.view disk.old) (D.view disk.new) }
         ensures cause { HasAttachCause (D.faults disk.old) (D.faults disk.new) result }
     {

@@ -3,13 +3,13 @@
 ghost use Rattle.std.specs.Prelude.{◌≡◌, ◌≢◌, ◌≤◌, ◌⊎◌, ℕ, length, [], Some, Ok, IfOk, IfErr, IsErrOf, OnOk, OnErr, false};
 ghost use Rattle.strat_base.specs.Image.{Image};
 ghost use Rattle.strat_base.specs.Faults.{Counts};
-ghost use Rattle.strat_base.specs.Moments.{Passes, LeavesOld};
+ghost use Rattle.strat_base.specs.Moments.{Passes};
 ghost use Rattle.strat_base.specs.SuperBlock.{newest_in};
 ghost use Rattle.strat_io.specs.Streams.{Appends};
 ghost use Rattle.strat_model.specs.Table.{bare};
 ghost use Rattle.castle.specs.declared.opening.AttachFault.TheVariants as fault;
 ghost use Rattle.castle.specs.Causes.{HasAttachCause};
-ghost use Rattle.castle.specs.Opened.{head_now, Opens, FailsToOpen};
+ghost use Rattle.castle.specs.Opened.{head_now, Opens, IsLeft, FailsToOpen};
 ghost use Rattle.castle.specs.Refusals.{refusal_for};
 ghost use Rattle.castle.specs.Session.{IsAnswered, SendsPrefix, too_long_bytes};
 ghost use Rattle.castle.specs.Store.{StandsOn, OpensFrom, Moves, BreaksByFault};
@@ -61,8 +61,7 @@ impl Server {
         ensures device { IsErrOf result fault.Device → (f : Image) → (D.view disk.old).content ≡ Some f
             → FailsToOpen (D.view disk.old) (D.view disk.new) f }
         ensures kept { IfErr result (λ e. e ≢ fault.Device
-            → ((D.view disk.new).content ≡ (D.view disk.old).content)
-            × LeavesOld (D.view disk.old) (D.view disk.new)) }
+            → IsLeft (D.view disk.old) (D.view disk.new)) }
         ensures time { Passes (D.view disk.old) (D.view disk.new) }
         ensures cause { HasAttachCause (D.faults disk.old) (D.faults disk.new) result }
     {

@@ -55,7 +55,7 @@ returns-in-Some-Format-clause-format g c = λ path mem changes_max versions_max 
       formats_as_asked c.in-Some-Format.field-0-0.now path c.in-Some-Format.mem c.in-Some-Format.changes_max c.in-Some-Format.versions_max mem changes_max versions_max
           c.status-in-Some-Format.result c.make_store.result before now
           (sym (c.in-Some-Format.ensures ∙ ap (λ (j : Borrowed). Some (job_seen j)) c.in-Some-Format.field-0-is) ∙ named) c.status-in-Some-Format.ensures c.make_store.ensures.sends c.make_store.ensures.left
-          (c.make_store.ensures.cause before.left before.source_faults),
+          c.make_store.ensures.any_moment (c.make_store.ensures.cause before.left before.source_faults) c.make_store.ensures.calm,
     )
 
 pub returns-in-Some-Format-clause-formatted : goal.returns-in-Some-Format-clause-formatted

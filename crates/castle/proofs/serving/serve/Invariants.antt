@@ -1,7 +1,7 @@
 use Rattle.std.proofs.Common.{◌≡◌, ◌≤◌, ◌-◌, ◌+◌, ◌*◌, length}
 use Rattle.strat_base.specs.Moments.{Passes}
-use Rattle.castle.specs.Session.{Progress}
 use Rattle.castle.specs.World.{world}
+use Rattle.castle.proofs.ProgressLemmas.{Progress}
 use Rattle.castle.proofs.serving.serve.Given as goal
 
 abbrev pub invariant-loop-server : goal.invariant-loop-server

@@ -1,8 +1,9 @@
 use Rattle.std.proofs.Common.{◌≡◌, ℕ, inl, inr, Some, Ok, sym, ap, ◌∙◌, subst}
 use Rattle.std.proofs.lemmas.Result.{err_from_is_err_and}
 use Rattle.strat_base.specs.Image.{Image}
-use Rattle.strat_base.specs.Moments.{Settled}
+use Rattle.strat_base.specs.Moments.{Images, Settled}
 use Rattle.strat_base.specs.SuperBlock.{newest_in}
+use Rattle.strat_base.proofs.MomentLemmas.{at_told}
 use Rattle.strat_gate.specs.SuperView.{super_of, seen}
 use Rattle.strat_journal.specs.Front.{Looks}
 use Rattle.strat_journal.proofs.FrontLemmas.{looks_trans}
@@ -55,15 +56,20 @@ opens g c f told =
     let opened = opened_by g (goal.at.After-shut_other g c).In_ok-journal f told in
     let settled = store_settled g before f told in
     opens_by _ (g.D.Disk.view c.settle.new.disk) (g.D.Disk.view c.read_store.new.disk) _ f (head_from (super_of c.in-Some.sb) c.in_ok-journal.journal.list) c.in_ok-journal.table told
-    (synced g (goal.at.After-read_store g before).After-newest) c.in_ok-settle.ensures.ok (read_looks g before) c.shut_other.ensures.time
+    (synced g (goal.at.After-read_store g before).After-newest) c.in_ok-settle.ensures.ok
+    (at_told _ (λ (d : Image). Images (g.D.Disk.view c.settle.new.disk) d) f (c.settle.ensures.same ∙ told) (g.met.D.Disk.leaves_content c.settle.new.disk)) (read_looks g before) c.shut_other.ensures.time
     (found_now (g.D.Disk.view c.read_store.new.disk) f (super_of c.in-Some.sb) c.in_ok-journal.journal there settled opened) (sym c.in_ok-journal.ensures.table)
     (c.shut_other.ensures.any_moment f there settled opened) c.shut_other.ensures.images
 
 pub returns-in_err-sb-clause-device : goal.returns-in_err-sb-clause-device
-returns-in_err-sb-clause-device g c = λ failed f told. inl (sb_looks g (goal.at.returns-in_err-sb-clause-device g c).After-newest).images
+returns-in_err-sb-clause-device g c = λ failed f told.
+    let looks = sb_looks g (goal.at.returns-in_err-sb-clause-device g c).After-newest in
+    inl (looks.same, looks.images)
 
 pub returns-in_err-journal-clause-device : goal.returns-in_err-journal-clause-device
-returns-in_err-journal-clause-device g c = λ failed f told. inl (store_looks g (goal.at.returns-in_err-journal-clause-device g c).After-read_store).images
+returns-in_err-journal-clause-device g c = λ failed f told.
+    let looks = store_looks g (goal.at.returns-in_err-journal-clause-device g c).After-read_store in
+    inl (looks.same, looks.images)
 
 pub returns-in_err-shut_other-clause-device : goal.returns-in_err-shut_other-clause-device
 returns-in_err-shut_other-clause-device g c = λ failed f told.
