@@ -2,7 +2,7 @@
 use Rattle.std.proofs.Common.{◌≡◌, ◌≢◌, ℕ, List, length, Some, refl, sym, ap, subst, ◌∙◌, inl, inr}
 use Rattle.std.proofs.lemmas.Bool.{cases_eq}
 use Rattle.strat_base.specs.Image.{Image}
-use Rattle.strat_base.specs.Moments.{View, LeavesOld}
+use Rattle.strat_base.specs.Moments.{View}
 use Rattle.strat_model.specs.declared.ended.Ended.{Ended}
 use Rattle.strat_model.specs.declared.ended.Ended.TheVariants as ended
 use Rattle.castle.specs.declared.opening.AttachFault.{AttachFault}

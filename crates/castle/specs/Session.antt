@@ -1,9 +1,8 @@
 -- A serving run: what it took, what it answered, what it sent, what it left on the disk, and why it ended.
-use Rattle.std.specs.Prelude.{◌≡◌, ◌≢◌, ◌≤◌, ◌<◌, ◌⊎◌, ℕ, ◌==◌, ◌&&◌, Bool, true, false, if◌then◌else◌, List, [], ◌∷◌, ◌++◌, length, map, take, Option, Some, None, Ok, Err}
-use Rattle.std.specs.List.{flat_map, AllByRecursion}
+use Rattle.std.specs.Prelude.{◌≡◌, ◌≢◌, ◌≤◌, ◌<◌, ◌⊎◌, ℕ, ◌==◌, ◌&&◌, Bool, true, false, if◌then◌else◌, List, [], ◌++◌, length, take, Option, Some, None, Ok, Err}
 use Rattle.strat_base.specs.Faults.{Rose}
 use Rattle.strat_base.specs.Image.{Image}
-use Rattle.strat_base.specs.Moments.{View, LeavesOld}
+use Rattle.strat_base.specs.Moments.{View}
 use Rattle.strat_base.specs.SuperBlock.{newest_in}
 use Rattle.strat_io.specs.Streams.{Appends}
 use Rattle.strat_model.specs.declared.ended.Ended.{Ended}
@@ -11,11 +10,10 @@ use Rattle.strat_model.specs.declared.ended.Ended.TheVariants as ended
 use Rattle.strat_model.specs.declared.replies.Refusal.TheVariants as why
 use Rattle.strat_model.specs.Answer.{Answer, refusal}
 use Rattle.strat_model.specs.Spelling.{reply_body}
-use Rattle.strat_model.specs.Stream.{frame, IsBody, Splits, Whole, Rest, Long, ending_of, is_too_long}
-use Rattle.strat_model.specs.Table.{bare}
-use Rattle.strat_model.specs.Run.{Place, Told, told_bytes, Answers, ToldFault, Exchange, Halt, Run, Talk, IsTalk, bodies_of, tolds_of, tables_of, text}
+use Rattle.strat_model.specs.Stream.{frame, Splits, Whole, Rest, Long, ending_of, is_too_long}
+use Rattle.strat_model.specs.Run.{Place, Told, told_bytes, Answers, ToldFault, Halt, Talk, IsTalk, bodies_of, tolds_of, tables_of, text}
 use Rattle.castle.specs.Opened.{head_now, Shows, IsAtRest, Follows, IsLeft, FailsToOpen}
-use Rattle.castle.specs.Store.{Attached, place_of, StandsOn}
+use Rattle.castle.specs.Store.{Attached, place_of}
 use Rattle.castle.specs.World.{World}
 
 -- these bytes were taken from the front of a source
