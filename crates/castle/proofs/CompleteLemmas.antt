@@ -1,18 +1,18 @@
 -- How a run ends where nothing failed.
 use Rattle.std.proofs.Common.{◌≡◌, ◌≢◌, ◌⊎◌, ℕ, Option, Some, None, refl, sym, ap, subst, ◌∙◌, inl, inr, arith}
 use Rattle.std.specs.Prelude.{Ok, Err}
-use Rattle.strat_base.specs.Damage.{Read, and_then}
-use Rattle.strat_base.specs.Faults.{Rose}
-use Rattle.strat_base.specs.Image.{Image}
-use Rattle.strat_base.specs.SuperBlock.{Super, newest_in}
+use Rattle.strat_format.specs.Damage.{Read, and_then}
+use Rattle.strat_crash.specs.Faults.{Rose}
+use Rattle.strat_crash.specs.Image.{Image}
+use Rattle.strat_format.specs.SuperBlock.{Super, newest_in}
 use Rattle.strat_model.specs.declared.ended.Ended.{Ended}
 use Rattle.strat_model.specs.declared.ended.Ended.TheVariants as ended
 use Rattle.strat_model.specs.Ended.{status_of}
-use Rattle.strat_model.specs.Head.{Head}
-use Rattle.castle.specs.Opened.{head_now, head_now_of_slot}
-use Rattle.castle.specs.Session.{GaveUp, Served, Outcome, IsGivenUp, RefusesFor, EndHasCause}
+use Rattle.strat_recovery.specs.Head.{Head}
+use Rattle.strat_store.specs.Opened.{head_now, head_now_of_slot}
+use Rattle.strat_serve.specs.Session.{GaveUp, Served, Outcome, IsGivenUp, RefusesFor, EndHasCause}
 use Rattle.castle.specs.Job.{EndsAsInput, EndsAsFound}
-use Rattle.castle.specs.World.{World}
+use Rattle.strat_serve.specs.World.{World}
 
 -- what is read cannot be two things
 two_reads : (r : Read (Option Head)) (x y : Read (Option Head)) → r ≡ x → r ≡ y → x ≡ y

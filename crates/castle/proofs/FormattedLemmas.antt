@@ -1,16 +1,16 @@
 -- How a run that formats ends.
 use Rattle.std.proofs.Common.{◌≡◌, ◌≢◌, ℕ, List, Option, Some, refl, subst, inl, inr, ◌⊎◌, arith}
-use Rattle.strat_base.specs.Faults.{Rose}
-use Rattle.strat_base.specs.Image.{Image}
-use Rattle.strat_base.specs.Moments.{Since}
+use Rattle.strat_crash.specs.Faults.{Rose}
+use Rattle.strat_crash.specs.Image.{Image}
+use Rattle.strat_crash.specs.Moments.{Since}
 use Rattle.strat_model.specs.declared.ended.Ended.{Ended}
 use Rattle.strat_model.specs.declared.ended.Ended.TheVariants as ended
 use Rattle.strat_model.specs.Ended.{status_of}
-use Rattle.castle.specs.Format.{IsNewDisk, IsBlank, IsNoneOrNew}
+use Rattle.strat_store.specs.Format.{IsNewDisk, IsBlank, IsNoneOrNew}
 use Rattle.castle.specs.Job.{SendsLine, Formats, FormatsDisk, format_text}
-use Rattle.castle.specs.Session.{EndHasCause}
+use Rattle.strat_serve.specs.Session.{EndHasCause}
 use Rattle.castle.specs.Words.{Job, Format}
-use Rattle.castle.specs.World.{World}
+use Rattle.strat_serve.specs.World.{World}
 
 -- a run that formats for these numbers does so for those of the words
 pub formats_as_asked : (p q : List ℕ) (m c v x y z status : ℕ) (how : Ended) (before now : World) → ◌≡◌ {A = Option Job} (Some (Format p m c v)) (Some (Format q x y z))

@@ -1,17 +1,17 @@
 -- What the program does for its words.
 use Rattle.std.specs.Prelude.{◌≡◌, ◌≢◌, ◌⊎◌, ℕ, ◌==◌, if◌then◌else◌, List, [], ◌∷◌, Option, Some, None, Ok, Err, codes}
-use Rattle.strat_base.specs.Damage.{Read}
-use Rattle.strat_base.specs.Image.{Image}
-use Rattle.strat_base.specs.Moments.{Since}
+use Rattle.strat_format.specs.Damage.{Read}
+use Rattle.strat_crash.specs.Image.{Image}
+use Rattle.strat_crash.specs.Moments.{Since}
 use Rattle.strat_io.specs.Streams.{Appends}
 use Rattle.strat_model.specs.declared.ended.Ended.{Ended}
 use Rattle.strat_model.specs.declared.ended.Ended.TheVariants as ended
 use Rattle.strat_model.specs.Ended.{status_of}
-use Rattle.strat_model.specs.Head.{Head}
-use Rattle.strat_model.specs.Texts as texts
-use Rattle.castle.specs.Format.{IsNewDisk, IsBlank, IsNoneOrNew}
-use Rattle.castle.specs.Session.{SendsPrefix, Outcome, RefusesFor, EndHasCause}
-use Rattle.castle.specs.World.{World}
+use Rattle.strat_recovery.specs.Head.{Head}
+use Rattle.strat_recovery.specs.Texts as texts
+use Rattle.strat_store.specs.Format.{IsNewDisk, IsBlank, IsNoneOrNew}
+use Rattle.strat_serve.specs.Session.{SendsPrefix, Outcome, RefusesFor, EndHasCause}
+use Rattle.strat_serve.specs.World.{World}
 
 -- the program ended with this status, having served the store on the disk, or having given up
 pub record ServesFrames (budget status : ℕ) (before now : World) : Type 0 where

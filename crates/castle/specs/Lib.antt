@@ -1,9 +1,2 @@
-pub mod Opened
-pub mod Store
-pub mod Causes
-pub mod Format
-pub mod Refusals
 pub mod Words
-pub mod World
-pub mod Session
 pub mod Job

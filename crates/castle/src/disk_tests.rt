@@ -1,7 +1,6 @@
 //! What the program finds and leaves on a disk, over disks in memory that fail, crash and are altered.
 
 use crate::program::run;
-use crate::serving::serve;
 use crate::tests::{formatted, served, words};
 use std::alloc::Global;
 use std::process::Abort;
@@ -9,6 +8,7 @@ use std::test::Fail;
 use strat_disk::{Disk, FuseDisk, MemDisk};
 use strat_io::{MemSink, MemSource};
 use strat_model::Ended;
+use strat_serve::serve;
 
 /// The limits of a small store.
 const SMALL: [&str; 3] = ["4", "100", "10"];

@@ -2,12 +2,7 @@
 #![tactic(auto)]
 
 mod formatting;
-mod manifest;
-mod opening;
 mod program;
-mod server;
-mod serving;
-mod store;
 mod words;
 
 use program::{run, status_text};

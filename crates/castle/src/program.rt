@@ -1,21 +1,21 @@
 //! The jobs of the program, by its words.
 
 ghost use Rattle.std.specs.Prelude.{◌≡◌, ◌⊎◌, ℕ, List, map, string_bytes, Some, None};
-ghost use Rattle.strat_base.specs.Faults.{Rose};
-ghost use Rattle.strat_base.specs.Image.{Image};
-ghost use Rattle.strat_base.specs.Moments.{Passes};
-ghost use Rattle.castle.specs.Opened.{head_now};
+ghost use Rattle.strat_crash.specs.Faults.{Rose};
+ghost use Rattle.strat_crash.specs.Image.{Image};
+ghost use Rattle.strat_crash.specs.Moments.{Passes};
+ghost use Rattle.strat_store.specs.Opened.{head_now};
 ghost use Rattle.castle.specs.Words.{Format, Serve, job_in};
 ghost use Rattle.castle.specs.Job.{ServesFrames, FormatsDisk, EndsAsFound, text_of};
-ghost use Rattle.castle.specs.World.{world};
+ghost use Rattle.strat_serve.specs.World.{world};
 
 use crate::formatting::make_store;
-use crate::serving::serve;
 use crate::words::{Job, job_of};
 use std::alloc::Global;
 use strat_disk::Disk;
 use strat_io::{Sink, Source};
 use strat_model::Ended;
+use strat_serve::serve;
 
 /// Bytes that one serving run reads at most: 2^40.
 const BUDGET: u64 = 1_099_511_627_776;

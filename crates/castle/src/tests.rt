@@ -3,7 +3,6 @@
 ghost use Rattle.std.specs.Prelude.{◌≤◌, length};
 
 use crate::program::{run, status_text};
-use crate::serving::serve;
 use crate::words::path_of;
 use std::alloc::Global;
 use std::process::Abort;
@@ -12,6 +11,7 @@ use strat_base::Failed;
 use strat_disk::{Disk, MemDisk};
 use strat_io::{MemSink, MemSource, Sink, Source};
 use strat_model::Ended;
+use strat_serve::serve;
 
 /// Puts `a` = `1` at version 0 under tag 7, and asks for `a` and `b` under tags 8 and 9.
 const STREAM: &[u8] = b"\x00\x00\x00\x0f\x00\x00\x00\x07\x01\x00\x00\x00\x00\x00\x01a\x00\x011\

@@ -5,9 +5,9 @@ use Rattle.std.proofs.lemmas.List.{drop_all}
 use Rattle.strat_base.specs.Numbers.{be}
 use Rattle.strat_base.specs.Fields.{key_field, key_in}
 use Rattle.strat_base.specs.Entries.{Entry}
-use Rattle.strat_base.specs.Block.{mark_field, entry_bytes, entry_of_key, entry_in, entry_at, BeginsWithEntry}
+use Rattle.strat_base.specs.EntryBytes.{mark_field, entry_bytes, entry_of_key, entry_in, entry_at, BeginsWithEntry}
 use Rattle.strat_base.proofs.NumberLemmas.{length-be}
-use Rattle.strat_base.proofs.BlockLemmas.{entry_in-bytes}
+use Rattle.strat_base.proofs.EntryBytesLemmas.{entry_in-bytes}
 
 pub length-entry : (e : Entry) → length (entry_bytes e) ≡ 5 + length e.key + length (mark_field e.value)
 length-entry e = omega (arith, length-append (key_field e.key) (be 4 e.version ++ mark_field e.value), length-append (be 4 e.version) (mark_field e.value), length-be 4 e.version)

@@ -1,6 +1,6 @@
 -- Why a call that reads a disk gave up.
 use Rattle.std.specs.Prelude.{◌≡◌, ◌≤◌, ℕ, Result, OnOk, IsErrOf}
-use Rattle.strat_base.specs.Faults.{Rose}
+use Rattle.strat_crash.specs.Faults.{Rose}
 use Rattle.strat_base.specs.declared.failures.Fault.{Fault}
 use Rattle.strat_base.specs.declared.failures.Fault.TheVariants.{Device, Damaged}
 

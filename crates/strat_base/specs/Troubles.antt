@@ -1,6 +1,6 @@
 -- Why a call that takes memory and reads a disk gave up.
 use Rattle.std.specs.Prelude.{◌≡◌, ◌≤◌, ℕ, Result, OnOk, IsErrOf}
-use Rattle.strat_base.specs.Faults.{Rose}
+use Rattle.strat_crash.specs.Faults.{Rose}
 use Rattle.strat_base.specs.declared.failures.Trouble.{Trouble}
 use Rattle.strat_base.specs.declared.failures.Trouble.TheVariants.{NoMemory, Device, Damaged}
 

@@ -2,7 +2,7 @@
 //! the key is gone, or 1 and a value behind its length in two.
 
 ghost use Rattle.std.specs.Prelude.{◌≡◌, ◌+◌, ◌≤◌, length, drop, IfSome, IsSome, IsTrue};
-ghost use Rattle.strat_base.specs.Block.{is_markable, fits_fields, mark_field, entry_bytes, mark_in, entry_of_key, entry_in, entry_at, BeginsWithEntry};
+ghost use Rattle.strat_base.specs.EntryBytes.{is_markable, fits_fields, mark_field, entry_bytes, mark_in, entry_of_key, entry_in, entry_at, BeginsWithEntry};
 ghost use Rattle.strat_base.specs.Entries.{Entry as TheEntry};
 ghost use Rattle.strat_base.specs.EntryView.{val_of, entry_of};
 ghost use Rattle.strat_base.specs.Finds.{Finds};
@@ -37,7 +37,7 @@ fn of_key<'a>(key: &'a [u8], fields: &'a [u8]) -> Option<Entry<'a>>
 }
 
 /// The entry whose bytes stand at the front of these.
-#[tactic(auto, unfolding(crate::specs::Block::entry_in))]
+#[tactic(auto, unfolding(crate::specs::EntryBytes::entry_in))]
 fn entry_from(bytes: &[u8]) -> Option<Entry<'_>>
     ensures { Finds entry_of result (entry_in bytes.now) }
 {

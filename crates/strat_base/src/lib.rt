@@ -1,7 +1,6 @@
 //! What every crate of the store shares: limits, failures, numbers in bytes, entries and pairs.
 #![tactic(auto)]
 
-pub mod broken;
 mod changes;
 mod entries;
 mod entry_fields;
@@ -13,10 +12,7 @@ pub mod laws;
 pub mod limits;
 mod numbers;
 mod pairs;
-pub mod reading;
-pub mod spellings;
 mod troubles;
-pub mod worked;
 
 pub use changes::{Change, OwnedChange, change_size, get_change, put_change};
 pub use entries::{Entry, Val, Version, entry_order, key_ok, value_ok};

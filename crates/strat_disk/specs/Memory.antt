@@ -1,6 +1,6 @@
 -- What shows of a disk in memory.
 use Rattle.std.specs.Prelude.{◌≡◌, ℕ, List, length, Some}
-use Rattle.strat_base.specs.Moments.{View}
+use Rattle.strat_crash.specs.Moments.{View}
 use Rattle.strat_disk.specs.Counts.{one_more}
 use Rattle.strat_disk.specs.Medium.{Medium, Leaves}
 use Rattle.strat_disk.specs.PlaneView.{plane_of}

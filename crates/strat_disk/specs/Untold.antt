@@ -1,7 +1,7 @@
 -- A disk that tells nothing.
 use Rattle.std.specs.Prelude.{None}
-use Rattle.strat_base.specs.Image.{HoldsBytes}
-use Rattle.strat_base.specs.Moments.{View}
+use Rattle.strat_crash.specs.Image.{HoldsBytes}
+use Rattle.strat_crash.specs.Moments.{View}
 
 -- it tells no content, and a crash may leave any bytes
 abbrev pub untold : View

@@ -1,8 +1,8 @@
 //! A disk as a store sees it: its content, and what a crash at each moment may leave.
 ghost use Rattle.std.specs.Prelude.{◌≡◌, ◌≤◌, ℕ, ◌+◌, ◌^◌, length, IfSome, OnOk, OnErr};
-ghost use Rattle.strat_base.specs.Faults.{Counts};
-ghost use Rattle.strat_base.specs.Image.{Image, HoldsBytes};
-ghost use Rattle.strat_base.specs.Moments.{View, Images, Gives, Writes, Garbles, Passes, TearsOnly, LeavesOld, MayTear, Settled, WritesThrough};
+ghost use Rattle.strat_crash.specs.Faults.{Counts};
+ghost use Rattle.strat_crash.specs.Image.{Image, HoldsBytes};
+ghost use Rattle.strat_crash.specs.Moments.{View, Images, Gives, Writes, Garbles, Passes, TearsOnly, LeavesOld, MayTear, Settled, WritesThrough};
 
 use strat_base::Failed;
 

@@ -1,6 +1,6 @@
 //! Counts of faults.
 ghost use Rattle.std.specs.Prelude.{◌≡◌, ◌≤◌};
-ghost use Rattle.strat_base.specs.Faults.{Rose};
+ghost use Rattle.strat_crash.specs.Faults.{Rose};
 ghost use Rattle.strat_disk.specs.Counts.{one_more};
 
 use strat_base::Failed;

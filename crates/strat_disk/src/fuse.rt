@@ -1,7 +1,7 @@
 //! A disk that stops working after some calls, for tests.
 ghost use Rattle.std.specs.Prelude.{◌≡◌, ◌≤◌, ◌<◌, ℕ, ◌+◌, ◌-◌, ◌^◌, nat_lt, length, Some, IfSome, IsSomeAnd, OnOk, OnErr};
-ghost use Rattle.strat_base.specs.Faults.{Counts};
-ghost use Rattle.strat_base.specs.Moments.{Gives, Writes, Garbles, Passes, TearsOnly, LeavesOld, MayTear, Settled};
+ghost use Rattle.strat_crash.specs.Faults.{Counts};
+ghost use Rattle.strat_crash.specs.Moments.{Gives, Writes, Garbles, Passes, TearsOnly, LeavesOld, MayTear, Settled};
 
 use crate::disk::Disk;
 use crate::faults::fault;

@@ -1,7 +1,7 @@
 //! A disk in memory, for tests: it can fail at chosen calls, and it can crash.
 ghost use Rattle.std.specs.Prelude.{◌≡◌, ◌≤◌, ◌<◌, ℕ, ◌+◌, ◌-◌, ◌^◌, [], true, length, slice_index, Some, IfOk, IfSome, IsSomeAnd, IsErr, IsTrue, OnOk, OnErr, is_err};
-ghost use Rattle.strat_base.specs.Faults.{Counts};
-ghost use Rattle.strat_base.specs.Moments.{Images, Gives, Writes, Garbles, Passes, TearsOnly, LeavesOld, MayTear, Settled};
+ghost use Rattle.strat_crash.specs.Faults.{Counts};
+ghost use Rattle.strat_crash.specs.Moments.{Images, Gives, Writes, Garbles, Passes, TearsOnly, LeavesOld, MayTear, Settled};
 ghost use Rattle.strat_disk.specs.Counts.{one_more, is_failing};
 ghost use Rattle.strat_disk.specs.Medium.{at_rest, written, settled, altered, crashed};
 

@@ -11,12 +11,11 @@ use Rattle.strat_model.specs.declared.replies.Reply.{Reply}
 use Rattle.strat_model.specs.declared.replies.Reply.TheVariants as reply
 use Rattle.strat_model.specs.declared.replies.Refusal.TheVariants as why
 use Rattle.strat_model.specs.Pairs.{Pairs}
-use Rattle.strat_model.specs.Answer.{Answer, plain}
+use Rattle.strat_model.specs.Answer.{Answer, plain, as_told}
 use Rattle.strat_model.specs.Spelling.{counted, status_byte, reply_fields, reply_body, is_given, FitsReply, SpellsReply}
 use Rattle.std.specs.Prelude.{IfSome, IfNone}
 use Rattle.strat_base.specs.Finds.{Finds}
 use Rattle.strat_frame.specs.Fields.{number_then, counted_then, simple_reply, value_in, answer_in, reply_in}
-use Rattle.strat_frame.specs.Replies.{as_told}
 use Rattle.strat_frame.proofs.FieldLemmas.{bind_some, chosen, number_takes, number_again, counted_takes, counted_again, all_parts, front_parts}
 
 -- a reply without fields has this status byte

@@ -1,4 +1,3 @@
 pub mod Deframing
 pub mod Fields
 pub mod Faults
-pub mod Replies

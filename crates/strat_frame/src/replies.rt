@@ -1,13 +1,12 @@
 //! Replies as bodies of frames.
 
 ghost use Rattle.std.specs.Prelude.{◌≡◌, ℕ, ◌+◌, ◌≤◌, [], ◌∷◌, ◌++◌, length, IfSome, IfNone};
-ghost use Rattle.strat_model.specs.Answer.{Answer};
+ghost use Rattle.strat_model.specs.Answer.{Answer, as_told};
 ghost use Rattle.strat_model.specs.Spelling.{status_byte, flag, parent_bytes, pair_bytes, reply_fields};
 ghost use Rattle.strat_model.specs.Spelling.{reply_body, SpellsReply};
 ghost use Rattle.strat_model.specs.Stream.{frame};
 ghost use Rattle.strat_base.specs.Finds.{Finds};
 ghost use Rattle.strat_frame.specs.Fields.{simple_reply, value_in, answer_in, reply_in};
-ghost use Rattle.strat_frame.specs.Replies.{as_told};
 
 use crate::buffer::{OutBuf, REPLY_MAX};
 use crate::fields::{counted_bytes_then, u8_then, u32_then};

@@ -1,8 +1,8 @@
 -- A superblock laid into a slot.
 use Rattle.std.specs.Prelude.{◌≡◌, ◌≢◌, ◌<◌, ◌⊎◌, ℕ, Some, IfSome, Ok}
-use Rattle.strat_base.specs.Image.{Image, SameIn}
-use Rattle.strat_base.specs.Moments.{View, Images}
-use Rattle.strat_base.specs.SuperBlock.{Super, chosen_in, newest_in}
+use Rattle.strat_crash.specs.Image.{Image, SameIn}
+use Rattle.strat_crash.specs.Moments.{View, Images}
+use Rattle.strat_format.specs.SuperBlock.{Super, chosen_in, newest_in}
 
 -- the content is told, both slots are the same in every image, and the newest is in the other slot and of a smaller generation
 pub record LaysOver (v : View) (f : Image) (slot : ℕ) (sb : Super) : Type 0 where

@@ -1,6 +1,6 @@
 -- A superblock of the program as one of the definitions.
 use Rattle.std.specs.Prelude.{ℕ, Option, Some, None}
-use Rattle.strat_base.specs.SuperBlock.{Super, Slot}
+use Rattle.strat_format.specs.SuperBlock.{Super, Slot}
 use Rattle.strat_gate.specs.declared.superblock.SuperBlock.{SuperBlock}
 
 -- the fields of a superblock

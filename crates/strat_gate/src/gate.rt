@@ -1,8 +1,8 @@
 //! Gates: a record counts only while the byte before it reads 0xa7. A gate is written alone, with a sync on either side.
 ghost use Rattle.std.specs.Prelude.{◌≡◌, ◌≢◌, ◌≤◌, ◌<◌, ◌==◌, ℕ, ◌+◌, ◌^◌, [], ◌∷◌, Some, IfOk, OnOk};
-ghost use Rattle.strat_base.specs.Faults.{Counts};
-ghost use Rattle.strat_base.specs.Image.{Image};
-ghost use Rattle.strat_base.specs.Moments.{Passes, TearsOnly, LeavesOld, WritesThrough};
+ghost use Rattle.strat_crash.specs.Faults.{Counts};
+ghost use Rattle.strat_crash.specs.Image.{Image};
+ghost use Rattle.strat_crash.specs.Moments.{Passes, TearsOnly, LeavesOld, WritesThrough};
 ghost use Rattle.strat_gate.specs.Gates.{Closed};
 
 use strat_base::Failed;

@@ -1,10 +1,10 @@
 //! The two slots of a store's superblocks, blocks 0 and 1: the newest is read from them, and the next is laid into the other.
 ghost use Rattle.std.specs.Prelude.{◌≡◌, ◌≤◌, ◌<◌, ◌*◌, ◌+◌, ◌^◌, ◌∷◌, ℕ, Some, IfSome, IfOk, IfErr, OnOk, length};
 ghost use Rattle.strat_base.specs.Causes.{HasCause};
-ghost use Rattle.strat_base.specs.Faults.{Counts};
-ghost use Rattle.strat_base.specs.Image.{Image, patch};
-ghost use Rattle.strat_base.specs.Moments.{Images, Since, Passes, TearsOnly, LeavesOld, Settled, WritesThrough};
-ghost use Rattle.strat_base.specs.SuperBlock.{IsLawful, body, slot_in, newer, verdict, newest_in};
+ghost use Rattle.strat_crash.specs.Faults.{Counts};
+ghost use Rattle.strat_crash.specs.Image.{Image, patch};
+ghost use Rattle.strat_crash.specs.Moments.{Images, Since, Passes, TearsOnly, LeavesOld, Settled, WritesThrough};
+ghost use Rattle.strat_format.specs.SuperBlock.{IsLawful, body, slot_in, newer, verdict, newest_in};
 ghost use Rattle.strat_base.specs.declared.failures.Fault.TheVariants.{Damaged};
 ghost use Rattle.strat_gate.specs.SuperView.{super_of, seen, slot_seen};
 ghost use Rattle.strat_gate.specs.Laying.{LaysOver, OldOrNew};

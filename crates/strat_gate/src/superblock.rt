@@ -17,7 +17,7 @@
 
 ghost use Rattle.std.specs.Prelude.{IsTrue, ◌≡◌, ◌≤◌, ◌<◌, ◌==◌, ℕ, ◌+◌, length, drop};
 ghost use Rattle.strat_base.specs.Numbers.{be, number, placed};
-ghost use Rattle.strat_base.specs.SuperBlock.{IsLawful, zeros, body, slot_of, in_range, first_free};
+ghost use Rattle.strat_format.specs.SuperBlock.{IsLawful, zeros, body, slot_of, in_range, first_free};
 ghost use Rattle.strat_gate.specs.SuperView.{super_of, slot_seen};
 
 use strat_base::limits::{CHANGES_MAX, MEM_MAX, MEM_MIN, VERSIONS_MAX};
@@ -71,7 +71,7 @@ pub(crate) fn spell(sb: &SuperBlock, into: &mut [u8])
 }
 
 /// The format and the fields in the first 40 bytes of a block, where the gate is open and the magic stands behind it.
-#[tactic(auto, unfolding(strat_base::specs::SuperBlock::slot_of))]
+#[tactic(auto, unfolding(strat_format::specs::SuperBlock::slot_of))]
 pub(crate) fn parse(bytes: &[u8]) -> Option<(u16, SuperBlock)>
     requires { length bytes.now ≡ 40 }
     ensures { slot_seen result ≡ slot_of bytes.now }

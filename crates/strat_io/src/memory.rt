@@ -1,7 +1,7 @@
 //! A source and a sink in memory, for tests. They fail at the calls that they are told to fail at.
 
 ghost use Rattle.std.specs.Prelude.{◌≡◌, ◌≤◌, ◌<◌, ◌+◌, ◌↔◌, ℕ, List, [], length, take, min, Option, IsErr, IfOk, OnErr, IsTrue, Contains, if◌then◌else◌};
-ghost use Rattle.strat_base.specs.Faults.{Counts};
+ghost use Rattle.strat_crash.specs.Faults.{Counts};
 ghost use Rattle.strat_io.specs.Memory.{one_more};
 ghost use Rattle.strat_io.specs.Streams.{Gives, Appends};
 

@@ -2,13 +2,13 @@
 use Rattle.std.proofs.Common.{Bool, take, drop, Some, ◌-◌, ◌≡◌, ◌≢◌, ◌≤◌, ◌<◌, ◌+◌, ℕ, zero, suc, true, ◌⊎◌, inl, inr, List, [], ◌∷◌, ◌++◌, length, Ok, sym, ap, ◌∙◌, subst, arith, length-append}
 use Rattle.std.specs.List.{list_all}
 use Rattle.std.proofs.lemmas.Bool.{cases_eq}
-use Rattle.strat_base.specs.Image.{Image, HoldsBytes, Outside, window, patch}
-use Rattle.strat_base.specs.Moments.{View, Images, Since, TearsOnly, Settled}
+use Rattle.strat_crash.specs.Image.{Image, HoldsBytes, Outside, window, patch}
+use Rattle.strat_crash.specs.Moments.{View, Images, Since, TearsOnly, Settled}
 use Rattle.strat_base.specs.Change.{Change, is_lawful}
-use Rattle.strat_base.specs.Layout.{region_at, region_size, other_region}
-use Rattle.strat_base.proofs.ImageLemmas.{window_same, window_patch, outside_patch}
-use Rattle.strat_base.proofs.MomentLemmas.{settled_at, tears_wider}
-use Rattle.strat_base.specs.Records.{records_bytes}
+use Rattle.strat_format.specs.Layout.{region_at, region_size, other_region}
+use Rattle.strat_crash.proofs.ImageLemmas.{window_same, window_patch, outside_patch}
+use Rattle.strat_crash.proofs.MomentLemmas.{settled_at, tears_wider}
+use Rattle.strat_format.specs.Records.{records_bytes}
 use Rattle.strat_journal.specs.Records.{changes_of}
 use Rattle.strat_journal.specs.Raising.{BehindOrRaised}
 use Rattle.strat_journal.proofs.KeepLemmas.{behind_split}

@@ -1,8 +1,8 @@
 -- What closing a gate leaves.
 use Rattle.std.proofs.Common.{◌≡◌, ◌≢◌, ℕ, inl, inr, [], ◌∷◌, Some, sym, ap, ◌∙◌, arith}
-use Rattle.strat_base.specs.Image.{Image, patch}
-use Rattle.strat_base.specs.Moments.{View, Images, Passes, Settled}
-use Rattle.strat_base.proofs.MomentLemmas.{settled_at, now_since, since_earlier}
+use Rattle.strat_crash.specs.Image.{Image, patch}
+use Rattle.strat_crash.specs.Moments.{View, Images, Passes, Settled}
+use Rattle.strat_crash.proofs.MomentLemmas.{settled_at, now_since, since_earlier}
 use Rattle.strat_gate.specs.Gates.{Closed}
 use Rattle.strat_journal.proofs.RaisingLemmas.{patched_first}
 

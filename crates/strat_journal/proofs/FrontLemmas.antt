@@ -4,12 +4,12 @@ use Rattle.std.specs.Option.{IsSome}
 use Rattle.std.proofs.lemmas.Result.{IfOk-from_err, on_ok_weaker}
 use Rattle.std.proofs.lemmas.List.{take_at, drop_at, append-nil, take-append-le}
 use Rattle.std.proofs.lemmas.Bool.{false≢true}
-use Rattle.strat_base.specs.Image.{Image, HoldsBytes, window}
-use Rattle.strat_base.specs.Moments.{View}
+use Rattle.strat_crash.specs.Image.{Image, HoldsBytes, window}
+use Rattle.strat_crash.specs.Moments.{View}
 use Rattle.strat_base.specs.Numbers.{AreBytes}
 use Rattle.strat_base.specs.Change.{Change, change_bytes, change_in, BeginsWith}
-use Rattle.strat_base.proofs.ImageLemmas.{length-window, window_at, window_split}
-use Rattle.strat_base.proofs.MomentLemmas.{passes_trans, passes_refl, leaves_trans, leaves_refl, at_told}
+use Rattle.strat_crash.proofs.ImageLemmas.{length-window, window_at, window_split}
+use Rattle.strat_crash.proofs.MomentLemmas.{passes_trans, passes_refl, leaves_trans, leaves_refl, at_told}
 use Rattle.strat_base.proofs.NumberLemmas.{AreBytes-take}
 use Rattle.strat_base.proofs.ChangeLemmas.{change_in-bytes, change_in-some, length-change_bytes}
 use Rattle.strat_base.proofs.TreeLemmas.{option_cases}

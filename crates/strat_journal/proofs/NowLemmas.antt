@@ -3,11 +3,11 @@ use Rattle.std.proofs.Common.{map, ◌≡◌, ◌≢◌, ◌≤◌, ◌<◌, ◌
 use Rattle.std.specs.List.{list_all}
 use Rattle.std.proofs.lemmas.Bool.{and_from, eqb-true, eq-eqb, and_parts, cases_Bool, cases_eq}
 use Rattle.std.proofs.lemmas.List.{append-nil, length-map}
-use Rattle.strat_base.specs.Image.{Image, window}
+use Rattle.strat_crash.specs.Image.{Image, window}
 use Rattle.strat_base.specs.Change.{Change, change_bytes, change_in}
-use Rattle.strat_base.specs.Layout.{region_first, region_at, region_size, other_region}
-use Rattle.strat_base.specs.Damage.{Read, and_then, passed_or, put_first}
-use Rattle.strat_base.specs.Records.{Logged, is_open, block_of, record_then, records, region_records, journal_of}
+use Rattle.strat_format.specs.Layout.{region_first, region_at, region_size, other_region}
+use Rattle.strat_format.specs.Damage.{Read, and_then, passed_or, put_first}
+use Rattle.strat_format.specs.Records.{Logged, is_open, block_of, record_then, records, region_records, journal_of}
 use Rattle.strat_journal.specs.declared.journal.Logged.{Logged as Owned}
 use Rattle.std.specs.Option.{option_map}
 use Rattle.strat_journal.specs.Records.{changes_in_order, changes_of, logged_of, is_plain, plain_or, plain, alone_then, journal_now}

@@ -2,13 +2,13 @@
 use Rattle.std.proofs.Common.{map, ◌≡◌, ◌≢◌, ◌≤◌, ◌<◌, ◌+◌, ◌-◌, ◌*◌, ℕ, suc, List, [], ◌∷◌, ◌++◌, length, Some, None, Result, Ok, Err, Bool, true, refl, sym, ap, ◌∙◌, subst, arith, length-append, append_assoc}
 use Rattle.std.proofs.lemmas.Bool.{eqb-true, eq-eqb}
 use Rattle.std.proofs.lemmas.List.{append-nil, map-append}
-use Rattle.strat_base.specs.Image.{Image, window}
-use Rattle.strat_base.specs.Moments.{View}
+use Rattle.strat_crash.specs.Image.{Image, window}
+use Rattle.strat_crash.specs.Moments.{View}
 use Rattle.strat_base.specs.Change.{change_bytes, change_in}
-use Rattle.strat_base.specs.Layout.{region_at, region_size}
+use Rattle.strat_format.specs.Layout.{region_at, region_size}
 use Rattle.strat_journal.specs.declared.journal.Logged.{Logged as Owned}
-use Rattle.strat_base.specs.Damage.{put_first}
-use Rattle.strat_base.specs.Records.{Logged, is_open, block_of, record_then, records, region_records}
+use Rattle.strat_format.specs.Damage.{put_first}
+use Rattle.strat_format.specs.Records.{Logged, is_open, block_of, record_then, records, region_records}
 use Rattle.strat_journal.specs.Records.{logged_of}
 use Rattle.strat_journal.proofs.LaidLemmas.{joined}
 use Rattle.strat_journal.specs.Front.{Part, Looks, Shows, ReadsOn, Stored, StoredNone}

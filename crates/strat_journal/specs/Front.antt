@@ -1,10 +1,10 @@
 -- The front of a region that was read.
 use Rattle.std.specs.Prelude.{◌≡◌, ◌≢◌, ◌⊎◌, ◌≤◌, ◌<◌, ℕ, ◌+◌, ◌-◌, ◌%◌, ◌^◌, List, length, drop, slice_index, Option, Some, None, ◌*◌, IsSome, Result, OnOk}
-use Rattle.strat_base.specs.Image.{Image, window}
-use Rattle.strat_base.specs.Moments.{View, Passes, LeavesOld}
+use Rattle.strat_crash.specs.Image.{Image, window}
+use Rattle.strat_crash.specs.Moments.{View, Passes, LeavesOld}
 use Rattle.strat_base.specs.Change.{Change, change_bytes, change_in}
 use Rattle.strat_journal.specs.declared.journal.Logged.{Logged}
-use Rattle.strat_base.specs.Records.{block_of}
+use Rattle.strat_format.specs.Records.{block_of}
 
 -- where a region begins, how many bytes it has, and the first of them
 pub record Part : Type 0 where

@@ -2,11 +2,11 @@
 use Rattle.std.specs.Prelude.{◌≡◌, ◌≢◌, ◌⊎◌, ◌≤◌, ◌<◌, ℕ, zero, suc, ◌+◌, ◌*◌, Bool, true, false, List, [], ◌∷◌, ◌++◌, length, map, drop, slice_index, Option, Some, None, Ok}
 use Rattle.std.specs.List.{list_all}
 use Rattle.strat_base.specs.Change.{Change, change_bytes, change_in, is_lawful}
-use Rattle.strat_base.specs.Image.{Image}
-use Rattle.strat_base.specs.Layout.{region_at, other_region}
-use Rattle.strat_base.specs.Moments.{View, Images}
+use Rattle.strat_crash.specs.Image.{Image}
+use Rattle.strat_format.specs.Layout.{region_at, other_region}
+use Rattle.strat_crash.specs.Moments.{View, Images}
 use Rattle.strat_journal.specs.declared.journal.Logged.{Logged}
-use Rattle.strat_base.specs.Records.{records_bytes}
+use Rattle.strat_format.specs.Records.{records_bytes}
 use Rattle.strat_journal.specs.Records.{changes_of}
 
 -- what a journal holds: how many changes a region takes, the active region, whether the other one is to be shut, the changes that are there for good, and those that become so together

@@ -1,7 +1,7 @@
 -- Bytes written behind a closed gate, which is raised when they are there for good.
 use Rattle.std.specs.Prelude.{◌≡◌, ◌⊎◌, ℕ, ◌+◌, List, ◌∷◌, length, Some, Result, OnOk}
-use Rattle.strat_base.specs.Image.{Image, Outside, patch}
-use Rattle.strat_base.specs.Moments.{View, Images, Since, Passes, TearsOnly, Settled}
+use Rattle.strat_crash.specs.Image.{Image, Outside, patch}
+use Rattle.strat_crash.specs.Moments.{View, Images, Since, Passes, TearsOnly, Settled}
 
 -- an image is one of before but for bytes behind the gate, or has all of them there and differs from the content in the gate alone
 abbrev pub BehindOrRaised : View → Image → ℕ → List ℕ → Image → Type 0

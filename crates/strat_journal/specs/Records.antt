@@ -1,9 +1,9 @@
 -- What a journal holds of a disk's records.
 use Rattle.std.specs.Prelude.{ℕ, ◌+◌, ◌==◌, ◌&&◌, not, Bool, false, List, [], ◌∷◌, length, map, find, Option, Some, None, Ok, Err}
-use Rattle.strat_base.specs.Image.{Image}
+use Rattle.strat_crash.specs.Image.{Image}
 use Rattle.strat_base.specs.Change.{Change, Put, change_bytes}
-use Rattle.strat_base.specs.Damage.{Read, and_then, passed_or}
-use Rattle.strat_base.specs.Records.{Logged, block_of, journal_of, journal_in_one}
+use Rattle.strat_format.specs.Damage.{Read, and_then, passed_or}
+use Rattle.strat_format.specs.Records.{Logged, block_of, journal_of, journal_in_one}
 use Rattle.strat_journal.specs.declared.journal.Logged.{Logged as Owned}
 
 -- a change that was read and has its bytes itself, as one of a journal

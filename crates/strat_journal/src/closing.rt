@@ -1,12 +1,12 @@
 //! Closing a region before the journal goes on in the other one.
 
 ghost use Rattle.std.specs.Prelude.{◌≡◌, ◌≢◌, ◌≤◌, ◌<◌, ℕ, List, length, Some, Ok, OnOk};
-ghost use Rattle.strat_base.specs.Faults.{Counts};
-ghost use Rattle.strat_base.specs.Image.{Image};
-ghost use Rattle.strat_base.specs.Layout as places;
-ghost use Rattle.strat_base.specs.Moments.{Images, Since, Passes, TearsOnly, Settled};
+ghost use Rattle.strat_crash.specs.Faults.{Counts};
+ghost use Rattle.strat_crash.specs.Image.{Image};
+ghost use Rattle.strat_format.specs.Layout as places;
+ghost use Rattle.strat_crash.specs.Moments.{Images, Since, Passes, TearsOnly, Settled};
 ghost use Rattle.strat_gate.specs.Gates.{Closed};
-ghost use Rattle.strat_base.specs.Records.{Logged, journal_of};
+ghost use Rattle.strat_format.specs.Records.{Logged, journal_of};
 
 use crate::layout::region_at;
 use strat_base::Failed;

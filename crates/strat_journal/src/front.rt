@@ -1,12 +1,12 @@
 //! The front of a region, read block by block as far as its records are looked at.
 
 ghost use Rattle.std.specs.Prelude.{◌≡◌, ◌≤◌, ◌<◌, ℕ, ◌+◌, ◌-◌, [], length, Some, IfOk, IfSome, IsErrOf, OnOk};
-ghost use Rattle.strat_base.specs.Faults.{Counts};
+ghost use Rattle.strat_crash.specs.Faults.{Counts};
 ghost use Rattle.std.specs.Bool.{OnTrue, OnFalse};
-ghost use Rattle.strat_base.specs.Image.{Image};
-ghost use Rattle.strat_base.specs.Layout as places;
+ghost use Rattle.strat_crash.specs.Image.{Image};
+ghost use Rattle.strat_format.specs.Layout as places;
 ghost use Rattle.strat_journal.specs.Front.{Shows, IsClear, IsUncut, ReadsOn, Holds, HoldsNone, Stored, StoredNone};
-ghost use Rattle.strat_base.specs.Records.{block_of};
+ghost use Rattle.strat_format.specs.Records.{block_of};
 ghost use Rattle.strat_base.specs.Troubles.{HasTrouble};
 ghost use Rattle.strat_base.specs.declared.failures.Trouble.TheVariants.{Device, Damaged};
 

@@ -3,12 +3,12 @@
 ghost use Rattle.std.specs.Prelude.{◌≡◌, ◌≤◌, ◌<◌, ℕ, ◌+◌, ◌-◌, [], ◌∷◌, ◌++◌, length, map, Some, IsTrue, IfOk, OnOk, OnErr};
 ghost use Rattle.strat_base.specs.Change.{is_lawful};
 ghost use Rattle.strat_base.specs.ChangeView.{change_of};
-ghost use Rattle.strat_base.specs.Faults.{Counts};
-ghost use Rattle.strat_base.specs.Image.{Image, patch};
-ghost use Rattle.strat_base.specs.Layout as places;
-ghost use Rattle.strat_base.specs.Moments.{Since, Passes, TearsOnly, Settled};
+ghost use Rattle.strat_crash.specs.Faults.{Counts};
+ghost use Rattle.strat_crash.specs.Image.{Image, patch};
+ghost use Rattle.strat_format.specs.Layout as places;
+ghost use Rattle.strat_crash.specs.Moments.{Since, Passes, TearsOnly, Settled};
 ghost use Rattle.strat_journal.specs.Log.{Stands, GivesAllOrNone, batch_joined, with_list, empty_log, gate_of};
-ghost use Rattle.strat_base.specs.Records.{records_bytes};
+ghost use Rattle.strat_format.specs.Records.{records_bytes};
 
 use crate::layout::{RECORD_MAX, region_at};
 use crate::raising::raise_over;

@@ -3,10 +3,10 @@
 ghost use Rattle.std.specs.Prelude.{◌≡◌, ◌≢◌, ◌≤◌, ◌<◌, ℕ, List, [], ◌∷◌, length, Ok, IsTrue};
 ghost use Rattle.std.specs.List.{list_all};
 ghost use Rattle.strat_base.specs.Change.{Change};
-ghost use Rattle.strat_base.specs.Image.{Image, HoldsBytes};
-ghost use Rattle.strat_base.specs.Layout.{region_at, region_size, other_region};
+ghost use Rattle.strat_crash.specs.Image.{Image, HoldsBytes};
+ghost use Rattle.strat_format.specs.Layout.{region_at, region_size, other_region};
 ghost use Rattle.strat_journal.specs.Laid.{Laid};
-ghost use Rattle.strat_base.specs.Records.{Logged, records, journal_of};
+ghost use Rattle.strat_format.specs.Records.{Logged, records, journal_of};
 ghost use Rattle.strat_journal.specs.Records.{is_plain, logged_from, journal_now};
 
 /// What an opening reads today is the journal, and each journal of plain records that has no more than a

@@ -1,8 +1,8 @@
 //! Where the two regions of a journal lie on a disk.
 
 ghost use Rattle.std.specs.Prelude.{◌≡◌, ◌≤◌, ◌+◌, ◌^◌, ◌<◌};
-ghost use Rattle.strat_base.specs.SuperBlock as layout;
-ghost use Rattle.strat_base.specs.Layout as places;
+ghost use Rattle.strat_format.specs.SuperBlock as layout;
+ghost use Rattle.strat_format.specs.Layout as places;
 
 use strat_base::limits::BLOCK;
 

@@ -1,8 +1,8 @@
 //! Bytes that count all together, once the gate before them is open.
 
 ghost use Rattle.std.specs.Prelude.{◌≡◌, ◌≤◌, ◌<◌, ◌+◌, ◌^◌, [], ◌∷◌, length};
-ghost use Rattle.strat_base.specs.Faults.{Counts};
-ghost use Rattle.strat_base.specs.Moments.{WritesThrough};
+ghost use Rattle.strat_crash.specs.Faults.{Counts};
+ghost use Rattle.strat_crash.specs.Moments.{WritesThrough};
 ghost use Rattle.strat_journal.specs.Raising.{Raises};
 
 use strat_base::Failed;

@@ -2,17 +2,17 @@
 
 ghost use Rattle.std.specs.Prelude.{◌≡◌, ◌≢◌, ◌≤◌, ◌<◌, ℕ, ◌+◌, not, find, length, map, Some, Ok, Err, IfOk, IfErr, OnOk, IsErrOf, IsTrue, ◌↔◌, vec_len};
 ghost use Rattle.std.specs.Option.{option_copied};
-ghost use Rattle.strat_base.specs.Image.{Image};
-ghost use Rattle.strat_base.specs.Layout as places;
-ghost use Rattle.strat_base.specs.Moments.{Passes, LeavesOld};
-ghost use Rattle.strat_base.specs.SuperBlock as layout;
-ghost use Rattle.strat_base.specs.SuperBlock.{IsLawful};
+ghost use Rattle.strat_crash.specs.Image.{Image};
+ghost use Rattle.strat_format.specs.Layout as places;
+ghost use Rattle.strat_crash.specs.Moments.{Passes, LeavesOld};
+ghost use Rattle.strat_format.specs.SuperBlock as layout;
+ghost use Rattle.strat_format.specs.SuperBlock.{IsLawful};
 ghost use Rattle.strat_base.specs.Troubles.{HasTrouble};
 ghost use Rattle.strat_base.specs.declared.failures.Trouble.TheVariants.{Damaged};
 ghost use Rattle.strat_gate.specs.SuperView.{super_of};
 ghost use Rattle.strat_journal.specs.Front.{Looks};
 ghost use Rattle.strat_journal.specs.Log.{Restores, IsStale};
-ghost use Rattle.strat_base.specs.Records.{is_open, region_records};
+ghost use Rattle.strat_format.specs.Records.{is_open, region_records};
 ghost use Rattle.strat_journal.specs.Records.{logged_of, changes_of, alone_then, journal_now};
 ghost use Rattle.strat_journal.specs.Records.{is_plain as plain_change};
 

@@ -1,5 +1,5 @@
 ghost use Rattle.std.specs.Prelude.{◌≡◌, ◌≤◌, ◌<◌, ℕ, ◌+◌, [], length, IfOk, OnOk};
-ghost use Rattle.strat_base.specs.SuperBlock.{IsLawful};
+ghost use Rattle.strat_format.specs.SuperBlock.{IsLawful};
 ghost use Rattle.strat_gate.specs.SuperView.{super_of};
 
 use super::*;

@@ -2,8 +2,3 @@ pub mod PlainLemmas
 pub mod MapLemmas
 pub mod TableLemmas
 pub mod StreamLemmas
-pub mod StateTableLemmas
-pub mod TextLemmas
-pub mod OpeningLemmas
-pub mod HeadLemmas
-pub mod BadLemmas

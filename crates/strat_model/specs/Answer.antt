@@ -22,3 +22,7 @@ refusal why = plain (reply.Refused why)
 abbrev pub accepts : Reply → Bool
 accepts (reply.Refused why) = false
 accepts _ = true
+
+-- a reply with the pairs beside it
+abbrev pub as_told : Reply → Pairs → Answer
+as_told reply pairs = record { reply = reply; pairs = pairs }

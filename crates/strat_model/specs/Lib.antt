@@ -12,10 +12,3 @@ pub mod Plain
 pub mod PlainView
 pub mod Examples
 pub mod Kept
-pub mod StateTable
-pub mod Head
-pub mod Texts
-pub mod Settings
-pub mod Opening
-pub mod Disks
-pub mod Bad

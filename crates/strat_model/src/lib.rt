@@ -4,13 +4,10 @@
 mod commands;
 mod ended;
 pub mod laws;
-pub mod opening;
 mod plain_pairs;
 mod plain_rows;
 mod plain_table;
 mod replies;
-pub mod state_laws;
-pub mod texts;
 
 pub use commands::Command;
 pub use ended::Ended;

@@ -1,9 +1,9 @@
 use Rattle.std.proofs.Common.{◌∙◌}
-use Rattle.strat_base.proofs.MomentLemmas.{leaves_refl}
+use Rattle.strat_crash.proofs.MomentLemmas.{leaves_refl}
 use Rattle.castle.specs.Job.{format_text}
-use Rattle.castle.proofs.FormatLemmas.{none_yet}
-use Rattle.castle.proofs.SendLemmas.{sends_prefix}
-use Rattle.castle.proofs.ShutLemmas.{blank_leaves}
+use Rattle.strat_store.proofs.FormatLemmas.{none_yet}
+use Rattle.strat_serve.proofs.SendLemmas.{sends_prefix}
+use Rattle.strat_store.proofs.ShutLemmas.{blank_leaves}
 use Rattle.castle.proofs.formatting.make_store.Goals as goal
 
 pub returns-clause-sends : goal.returns-clause-sends

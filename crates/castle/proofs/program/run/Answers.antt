@@ -1,10 +1,10 @@
 use Rattle.std.proofs.Common.{◌≡◌, ◌⊎◌, ℕ, sym, ap, subst, ◌∙◌, refl, map}
 use Rattle.std.specs.Prelude.{string_bytes, Some, None}
 use Rattle.castle.specs.Job.{EndsAsFound}
-use Rattle.castle.specs.Opened.{head_now}
+use Rattle.strat_store.specs.Opened.{head_now}
 use Rattle.castle.specs.Words.{job_seen}
 use Rattle.castle.specs.declared.words.Job.{Job as Borrowed}
-use Rattle.castle.specs.World.{world}
+use Rattle.strat_serve.specs.World.{world}
 use Rattle.castle.proofs.CompleteLemmas.{completes, gave_up_by}
 use Rattle.castle.proofs.FormattedLemmas.{formats_as_asked, formatted_ends, formatting_gave_up}
 use Rattle.castle.proofs.SizeLemmas.{job_size}

@@ -1,8 +1,8 @@
 use Rattle.std.proofs.Common.{drop, None, sym, ap, ◌∙◌, arith}
-use Rattle.strat_base.specs.Block.{entry_in, BeginsWithEntry}
+use Rattle.strat_base.specs.EntryBytes.{entry_in, BeginsWithEntry}
 use Rattle.strat_base.specs.EntryView.{entry_of}
 use Rattle.strat_base.proofs.NumberLemmas.{AreBytes-drop}
-use Rattle.strat_base.proofs.BlockLemmas.{entry_in-some}
+use Rattle.strat_base.proofs.EntryBytesLemmas.{entry_in-some}
 use Rattle.strat_base.proofs.PlacedLemmas.{rest_of}
 use Rattle.strat_base.proofs.EntryFieldLemmas.{entry_at-is, entry_in-past, no_entry_begins}
 use Rattle.strat_base.proofs.entry_fields.get_entry.Goals as goal

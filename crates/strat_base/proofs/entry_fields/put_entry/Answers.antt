@@ -1,7 +1,7 @@
 use Rattle.std.proofs.Common.{◌+◌, arith}
 use Rattle.strat_base.specs.Numbers.{be}
 use Rattle.strat_base.specs.Fields.{key_field}
-use Rattle.strat_base.specs.Block.{mark_field}
+use Rattle.strat_base.specs.EntryBytes.{mark_field}
 use Rattle.strat_base.specs.EntryView.{val_of, entry_of}
 use Rattle.strat_base.proofs.NumberLemmas.{length-be}
 use Rattle.strat_base.proofs.EntryFieldLemmas.{length-entry}

@@ -1,4 +1,4 @@
-use Rattle.strat_base.proofs.MomentLemmas.{leaves_trans}
+use Rattle.strat_crash.proofs.MomentLemmas.{leaves_trans}
 use Rattle.strat_gate.proofs.slots.newest.Goals as goal
 
 pub returns-in_default-read_slot-clause-images : goal.returns-in_default-read_slot-clause-images

@@ -1,5 +1,5 @@
 use Rattle.std.proofs.Common.{refl}
-use Rattle.strat_base.specs.SuperBlock.{zeros}
+use Rattle.strat_format.specs.SuperBlock.{zeros}
 use Rattle.strat_gate.proofs.slots.write_body.Goals as goal
 
 pub spell-requires-clause-blank : goal.spell-requires-clause-blank

@@ -1,4 +1,4 @@
-use Rattle.strat_base.proofs.MomentLemmas.{passes_trans}
+use Rattle.strat_crash.proofs.MomentLemmas.{passes_trans}
 use Rattle.strat_journal.proofs.RaisingLemmas.{first_tears, first_moment, both_tear, second_moment, all_content, failed}
 use Rattle.strat_journal.proofs.raising.raise_over.Goals as goal
 

@@ -1,7 +1,7 @@
 use Rattle.std.proofs.Common.{◌∙◌, arith}
-use Rattle.strat_base.specs.Image.{Image}
-use Rattle.strat_base.specs.Moments.{Images}
-use Rattle.strat_base.proofs.MomentLemmas.{at_told}
+use Rattle.strat_crash.specs.Image.{Image}
+use Rattle.strat_crash.specs.Moments.{Images}
+use Rattle.strat_crash.proofs.MomentLemmas.{at_told}
 use Rattle.strat_journal.proofs.FrontLemmas.{reads_on_trans, reads_on_err, clear_uncut, clear_long}
 use Rattle.strat_journal.proofs.front.Front.reach.Goals as goal
 

@@ -1,0 +1,6 @@
+pub mod BlockLemmas
+pub mod ChainLemmas
+pub mod DamageLemmas
+pub mod ManifestLemmas
+pub mod RegionLemmas
+pub mod SuperBlockLemmas

@@ -1,0 +1,58 @@
+-- Records of a journal on a disk: each an open gate and a change, one behind the other from a region's first byte.
+use Rattle.std.specs.Prelude.{ℕ, zero, suc, ◌+◌, ◌-◌, ◌/◌, ◌==◌, ◌&&◌, not, Bool, if◌then◌else◌, List, [], ◌∷◌, ◌++◌, length, Option, Some, None, Ok, Err}
+use Rattle.strat_base.specs.declared.limits.TheConstants.{BLOCK}
+use Rattle.strat_crash.specs.Image.{Image, window}
+use Rattle.strat_base.specs.Change.{Change, change_bytes, change_in}
+use Rattle.strat_format.specs.Layout.{region_first, region_at, region_size, other_region}
+use Rattle.strat_format.specs.Damage.{Read, and_then, passed_or, put_first}
+
+-- a change in a journal, and the block in which the gate of its record stands
+pub record Logged : Type 0 where
+  pub change : Change
+  pub block : ℕ
+
+-- a gate is open
+abbrev pub is_open : ℕ → Bool
+is_open gate = gate == 0xa7
+
+-- the bytes of records
+abbrev pub records_bytes : List Change → List ℕ
+records_bytes [] = []
+records_bytes (change ∷ changes) = 0xa7 ∷ (change_bytes change ++ records_bytes changes)
+
+-- the block in which a byte lies
+abbrev pub block_of : ℕ → ℕ
+block_of at = at / BLOCK
+
+-- the record at a place and those that follow it, where a change stands behind its gate; else its gate's block
+abbrev pub record_then : ℕ → (ℕ → Read (List Logged)) → Option Change → Read (List Logged)
+record_then at later None = Err (block_of at)
+record_then at later (Some change) = put_first (record { change = change; block = block_of at }) (later (at + 1 + length (change_bytes change)))
+
+-- the records from a place on, of which the last ends within the region: at most n, and up to the first closed gate
+unfoldable pub records : Image → ℕ → ℕ → ℕ → Read (List Logged)
+records c end zero at = Ok []
+records c end (suc n) at =
+    if is_open (c at) then record_then at (λ next. records c end n next) (change_in (window c (at + 1) (end - (at + 1)))) else Ok []
+
+-- the records of a region
+abbrev pub region_records : Image → ℕ → ℕ → Read (List Logged)
+region_records c mem region = records c (region_at mem region + region_size mem) mem (region_at mem region)
+
+-- a list, and where it has n items another behind it
+abbrev pub full_then : ℕ → Read (List Logged) → List Logged → Read (List Logged)
+full_then n others logged = if length logged == n then and_then others (λ later. Ok (logged ++ later)) else Ok logged
+
+-- the journal of these bytes: the records of the active region, and where they are as many as it takes those of the other behind them
+abbrev pub journal_of : Image → ℕ → ℕ → Read (List Logged)
+journal_of c mem active = and_then (region_records c mem active) (full_then mem (region_records c mem (other_region active)))
+
+-- an open gate at the head of the region that is not active
+abbrev pub is_other_open : Image → ℕ → ℕ → Bool
+is_other_open c mem active = is_open (c (region_at mem (other_region active)))
+
+-- the journal as long as one region holds it: where the active one is full, the first gate of the other is closed, or its block is damaged
+abbrev pub journal_in_one : Image → ℕ → ℕ → Read (List Logged)
+journal_in_one c mem active =
+    and_then (region_records c mem active)
+    (λ logged. passed_or (region_first mem (other_region active)) (not ((length logged == mem) && is_other_open c mem active)) logged)

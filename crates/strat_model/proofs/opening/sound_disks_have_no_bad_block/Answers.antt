@@ -1,5 +1,0 @@
-use Rattle.strat_model.proofs.BadLemmas.{no_bad_block}
-use Rattle.strat_model.proofs.opening.sound_disks_have_no_bad_block.Goals as goal
-
-pub returns : goal.returns
-returns c = no_bad_block

@@ -1,0 +1,50 @@
+-- Which blocks of a disk are bad.
+use Rattle.std.specs.Prelude.{◌≡◌, ℕ, ◌-◌, ◌*◌, ◌==◌, nat_lt, nat_le, ◌&&◌, Bool, true, false, List, [], ◌∷◌, ◌++◌, length, slice_get, Option, Some, None, Err, IsTrue}
+use Rattle.std.specs.List.{Contains, list_any, list_all}
+use Rattle.std.specs.Ordering.{is_lt}
+use Rattle.strat_base.specs.declared.limits.TheConstants.{BLOCK}
+use Rattle.strat_base.specs.Order.{entry_cmp}
+use Rattle.strat_crash.specs.Image.{Image, window}
+use Rattle.strat_base.specs.Entries.{Entry, lead_entries}
+use Rattle.strat_format.specs.Block.{block_in}
+use Rattle.strat_format.specs.Manifest.{ArrayDesc}
+use Rattle.strat_recovery.specs.Opened.{blocks_of, entries_on}
+use Rattle.strat_recovery.specs.Opening.{head_in}
+
+-- the entries of an image's block, where it is a block of entries
+abbrev pub block_on : Image → ℕ → Option (List Entry)
+block_on c b = block_in (window c (BLOCK * b) BLOCK)
+
+-- a block of an array is no block of entries
+pub record IsUnread (c : Image) (a : ArrayDesc) (b : ℕ) : Type 0 where
+  pub mine : IsTrue (list_any (λ other. other == b) (blocks_of a.extents))
+  pub unread : block_on c b ≡ None
+
+-- entries begin after an entry, if there is one
+abbrev pub begins_after : Option Entry → List Entry → Bool
+begins_after None entries = true
+begins_after (Some last) [] = true
+begins_after (Some last) (e ∷ entries) = is_lt (entry_cmp last.key last.version e.key e.version)
+
+-- the entries of a block fit behind those of an array's earlier blocks: they go on after them, their versions are there, and all leads so far are no more than the descriptor says
+abbrev pub fits_behind : ℕ → ArrayDesc → List Entry → List Entry → Bool
+fits_behind versions a before entries =
+    begins_after (slice_get before (length before - 1)) entries && list_all (λ e. nat_lt e.version versions) entries
+    && nat_le (length (lead_entries a.versions (before ++ entries))) a.leads
+
+-- a block of an array holds entries that do not fit their place in it
+pub record IsMisplaced (c : Image) (versions : ℕ) (a : ArrayDesc) (b : ℕ) : Type 0 where
+  pub front : List ℕ
+  pub back : List ℕ
+  pub place : blocks_of a.extents ≡ front ++ b ∷ back
+  pub before : List Entry
+  pub entries : List Entry
+  pub earlier : entries_on c front ≡ Some before
+  pub here : block_on c b ≡ Some entries
+  pub misfit : fits_behind versions a before entries ≡ false
+
+-- a block is bad: an opening refuses it; or it is of an array that is named, and is no block of entries; or it is of an array whose entries are merged into another, and does not fit its place
+pub data IsBad (c : Image) (versions : ℕ) (named merged : List ArrayDesc) (b : ℕ) : Type 0 where
+  refused : head_in c ≡ Err b → IsBad c versions named merged b
+  unread : (a : ArrayDesc) → Contains named a → IsUnread c a b → IsBad c versions named merged b
+  misplaced : (a : ArrayDesc) → Contains merged a → IsMisplaced c versions a b → IsBad c versions named merged b

@@ -1,0 +1,6 @@
+pub mod AnswerLemmas
+pub mod GiveUpLemmas
+pub mod ProgressLemmas
+pub mod SendLemmas
+pub mod SessionLemmas
+pub mod StreamLemmas

@@ -1,0 +1,20 @@
+use Rattle.std.proofs.Common.{◌≡◌, ◌≤◌, ◌-◌, ◌+◌, ◌*◌, length}
+use Rattle.strat_crash.specs.Moments.{Passes}
+use Rattle.strat_serve.specs.World.{world}
+use Rattle.strat_serve.proofs.ProgressLemmas.{Progress}
+use Rattle.strat_serve.proofs.serving.serve.Given as goal
+
+abbrev pub invariant-loop-server : goal.invariant-loop-server
+invariant-loop-server g l = record {
+  progress : Progress l.initial.server.store l.server.store l.taken l.server.deframer.held
+      (world (g.S.Source.left l.fn.source) (g.S.Source.faults l.fn.source) (g.K.Sink.held l.fn.sink) (g.K.Sink.faults l.fn.sink) (g.D.Disk.view l.fn.disk) (g.D.Disk.faults l.fn.disk))
+      (world (g.S.Source.left l.source) (g.S.Source.faults l.source) (g.K.Sink.held l.sink) (g.K.Sink.faults l.sink) (g.D.Disk.view l.disk) (g.D.Disk.faults l.disk));
+  time : Passes (g.D.Disk.view l.fn.disk) (g.D.Disk.view l.disk);
+  within : l.taken ≤ l.budget;
+  source_same : g.S.Source.faults l.source ≡ g.S.Source.faults l.fn.source;
+  sink_same : g.K.Sink.faults l.sink ≡ g.K.Sink.faults l.fn.sink;
+  disk_same : g.D.Disk.faults l.disk ≡ g.D.Disk.faults l.fn.disk;
+}
+
+abbrev pub decreases-loop-server : goal.decreases-loop-server
+decreases-loop-server g l = 2 * (l.budget - l.taken) + length l.server.deframer.held

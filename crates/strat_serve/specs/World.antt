@@ -1,0 +1,23 @@
+-- What a run of the program touches.
+use Rattle.std.specs.Prelude.{ℕ, List, Option}
+use Rattle.strat_crash.specs.Moments.{View}
+
+-- the bytes left of a source and those held by a sink, where these tell them, a disk as it is seen, and how often each has failed
+pub record World : Type 1 where
+  pub left : Option (List ℕ)
+  pub source_faults : ℕ
+  pub held : Option (List ℕ)
+  pub sink_faults : ℕ
+  pub disk : View
+  pub disk_faults : ℕ
+
+-- a world, by its parts
+abbrev pub world : Option (List ℕ) → ℕ → Option (List ℕ) → ℕ → View → ℕ → World
+world left source_faults held sink_faults disk disk_faults = record {
+  left = left;
+  source_faults = source_faults;
+  held = held;
+  sink_faults = sink_faults;
+  disk = disk;
+  disk_faults = disk_faults;
+}

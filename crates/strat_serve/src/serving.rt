@@ -1,0 +1,112 @@
+//! The serving run.
+
+ghost use Rattle.std.specs.Prelude.{◌≡◌, ◌≢◌, ◌<◌, ◌≤◌, ℕ, length, take, [], IfOk, OnErr};
+ghost use Rattle.strat_crash.specs.Faults.{Counts};
+ghost use Rattle.strat_crash.specs.Moments.{Passes};
+ghost use Rattle.strat_store.specs.Causes.{ended_for};
+ghost use Rattle.strat_serve.specs.Session.{Took, IsAtEnd, Outcome, RefusesFor, IsGivenUp, EndHasCause};
+ghost use Rattle.strat_serve.specs.World.{world};
+
+use crate::server::Server;
+use std::alloc::Global;
+use strat_base::Failed;
+use strat_disk::Disk;
+use strat_frame::Next;
+use strat_io::{Sink, Source, put_all};
+use strat_model::Ended;
+use strat_store::AttachFault;
+
+/// Most bytes that are read at a time.
+const PIECE: usize = 4096;
+
+/// How a run ends whose opening gave up.
+fn ended_for(fault: AttachFault) -> Ended
+    ensures { result ≡ ended_for fault }
+{
+    match fault {
+        AttachFault::NotAStore => Ended::NotAStore,
+        AttachFault::Device => Ended::Device,
+        AttachFault::Damaged { block } => Ended::Damaged { block },
+        AttachFault::NoMemory => Ended::NoMemory,
+    }
+}
+
+/// Reads at most so many bytes into the front of a piece.
+fn read_piece<S: Source>(source: &mut S, piece: &mut [u8], most: usize) -> Result<usize, Failed>
+    requires room { most ≤ length piece.old }
+    ensures fits { IfOk result (λ n. n ≤ most) }
+    ensures ok { IfOk result (λ n. Took (S.left source.old) (S.left source.new) (take n piece.new)) }
+    ensures end { IfOk result (λ n. n ≡ 0 → 0 < most → IsAtEnd (S.left source.new)) }
+    ensures err { OnErr result (Took (S.left source.old) (S.left source.new) []) }
+    ensures cause { Counts (S.faults source.old) (S.faults source.new) result }
+{
+    let n = source.read(&mut piece[..most])?;
+    Ok(n)
+}
+
+/// Opens the store on a disk and serves frames from a source to a sink, until the source ends or as many bytes were
+/// read as the budget has. It reads at most 4,096 bytes at a time, and answers each whole frame among them before it
+/// reads on. A reply goes out when the change that it answers is durable.
+#[tactic(auto, using(strat_crash::proofs::MomentLemmas::passes_trans))]
+pub fn serve<S: Source, K: Sink, D: Disk>(
+    alloc: Global,
+    source: &mut S,
+    sink: &mut K,
+    disk: &mut D,
+    budget: u64,
+) -> Ended
+    ensures ok { Outcome budget result
+        (world (S.left source.old) (S.faults source.old) (K.held sink.old) (K.faults sink.old)
+        (D.view disk.old) (D.faults disk.old))
+        (world (S.left source.new) (S.faults source.new) (K.held sink.new) (K.faults sink.new)
+        (D.view disk.new) (D.faults disk.new)) }
+    ensures refuses { RefusesFor result (D.view disk.old) }
+    ensures time { Passes (D.view disk.old) (D.view disk.new) }
+    ensures cause { EndHasCause result
+        (world (S.left source.old) (S.faults source.old) (K.held sink.old) (K.faults sink.old)
+        (D.view disk.old) (D.faults disk.old))
+        (world (S.left source.new) (S.faults source.new) (K.held sink.new) (K.faults sink.new)
+        (D.view disk.new) (D.faults disk.new)) }
+    ensures unread { IsGivenUp result → result ≢ Ended.Device
+        → (source.new ≡ source.old) × (sink.new ≡ sink.old) }
+{
+    let mut server = match Server::open(alloc, disk) {
+        Ok(server) => server,
+        Err(fault) => return ended_for(fault),
+    };
+    let mut piece = [0; PIECE];
+    let mut taken = 0;
+    loop {
+        match server.deframer.next() {
+            Next::Frame => {
+                server.answer(disk);
+                let Ok(()) = put_all(sink, server.out.bytes()) else {
+                    return Ended::Sink;
+                };
+                if server.store.is_spent() {
+                    return Ended::Device;
+                }
+            }
+            Next::NotYet => {
+                if taken == budget {
+                    return Ended::Budget;
+                }
+                let most = (budget - taken).min(PIECE as u64) as usize;
+                let Ok(n) = read_piece(source, &mut piece, most) else {
+                    return Ended::Source;
+                };
+                if n == 0 {
+                    return server.at_end();
+                }
+                taken += n as u64;
+                server.deframer.feed(&piece[..n]);
+            }
+            Next::TooLong { .. } => {
+                return match server.refuse_long(sink) {
+                    Ok(()) => Ended::FrameTooLong,
+                    Err(Failed) => Ended::Sink,
+                };
+            }
+        }
+    }
+}

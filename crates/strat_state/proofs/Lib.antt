@@ -1,0 +1,10 @@
+pub mod AppendedLemmas
+pub mod BreachLemmas
+pub mod LevelLemmas
+pub mod LiveLemmas
+pub mod MapLemmas
+pub mod ReadingLemmas
+pub mod SoundLemmas
+pub mod SpaceLemmas
+pub mod StepLemmas
+pub mod StepMaps

@@ -1,0 +1,83 @@
+-- A disk that follows tables.
+use Rattle.std.proofs.Common.{◌≡◌, ◌≤◌, ℕ, ◌+◌, List, [], ◌∷◌, ◌++◌, length, Some, refl, sym, ap, subst, ◌∙◌, arith}
+use Rattle.std.specs.Prelude.{Ok}
+use Rattle.strat_crash.specs.Image.{Image, Outside}
+use Rattle.strat_format.specs.Layout.{region_at, other_region}
+use Rattle.strat_crash.specs.Moments.{View, Images, Since, Passes, TearsOnly, Settled}
+use Rattle.strat_crash.specs.Trail.{At, Trail}
+use Rattle.strat_crash.proofs.ImageLemmas.{outside_refl}
+use Rattle.strat_crash.proofs.MomentLemmas.{each_then, now_since, passes_trans, settled_at, since_earlier}
+use Rattle.strat_crash.proofs.TrailLemmas.{trail_of_one, trail_join}
+use Rattle.strat_journal.specs.Front.{Looks}
+use Rattle.strat_recovery.specs.Head.{Head}
+use Rattle.strat_model.specs.Table.{Table, bare}
+use Rattle.strat_store.specs.Opened.{head_now, state_now, table_now, Shows, SameButJournal, Follows, Opens}
+use Rattle.strat_store.proofs.AttachLemmas.{settled_looks}
+use Rattle.strat_store.proofs.HeadSameLemmas.{same_but, same_journal_trans}
+use Rattle.strat_store.proofs.OpenedLemmas.{reads_now, sound_now}
+use Rattle.strat_store.proofs.StaleLemmas.{first_within}
+use Rattle.strat_store.proofs.StandLemmas.{shows_bare}
+
+-- each image at the end of a trail shows a table at its number or behind it
+at_last : (now : View) (tables : List Table) (n start : ℕ) → Trail Shows now start tables n → (c : Image) → Images now c → (i : ℕ) × (n ≤ i) × At tables i (Shows c)
+at_last now tables n start trail c left = trail.each n now.moment c (omega arith) trail.last (omega arith) left
+
+-- a disk that followed tables up to the last of them goes on from it
+pub follows_on : (before mid now : View) (f : Image) (mem : ℕ) (xs ys : List Table) (x : Table) (n : ℕ) → Passes mid now → Follows before mid f mem (xs ++ x ∷ []) (length xs)
+    → Trail Shows now mid.moment (x ∷ ys) n → ((c : Image) → Since now mid.moment c → (d : Image) × Images mid d × SameButJournal mem d c)
+    → Follows before now f mem (xs ++ x ∷ ys) (length xs + n)
+follows_on before mid now f mem xs ys x n passes so_far more journal =
+    let trail = trail_join Shows mid now so_far.synced xs ys x n passes so_far.trail more in
+    record {
+      synced = so_far.synced;
+      from = so_far.from;
+      till = omega (arith, so_far.till, passes.later);
+      content = passes.kept so_far.synced f so_far.till so_far.content;
+      one = λ c left. so_far.one c (passes.past so_far.synced c so_far.till left);
+      until = λ m c low high left. so_far.until m c low high (passes.past m c (omega (arith, high, so_far.till)) left);
+      trail = trail;
+      journal = each_then mid now so_far.synced (SameButJournal mem f) passes so_far.journal (λ c since.
+          let old = journal c since in
+          same_journal_trans (so_far.journal old.0 (since_earlier mid so_far.synced mid.moment old.0 so_far.till (now_since mid old.0 old.1))) old.2);
+      left = at_last now (xs ++ x ∷ ys) (length xs + n) so_far.synced trail;
+    }
+
+-- an image has this head, and differs from the content at the first gate of the other region alone
+record IsOpening (f : Image) (h : Head) (c : Image) : Type 0 where
+  pub found : head_now c ≡ Ok (Some h)
+  pub gate : Outside (region_at h.sb.mem (other_region h.sb.region)) 1 f c
+
+-- a disk was synced and looked at, and then one gate was shut
+pub opens_by : (before synced read now : View) (f : Image) (h : Head) (t : Table) → before.content ≡ Some f → Looks before synced → Settled synced → Images synced f → Looks synced read → Passes read now
+    → head_now f ≡ Ok (Some h) → table_now h ≡ t → ((c : Image) → Since now read.moment c → head_now c ≡ Ok (Some h))
+    → TearsOnly read now (region_at h.sb.mem (other_region h.sb.region)) 1 → Opens before now f h.sb.mem (bare t)
+opens_by before synced read now f h t told syncs settled left looks passes found table heads tears =
+    let there : synced.content ≡ Some f = syncs.same ∙ told in
+    let on : Passes synced now = passes_trans looks.time passes in
+    let is_content : (c : Image) → Images synced c → IsOpening f h c = λ c left.
+    subst (λ (d : Image). IsOpening f h d) (sym (settled_at synced f there settled c left)) (record { found = found; gate = outside_refl _ _ f }) in
+    let later : (c : Image) → Since now read.moment c → IsOpening f h c = λ c since.
+    let torn = tears.each c since in
+    let same : torn.0 ≡ f = settled_at read f (looks.same ∙ there) (settled_looks synced read f there settled looks) torn.0 torn.1 in
+    record { found = heads c since; gate = subst (λ (d : Image). Outside (region_at h.sb.mem (other_region h.sb.region)) 1 d c) same torn.2 } in
+    let each : (c : Image) → Since now synced.moment c → IsOpening f h c =
+    each_then read now synced.moment (IsOpening f h) passes (λ c since. is_content c (looks.images.each c since)) later in
+    let trail : Trail Shows now synced.moment (bare t ∷ []) 0 =
+    trail_of_one Shows now synced.moment (bare t) [] on.later (λ c since. shows_bare c h t (each c since).found table) in
+    record {
+      shows = record { head = h; found = found; state = state_now h; reads = reads_now f h found; sound = sound_now f h found; table = ap bare table };
+      mem_is = refl;
+      follows = record {
+        synced = synced.moment;
+        from = syncs.time.later;
+        till = on.later;
+        content = on.kept synced.moment f (omega arith) left;
+        one = λ c left. settled_at synced f there settled c (on.past synced.moment c (omega arith) left);
+        until = λ m c low high left. syncs.images.each c (record { at = m; from = low; till = high; left = on.past m c high left });
+        trail = trail;
+        journal = λ c since. same_but f c h.sb.mem (other_region h.sb.region) (region_at h.sb.mem (other_region h.sb.region)) 1 (omega arith) (omega arith)
+            (first_within h.sb.mem (region_at h.sb.mem (other_region h.sb.region))) (each c since).gate;
+        left = at_last now (bare t ∷ []) 0 synced.moment trail;
+      };
+      gate = λ c since. (each c since).gate;
+    }

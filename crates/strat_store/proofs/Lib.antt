@@ -1,0 +1,14 @@
+pub mod AppliedLemmas
+pub mod AttachLemmas
+pub mod ChangeLemmas
+pub mod FollowLemmas
+pub mod FormatLemmas
+pub mod HeadSameLemmas
+pub mod NewBlockLemmas
+pub mod OpenedLemmas
+pub mod ReplayLemmas
+pub mod ShutLemmas
+pub mod StaleLemmas
+pub mod StandLemmas
+pub mod StepLemmas
+pub mod StoreLemmas

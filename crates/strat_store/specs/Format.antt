@@ -1,0 +1,58 @@
+-- A disk that was just formatted.
+use Rattle.std.specs.Prelude.{◌≡◌, ◌≢◌, ◌⊎◌, ℕ, [], Some, None, Ok}
+use Rattle.strat_crash.specs.Image.{Image}
+use Rattle.strat_format.specs.Layout.{region_at}
+use Rattle.strat_crash.specs.Moments.{View, Images}
+use Rattle.strat_state.specs.State.{fresh_state}
+use Rattle.strat_format.specs.SuperBlock.{Super, first_free, newest_in}
+use Rattle.strat_recovery.specs.Disks.{new_manifest}
+use Rattle.strat_recovery.specs.Head.{Head}
+use Rattle.strat_recovery.specs.Opening.{reads_as}
+use Rattle.strat_store.specs.Opened.{head_now, IsAtRest}
+
+-- the superblock of a new store: the first generation, with the manifest in the first free block
+abbrev pub super_for : ℕ → ℕ → ℕ → Super
+super_for mem changes_max versions_max = record {
+  generation = 1;
+  manifest = first_free mem;
+  length = 29;
+  region = 0;
+  mem = mem;
+  changes_max = changes_max;
+  versions_max = versions_max;
+}
+
+-- the head of a new store
+abbrev pub head_for : ℕ → ℕ → ℕ → Head
+head_for mem changes_max versions_max =
+    record { sb = super_for mem changes_max versions_max; manifest = new_manifest; journal = [] }
+
+-- an image is a new store with these limits: an opening finds its head, it reads as the state of a new store, and the second superblock slot and the second journal region are shut
+pub record IsNewStore (mem changes_max versions_max : ℕ) (c : Image) : Type 0 where
+  pub found : head_now c ≡ Ok (Some (head_for mem changes_max versions_max))
+  pub reads : reads_as c ≡ Some (fresh_state mem changes_max versions_max)
+  pub slot : c 4096 ≢ 0xa7
+  pub region : c (region_at mem 1) ≢ 0xa7
+
+-- a crash leaves one image of the disk, a new store with these limits
+pub record IsNewDisk (mem changes_max versions_max : ℕ) (v : View) : Type 0 where
+  pub rest : IsAtRest v
+  pub new : IsNewStore mem changes_max versions_max rest.content
+
+-- both superblock slots are shut, whatever a crash leaves
+pub record IsBlank (v : View) : Type 0 where
+  pub first : (c : Image) → Images v c → c 0 ≢ 0xa7
+  pub second : (c : Image) → Images v c → c 4096 ≢ 0xa7
+
+-- the disk tells its content, in which both slots and the first gates of both journal regions are shut
+pub record IsShut (mem : ℕ) (v : View) : Type 0 where
+  pub content : Image
+  pub told : v.content ≡ Some content
+  pub first : content 0 ≢ 0xa7
+  pub second : content 4096 ≢ 0xa7
+  pub active : content (region_at mem 0) ≢ 0xa7
+  pub other : content (region_at mem 1) ≢ 0xa7
+
+-- an image is no store, or the whole of a new one
+abbrev pub IsNoneOrNew : ℕ → ℕ → ℕ → Image → Type 0
+IsNoneOrNew mem changes_max versions_max c = (newest_in c ≡ Ok None) ⊎ IsNewStore mem changes_max versions_max c

@@ -1,0 +1,4 @@
+pub mod Causes
+pub mod Format
+pub mod Opened
+pub mod Store

@@ -1,0 +1,11 @@
+//! The store: making one on a disk, recovering it, and carrying out commands.
+#![tactic(auto)]
+
+mod formatting;
+mod manifest;
+mod opening;
+mod store;
+
+pub use formatting::format;
+pub use opening::AttachFault;
+pub use store::Store;

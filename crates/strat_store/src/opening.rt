@@ -1,0 +1,247 @@
+//! Opening a store.
+
+ghost use Rattle.std.specs.Prelude.{◌≡◌, ◌≢◌, ◌≤◌, ◌⊎◌, ℕ, length, map, Some, None, Ok, Err, IfOk, IfErr, OnOk, IsErrOf, true, false};
+ghost use Rattle.strat_crash.specs.Faults.{Counts};
+ghost use Rattle.strat_crash.specs.Image.{Image};
+ghost use Rattle.strat_format.specs.Layout.{region_at, other_region};
+ghost use Rattle.strat_crash.specs.Moments.{Since, Passes, TearsOnly, LeavesOld, Settled};
+ghost use Rattle.strat_format.specs.SuperBlock.{IsLawful, newest_in};
+ghost use Rattle.strat_gate.specs.SuperView.{super_of};
+ghost use Rattle.strat_journal.specs.Front.{Looks};
+ghost use Rattle.strat_model.specs.Command.{request_of};
+ghost use Rattle.strat_base.specs.ChangeView.{change_of};
+ghost use Rattle.strat_recovery.specs.Head.{Head};
+ghost use Rattle.strat_recovery.specs.StateTable.{request_for};
+ghost use Rattle.strat_model.specs.Answer.{accepts};
+ghost use Rattle.strat_model.specs.Step.{step};
+ghost use Rattle.strat_model.specs.Table.{bare};
+ghost use Rattle.strat_base.specs.declared.failures.Trouble.TheVariants.{Device, Damaged};
+ghost use Rattle.strat_journal.specs.Records.{logged_of};
+ghost use Rattle.strat_store.specs.declared.opening.AttachFault.TheVariants as fault;
+ghost use Rattle.strat_store.specs.Opened.{head_now, head_now_behind, head_from, accepted_now, table_now, Opens, IsLeft, FailsToOpen};
+ghost use Rattle.strat_store.specs.Store.{Holds, StandsOn, OpensFrom, IsLogFor, IsRead, IsOpenedBy};
+ghost use Rattle.strat_store.specs.Causes.{HasAttachCause};
+
+use crate::manifest::read_manifest;
+use crate::store::Store;
+use std::alloc::Global;
+use strat_base::{Change, Failed, Fault, NoMemory, PairBuf, Trouble};
+use strat_disk::Disk;
+use strat_gate::{SuperBlock, newest};
+use strat_journal::{Journal, Logged, close_region};
+use strat_model::{Command, PlainTable, Refusal, Reply};
+use thiserror::Error;
+
+/// Why a store could not be opened.
+#[derive(Clone, Copy, Debug, PartialEq, Eq, Error)]
+pub enum AttachFault {
+    /// No superblock slot is open with the text of a store.
+    #[error("not a store")]
+    NotAStore,
+    /// The disk failed.
+    #[error("the device failed")]
+    Device,
+    /// The bytes of this block are not what should stand there.
+    #[error("block {block} is damaged")]
+    Damaged { block: u32 },
+    /// Memory ran out.
+    #[error("out of memory")]
+    NoMemory,
+}
+
+impl From<NoMemory> for AttachFault {
+    ghost use Rattle.strat_store.specs.declared.opening.AttachFault.TheVariants as fault;
+
+    ghost from_gives = { λ _ e. e ≡ fault.NoMemory };
+
+    fn from(_: NoMemory) -> AttachFault {
+        AttachFault::NoMemory
+    }
+}
+
+impl From<Failed> for AttachFault {
+    ghost use Rattle.strat_store.specs.declared.opening.AttachFault.TheVariants as fault;
+
+    ghost from_gives = { λ _ e. e ≡ fault.Device };
+
+    fn from(_: Failed) -> AttachFault {
+        AttachFault::Device
+    }
+}
+
+impl From<Fault> for AttachFault {
+    ghost use Rattle.strat_store.specs.Causes.{of_fault};
+
+    ghost from_gives = { λ f e. e ≡ of_fault f };
+
+    fn from(fault: Fault) -> AttachFault {
+        match fault {
+            Fault::Device => AttachFault::Device,
+            Fault::Damaged { block } => AttachFault::Damaged { block },
+        }
+    }
+}
+
+impl From<Trouble> for AttachFault {
+    ghost use Rattle.strat_store.specs.Causes.{of_trouble};
+
+    ghost from_gives = { λ t e. e ≡ of_trouble t };
+
+    fn from(trouble: Trouble) -> AttachFault {
+        match trouble {
+            Trouble::NoMemory => AttachFault::NoMemory,
+            Trouble::Device => AttachFault::Device,
+            Trouble::Damaged { block } => AttachFault::Damaged { block },
+        }
+    }
+}
+
+/// The command that asks for a change.
+fn command_for<'a>(change: &Change<'a>) -> Command<'a>
+    ensures { request_of result ≡ request_for (change_of change.now) }
+{
+    match *change {
+        Change::Put {
+            version,
+            key,
+            value,
+        } => Command::Put {
+            version,
+            key,
+            value,
+        },
+        Change::Delete { version, key } => Command::Delete { version, key },
+        Change::Clone { version } => Command::Clone { version },
+    }
+}
+
+/// Carries out the change of a record, or names its block where the table refuses it.
+fn redo(table: &mut PlainTable, pairs: &mut PairBuf, logged: &Logged) -> Result<(), Trouble>
+    requires { table.old.next_cursor ≡ 1 }
+    ensures ok { OnOk result ((accepts (step table.old (request_for logged.now.change)).answer.reply ≡ true)
+        × (table.new ≡ (step table.old (request_for logged.now.change)).table)) }
+    ensures damaged { (block : ℕ) → IsErrOf result (Damaged block)
+        → (accepts (step table.old (request_for logged.now.change)).answer.reply ≡ false)
+        × (logged.now.block ≡ block) }
+    ensures device { IsErrOf result Device → ⊥ }
+{
+    match table.step(&command_for(&logged.change.as_change()), pairs) {
+        Reply::Refused(Refusal::NoMemory) => Err(Trouble::NoMemory),
+        Reply::Refused(_) => Err(Trouble::Damaged {
+            block: logged.block,
+        }),
+        _ => Ok(()),
+    }
+}
+
+/// The table after a journal's changes, each of which the table has to accept in its turn. It takes the memory of the
+/// pairs, and linear time for each change.
+fn replay(alloc: Global, sb: &SuperBlock, logged: &[Logged]) -> Result<PlainTable, Trouble>
+    requires lawful { IsLawful (super_of sb.now) }
+    requires few { length logged.now ≤ sb.now.mem }
+    ensures found { IfOk result (λ t. accepted_now (super_of sb.now) (map logged_of logged.now)
+        ≡ Ok (map (λ l. l.change) logged.now)) }
+    ensures table { IfOk result (λ t. t
+        ≡ table_now (head_from (super_of sb.now) (map (λ l. l.change) logged.now))) }
+    ensures damaged { (block : ℕ) → IsErrOf result (Damaged block)
+        → accepted_now (super_of sb.now) (map logged_of logged.now) ≡ Err block }
+    ensures device { IsErrOf result Device → ⊥ }
+{
+    let mut table = PlainTable::new(alloc, sb.changes_max.min(sb.mem), sb.versions_max)?;
+    let mut pairs = PairBuf::new(alloc)?;
+    for record in logged {
+        redo(&mut table, &mut pairs, record)?;
+    }
+    Ok(table)
+}
+
+/// The journal and the table of a superblock, from the blocks that it leads to. It writes nothing.
+fn read_store<D: Disk>(
+    alloc: Global,
+    disk: &mut D,
+    sb: &SuperBlock,
+) -> Result<(Journal, PlainTable), AttachFault>
+    requires lawful { IsLawful (super_of sb.now) }
+    ensures found { IfOk result (λ r. (f : Image) → (D.view disk.old).content ≡ Some f
+        → IsRead f (super_of sb.now) r.0) }
+    ensures log { IfOk result (λ r. IsLogFor (super_of sb.now) r.0) }
+    ensures table { IfOk result (λ r. r.1 ≡ table_now (head_from (super_of sb.now) r.0.list)) }
+    ensures damaged { (block : ℕ) → IsErrOf result (fault.Damaged block) → (f : Image)
+        → (D.view disk.old).content ≡ Some f → head_now_behind f (super_of sb.now) ≡ Err block }
+    ensures none { IsErrOf result fault.NotAStore → ⊥ }
+    ensures looks { Looks (D.view disk.old) (D.view disk.new) }
+    ensures cause { HasAttachCause (D.faults disk.old) (D.faults disk.new) result }
+{
+    read_manifest(disk, sb)?;
+    let (journal, logged) = Journal::read(alloc, disk, sb)?;
+    let table = replay(alloc, sb, &logged)?;
+    Ok((journal, table))
+}
+
+/// Syncs, so that what is read from now on is what a crash leaves.
+fn settle<D: Disk>(disk: &mut D) -> Result<(), Failed>
+    ensures ok { OnOk result (Settled (D.view disk.new)) }
+    ensures same { (D.view disk.new).content ≡ (D.view disk.old).content }
+    ensures images { LeavesOld (D.view disk.old) (D.view disk.new) }
+    ensures time { Passes (D.view disk.old) (D.view disk.new) }
+    ensures cause { Counts (D.faults disk.old) (D.faults disk.new) result }
+{
+    disk.sync()?;
+    Ok(())
+}
+
+/// Shuts the first gate of the region that is not active, where it reads open and nothing leads behind it.
+fn shut_other<D: Disk>(disk: &mut D, sb: &SuperBlock, journal: &Journal) -> Result<(), Failed>
+    requires lawful { IsLawful (super_of sb.now) }
+    requires log { IsLogFor (super_of sb.now) journal.now }
+    ensures any_moment { (f : Image) → (D.view disk.old).content ≡ Some f → Settled (D.view disk.old)
+        → IsOpenedBy f (super_of sb.now) journal.now
+        → (c : Image) → Since (D.view disk.new) (D.view disk.old).moment c
+        → head_now c ≡ Ok (Some (head_from (super_of sb.now) journal.now.list)) }
+    ensures holds { OnOk result ((f : Image) → (D.view disk.old).content ≡ Some f
+        → Settled (D.view disk.old) → IsOpenedBy f (super_of sb.now) journal.now
+        → Holds (D.view disk.new) journal.now (head_from (super_of sb.now) journal.now.list)) }
+    ensures images { TearsOnly (D.view disk.old) (D.view disk.new)
+        (region_at sb.now.mem (other_region sb.now.region)) 1 }
+    ensures time { Passes (D.view disk.old) (D.view disk.new) }
+    ensures cause { Counts (D.faults disk.old) (D.faults disk.new) result }
+{
+    if journal.stale() {
+        close_region(disk, sb.mem, 1 - sb.region)?;
+    }
+    Ok(())
+}
+
+impl Store {
+    /// Opens the store on a disk. It syncs, reads the superblock, the manifest and the journal, and shuts the region that is
+    /// not active where a crash left it open. Until the sync succeeds a crash leaves only what it might have left before. It takes
+    /// the memory for the journal and for the pairs of its changes. It reads each block of the journal once; each change
+    /// walks the pairs of its version.
+    pub fn attach<D: Disk>(alloc: Global, disk: &mut D) -> Result<Store, AttachFault>
+        ensures stands { IfOk result (λ s. (f : Image) → (D.view disk.old).content ≡ Some f
+            → StandsOn (D.view disk.new) s) }
+        ensures found { IfOk result (λ s. (f : Image) → (D.view disk.old).content ≡ Some f
+            → OpensFrom f s) }
+        ensures going { IfOk result (λ s. s.spent ≡ false) }
+        ensures none { IsErrOf result fault.NotAStore → (f : Image)
+            → (D.view disk.old).content ≡ Some f → newest_in f ≡ Ok None }
+        ensures damaged { (block : ℕ) → IsErrOf result (fault.Damaged block) → (f : Image)
+            → (D.view disk.old).content ≡ Some f → head_now f ≡ Err block }
+        ensures opens { IfOk result (λ s. (f : Image) → (D.view disk.old).content ≡ Some f
+            → Opens (D.view disk.old) (D.view disk.new) f s.log.mem (bare s.table)) }
+        ensures device { IsErrOf result fault.Device → (f : Image) → (D.view disk.old).content ≡ Some f
+            → FailsToOpen (D.view disk.old) (D.view disk.new) f }
+        ensures kept { IfErr result (λ e. e ≢ fault.Device
+            → IsLeft (D.view disk.old) (D.view disk.new)) }
+        ensures time { Passes (D.view disk.old) (D.view disk.new) }
+        ensures cause { HasAttachCause (D.faults disk.old) (D.faults disk.new) result }
+    {
+        settle(disk)?;
+        let Some((_, sb)) = newest(disk)? else {
+            return Err(AttachFault::NotAStore);
+        };
+        let (journal, table) = read_store(alloc, disk, &sb)?;
+        shut_other(disk, &sb, &journal)?;
+        Ok(Store::new(journal, table))
+    }
+}
