@@ -7,23 +7,10 @@ use Rattle.strat_model.specs.declared.ended.Ended.{Ended}
 use Rattle.strat_model.specs.declared.ended.Ended.TheVariants as ended
 use Rattle.strat_model.specs.Ended.{status_of}
 use Rattle.strat_store.specs.Format.{IsNewDisk, IsBlank, IsNoneOrNew}
-use Rattle.castle.specs.Job.{SendsLine, Formats, FormatsDisk, format_text}
+use Rattle.castle.specs.Outcomes.{SendsLine, Formats, FormatsDisk, format_text}
 use Rattle.strat_serve.specs.Session.{EndHasCause}
-use Rattle.castle.specs.Words.{Job, Format}
+use Rattle.castle.specs.Arguments.{Subcommand, Format}
 use Rattle.strat_serve.specs.World.{World}
-
--- a run that formats for these numbers does so for those of the words
-pub formats_as_asked : (p q : List ℕ) (m c v x y z status : ℕ) (how : Ended) (before now : World) → ◌≡◌ {A = Option Job} (Some (Format p m c v)) (Some (Format q x y z))
-    → status ≡ status_of how → SendsLine how before.held now.held (format_text m c v)
-    → (Formats how → (f : Image) → before.disk.content ≡ Some f → IsNewDisk m c v now.disk)
-    → ((f : Image) → before.disk.content ≡ Some f → IsBlank before.disk → (d : Image) → Since now.disk before.disk.moment d → IsNoneOrNew m c v d)
-    → EndHasCause how before now → (how ≢ ended.Device → now.disk_faults ≡ before.disk_faults) → FormatsDisk x y z status before now
-formats_as_asked p q m c v x y z status how before now e is sends left moments cause calm =
-    let a : m ≡ x = cc in
-    let b : c ≡ y = cc in
-    let d : v ≡ z = cc in
-    let made : FormatsDisk m c v status before now = record { how = how; status_is = is; sends = sends; left = left; moments = moments; cause = cause; calm = calm } in
-    subst (λ (n : ℕ). FormatsDisk x y n status before now) d (subst (λ (n : ℕ). FormatsDisk x n v status before now) b (subst (λ (n : ℕ). FormatsDisk n c v status before now) a made))
 
 -- where neither the sink nor the disk failed it is done, or found no memory
 pub formatted_ends : (how : Ended) (line : List ℕ) (before now : World) → SendsLine how before.held now.held line → EndHasCause how before now

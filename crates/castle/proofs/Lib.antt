@@ -2,4 +2,4 @@ pub mod CompleteLemmas
 pub mod FormattedLemmas
 pub mod SizeLemmas
 pub mod TextLemmas
-pub mod WordLemmas
+pub mod ArgumentLemmas

@@ -3,16 +3,8 @@ use Rattle.std.proofs.Common.{◌≡◌, ◌≤◌, ℕ, Bool, true, false, cond
 use Rattle.std.specs.Prelude.{option_map, option_and_then, bytes_eq, codes, not, ◌==◌}
 use Rattle.std.specs.Str.Parse.{digits_value}
 use Rattle.std.proofs.lemmas.Bool.{and_parts, leb-true}
-use Rattle.castle.specs.Words.{Job, Format, Serve, is_numeral, number_in, serve_in, format_in, job_in}
-
--- limits of a store
-pub record IsSize (mem changes_max versions_max : ℕ) : Type 0 where
-  pub mem_least : 4 ≤ mem
-  pub mem_most : mem ≤ 4096
-  pub changes_least : 1 ≤ changes_max
-  pub changes_most : changes_max ≤ 16777216
-  pub versions_least : 1 ≤ versions_max
-  pub versions_most : versions_max ≤ 16384
+use Rattle.strat_format.specs.SuperBlock.{AreLimits}
+use Rattle.castle.specs.Arguments.{Subcommand, Format, Serve, is_numeral, number_in, serve_in, format_in, subcommand_in}
 
 -- a choice that gives something was made by its test
 chosen : {A : Type 0} (b : Bool) (x : Option A) (y : A) → cond b x None ≡ Some y → (b ≡ true) × (x ≡ Some y)
@@ -33,14 +25,14 @@ in_range least most word n e =
 
 -- the last number
 last_read : (path : List ℕ) (m c x y z : ℕ) (p : List ℕ) (o : Option ℕ) → option_map (λ v. Format path m c v) o ≡ Some (Format p x y z) → (m ≡ x) × (c ≡ y) × (o ≡ Some z)
-last_read path m c x y z p None e = absurd (let f : ◌≡◌ {A = Option Job} None (Some (Format p x y z)) = e in cc)
+last_read path m c x y z p None e = absurd (let f : ◌≡◌ {A = Option Subcommand} None (Some (Format p x y z)) = e in cc)
 last_read path m c x y z p (Some v) e =
-    let f : ◌≡◌ {A = Option Job} (Some (Format path m c v)) (Some (Format p x y z)) = e in (cc, cc, cc)
+    let f : ◌≡◌ {A = Option Subcommand} (Some (Format path m c v)) (Some (Format p x y z)) = e in (cc, cc, cc)
 
 -- and the ones before it
 middle_read : (path : List ℕ) (m x y z : ℕ) (p : List ℕ) (o w : Option ℕ)
     → option_and_then (λ c. option_map (λ v. Format path m c v) w) o ≡ Some (Format p x y z) → (m ≡ x) × (o ≡ Some y) × (w ≡ Some z)
-middle_read path m x y z p None w e = absurd (let f : ◌≡◌ {A = Option Job} None (Some (Format p x y z)) = e in cc)
+middle_read path m x y z p None w e = absurd (let f : ◌≡◌ {A = Option Subcommand} None (Some (Format p x y z)) = e in cc)
 middle_read path m x y z p (Some c) w e =
     let last = last_read path m c x y z p w e in
     let same : c ≡ y = last.1 in
@@ -48,13 +40,13 @@ middle_read path m x y z p (Some c) w e =
 
 first_read : (path : List ℕ) (x y z : ℕ) (p : List ℕ) (o w u : Option ℕ)
     → option_and_then (λ m. option_and_then (λ c. option_map (λ v. Format path m c v) u) w) o ≡ Some (Format p x y z) → (o ≡ Some x) × (w ≡ Some y) × (u ≡ Some z)
-first_read path x y z p None w u e = absurd (let f : ◌≡◌ {A = Option Job} None (Some (Format p x y z)) = e in cc)
+first_read path x y z p None w u e = absurd (let f : ◌≡◌ {A = Option Subcommand} None (Some (Format p x y z)) = e in cc)
 first_read path x y z p (Some m) w u e =
     let middle = middle_read path m x y z p w u e in
     let same : m ≡ x = middle.0 in
     (cc, middle.1, middle.2)
 
-size_in : (job path mem changes versions p : List ℕ) (x y z : ℕ) → format_in job path mem changes versions ≡ Some (Format p x y z) → IsSize x y z
+size_in : (job path mem changes versions p : List ℕ) (x y z : ℕ) → format_in job path mem changes versions ≡ Some (Format p x y z) → AreLimits x y z
 size_in job path mem changes versions p x y z e =
     let body = chosen (bytes_eq job (codes "format") && not (length path == 0)) _ (Format p x y z) e in
     let numbers = first_read path x y z p (number_in 4 4096 mem) (number_in 1 16777216 changes) (number_in 1 16384 versions) body.1 in
@@ -67,14 +59,14 @@ size_in job path mem changes versions p x y z e =
 serves_only : (job path p : List ℕ) (x y z : ℕ) → serve_in job path ≡ Some (Format p x y z) → ⊥
 serves_only job path p x y z e =
     let body = chosen (bytes_eq job (codes "serve") && not (length path == 0)) (Some (Serve path)) (Format p x y z) e in
-    let f : ◌≡◌ {A = Option Job} (Some (Serve path)) (Some (Format p x y z)) = body.1 in absurd cc
+    let f : ◌≡◌ {A = Option Subcommand} (Some (Serve path)) (Some (Format p x y z)) = body.1 in absurd cc
 
 -- the numbers of a job of making a store
-pub job_size : (words : List (List ℕ)) (p : List ℕ) (x y z : ℕ) → job_in words ≡ Some (Format p x y z) → IsSize x y z
-job_size [] p x y z e = absurd (let f : ◌≡◌ {A = Option Job} None (Some (Format p x y z)) = e in cc)
-job_size (a ∷ []) p x y z e = absurd (let f : ◌≡◌ {A = Option Job} None (Some (Format p x y z)) = e in cc)
-job_size (a ∷ b ∷ []) p x y z e = absurd (serves_only a b p x y z e)
-job_size (a ∷ b ∷ c ∷ []) p x y z e = absurd (let f : ◌≡◌ {A = Option Job} None (Some (Format p x y z)) = e in cc)
-job_size (a ∷ b ∷ c ∷ d ∷ []) p x y z e = absurd (let f : ◌≡◌ {A = Option Job} None (Some (Format p x y z)) = e in cc)
-job_size (a ∷ b ∷ c ∷ d ∷ f ∷ []) p x y z e = size_in a b c d f p x y z e
-job_size (a ∷ b ∷ c ∷ d ∷ f ∷ g ∷ rest) p x y z e = absurd (let h : ◌≡◌ {A = Option Job} None (Some (Format p x y z)) = e in cc)
+pub limits_of : (words : List (List ℕ)) (p : List ℕ) (x y z : ℕ) → subcommand_in words ≡ Some (Format p x y z) → AreLimits x y z
+limits_of [] p x y z e = absurd (let f : ◌≡◌ {A = Option Subcommand} None (Some (Format p x y z)) = e in cc)
+limits_of (a ∷ []) p x y z e = absurd (let f : ◌≡◌ {A = Option Subcommand} None (Some (Format p x y z)) = e in cc)
+limits_of (a ∷ b ∷ []) p x y z e = absurd (serves_only a b p x y z e)
+limits_of (a ∷ b ∷ c ∷ []) p x y z e = absurd (let f : ◌≡◌ {A = Option Subcommand} None (Some (Format p x y z)) = e in cc)
+limits_of (a ∷ b ∷ c ∷ d ∷ []) p x y z e = absurd (let f : ◌≡◌ {A = Option Subcommand} None (Some (Format p x y z)) = e in cc)
+limits_of (a ∷ b ∷ c ∷ d ∷ f ∷ []) p x y z e = size_in a b c d f p x y z e
+limits_of (a ∷ b ∷ c ∷ d ∷ f ∷ g ∷ rest) p x y z e = absurd (let h : ◌≡◌ {A = Option Subcommand} None (Some (Format p x y z)) = e in cc)

@@ -2,7 +2,7 @@
 use Rattle.std.proofs.Common.{◌≡◌, ℕ, List, [], ◌∷◌, ◌++◌, sym, append_assoc, append-nil}
 use Rattle.std.specs.Prelude.{codes}
 use Rattle.std.specs.Fmt.{decimal}
-use Rattle.castle.specs.Job.{format_text}
+use Rattle.castle.specs.Outcomes.{format_text}
 
 -- texts that stand in brackets, one behind the other
 joined : (a b c d e f g : List ℕ) → (a ++ (b ++ (c ++ (d ++ (e ++ (f ++ [])))))) ++ g ++ [] ≡ a ++ (b ++ (c ++ (d ++ (e ++ (f ++ g)))))

@@ -1,2 +1,2 @@
-pub mod Words
-pub mod Job
+pub mod Arguments
+pub mod Outcomes

@@ -1,20 +1,20 @@
 //! Making a new store, and saying so.
 
 ghost use Rattle.std.specs.Prelude.{◌≡◌, ◌≢◌, ◌≤◌, ℕ, List, Option, Some, IfOk, string_bytes};
-ghost use Rattle.strat_base.specs.declared.limits.TheConstants.{CHANGES_MAX, VERSIONS_MAX};
+ghost use Rattle.strat_format.specs.SuperBlock.{AreLimits};
 ghost use Rattle.strat_crash.specs.Image.{Image};
-ghost use Rattle.strat_crash.specs.Moments.{Since, Passes};
+ghost use Rattle.strat_crash.specs.Moments.{Exposes, Since, Passes};
 ghost use Rattle.strat_store.specs.Format.{IsNewDisk, IsBlank, IsNoneOrNew};
 ghost use Rattle.strat_serve.specs.Session.{EndHasCause};
 ghost use Rattle.strat_serve.specs.World.{world};
-ghost use Rattle.castle.specs.Job.{SendsLine, Formats, format_text};
+ghost use Rattle.castle.specs.Outcomes.{SendsLine, Formats, format_text};
 
 use std::alloc::{AllocError, Global};
 use strat_base::Failed;
 use strat_disk::Disk;
 use strat_io::{Sink, put_all};
 use strat_model::Ended;
-use strat_store::format;
+use strat_store::{FormatFault, format};
 
 /// The line that says what was made.
 fn line_for(
@@ -37,17 +37,12 @@ pub fn make_store<K: Sink, D: Disk>(
     changes_max: u32,
     versions_max: u32,
 ) -> Ended
-    requires mem_least { 4 ≤ mem }
-    requires mem_most { mem ≤ 4096 }
-    requires changes_least { 1 ≤ changes_max }
-    requires changes_most { changes_max ≤ CHANGES_MAX }
-    requires versions_least { 1 ≤ versions_max }
-    requires versions_most { versions_max ≤ VERSIONS_MAX }
-    ensures sends { SendsLine result (K.held sink.old) (K.held sink.new)
+    requires fits { AreLimits mem changes_max versions_max }
+    ensures ok { SendsLine result (K.held sink.old) (K.held sink.new)
         (format_text mem changes_max versions_max) }
-    ensures left { Formats result → (f : Image) → (D.view disk.old).content ≡ Some f
+    ensures found { Formats result → (f : Image) → Exposes (D.view disk.old) f
         → IsNewDisk mem changes_max versions_max (D.view disk.new) }
-    ensures any_moment { (f : Image) → (D.view disk.old).content ≡ Some f → IsBlank (D.view disk.old)
+    ensures images { (f : Image) → Exposes (D.view disk.old) f → IsBlank (D.view disk.old)
         → (c : Image) → Since (D.view disk.new) (D.view disk.old).moment c
         → IsNoneOrNew mem changes_max versions_max c }
     ensures time { Passes (D.view disk.old) (D.view disk.new) }
@@ -56,16 +51,18 @@ pub fn make_store<K: Sink, D: Disk>(
         (D.view disk.old) (D.faults disk.old))
         (world left source_faults (K.held sink.new) (K.faults sink.new)
         (D.view disk.new) (D.faults disk.new)) }
-    ensures calm { result ≢ Ended.Device → D.faults disk.new ≡ D.faults disk.old }
-    ensures untouched { result ≡ Ended.NoMemory
+    ensures faults { result ≢ Ended.Device → D.faults disk.new ≡ D.faults disk.old }
+    ensures same { result ≡ Ended.NoMemory
         → (sink.new ≡ sink.old) × (disk.new ≡ disk.old) }
 {
     let Ok(line) = line_for(alloc, mem, changes_max, versions_max) else {
         return Ended::NoMemory;
     };
-    let Ok(()) = format(disk, mem, changes_max, versions_max) else {
-        return Ended::Device;
-    };
+    match format(alloc, disk, mem, changes_max, versions_max) {
+        Ok(()) => {}
+        Err(FormatFault::NoMemory) => return Ended::NoMemory,
+        Err(FormatFault::Device) => return Ended::Device,
+    }
     match put_all(sink, line.as_bytes()) {
         Ok(()) => Ended::Done,
         Err(Failed) => Ended::Sink,

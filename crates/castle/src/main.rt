@@ -1,10 +1,11 @@
 //! `castle`: serves a store of versioned dictionaries over standard input and output.
 #![tactic(auto)]
 
+mod arguments;
 mod formatting;
 mod program;
-mod words;
 
+use arguments::path_of;
 use program::{run, status_text};
 use std::fs::OpenOptions;
 use std::io::{Eprint, ErrorKind, Input, Print};
@@ -14,11 +15,10 @@ use std::{env, io};
 use strat_disk::FileDisk;
 use strat_io::{StdSink, StdSource};
 use strat_model::Ended;
-use words::path_of;
 
 /// The program's arguments without its name, or how a run ends that cannot have them: one that is no text
 /// is no word of the program.
-fn arguments<R: Env + AllocGlobal>(rt: &R) -> Result<Vec<String>, Ended> {
+fn program_arguments<R: Env + AllocGlobal>(rt: &R) -> Result<Vec<String>, Ended> {
     let args = match env::args(rt) {
         Ok(args) => args,
         Err(e) if e.kind() == ErrorKind::InvalidData => return Err(Ended::Usage),
@@ -52,7 +52,7 @@ fn run_over<R: Input + Print + Files + AllocGlobal>(rt: &R, words: &[String], pa
 
 /// Runs the program over the standard streams and the file that its words name.
 fn start<R: Env + Input + Print + Files + AllocGlobal>(rt: &R) -> u8 {
-    let words = match arguments(rt) {
+    let words = match program_arguments(rt) {
         Ok(words) => words,
         Err(ended) => return ended.status(),
     };

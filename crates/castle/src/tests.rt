@@ -2,8 +2,8 @@
 
 ghost use Rattle.std.specs.Prelude.{◌≤◌, length};
 
+use crate::arguments::path_of;
 use crate::program::{run, status_text};
-use crate::words::path_of;
 use std::alloc::Global;
 use std::process::Abort;
 use std::test::Fail;

@@ -5,7 +5,7 @@ use Rattle.std.proofs.lemmas.Bool.{eqb-true, ltb-true, lt-ltb, leb-true, le-leb,
 use Rattle.std.proofs.lemmas.List.{drop_at}
 use Rattle.strat_base.specs.Numbers.{be, number, AreBytes}
 use Rattle.strat_base.specs.Fields.{is_key, is_value, key_field, value_field, key_in, value_in}
-use Rattle.strat_base.specs.Change.{Change, Put, Delete, Clone, is_lawful, change_bytes, change_of_kind, change_in, BeginsWith}
+use Rattle.strat_base.specs.Change.{Change, Put, Delete, Clone, is_lawful, change_bytes, change_of_kind, change_in, BeginsWithChange}
 use Rattle.strat_base.proofs.NumberLemmas.{length-be, number-be, number-lt, be-number_4, AreBytes-drop}
 use Rattle.strat_base.proofs.FieldLemmas.{key_max, value_max, length-value_field, key_in-field, key_in-some, value_in-field, value_in-some}
 use Rattle.strat_base.proofs.TreeLemmas.{option_cases}
@@ -56,7 +56,7 @@ change_in-bytes (Delete v key) rest lawful =
 change_in-bytes (Clone v) rest lawful = change_in-kind v (ltb-true v (2 ^ 32) lawful) rest 3
 
 module _ (v : ℕ) (fits : v < 2 ^ 32) (fields : List ℕ) (bytes : AreBytes fields) where
-  put_written : (c : Change) → change_of_kind 1 v fields ≡ Some c → BeginsWith (1 ∷ (be 4 v ++ fields)) c
+  put_written : (c : Change) → change_of_kind 1 v fields ≡ Some c → BeginsWithChange (1 ∷ (be 4 v ++ fields)) c
   put_written c e =
       elim (option_cases (key_in fields)) [
         | inl none ↦ absurd (cc)
@@ -72,7 +72,7 @@ module _ (v : ℕ) (fits : v < 2 ^ 32) (fields : List ℕ) (bytes : AreBytes fie
                   let e'' = ap (λ (o : Option (List ℕ)). option_map (λ w. Put v key.0 w) o) (sym value.1) ∙ e' in
                   let same : Put v key.0 value.0 ≡ c = cc in
                   let rest : List ℕ = drop (length (value_field value.0)) behind in
-                  subst (BeginsWith (1 ∷ (be 4 v ++ fields))) same (record {
+                  subst (BeginsWithChange (1 ∷ (be 4 v ++ fields))) same (record {
                     lawful = and_from (ltb v (2 ^ 32)) (is_key key.0 && is_value value.0) (lt-ltb v (2 ^ 32) fits) (and_from (is_key key.0) (is_value value.0) key_is.0 value_is.0);
                     rest = rest;
                     split = ap (λ (x : List ℕ). 1 ∷ (be 4 v ++ x)) (key_is.1 ∙ ap (λ (x : List ℕ). key_field key.0 ++ x) value_is.1 ∙ sym (append_assoc (key_field key.0) (value_field value.0) rest))
@@ -81,7 +81,7 @@ module _ (v : ℕ) (fits : v < 2 ^ 32) (fields : List ℕ) (bytes : AreBytes fie
             ]
       ]
 
-  delete_written : (c : Change) → change_of_kind 2 v fields ≡ Some c → BeginsWith (2 ∷ (be 4 v ++ fields)) c
+  delete_written : (c : Change) → change_of_kind 2 v fields ≡ Some c → BeginsWithChange (2 ∷ (be 4 v ++ fields)) c
   delete_written c e =
       elim (option_cases (key_in fields)) [
         | inl none ↦ absurd (cc)
@@ -90,43 +90,43 @@ module _ (v : ℕ) (fits : v < 2 ^ 32) (fields : List ℕ) (bytes : AreBytes fie
             let e' = ap (λ (o : Option (List ℕ)). option_map (λ k. Delete v k) o) (sym key.1) ∙ e in
             let same : Delete v key.0 ≡ c = cc in
             let rest : List ℕ = drop (length (key_field key.0)) fields in
-            subst (BeginsWith (2 ∷ (be 4 v ++ fields))) same (record {
+            subst (BeginsWithChange (2 ∷ (be 4 v ++ fields))) same (record {
               lawful = and_from (ltb v (2 ^ 32)) (is_key key.0) (lt-ltb v (2 ^ 32) fits) key_is.0;
               rest = rest;
               split = ap (λ (x : List ℕ). 2 ∷ (be 4 v ++ x)) key_is.1 ∙ ap (λ (x : List ℕ). 2 ∷ x) (sym (append_assoc (be 4 v) (key_field key.0) rest));
             })
       ]
 
-  clone_written : (c : Change) → Some (Clone v) ≡ Some c → BeginsWith (3 ∷ (be 4 v ++ fields)) c
+  clone_written : (c : Change) → Some (Clone v) ≡ Some c → BeginsWithChange (3 ∷ (be 4 v ++ fields)) c
   clone_written c e =
       let same : Clone v ≡ c = cc in
-      subst (BeginsWith (3 ∷ (be 4 v ++ fields))) same (record { lawful = lt-ltb v (2 ^ 32) fits; rest = fields; split = refl })
+      subst (BeginsWithChange (3 ∷ (be 4 v ++ fields))) same (record { lawful = lt-ltb v (2 ^ 32) fits; rest = fields; split = refl })
 
-  kind_written : (kind : ℕ) (c : Change) → change_of_kind kind v fields ≡ Some c → BeginsWith (kind ∷ (be 4 v ++ fields)) c
+  kind_written : (kind : ℕ) (c : Change) → change_of_kind kind v fields ≡ Some c → BeginsWithChange (kind ∷ (be 4 v ++ fields)) c
   kind_written kind c e =
-      elim (eqb kind 1) as (λ b. eqb kind 1 ≡ b → cond b (change_of_kind 1 v fields) (cond (eqb kind 2) (change_of_kind 2 v fields) (cond (eqb kind 3) (Some (Clone v)) None)) ≡ Some c → BeginsWith (kind ∷ (be 4 v ++ fields)) c) [
-        | true ↦ λ is one. subst (λ (k : ℕ). BeginsWith (k ∷ (be 4 v ++ fields)) c) (sym (eqb-true kind 1 is)) (put_written c one)
+      elim (eqb kind 1) as (λ b. eqb kind 1 ≡ b → cond b (change_of_kind 1 v fields) (cond (eqb kind 2) (change_of_kind 2 v fields) (cond (eqb kind 3) (Some (Clone v)) None)) ≡ Some c → BeginsWithChange (kind ∷ (be 4 v ++ fields)) c) [
+        | true ↦ λ is one. subst (λ (k : ℕ). BeginsWithChange (k ∷ (be 4 v ++ fields)) c) (sym (eqb-true kind 1 is)) (put_written c one)
         | false ↦ λ is other.
-            elim (eqb kind 2) as (λ b. eqb kind 2 ≡ b → cond b (change_of_kind 2 v fields) (cond (eqb kind 3) (Some (Clone v)) None) ≡ Some c → BeginsWith (kind ∷ (be 4 v ++ fields)) c) [
-              | true ↦ λ is' two. subst (λ (k : ℕ). BeginsWith (k ∷ (be 4 v ++ fields)) c) (sym (eqb-true kind 2 is')) (delete_written c two)
+            elim (eqb kind 2) as (λ b. eqb kind 2 ≡ b → cond b (change_of_kind 2 v fields) (cond (eqb kind 3) (Some (Clone v)) None) ≡ Some c → BeginsWithChange (kind ∷ (be 4 v ++ fields)) c) [
+              | true ↦ λ is' two. subst (λ (k : ℕ). BeginsWithChange (k ∷ (be 4 v ++ fields)) c) (sym (eqb-true kind 2 is')) (delete_written c two)
               | false ↦ λ is' last.
-                  elim (eqb kind 3) as (λ b. eqb kind 3 ≡ b → cond b (Some (Clone v)) None ≡ Some c → BeginsWith (kind ∷ (be 4 v ++ fields)) c) [
-                    | true ↦ λ is'' three. subst (λ (k : ℕ). BeginsWith (k ∷ (be 4 v ++ fields)) c) (sym (eqb-true kind 3 is'')) (clone_written c three)
+                  elim (eqb kind 3) as (λ b. eqb kind 3 ≡ b → cond b (Some (Clone v)) None ≡ Some c → BeginsWithChange (kind ∷ (be 4 v ++ fields)) c) [
+                    | true ↦ λ is'' three. subst (λ (k : ℕ). BeginsWithChange (k ∷ (be 4 v ++ fields)) c) (sym (eqb-true kind 3 is'')) (clone_written c three)
                     | false ↦ λ is'' none. absurd (cc)
                   ] refl last
             ] refl other
       ] refl e
 
 -- what is read was written so
-pub change_in-some : (bytes : List ℕ) (c : Change) → AreBytes bytes → change_in bytes ≡ Some c → BeginsWith bytes c
+pub change_in-some : (bytes : List ℕ) (c : Change) → AreBytes bytes → change_in bytes ≡ Some c → BeginsWithChange bytes c
 unfolding change_in
 change_in-some [] c fit e = absurd (cc)
 change_in-some (kind ∷ bytes) c fit e =
     let rest_fit : AreBytes bytes = λ i. fit (suc i) in
-    elim (leb 4 (length bytes)) as (λ b. leb 4 (length bytes) ≡ b → cond b (change_of_kind kind (number 4 bytes) (drop 4 bytes)) None ≡ Some c → BeginsWith (kind ∷ bytes) c) [
+    elim (leb 4 (length bytes)) as (λ b. leb 4 (length bytes) ≡ b → cond b (change_of_kind kind (number 4 bytes) (drop 4 bytes)) None ≡ Some c → BeginsWithChange (kind ∷ bytes) c) [
       | true ↦ λ long some.
           let front : be 4 (number 4 bytes) ++ drop 4 bytes ≡ bytes = ap (λ (x : List ℕ). x ++ drop 4 bytes) (be-number_4 bytes (leb-true 4 (length bytes) long) rest_fit) ∙ take-append-drop 4 bytes in
-          subst (λ (x : List ℕ). BeginsWith (kind ∷ x) c) front
+          subst (λ (x : List ℕ). BeginsWithChange (kind ∷ x) c) front
           (kind_written (number 4 bytes) (number-lt 4 bytes rest_fit) (drop 4 bytes) (AreBytes-drop 4 bytes rest_fit) kind c some)
       | false ↦ λ short none. absurd (cc)
     ] refl e

@@ -40,7 +40,7 @@ abbrev pub change_at : List ℕ → ℕ → Option (Change × ℕ)
 change_at bytes at = option_map (λ c. (c, at + length (change_bytes c))) (change_in (drop at bytes))
 
 -- these bytes are a lawful change's and then others
-pub record BeginsWith (bytes : List ℕ) (c : Change) : Type 0 where
+pub record BeginsWithChange (bytes : List ℕ) (c : Change) : Type 0 where
   pub lawful : IsTrue (is_lawful c)
   pub rest : List ℕ
   pub split : bytes ≡ change_bytes c ++ rest

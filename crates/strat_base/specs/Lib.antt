@@ -1,4 +1,3 @@
-pub mod Causes
 pub mod Numbers
 pub mod Order
 pub mod Tree
@@ -9,7 +8,6 @@ pub mod Entries
 pub mod Fields
 pub mod ChangeView
 pub mod Finds
-pub mod Troubles
 pub mod EntryView
 pub mod EntryBytes
 pub mod Samples

@@ -4,7 +4,7 @@ ghost use Rattle.std.specs.Prelude.{◌≡◌, ◌+◌, ◌≤◌, ◌∷◌, le
 ghost use Rattle.strat_base.specs.Finds.{Finds};
 ghost use Rattle.strat_base.specs.Numbers.{placed, be};
 ghost use Rattle.strat_base.specs.Change.{Change as TheChange};
-ghost use Rattle.strat_base.specs.Change.{is_lawful, change_bytes, change_of_kind, change_in, change_at, BeginsWith};
+ghost use Rattle.strat_base.specs.Change.{is_lawful, change_bytes, change_of_kind, change_in, change_at, BeginsWithChange};
 ghost use Rattle.strat_base.specs.ChangeView.{change_of};
 
 use crate::entries::Version;
@@ -124,13 +124,13 @@ fn change_from(bytes: &[u8]) -> Option<Change<'_>>
     of_kind(*kind, version, &rest[4..])
 }
 
-/// The change whose bytes stand at a place, and the place after them. Looks at those bytes alone, copies
+/// The change whose bytes stand at a place, and the place after them. OnlyReads at those bytes alone, copies
 /// none and takes no memory.
 pub fn get_change(bytes: &[u8], at: usize) -> Option<(Change<'_>, usize)>
     ensures ok { Finds (λ r. (change_of r.0, r.1)) result (change_at bytes.now at) }
-    ensures found { IfSome result (λ r. BeginsWith (drop at bytes.now) (change_of r.0)) }
+    ensures found { IfSome result (λ r. BeginsWithChange (drop at bytes.now) (change_of r.0)) }
     ensures end { IfSome result (λ r. r.1 ≡ at + length (change_bytes (change_of r.0))) }
-    ensures none { (c : TheChange) → BeginsWith (drop at bytes.now) c → IsSome result }
+    ensures none { (c : TheChange) → BeginsWithChange (drop at bytes.now) c → IsSome result }
 {
     if at > bytes.len() {
         return None;

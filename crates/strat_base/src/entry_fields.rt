@@ -66,7 +66,7 @@ pub fn entry_size(e: &Entry<'_>) -> usize
     5 + e.key.len() + mark_size(&e.val)
 }
 
-/// The entry whose bytes stand at a place, and the place after them. Looks at those bytes alone, copies none
+/// The entry whose bytes stand at a place, and the place after them. OnlyReads at those bytes alone, copies none
 /// and takes no memory.
 pub fn get_entry(bytes: &[u8], at: usize) -> Option<(Entry<'_>, usize)>
     ensures ok { Finds (λ r. (entry_of r.0, r.1)) result (entry_at bytes.now at) }

@@ -1,7 +1,7 @@
 //! Laws of changes, entries and version trees. Each is the contract of a function that does nothing.
 
 ghost use Rattle.std.specs.Prelude.{◌≡◌, ℕ, ◌<◌, ◌≤◌, List, [], ◌∷◌, ◌++◌, length, Some, IsTrue};
-ghost use Rattle.strat_base.specs.Change.{Change, Put, Clone, is_lawful, change_bytes, change_in, BeginsWith};
+ghost use Rattle.strat_base.specs.Change.{Change, Put, Clone, is_lawful, change_bytes, change_in, BeginsWithChange};
 ghost use Rattle.strat_base.specs.Entries.{Entry};
 ghost use Rattle.strat_base.specs.EntryBytes.{fits_fields, entry_bytes, entry_in, BeginsWithEntry};
 ghost use Rattle.strat_base.specs.Numbers.{AreBytes};
@@ -31,7 +31,7 @@ pub fn changes_are_read_as_written()
     ensures read { (c : Change) (rest : List ℕ) → IsTrue (is_lawful c)
         → change_in (change_bytes c ++ rest) ≡ Some c }
     ensures written { (bytes : List ℕ) (c : Change) → AreBytes bytes → change_in bytes ≡ Some c
-        → BeginsWith bytes c }
+        → BeginsWithChange bytes c }
     ensures size { (c : Change) → IsTrue (is_lawful c) → length (change_bytes c) ≤ 1287 }
 {}
 

@@ -10,7 +10,7 @@ use std::marker::Model;
 
 /// Where a pair lies in a buffer: the key's bytes begin at `at`, and the value's behind them.
 #[derive(Clone, Copy, Debug)]
-pub struct Place {
+pub struct PairSpan {
     pub at: usize,
     pub key_len: usize,
     pub value_len: usize,
@@ -21,7 +21,7 @@ pub struct Place {
 #[derive(Drop)]
 pub struct PairBuf {
     bytes: Vec<u8>,
-    places: Vec<Place>,
+    places: Vec<PairSpan>,
 }
 
 impl Model for PairBuf {
@@ -60,7 +60,7 @@ impl PairBuf {
         requires fits { IsPair (key.now, value.now) }
         ensures ok { self.new ≡ self.old ++ (key.now, value.now) ∷ [] }
     {
-        let place = Place {
+        let place = PairSpan {
             at: self.bytes.len(),
             key_len: key.len(),
             value_len: value.len(),

@@ -23,7 +23,7 @@ fn add(rt: &impl Abort, pairs: &mut PairBuf, key: &[u8], value: &[u8]) {
     pairs.push(key, value);
 }
 
-/// Looks at one pair.
+/// OnlyReads at one pair.
 fn look(rt: &impl Abort, pairs: &PairBuf, i: usize, key: &[u8], value: &[u8]) {
     assert!(rt; i < pairs.len());
     assert_eq!(rt; pairs.key(i), key, "key {i}");

@@ -4,7 +4,7 @@ use Rattle.std.proofs.lemmas.Bool.{cases_lt}
 use Rattle.std.proofs.lemmas.List.{length-map}
 use Rattle.std.proofs.lemmas.Bool.Decides.{nat_tests}
 use Rattle.strat_crash.specs.Image.{Image}
-use Rattle.strat_crash.specs.Moments.{View, Images, Since, Passes}
+use Rattle.strat_crash.specs.Moments.{DiskView, Images, Since, Passes}
 use Rattle.strat_crash.specs.Trail.{At, Trail}
 
 pub at_left : {T : Type 0} (xs ys : List T) (i : ℕ) (P : T → Type 0) → At xs i P → At (xs ++ ys) i P
@@ -50,7 +50,7 @@ marks_in_order mark n rise k m low high =
     subst (λ (j : ℕ). mark k ≤ mark j) e (marks_rise mark n rise k (m - k) (omega arith))
 
 -- a call in which each image shows one table
-pub trail_of_one : {T : Type 0} (shows : Image → T → Type 0) (v : View) (start : ℕ) (x : T) (rest : List T) → start ≤ v.moment
+pub trail_of_one : {T : Type 0} (shows : Image → T → Type 0) (v : DiskView) (start : ℕ) (x : T) (rest : List T) → start ≤ v.moment
     → ((c : Image) → Since v start c → shows c x) → Trail shows v start (x ∷ rest) 0
 trail_of_one shows v start x rest later each = record {
   mark = λ _. start;
@@ -62,7 +62,7 @@ trail_of_one shows v start x rest later each = record {
 }
 
 -- a call in which each image shows the table before or the one after
-pub trail_of_either : {T : Type 0} (shows : Image → T → Type 0) (v : View) (start : ℕ) (x y : T) (rest : List T) → start ≤ v.moment
+pub trail_of_either : {T : Type 0} (shows : Image → T → Type 0) (v : DiskView) (start : ℕ) (x y : T) (rest : List T) → start ≤ v.moment
     → ((c : Image) → Since v start c → shows c x ⊎ shows c y) → Trail shows v start (x ∷ y ∷ rest) 0
 trail_of_either shows v start x y rest later each = record {
   mark = λ _. start;
@@ -77,7 +77,7 @@ trail_of_either shows v start x y rest later each = record {
 }
 
 -- a call in which each image shows the table before or the one after, and at whose end each shows the one after
-pub trail_of_two : {T : Type 0} (shows : Image → T → Type 0) (v : View) (start : ℕ) (x y : T) (rest : List T) → start ≤ v.moment
+pub trail_of_two : {T : Type 0} (shows : Image → T → Type 0) (v : DiskView) (start : ℕ) (x y : T) (rest : List T) → start ≤ v.moment
     → ((c : Image) → Since v start c → shows c x ⊎ shows c y) → ((c : Image) → Images v c → shows c y) → Trail shows v start (x ∷ y ∷ rest) 1
 trail_of_two {T} shows v start x y rest later each at_end = record {
   mark = mark;
@@ -105,7 +105,7 @@ trail_of_two {T} shows v start x y rest later each at_end = record {
     before (suc k) m c le low high left early = absurd (omega arith)
 
 -- a smaller number
-pub trail_fewer : {T : Type 0} (shows : Image → T → Type 0) (v : View) (start : ℕ) (tables : List T) (n less : ℕ) → less ≤ n
+pub trail_fewer : {T : Type 0} (shows : Image → T → Type 0) (v : DiskView) (start : ℕ) (tables : List T) (n less : ℕ) → less ≤ n
     → Trail shows v start tables n → Trail shows v start tables less
 trail_fewer shows v start tables n less le t = record {
   mark = t.mark;
@@ -117,7 +117,7 @@ trail_fewer shows v start tables n less le t = record {
 }
 
 -- more tables behind the last
-pub trail_more : {T : Type 0} (shows : Image → T → Type 0) (v : View) (start : ℕ) (tables more : List T) (n : ℕ)
+pub trail_more : {T : Type 0} (shows : Image → T → Type 0) (v : DiskView) (start : ℕ) (tables more : List T) (n : ℕ)
     → Trail shows v start tables n → Trail shows v start (tables ++ more) n
 trail_more shows v start tables more n t = record {
   mark = t.mark;
@@ -129,7 +129,7 @@ trail_more shows v start tables more n t = record {
 }
 
 -- tables of which others follow
-pub trail_shown : {T U : Type 0} (shows : Image → T → Type 0) (shows' : Image → U → Type 0) (f : T → U) (v : View) (start : ℕ) (tables : List T) (n : ℕ)
+pub trail_shown : {T U : Type 0} (shows : Image → T → Type 0) (shows' : Image → U → Type 0) (f : T → U) (v : DiskView) (start : ℕ) (tables : List T) (n : ℕ)
     → ((c : Image) (x : T) → shows c x → shows' c (f x)) → Trail shows v start tables n → Trail shows' v start (map f tables) n
 trail_shown {T} {U} shows shows' f v start tables n follows t = record {
   mark = t.mark;
@@ -150,7 +150,7 @@ abbrev joined_mark : (ℕ → ℕ) → (ℕ → ℕ) → ℕ → ℕ → ℕ
 joined_mark first second n k = if nat_lt n k then second (k - n) else first k
 
 -- a trail with as many marks as tables, and one from its end that begins with its last table
-module _ {T : Type 0} (shows : Image → T → Type 0) (mid new : View) (start : ℕ) (xs ys : List T) (x : T) (n : ℕ) (passes : Passes mid new)
+module _ {T : Type 0} (shows : Image → T → Type 0) (mid new : DiskView) (start : ℕ) (xs ys : List T) (x : T) (n : ℕ) (passes : Passes mid new)
     (a : Trail shows mid start (xs ++ x ∷ []) (length xs)) (b : Trail shows new mid.moment (x ∷ ys) n) where
   abbrev both : ℕ → ℕ
   both k = joined_mark a.mark b.mark (length xs) k
@@ -239,7 +239,7 @@ module _ {T : Type 0} (shows : Image → T → Type 0) (mid new : View) (start :
   }
 
 -- tables put in between two parts of a trail's list, of which the first holds no more than its number
-module _ {T : Type 0} (shows : Image → T → Type 0) (v : View) (start : ℕ) (xs ys zs : List T) (n : ℕ) (low : length xs ≤ n) (t : Trail shows v start (xs ++ zs) n) where
+module _ {T : Type 0} (shows : Image → T → Type 0) (v : DiskView) (start : ℕ) (xs ys zs : List T) (n : ℕ) (low : length xs ≤ n) (t : Trail shows v start (xs ++ zs) n) where
   -- the old mark for a new one
   abbrev old : ℕ → ℕ
   old k = if nat_lt k (length xs) then k else max (length xs) (k - length ys)

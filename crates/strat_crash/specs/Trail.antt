@@ -1,7 +1,7 @@
 -- Which tables the images of a disk show while time goes on.
 use Rattle.std.specs.Prelude.{◌≡◌, ◌≤◌, ◌<◌, ℕ, zero, suc, ◌+◌, List, [], ◌∷◌, length}
 use Rattle.strat_crash.specs.Image.{Image}
-use Rattle.strat_crash.specs.Moments.{View}
+use Rattle.strat_crash.specs.Moments.{DiskView}
 
 -- the element at a place of a list has P
 abbrev pub At : {T : Type 0} → List T → ℕ → (T → Type 0) → Type 0
@@ -10,7 +10,7 @@ At (x ∷ xs) zero P = P x
 At (x ∷ xs) (suc i) P = At xs i P
 
 -- from a moment to now the images show these tables in order: from mark k on each shows one at place k or later
-pub record Trail {T : Type 0} (shows : Image → T → Type 0) (v : View) (start : ℕ) (tables : List T) (n : ℕ) : Type 0 where
+pub record Trail {T : Type 0} (shows : Image → T → Type 0) (v : DiskView) (start : ℕ) (tables : List T) (n : ℕ) : Type 0 where
   pub mark : ℕ → ℕ
   pub first : mark 0 ≡ start
   pub rise : (k : ℕ) → k < n → mark k ≤ mark (k + 1)

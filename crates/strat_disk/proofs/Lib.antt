@@ -1,4 +1,4 @@
 pub mod LogLemmas
 pub mod MemoryLemmas
 pub mod PlaneLemmas
-pub mod UntoldLemmas
+pub mod HiddenLemmas

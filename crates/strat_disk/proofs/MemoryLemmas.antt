@@ -3,7 +3,7 @@ use Rattle.std.proofs.Common.{◌≡◌, ◌<◌, ◌==◌, ℕ, true, List, len
 use Rattle.std.proofs.lemmas.Bool.{cases_lt, cases_Bool, cond-true, cond-false}
 use Rattle.std.proofs.lemmas.List.{take_all}
 use Rattle.strat_crash.specs.Image.{Image, over}
-use Rattle.strat_crash.specs.Moments.{Images, Since, Passes, TearsOnly, LeavesOld, MayTear, Settled}
+use Rattle.strat_crash.specs.Moments.{Images, Since, Passes, TearsOnly, KeepsImages, MayTear, IsDurable}
 use Rattle.strat_crash.proofs.ImageLemmas.{below, inside, above, lies, over_below, over_inside, over_above, same_everywhere}
 use Rattle.strat_disk.specs.Medium.{Medium, written, settled, crashed, Leaves, IsWhole}
 use Rattle.strat_disk.specs.PlaneView.{plane_of}
@@ -44,7 +44,7 @@ to_now l c left = subst (λ (m : Medium). Leaves m c) (now_at l) left
 module _ (old new : Log) (time : Continues (plane_of old.first) old.events.items (plane_of new.first) new.events.items) where
   pub passes : Passes (log_view old) (log_view new)
   passes = record {
-    told = λ some. refl;
+    exposed = λ some. refl;
     later = time.later;
     past = λ n c le left. subst (λ (m : Medium). Leaves m c) (time.past n le) left;
     kept = λ n c le left. subst (λ (m : Medium). Leaves m c) (sym (time.past n le)) left;
@@ -63,7 +63,7 @@ module _ (old new : Log) (time : Continues (plane_of old.first) old.events.items
         inr (to_now new c (subst (λ (n : ℕ). Leaves (at_moment (plane_of new.first) new.events.items n) c) last since.left))
   ]
 
-  pub leaves_same : plane_of new.present ≡ plane_of old.present → LeavesOld (log_view old) (log_view new)
+  pub leaves_same : plane_of new.present ≡ plane_of old.present → KeepsImages (log_view old) (log_view new)
   leaves_same same = record {
     each = λ c since. elim (either c since) [
       | inl before ↦ from_now old c before
@@ -71,7 +71,7 @@ module _ (old new : Log) (time : Continues (plane_of old.first) old.events.items
     ];
   }
 
-  pub leaves_settled : plane_of new.present ≡ settled (plane_of old.present) → LeavesOld (log_view old) (log_view new)
+  pub leaves_settled : plane_of new.present ≡ settled (plane_of old.present) → KeepsImages (log_view old) (log_view new)
   leaves_settled is = record {
     each = λ c since. elim (either c since) [
       | inl before ↦ from_now old c before
@@ -82,7 +82,7 @@ module _ (old new : Log) (time : Continues (plane_of old.first) old.events.items
     ];
   }
 
-  pub is_settled : plane_of new.present ≡ settled (plane_of old.present) → Settled (log_view new)
+  pub is_settled : plane_of new.present ≡ settled (plane_of old.present) → IsDurable (log_view new)
   is_settled is = λ c left.
       let now : Leaves (settled (plane_of old.present)) c = subst (λ (m : Medium). Leaves m c) is (to_now new c left) in
       let content : c ≡ (plane_of old.present).content = same_everywhere c (plane_of old.present).content (λ i. now.durable i refl) in

@@ -1,6 +1,6 @@
 -- What shows of a disk behind a fuse.
 use Rattle.std.specs.Prelude.{◌≡◌, ◌<◌, ◌+◌, ℕ, ◌-◌, Result, IsErr}
-use Rattle.strat_crash.specs.Faults.{Counts}
+use Rattle.strat_crash.specs.Faults.{CountsFaults}
 use Rattle.strat_disk.specs.declared.fuse.FuseDisk.{FuseDisk}
 
 -- the disk behind it
@@ -18,6 +18,6 @@ all_faults faults f = faults f.inner + f.faults
 -- while calls are left they are passed and fail only where the disk behind fails; then each fails and reaches nothing
 pub record Fused {D T E : Type 0} (faults : D → ℕ) (old new : FuseDisk D) (result : Result T E) : Type 0 where
   pub left : left_of new ≡ left_of old - 1
-  pub passed : 0 < left_of old → Counts (faults (inner_of old)) (faults (inner_of new)) result
+  pub passed : 0 < left_of old → CountsFaults (faults (inner_of old)) (faults (inner_of new)) result
   pub blown : left_of old ≡ 0 → IsErr result
   pub unreached : left_of old ≡ 0 → inner_of new ≡ inner_of old

@@ -7,14 +7,14 @@ use Rattle.strat_disk.specs.declared.event.Event.{Event}
 use Rattle.strat_disk.specs.declared.event.Event.TheVariants.{Wrote, Synced}
 
 -- after one event
-unfoldable pub step : Event → Medium → Medium
-step (Wrote at bytes) m = written at bytes.items m
-step Synced m = settled m
+unfoldable pub after_event : Event → Medium → Medium
+after_event (Wrote at bytes) m = written at bytes.items m
+after_event Synced m = settled m
 
 -- after these events
 unfoldable pub replay : Medium → List Event → Medium
 replay m [] = m
-replay m (event ∷ events) = replay (step event m) events
+replay m (event ∷ events) = replay (after_event event m) events
 
 -- after the first n of them
 abbrev pub at_moment : Medium → List Event → ℕ → Medium

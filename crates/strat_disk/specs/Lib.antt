@@ -1,7 +1,7 @@
-pub mod Counts
+pub mod Calls
 pub mod Fuse
 pub mod History
 pub mod Medium
 pub mod Memory
 pub mod PlaneView
-pub mod Untold
+pub mod Hidden

@@ -1,12 +1,12 @@
 -- What shows of a disk in memory.
 use Rattle.std.specs.Prelude.{◌≡◌, ℕ, List, length, Some}
-use Rattle.strat_crash.specs.Moments.{View}
-use Rattle.strat_disk.specs.Counts.{one_more}
+use Rattle.strat_crash.specs.Moments.{DiskView}
 use Rattle.strat_disk.specs.Medium.{Medium, Leaves}
 use Rattle.strat_disk.specs.PlaneView.{plane_of}
 use Rattle.strat_disk.specs.History.{at_moment}
 use Rattle.strat_disk.specs.declared.log.Log.{Log}
 use Rattle.strat_disk.specs.declared.memory.MemDisk.{MemDisk}
+use Rattle.strat_crash.specs.Faults.{one_more}
 
 -- its bytes up to the last one written
 abbrev pub bytes_of : MemDisk → List ℕ
@@ -33,7 +33,7 @@ abbrev pub faults_of : MemDisk → ℕ
 faults_of d = d.faults
 
 -- its content, and what a crash at each moment might have left
-abbrev pub log_view : Log → View
+abbrev pub log_view : Log → DiskView
 log_view l = record {
   content = Some (plane_of l.present).content;
   moment = length l.events.items;
@@ -41,7 +41,7 @@ log_view l = record {
 }
 
 -- the same of the disk
-abbrev pub view_of : MemDisk → View
+abbrev pub view_of : MemDisk → DiskView
 view_of d = log_view d.log
 
 -- one more call was made, and the same calls are to fail

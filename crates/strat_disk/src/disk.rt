@@ -1,8 +1,8 @@
 //! A disk as a store sees it: its content, and what a crash at each moment may leave.
 ghost use Rattle.std.specs.Prelude.{◌≡◌, ◌≤◌, ℕ, ◌+◌, ◌^◌, length, IfSome, OnOk, OnErr};
-ghost use Rattle.strat_crash.specs.Faults.{Counts};
+ghost use Rattle.strat_crash.specs.Faults.{CountsFaults};
 ghost use Rattle.strat_crash.specs.Image.{Image, HoldsBytes};
-ghost use Rattle.strat_crash.specs.Moments.{View, Images, Gives, Writes, Garbles, Passes, TearsOnly, LeavesOld, MayTear, Settled, WritesThrough};
+ghost use Rattle.strat_crash.specs.Moments.{DiskView, Images, ReadsBack, Writes, Garbles, Passes, TearsOnly, KeepsImages, MayTear, IsDurable, WritesThrough};
 
 use strat_base::Failed;
 
@@ -12,7 +12,7 @@ use strat_base::Failed;
 /// after a sync that succeeds it leaves what a read gives. Places are counted in bytes, up to `2^44`.
 pub trait Disk {
     /// Its content, where it tells it, and the images that a crash at each moment so far might have left.
-    ghost view: { Self → View };
+    ghost view: { Self → DiskView };
 
     /// How often it failed.
     ghost faults: { Self → ℕ };
@@ -23,11 +23,11 @@ pub trait Disk {
     /// Fills `into` with the bytes from `at` on. After an error `into` may hold anything.
     fn read_at(&mut self, at: u64, into: &mut [u8]) -> Result<(), Failed>
         requires { at + length into.old ≤ 2 ^ 44 }
-        ensures ok { OnOk result (Gives (view self.old) at (length into.old) into.new) }
+        ensures ok { OnOk result (ReadsBack (view self.old) at (length into.old) into.new) }
         ensures same { (view self.new).content ≡ (view self.old).content }
-        ensures images { LeavesOld (view self.old) (view self.new) }
+        ensures images { KeepsImages (view self.old) (view self.new) }
         ensures time { Passes (view self.old) (view self.new) }
-        ensures cause { Counts (faults self.old) (faults self.new) result }
+        ensures cause { CountsFaults (faults self.old) (faults self.new) result }
         ensures fewest_reads { reads self.old ≤ reads self.new }
         ensures most_reads { reads self.new ≤ reads self.old + 1 };
 
@@ -39,16 +39,16 @@ pub trait Disk {
         ensures images { TearsOnly (view self.old) (view self.new) at (length bytes.now) }
         ensures torn { OnOk result (MayTear (view self.old) (view self.new) at (length bytes.now)) }
         ensures time { Passes (view self.old) (view self.new) }
-        ensures cause { Counts (faults self.old) (faults self.new) result }
+        ensures cause { CountsFaults (faults self.old) (faults self.new) result }
         ensures reads { reads self.new ≡ reads self.old };
 
     /// Waits until all that was written is there for good.
     fn sync(&mut self) -> Result<(), Failed>
-        ensures ok { OnOk result (Settled (view self.new)) }
+        ensures ok { OnOk result (IsDurable (view self.new)) }
         ensures same { (view self.new).content ≡ (view self.old).content }
-        ensures images { LeavesOld (view self.old) (view self.new) }
+        ensures images { KeepsImages (view self.old) (view self.new) }
         ensures time { Passes (view self.old) (view self.new) }
-        ensures cause { Counts (faults self.old) (faults self.new) result }
+        ensures cause { CountsFaults (faults self.old) (faults self.new) result }
         ensures reads { reads self.new ≡ reads self.old };
 
     /// What the disk reads as is one of its images.
@@ -62,7 +62,7 @@ pub trait Disk {
 pub fn write_through<D: Disk>(disk: &mut D, at: u64, bytes: &[u8]) -> Result<(), Failed>
     requires { at + length bytes.now ≤ 2 ^ 44 }
     ensures through { WritesThrough (D.view disk.old) (D.view disk.new) at bytes.now result }
-    ensures cause { Counts (D.faults disk.old) (D.faults disk.new) result }
+    ensures cause { CountsFaults (D.faults disk.old) (D.faults disk.new) result }
     ensures reads { D.reads disk.new ≡ D.reads disk.old }
 {
     disk.write_at(at, bytes)?;

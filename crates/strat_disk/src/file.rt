@@ -1,6 +1,6 @@
 //! A disk in one file. What the file holds is trusted and not proved.
 ghost use Rattle.std.specs.Prelude.{◌≡◌};
-ghost use Rattle.strat_disk.specs.Untold.{untold};
+ghost use Rattle.strat_disk.specs.Hidden.{hidden};
 
 use crate::disk::Disk;
 use crate::faults::fault;
@@ -41,7 +41,7 @@ impl<'a, R: Files> FileDisk<'a, R> {
 }
 
 impl<R: Files> Disk for FileDisk<'_, R> {
-    ghost view = { λ d. untold };
+    ghost view = { λ d. hidden };
 
     ghost faults = { λ d. d };
 
@@ -54,7 +54,7 @@ impl<R: Files> Disk for FileDisk<'_, R> {
         }
     }
 
-    #[tactic(auto, using(crate::proofs::UntoldLemmas::tears_untold))]
+    #[tactic(auto, using(crate::proofs::HiddenLemmas::tears_hidden))]
     fn write_at(&mut self, at: u64, bytes: &[u8]) -> Result<(), Failed> {
         match self.file.write(at, bytes) {
             Ok(()) => Ok(()),

@@ -1,7 +1,7 @@
 //! A disk that stops working after some calls, for tests.
 ghost use Rattle.std.specs.Prelude.{◌≡◌, ◌≤◌, ◌<◌, ℕ, ◌+◌, ◌-◌, ◌^◌, nat_lt, length, Some, IfSome, IsSomeAnd, OnOk, OnErr};
-ghost use Rattle.strat_crash.specs.Faults.{Counts};
-ghost use Rattle.strat_crash.specs.Moments.{Gives, Writes, Garbles, Passes, TearsOnly, LeavesOld, MayTear, Settled};
+ghost use Rattle.strat_crash.specs.Faults.{CountsFaults};
+ghost use Rattle.strat_crash.specs.Moments.{ReadsBack, Writes, Garbles, Passes, TearsOnly, KeepsImages, MayTear, IsDurable};
 
 use crate::disk::Disk;
 use crate::faults::fault;
@@ -55,13 +55,13 @@ impl<D: Disk> Disk for FuseDisk<D> {
 
     fn read_at(&mut self, at: u64, into: &mut [u8]) -> Result<(), Failed>
         requires { at + length into.old ≤ 2 ^ 44 }
-        ensures ok { OnOk result (Gives (D.view (inner_of self.old))
+        ensures ok { OnOk result (ReadsBack (D.view (inner_of self.old))
             at (length into.old) into.new) }
         ensures same { (D.view (inner_of self.new)).content
             ≡ (D.view (inner_of self.old)).content }
-        ensures images { LeavesOld (D.view (inner_of self.old)) (D.view (inner_of self.new)) }
+        ensures images { KeepsImages (D.view (inner_of self.old)) (D.view (inner_of self.new)) }
         ensures time { Passes (D.view (inner_of self.old)) (D.view (inner_of self.new)) }
-        ensures cause { Counts (all_faults D.faults self.old) (all_faults D.faults self.new)
+        ensures cause { CountsFaults (all_faults D.faults self.old) (all_faults D.faults self.new)
             result }
         ensures fewest_reads { D.reads (inner_of self.old) ≤ D.reads (inner_of self.new) }
         ensures most_reads { D.reads (inner_of self.new) ≤ D.reads (inner_of self.old) + 1 }
@@ -84,7 +84,7 @@ impl<D: Disk> Disk for FuseDisk<D> {
         ensures torn { OnOk result (MayTear (D.view (inner_of self.old))
             (D.view (inner_of self.new)) at (length bytes.now)) }
         ensures time { Passes (D.view (inner_of self.old)) (D.view (inner_of self.new)) }
-        ensures cause { Counts (all_faults D.faults self.old) (all_faults D.faults self.new)
+        ensures cause { CountsFaults (all_faults D.faults self.old) (all_faults D.faults self.new)
             result }
         ensures reads { D.reads (inner_of self.new) ≡ D.reads (inner_of self.old) }
         ensures fuse { Fused D.faults self.old self.new result }
@@ -96,12 +96,12 @@ impl<D: Disk> Disk for FuseDisk<D> {
     }
 
     fn sync(&mut self) -> Result<(), Failed>
-        ensures ok { OnOk result (Settled (D.view (inner_of self.new))) }
+        ensures ok { OnOk result (IsDurable (D.view (inner_of self.new))) }
         ensures same { (D.view (inner_of self.new)).content
             ≡ (D.view (inner_of self.old)).content }
-        ensures images { LeavesOld (D.view (inner_of self.old)) (D.view (inner_of self.new)) }
+        ensures images { KeepsImages (D.view (inner_of self.old)) (D.view (inner_of self.new)) }
         ensures time { Passes (D.view (inner_of self.old)) (D.view (inner_of self.new)) }
-        ensures cause { Counts (all_faults D.faults self.old) (all_faults D.faults self.new)
+        ensures cause { CountsFaults (all_faults D.faults self.old) (all_faults D.faults self.new)
             result }
         ensures reads { D.reads (inner_of self.new) ≡ D.reads (inner_of self.old) }
         ensures fuse { Fused D.faults self.old self.new result }

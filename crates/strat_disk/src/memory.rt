@@ -1,8 +1,8 @@
 //! A disk in memory, for tests: it can fail at chosen calls, and it can crash.
 ghost use Rattle.std.specs.Prelude.{◌≡◌, ◌≤◌, ◌<◌, ℕ, ◌+◌, ◌-◌, ◌^◌, [], true, length, slice_index, Some, IfOk, IfSome, IsSomeAnd, IsErr, IsTrue, OnOk, OnErr, is_err};
-ghost use Rattle.strat_crash.specs.Faults.{Counts};
-ghost use Rattle.strat_crash.specs.Moments.{Images, Gives, Writes, Garbles, Passes, TearsOnly, LeavesOld, MayTear, Settled};
-ghost use Rattle.strat_disk.specs.Counts.{one_more, is_failing};
+ghost use Rattle.strat_crash.specs.Faults.{CountsFaults, one_more};
+ghost use Rattle.strat_crash.specs.Moments.{Images, ReadsBack, Writes, Garbles, Passes, TearsOnly, KeepsImages, MayTear, IsDurable};
+ghost use Rattle.strat_disk.specs.Calls.{is_failing};
 ghost use Rattle.strat_disk.specs.Medium.{at_rest, written, settled, altered, crashed};
 
 use crate::disk::Disk;
@@ -105,7 +105,7 @@ impl MemDisk {
     }
 }
 
-/// Counts a call, and says whether it is to fail.
+/// CountsFaults a call, and says whether it is to fail.
 fn fails(calls: &mut u64, failing: &Vec<u64>) -> bool
     ensures calls { calls.new ≡ one_more calls.old }
     ensures value { result ≡ is_failing failing.now.items calls.new }
@@ -127,11 +127,11 @@ impl Disk for MemDisk {
 
     fn read_at(&mut self, at: u64, into: &mut [u8]) -> Result<(), Failed>
         requires { at + length into.old ≤ 2 ^ 44 }
-        ensures ok { OnOk result (Gives (view_of self.old) at (length into.old) into.new) }
+        ensures ok { OnOk result (ReadsBack (view_of self.old) at (length into.old) into.new) }
         ensures same { (view_of self.new).content ≡ (view_of self.old).content }
-        ensures images { LeavesOld (view_of self.old) (view_of self.new) }
+        ensures images { KeepsImages (view_of self.old) (view_of self.new) }
         ensures time { Passes (view_of self.old) (view_of self.new) }
-        ensures cause { Counts (faults_of self.old) (faults_of self.new) result }
+        ensures cause { CountsFaults (faults_of self.old) (faults_of self.new) result }
         ensures fewest_reads { reads_of self.old ≤ reads_of self.new }
         ensures most_reads { reads_of self.new ≤ reads_of self.old + 1 }
         ensures reads { reads_of self.new ≡ one_more (reads_of self.old) }
@@ -156,7 +156,7 @@ impl Disk for MemDisk {
         ensures torn { OnOk result (MayTear (view_of self.old) (view_of self.new)
             at (length bytes.now)) }
         ensures time { Passes (view_of self.old) (view_of self.new) }
-        ensures cause { Counts (faults_of self.old) (faults_of self.new) result }
+        ensures cause { CountsFaults (faults_of self.old) (faults_of self.new) result }
         ensures reads { reads_of self.new ≡ reads_of self.old }
         ensures written { OnOk result (medium_of self.new
             ≡ written at bytes.now (medium_of self.old)) }
@@ -174,11 +174,11 @@ impl Disk for MemDisk {
     }
 
     fn sync(&mut self) -> Result<(), Failed>
-        ensures ok { OnOk result (Settled (view_of self.new)) }
+        ensures ok { OnOk result (IsDurable (view_of self.new)) }
         ensures same { (view_of self.new).content ≡ (view_of self.old).content }
-        ensures images { LeavesOld (view_of self.old) (view_of self.new) }
+        ensures images { KeepsImages (view_of self.old) (view_of self.new) }
         ensures time { Passes (view_of self.old) (view_of self.new) }
-        ensures cause { Counts (faults_of self.old) (faults_of self.new) result }
+        ensures cause { CountsFaults (faults_of self.old) (faults_of self.new) result }
         ensures reads { reads_of self.new ≡ reads_of self.old }
         ensures settled { OnOk result (medium_of self.new ≡ settled (medium_of self.old)) }
         ensures unsettled { OnErr result (medium_of self.new ≡ medium_of self.old) }

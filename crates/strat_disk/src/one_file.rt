@@ -12,8 +12,8 @@ pub struct OneFile<'a, R: Files> {
     path: &'a str,
     file: Option<R::File>,
     created: bool,
-    named: bool,
-    spoiled: bool,
+    folder_synced: bool,
+    sync_failed: bool,
 }
 
 impl<'a, R: Files> OneFile<'a, R> {
@@ -23,8 +23,8 @@ impl<'a, R: Files> OneFile<'a, R> {
             path,
             file: None,
             created: false,
-            named: false,
-            spoiled: false,
+            folder_synced: false,
+            sync_failed: false,
         }
     }
 
@@ -51,23 +51,23 @@ impl<'a, R: Files> OneFile<'a, R> {
     /// Syncs the file's bytes, and the first time also the folder that names it.
     pub fn sync(&mut self) -> io::Result<()> {
         // A sync that failed may have lost what it was to keep, and the next one would not say so.
-        if self.spoiled {
+        if self.sync_failed {
             return Err(ErrorKind::Other.into());
         }
-        self.spoiled = true;
+        self.sync_failed = true;
         self.open()?;
         match &self.file {
             Some(file) => sync_data(file)?,
             None => return Err(ErrorKind::NotFound.into()),
         }
-        if !self.named {
+        if !self.folder_synced {
             // Only a file that was made here needs its folder: another one had its name before.
             match sync_folder(self.rt, self.path) {
                 Err(e) if self.created => return Err(e),
-                _ => self.named = true,
+                _ => self.folder_synced = true,
             }
         }
-        self.spoiled = false;
+        self.sync_failed = false;
         Ok(())
     }
 

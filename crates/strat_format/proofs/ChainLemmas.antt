@@ -8,7 +8,7 @@ use Rattle.strat_base.specs.declared.limits.TheConstants.{BLOCK}
 use Rattle.strat_crash.specs.Image.{Image, window}
 use Rattle.strat_base.specs.Numbers.{be, number}
 use Rattle.strat_format.specs.Chain.{next_block, link_bytes, chain_length, HoldsChain, IsChain}
-use Rattle.strat_format.specs.Manifest.{Manifest, Spells, manifest_in}
+use Rattle.strat_format.specs.Manifest.{Manifest, SpellsManifest, manifest_in}
 use Rattle.strat_format.specs.Damage.{Read, and_then, found_or, put_first}
 use Rattle.strat_format.specs.Chained.{link_at, may_follow, chain_from, chained_bytes, manifest_filled, manifest_in_chain, manifest_at}
 use Rattle.strat_crash.proofs.ImageLemmas.{length-window, window_split}
@@ -143,13 +143,13 @@ take_front [] ys = refl
 take_front (x ∷ xs) ys = ap (λ (l : List ℕ). x ∷ l) (take_front xs ys)
 
 -- a manifest is read from its bytes and zeros
-filled_read : (bytes : List ℕ) (k : ℕ) (m : Manifest) → Spells bytes m → manifest_filled (length bytes) (bytes ++ replicate k 0) ≡ Some m
+filled_read : (bytes : List ℕ) (k : ℕ) (m : Manifest) → SpellsManifest bytes m → manifest_filled (length bytes) (bytes ++ replicate k 0) ≡ Some m
 filled_read bytes k m spells =
     cond-true (list_all (λ x. eqb x 0) (drop (length bytes) (bytes ++ replicate k 0))) (manifest_in (take (length bytes) (bytes ++ replicate k 0))) None
     (ap (list_all (λ x. eqb x 0)) (drop_front bytes (replicate k 0)) ∙ all_zero k)
     ∙ ap manifest_in (take_front bytes (replicate k 0)) ∙ manifest_in-bytes m bytes spells
 
-pub chain_read : (c : Image) (b : ℕ) (blocks bytes : List ℕ) (m : Manifest) → Spells bytes m → IsChain c (b ∷ blocks) bytes
+pub chain_read : (c : Image) (b : ℕ) (blocks bytes : List ℕ) (m : Manifest) → SpellsManifest bytes m → IsChain c (b ∷ blocks) bytes
     → manifest_at c b (length bytes) ≡ Ok (record { manifest = m; blocks = b ∷ blocks })
 chain_read c b blocks bytes m spells chain =
     let linked : are_linked [] (b ∷ blocks) ≡ true = chain_linked [] (b ∷ blocks) chain.named chain.distinct (all_outside_none (b ∷ blocks)) in

@@ -8,14 +8,14 @@ use Rattle.std.proofs.lemmas.Bool.Decides.{nat_tests}
 use Rattle.std.proofs.lemmas.Option.{cond_some}
 use Rattle.std.proofs.lemmas.List.{drop_at}
 use Rattle.strat_base.specs.Numbers.{be, number}
-use Rattle.strat_format.specs.Manifest.{Extent, ArrayDesc, LevelDesc, Manifest, versions_in, is_lawful_extent, is_counted, is_lawful_array, is_lawful_level, are_older, is_lawful_manifest, list_bytes, extent_bytes, array_bytes, level_bytes, manifest_bytes, Spells, Read, next, all_pass, read_number, read_items, read_list, read_extent, read_array, read_level, read_manifest, manifest_in}
+use Rattle.strat_format.specs.Manifest.{Extent, ArrayDesc, LevelDesc, Manifest, versions_in, is_lawful_extent, is_counted, is_lawful_array, is_lawful_level, are_older, is_lawful_manifest, list_bytes, extent_bytes, array_bytes, level_bytes, manifest_bytes, SpellsManifest, Parsed, next, all_pass, read_number, read_items, read_list, read_extent, read_array, read_level, read_manifest, manifest_in}
 use Rattle.strat_base.proofs.ListFacts.{Among, all_at}
 use Rattle.strat_base.proofs.EntryLemmas.{bytes_same, same_bytes}
 use Rattle.strat_base.proofs.NumberLemmas.{length-be, number-be}
 use Rattle.strat_base.proofs.TreeLemmas.{option_cases}
 
 -- a value read, and what is left
-abbrev pub got : {A : Type 0} → A → List ℕ → Read A
+abbrev pub got : {A : Type 0} → A → List ℕ → Parsed A
 got x rest = Some (x, rest)
 
 pub read_number-be : (k x : ℕ) (rest : List ℕ) → x < 256 ^ k → read_number k (be k x ++ rest) ≡ got x rest
@@ -26,18 +26,18 @@ read_number-be k x rest fits =
     ∙ (λ i. got (number-be k x rest fits i) (drop_at (be k x) rest k (length-be k x) i))
 
 module _ {B : Type 0} where
-  next_number : (k x : ℕ) (rest : List ℕ) (behind : ℕ → List ℕ → Read B) → x < 256 ^ k → next (read_number k (be k x ++ rest)) behind ≡ behind x rest
-  next_number k x rest behind fits = ap (λ (r : Read ℕ). next r behind) (read_number-be k x rest fits)
+  next_number : (k x : ℕ) (rest : List ℕ) (behind : ℕ → List ℕ → Parsed B) → x < 256 ^ k → next (read_number k (be k x ++ rest)) behind ≡ behind x rest
+  next_number k x rest behind fits = ap (λ (r : Parsed ℕ). next r behind) (read_number-be k x rest fits)
 
-module _ {A : Type 0} (read : List ℕ → Read A) (item_bytes : A → List ℕ) where
+module _ {A : Type 0} (read : List ℕ → Parsed A) (item_bytes : A → List ℕ) where
   read_items-bytes : (xs : List A) (rest : List ℕ) → ((x : A) (end : List ℕ) → Among x xs → read (item_bytes x ++ end) ≡ got x end) → read_items read (length xs) (flat_map item_bytes xs ++ rest) ≡ got xs rest
   unfolding read_items
   read_items-bytes [] rest each = refl
   read_items-bytes (x ∷ xs) rest each =
       let behind : List ℕ = flat_map item_bytes xs ++ rest in
       ap (read_items read (suc (length xs))) (append_assoc (item_bytes x) (flat_map item_bytes xs) rest)
-      ∙ ap (λ (r : Read A). next r (λ y end. next (read_items read (length xs) end) (λ ys last. got (y ∷ ys) last))) (each x behind (inl refl))
-      ∙ ap (λ (r : Read (List A)). next r (λ ys last. got (x ∷ ys) last)) (read_items-bytes xs rest (λ y end among. each y end (inr among)))
+      ∙ ap (λ (r : Parsed A). next r (λ y end. next (read_items read (length xs) end) (λ ys last. got (y ∷ ys) last))) (each x behind (inl refl))
+      ∙ ap (λ (r : Parsed (List A)). next r (λ ys last. got (x ∷ ys) last)) (read_items-bytes xs rest (λ y end among. each y end (inr among)))
 
   read_list-bytes : (xs : List A) (rest : List ℕ) → length xs < 2 ^ 32 → ((x : A) (end : List ℕ) → Among x xs → read (item_bytes x ++ end) ≡ got x end) → read_list read (be 4 (length xs) ++ (flat_map item_bytes xs ++ rest)) ≡ got xs rest
   read_list-bytes xs rest few each =
@@ -93,10 +93,10 @@ module _ (a : ArrayDesc) (rest : List ℕ) where
       got (record { id = a.id; entries = a.entries; leads = leads; least = least; extents = extents; versions = versions }) g)))) (omega arith)
       ∙ next_number 4 a.least behind_numbers (λ least e. next (read_list read_extent e) (λ extents f. next (read_list (read_number 4) f) (λ versions g.
       got (record { id = a.id; entries = a.entries; leads = a.leads; least = least; extents = extents; versions = versions }) g))) (omega arith)
-      ∙ ap (λ (r : Read (List Extent)). next r (λ extents f. next (read_list (read_number 4) f) (λ versions g.
+      ∙ ap (λ (r : Parsed (List Extent)). next r (λ extents f. next (read_list (read_number 4) f) (λ versions g.
       got (record { id = a.id; entries = a.entries; leads = a.leads; least = a.least; extents = extents; versions = versions }) g)))
       (read_list-bytes read_extent extent_bytes a.extents behind_extents (counted_below a.extents (pass_at _ 6 lawful)) (λ x end among. read_extent-bytes x end (all_at is_lawful_extent x a.extents extents among)))
-      ∙ ap (λ (r : Read (List ℕ)). next r (λ versions g.
+      ∙ ap (λ (r : Parsed (List ℕ)). next r (λ versions g.
       got (record { id = a.id; entries = a.entries; leads = a.leads; least = a.least; extents = a.extents; versions = versions }) g))
       (read_list-bytes (read_number 4) (be 4) a.versions rest (counted_below a.versions (pass_at _ 9 lawful)) (λ v end among. read_number-be 4 v end (ltb-true v (2 ^ 32) (all_at (λ w. ltb w (2 ^ 32)) v a.versions versions among))))
 
@@ -122,7 +122,7 @@ module _ (level : LevelDesc) (rest : List ℕ) where
       got (record { number = number; horizon = horizon; arrays = arrays }) d))) (omega arith)
       ∙ next_number 4 level.horizon behind_horizon (λ horizon c. next (read_list read_array c) (λ arrays d.
       got (record { number = level.number; horizon = horizon; arrays = arrays }) d)) (omega arith)
-      ∙ ap (λ (r : Read (List ArrayDesc)). next r (λ arrays d. got (record { number = level.number; horizon = level.horizon; arrays = arrays }) d))
+      ∙ ap (λ (r : Parsed (List ArrayDesc)). next r (λ arrays d. got (record { number = level.number; horizon = level.horizon; arrays = arrays }) d))
       (read_list-bytes read_array array_bytes level.arrays rest (counted_below level.arrays (pass_at _ 4 lawful)) (λ a end among. read_array-bytes a end next_array small (all_at (is_lawful_array next_array) a level.arrays arrays among)))
 
 older_below : (v : ℕ) (parents : List ℕ) (p : ℕ) → are_older v parents ≡ true → Among p parents → p < v + length parents
@@ -171,7 +171,7 @@ module _ (m : Manifest) where
       ∙ ap (λ (n : ℕ). next (read_items (read_number 4) n behind_versions) (λ parents g.
       next (read_number 1 g) (λ count h. next (read_items read_level count h) (λ levels i.
       got (record { changes = m.changes; updates = m.updates; written = m.written; next_array = m.next_array; parents = parents; levels = levels }) i)))) one_less
-      ∙ ap (λ (r : Read (List ℕ)). next r (λ parents g.
+      ∙ ap (λ (r : Parsed (List ℕ)). next r (λ parents g.
       next (read_number 1 g) (λ count h. next (read_items read_level count h) (λ levels i.
       got (record { changes = m.changes; updates = m.updates; written = m.written; next_array = m.next_array; parents = parents; levels = levels }) i))))
       (read_items-bytes (read_number 4) (be 4) m.parents behind_parents (λ p end among. read_number-be 4 p end (let lt = older_below 1 m.parents p older among in omega (arith, lt, versions))))
@@ -179,28 +179,28 @@ module _ (m : Manifest) where
       got (record { changes = m.changes; updates = m.updates; written = m.written; next_array = m.next_array; parents = m.parents; levels = levels }) i)) (omega arith)
       ∙ ap (λ (x : List ℕ). next (read_items read_level (length m.levels) x) (λ levels i.
       got (record { changes = m.changes; updates = m.updates; written = m.written; next_array = m.next_array; parents = m.parents; levels = levels }) i)) (sym (append-nil (flat_map level_bytes m.levels)))
-      ∙ ap (λ (r : Read (List LevelDesc)). next r (λ levels i.
+      ∙ ap (λ (r : Parsed (List LevelDesc)). next r (λ levels i.
       got (record { changes = m.changes; updates = m.updates; written = m.written; next_array = m.next_array; parents = m.parents; levels = levels }) i))
       (read_items-bytes read_level level_bytes m.levels [] (λ level end among. read_level-bytes level end (versions_in m) m.next_array versions small (all_at (is_lawful_level (versions_in m) m.next_array) level m.levels levels among)))
     where
       one_less : versions_in m - 1 ≡ length m.parents
       one_less = omega arith
 
-  pub manifest_in-bytes : (bytes : List ℕ) → Spells bytes m → manifest_in bytes ≡ Some m
+  pub manifest_in-bytes : (bytes : List ℕ) → SpellsManifest bytes m → manifest_in bytes ≡ Some m
   unfolding manifest_in
   manifest_in-bytes bytes spells =
       let read : read_manifest bytes ≡ got m [] = ap read_manifest spells.text ∙ read_manifest-bytes spells.lawful in
-      ap (λ (r : Read Manifest). option_and_then (λ x. cond (is_lawful_manifest x.0 && bytes_eq bytes (manifest_bytes x.0)) (Some x.0) None) r) read
+      ap (λ (r : Parsed Manifest). option_and_then (λ x. cond (is_lawful_manifest x.0 && bytes_eq bytes (manifest_bytes x.0)) (Some x.0) None) r) read
       ∙ cond-true (is_lawful_manifest m && bytes_eq bytes (manifest_bytes m)) (Some m) None (and_from (is_lawful_manifest m) (bytes_eq bytes (manifest_bytes m)) spells.lawful (same_bytes bytes (manifest_bytes m) spells.text))
 
-  pub manifest_in-some : (bytes : List ℕ) → manifest_in bytes ≡ Some m → Spells bytes m
+  pub manifest_in-some : (bytes : List ℕ) → manifest_in bytes ≡ Some m → SpellsManifest bytes m
   unfolding manifest_in
   manifest_in-some bytes is =
       elim (option_cases (read_manifest bytes)) [
         | inl none ↦ absurd (cc)
         | inr found ↦
-            let some = ap (λ (r : Read Manifest). option_and_then (λ x. cond (is_lawful_manifest x.0 && bytes_eq bytes (manifest_bytes x.0)) (Some x.0) None) r) (sym found.1) ∙ is in
+            let some = ap (λ (r : Parsed Manifest). option_and_then (λ x. cond (is_lawful_manifest x.0 && bytes_eq bytes (manifest_bytes x.0)) (Some x.0) None) r) (sym found.1) ∙ is in
             let both = cond_some (is_lawful_manifest found.0.0 && bytes_eq bytes (manifest_bytes found.0.0)) found.0.0 m some in
             let parts = and_parts (is_lawful_manifest found.0.0) (bytes_eq bytes (manifest_bytes found.0.0)) both.0 in
-            subst (Spells bytes) both.1 (record { lawful = parts.0; text = bytes_same bytes (manifest_bytes found.0.0) parts.1 })
+            subst (SpellsManifest bytes) both.1 (record { lawful = parts.0; text = bytes_same bytes (manifest_bytes found.0.0) parts.1 })
       ]

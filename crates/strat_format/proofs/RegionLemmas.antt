@@ -3,10 +3,10 @@ use Rattle.std.proofs.Common.{◌≡◌, ◌≤◌, ◌+◌, ◌-◌, ℕ, zero,
 use Rattle.std.proofs.lemmas.Bool.{cond-false, not-true}
 use Rattle.strat_crash.specs.Image.{Image, window}
 use Rattle.strat_base.specs.Change.{Change, change_in, change_bytes}
-use Rattle.strat_format.specs.Layout.{region_first, region_at, region_size, other_region}
+use Rattle.strat_format.specs.Layout.{region_first, region_at, region_size, other_region, is_open}
 use Rattle.strat_format.specs.Damage.{Read, and_then, passed_or}
 use Rattle.strat_format.proofs.DamageLemmas.{and_then_ok, passed_ok, put_first_ok}
-use Rattle.strat_format.specs.Records.{Logged, is_open, block_of, record_then, records, region_records, full_then, journal_of, is_other_open, journal_in_one}
+use Rattle.strat_format.specs.Records.{Logged, block_of, record_then, records, region_records, full_then, journal_of, is_other_open, journal_in_one}
 
 records_closed : (c : Image) (end n at : ℕ) → is_open (c at) ≡ false → records c end n at ≡ Ok []
 unfolding records

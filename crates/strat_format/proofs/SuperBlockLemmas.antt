@@ -6,8 +6,9 @@ use Rattle.std.proofs.lemmas.List.{drop-drop, drop_at, take_at, append-nil, leng
 use Rattle.strat_crash.specs.Image.{Image, window, SameIn}
 use Rattle.strat_base.specs.Numbers.{be, number, placed}
 use Rattle.strat_base.proofs.NumberLemmas.{length-be, number-be}
-use Rattle.strat_format.specs.SuperBlock.{Super, Slot, IsLawful, magic, spelled, fields, zeros, body, first_free, in_range, slot_of, slot_in, newer}
+use Rattle.strat_format.specs.SuperBlock.{Super, Slot, IsLawful, magic, spelled, fields, zeros, body, in_range, slot_of, slot_in, newer}
 use Rattle.strat_crash.proofs.ImageLemmas.{window_at, window_same}
+use Rattle.strat_format.specs.Layout.{first_free}
 
 pub length-zeros : (n : ℕ) → length (zeros n) ≡ n
 unfolding zeros

@@ -1,6 +1,25 @@
--- Where the two regions of a journal lie.
-use Rattle.std.specs.Prelude.{ℕ, ◌+◌, ◌-◌, ◌*◌}
-use Rattle.strat_format.specs.SuperBlock.{region_blocks}
+-- Where the parts of a store lie in its file: two superblock slots, two journal regions, and free blocks after them.
+use Rattle.std.specs.Prelude.{ℕ, ◌+◌, ◌-◌, ◌*◌, ◌/◌, ◌==◌, Bool}
+
+-- what an open gate holds; any other byte is a closed one
+abbrev pub open_flag : ℕ
+open_flag = 0xa7
+
+-- a gate that holds this byte is open
+abbrev pub is_open : ℕ → Bool
+is_open gate = gate == open_flag
+
+-- bytes of the largest journal record: its gate, and a put of the longest key and the longest value
+abbrev pub record_max : ℕ
+record_max = 1288
+
+-- bytes of the shortest manifest, that of a store without levels and with one version
+abbrev pub manifest_min : ℕ
+manifest_min = 29
+
+-- the blocks of a journal region for so many changes: room for the largest records and a closed gate
+abbrev pub region_blocks : ℕ → ℕ
+region_blocks mem = (record_max * mem + 4096) / 4096
 
 -- the first block of a region
 abbrev pub region_first : ℕ → ℕ → ℕ
@@ -17,3 +36,7 @@ region_size mem = 4096 * region_blocks mem
 -- the region that is not this one
 abbrev pub other_region : ℕ → ℕ
 other_region region = 1 - region
+
+-- the first block after both journal regions
+abbrev pub first_free : ℕ → ℕ
+first_free mem = 2 + 2 * region_blocks mem

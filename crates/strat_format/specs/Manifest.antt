@@ -112,6 +112,10 @@ array_bytes a =
 abbrev pub level_bytes : LevelDesc → List ℕ
 level_bytes level = be 1 level.number ++ (be 4 level.horizon ++ list_bytes array_bytes level.arrays)
 
+-- the manifest of a new store: nothing was changed or written, the first array will be number 1, and there is one version
+abbrev pub new_manifest : Manifest
+new_manifest = record { changes = 0; updates = 0; written = 0; next_array = 1; parents = []; levels = [] }
+
 -- the bytes of a manifest
 unfoldable pub manifest_bytes : Manifest → List ℕ
 manifest_bytes m =
@@ -119,52 +123,52 @@ manifest_bytes m =
     ++ (be 4 (versions_in m) ++ (flat_map (be 4) m.parents ++ (be 1 (length m.levels) ++ flat_map level_bytes m.levels))))))
 
 -- these bytes are the spelling of a manifest
-pub record Spells (bytes : List ℕ) (m : Manifest) : Type 0 where
+pub record SpellsManifest (bytes : List ℕ) (m : Manifest) : Type 0 where
   pub lawful : IsTrue (is_lawful_manifest m)
   pub text : bytes ≡ manifest_bytes m
 
 -- a value read from the front of bytes, and the bytes behind it
-abbrev pub Read : Type 0 → Type 0
-Read A = Option (A × List ℕ)
+abbrev pub Parsed : Type 0 → Type 0
+Parsed A = Option (A × List ℕ)
 
 -- what is read behind another value
-abbrev pub next : {A B : Type 0} → Read A → (A → List ℕ → Read B) → Read B
+abbrev pub next : {A B : Type 0} → Parsed A → (A → List ℕ → Parsed B) → Parsed B
 next None behind = None
 next (Some read) behind = behind read.0 read.1
 
 -- a number in k bytes
-unfoldable pub read_number : ℕ → List ℕ → Read ℕ
+unfoldable pub read_number : ℕ → List ℕ → Parsed ℕ
 read_number k bytes = if nat_le k (length bytes) then Some (number k bytes, drop k bytes) else None
 
 -- n items, one behind the other
-unfoldable pub read_items : {A : Type 0} → (List ℕ → Read A) → ℕ → List ℕ → Read (List A)
+unfoldable pub read_items : {A : Type 0} → (List ℕ → Parsed A) → ℕ → List ℕ → Parsed (List A)
 read_items read zero bytes = Some ([], bytes)
 read_items read (suc n) bytes = next (read bytes) (λ x rest. next (read_items read n rest) (λ xs end. Some (x ∷ xs, end)))
 
 -- as many items as four bytes in front of them say
-abbrev pub read_list : {A : Type 0} → (List ℕ → Read A) → List ℕ → Read (List A)
+abbrev pub read_list : {A : Type 0} → (List ℕ → Parsed A) → List ℕ → Parsed (List A)
 read_list read bytes = next (read_number 4 bytes) (λ n rest. read_items read n rest)
 
 -- an extent, read from the front of bytes
-unfoldable pub read_extent : List ℕ → Read Extent
+unfoldable pub read_extent : List ℕ → Parsed Extent
 read_extent bytes =
     next (read_number 4 bytes) (λ start b. next (read_number 4 b) (λ len c. Some (record { start = start; len = len }, c)))
 
 -- an array's descriptor, read from the front of bytes
-unfoldable pub read_array : List ℕ → Read ArrayDesc
+unfoldable pub read_array : List ℕ → Parsed ArrayDesc
 read_array bytes =
     next (read_number 8 bytes) (λ id b. next (read_number 4 b) (λ entries c. next (read_number 4 c) (λ leads d.
     next (read_number 4 d) (λ least e. next (read_list read_extent e) (λ extents f. next (read_list (read_number 4) f) (λ versions g.
     Some (record { id = id; entries = entries; leads = leads; least = least; extents = extents; versions = versions }, g)))))))
 
 -- a level's descriptor, read from the front of bytes
-unfoldable pub read_level : List ℕ → Read LevelDesc
+unfoldable pub read_level : List ℕ → Parsed LevelDesc
 read_level bytes =
     next (read_number 1 bytes) (λ number b. next (read_number 4 b) (λ horizon c. next (read_list read_array c) (λ arrays d.
     Some (record { number = number; horizon = horizon; arrays = arrays }, d))))
 
 -- the fields of a manifest, read from the front of bytes
-unfoldable pub read_manifest : List ℕ → Read Manifest
+unfoldable pub read_manifest : List ℕ → Parsed Manifest
 read_manifest bytes =
     next (read_number 4 bytes) (λ changes b. next (read_number 4 b) (λ updates c. next (read_number 8 c) (λ written d.
     next (read_number 8 d) (λ next_array e. next (read_number 4 e) (λ versions f. next (read_items (read_number 4) (versions - 1) f) (λ parents g.

@@ -3,7 +3,7 @@ use Rattle.std.specs.Prelude.{ℕ, zero, suc, ◌+◌, ◌-◌, ◌/◌, ◌==�
 use Rattle.strat_base.specs.declared.limits.TheConstants.{BLOCK}
 use Rattle.strat_crash.specs.Image.{Image, window}
 use Rattle.strat_base.specs.Change.{Change, change_bytes, change_in}
-use Rattle.strat_format.specs.Layout.{region_first, region_at, region_size, other_region}
+use Rattle.strat_format.specs.Layout.{region_first, region_at, region_size, other_region, open_flag, is_open}
 use Rattle.strat_format.specs.Damage.{Read, and_then, passed_or, put_first}
 
 -- a change in a journal, and the block in which the gate of its record stands
@@ -11,14 +11,10 @@ pub record Logged : Type 0 where
   pub change : Change
   pub block : ℕ
 
--- a gate is open
-abbrev pub is_open : ℕ → Bool
-is_open gate = gate == 0xa7
-
 -- the bytes of records
 abbrev pub records_bytes : List Change → List ℕ
 records_bytes [] = []
-records_bytes (change ∷ changes) = 0xa7 ∷ (change_bytes change ++ records_bytes changes)
+records_bytes (change ∷ changes) = open_flag ∷ (change_bytes change ++ records_bytes changes)
 
 -- the block in which a byte lies
 abbrev pub block_of : ℕ → ℕ

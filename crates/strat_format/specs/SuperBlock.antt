@@ -2,6 +2,7 @@
 use Rattle.std.specs.Prelude.{◌≤◌, ◌<◌, ◌==◌, ◌&&◌, ℕ, ◌+◌, ◌*◌, ◌/◌, ◌^◌, nat_lt, nat_le, if◌then◌else◌, Bool, List, [], ◌∷◌, ◌++◌, drop, replicate, slice_index, Option, Some, None, Result, Ok, Err}
 use Rattle.strat_crash.specs.Image.{Image, window}
 use Rattle.strat_base.specs.Numbers.{be, number}
+use Rattle.strat_format.specs.Layout.{open_flag, manifest_min, first_free}
 
 -- what a superblock says: its generation, the manifest's first block and length in bytes, the active journal region, and the limits of the store
 pub record Super : Type 0 where
@@ -17,13 +18,14 @@ pub record Super : Type 0 where
 abbrev pub magic : ℕ
 magic = 0x5354524154425431
 
--- the blocks of a journal region for so many changes
-abbrev pub region_blocks : ℕ → ℕ
-region_blocks mem = (1288 * mem + 4096) / 4096
-
--- the first block behind both journal regions
-abbrev pub first_free : ℕ → ℕ
-first_free mem = 2 + 2 * region_blocks mem
+-- the limits of a store: changes per journal region, changes in its life, versions
+pub record AreLimits (mem changes_max versions_max : ℕ) : Type 0 where
+  pub mem_least : 4 ≤ mem
+  pub mem_most : mem ≤ 4096
+  pub changes_least : 1 ≤ changes_max
+  pub changes_most : changes_max ≤ 16777216
+  pub versions_least : 1 ≤ versions_max
+  pub versions_most : versions_max ≤ 16384
 
 -- the fields are in their ranges
 pub record IsLawful (sb : Super) : Type 0 where
@@ -31,7 +33,7 @@ pub record IsLawful (sb : Super) : Type 0 where
   pub generation_fits : sb.generation < 2 ^ 64
   pub manifest_least : first_free sb.mem ≤ sb.manifest
   pub manifest_most : sb.manifest < 4294967295
-  pub length_least : 29 ≤ sb.length
+  pub length_least : manifest_min ≤ sb.length
   pub length_fits : sb.length < 2 ^ 32
   pub region_most : sb.region ≤ 1
   pub mem_least : 4 ≤ sb.mem
@@ -52,7 +54,7 @@ in_range s = s.format == 1
     && nat_le 1 s.sb.generation
     && nat_le 4 s.sb.mem && nat_le s.sb.mem 4096
     && nat_le (first_free s.sb.mem) s.sb.manifest && nat_lt s.sb.manifest 4294967295
-    && nat_le 29 s.sb.length
+    && nat_le manifest_min s.sb.length
     && nat_le s.sb.region 1
     && nat_le 1 s.sb.changes_max && nat_le s.sb.changes_max 16777216
     && nat_le 1 s.sb.versions_max && nat_le s.sb.versions_max 16384
@@ -77,7 +79,7 @@ body sb = spelled (fields sb) ++ zeros 4056
 
 -- what the first 40 bytes of a block hold, where the gate is open and the magic stands there
 unfoldable pub slot_of : List ℕ → Option Slot
-slot_of bytes = if slice_index bytes 0 == 0xa7 && number 8 (drop 1 bytes) == magic
+slot_of bytes = if slice_index bytes 0 == open_flag && number 8 (drop 1 bytes) == magic
     then Some (record {
       format = number 2 (drop 9 bytes);
       sb = record {

@@ -2,5 +2,10 @@
 //! their laws.
 #![tactic(auto)]
 
+mod layout;
 pub mod reading;
 pub mod spellings;
+
+pub use layout::{
+    MANIFEST_MIN, OPEN, RECORD_MAX, first_free, region_at, region_blocks, region_first,
+};

@@ -4,7 +4,7 @@
 ghost use Rattle.std.specs.Prelude.{◌≡◌, ◌↔◌, ℕ, List, [], ◌∷◌, ◌++◌, length, replicate, Some, IsTrue};
 ghost use Rattle.strat_format.specs.Block.{fits_block, block_bytes, IsBlock, block_in};
 ghost use Rattle.strat_base.specs.Entries.{Entry};
-ghost use Rattle.strat_format.specs.Manifest.{Manifest, manifest_bytes, Spells, manifest_in};
+ghost use Rattle.strat_format.specs.Manifest.{Manifest, manifest_bytes, SpellsManifest, manifest_in};
 ghost use Rattle.strat_base.specs.Samples.{says};
 
 /// A block is read exactly where it is one, as the entries that it is the block of.
@@ -24,7 +24,7 @@ pub fn bytes_of_a_block()
 
 /// A manifest is read exactly where its spelling is.
 pub fn manifests_are_read_as_written()
-    ensures { (bytes : List ℕ) (m : Manifest) → (manifest_in bytes ≡ Some m) ↔ Spells bytes m }
+    ensures { (bytes : List ℕ) (m : Manifest) → (manifest_in bytes ≡ Some m) ↔ SpellsManifest bytes m }
 {}
 
 /// The manifest of an empty store has 29 bytes.

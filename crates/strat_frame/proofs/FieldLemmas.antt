@@ -8,7 +8,7 @@ use Rattle.strat_base.specs.Numbers.{be, number, AreBytes}
 use Rattle.strat_base.specs.Sizes.{is_key, is_value}
 use Rattle.strat_base.proofs.NumberLemmas.{length-be, number-be, number-lt, AreBytes-drop, be-number_1, be-number_2, be-number_4}
 use Rattle.strat_model.specs.Request.{Request, Put, Delete, Get, Clone, Scan, Info, OpenCursor, NextPairs, CloseCursor, Stat}
-use Rattle.strat_model.specs.Spelling.{counted, command_bytes, command_body, is_lawful, is_taken, FitsFields, Spells}
+use Rattle.strat_model.specs.Spelling.{counted, command_bytes, command_body, has_lawful_sizes, is_taken, FitsFields, Spells}
 use Rattle.strat_frame.specs.Fields.{number_then, counted_then, whole, put_in, get_in, request_in, command_in}
 
 -- the value of a step that found one
@@ -22,7 +22,7 @@ chosen true o p y e = inl (refl, e)
 chosen false o p y e = inr (refl, e)
 
 -- what a reader took from the front
-pub record Takes (bytes text rest : List ℕ) : Type 0 where
+pub record TakesFrame (bytes text rest : List ℕ) : Type 0 where
   pub parts : bytes ≡ text ++ rest
   pub rest_fits : AreBytes rest
 
@@ -57,31 +57,31 @@ front_parts bytes after fields text tag byte e f fits g =
 abbrev pub IsWide : ℕ → Type 0
 IsWide k = (bytes : List ℕ) → k ≤ length bytes → AreBytes bytes → be k (number k bytes) ≡ take k bytes
 
-pub number_takes : (k : ℕ) → IsWide k → (bytes : List ℕ) (n : ℕ) (rest : List ℕ) → AreBytes bytes → number_then k bytes ≡ Some (n, rest) → Takes bytes (be k n) rest × (n < 256 ^ k)
+pub number_takes : (k : ℕ) → IsWide k → (bytes : List ℕ) (n : ℕ) (rest : List ℕ) → AreBytes bytes → number_then k bytes ≡ Some (n, rest) → TakesFrame bytes (be k n) rest × (n < 256 ^ k)
 number_takes k wide bytes n rest fits e =
     let g = cond_some (leb k (length bytes)) (number k bytes, drop k bytes) (n, rest) e in
     let long : k ≤ length bytes = leb-true k (length bytes) g.0 in
-    let made : Takes bytes (be k (number k bytes)) (drop k bytes) × (number k bytes < 256 ^ k) =
+    let made : TakesFrame bytes (be k (number k bytes)) (drop k bytes) × (number k bytes < 256 ^ k) =
     (record { parts = sym (take-append-drop k bytes) ∙ ap (λ (x : List ℕ). x ++ drop k bytes) (sym (wide bytes long fits)); rest_fits = AreBytes-drop k bytes fits }, number-lt k bytes fits) in
-    subst (λ (x : ℕ × List ℕ). Takes bytes (be k x.0) x.1 × (x.0 < 256 ^ k)) g.1 made
+    subst (λ (x : ℕ × List ℕ). TakesFrame bytes (be k x.0) x.1 × (x.0 < 256 ^ k)) g.1 made
 
 pub number_again : (k n : ℕ) (rest : List ℕ) → n < 256 ^ k → number_then k (be k n ++ rest) ≡ Some (n, rest)
 number_again k n rest fits =
     let long : leb k (length (be k n ++ rest)) ≡ true = le-leb k (length (be k n ++ rest)) (omega (arith, length-append (be k n) rest, length-be k n)) in
     rw (long, number-be k n rest fits, drop_at (be k n) rest k (length-be k n)) refl
 
-pub counted_takes : (bytes text rest : List ℕ) → AreBytes bytes → counted_then bytes ≡ Some (text, rest) → Takes bytes (counted text) rest
+pub counted_takes : (bytes text rest : List ℕ) → AreBytes bytes → counted_then bytes ≡ Some (text, rest) → TakesFrame bytes (counted text) rest
 unfolding counted_then
 counted_takes bytes text rest fits e =
     let b = bind_some (λ (n : ℕ × List ℕ). cond (leb n.0 (length n.1)) (Some (take n.0 n.1, drop n.0 n.1)) None) (number_then 2 bytes) (text, rest) e in
     let n = b.0 in
     let t = number_takes 2 be-number_2 bytes n.0 n.1 fits b.1 in
     let g = cond_some (leb n.0 (length n.1)) (take n.0 n.1, drop n.0 n.1) (text, rest) b.2 in
-    let made : Takes bytes (counted (take n.0 n.1)) (drop n.0 n.1) = record {
+    let made : TakesFrame bytes (counted (take n.0 n.1)) (drop n.0 n.1) = record {
       parts = counted_front bytes n.1 n.0 t.0.parts (leb-true n.0 (length n.1) g.0);
       rest_fits = AreBytes-drop n.0 n.1 t.0.rest_fits;
     } in
-    subst (λ (x : List ℕ × List ℕ). Takes bytes (counted x.0) x.1) g.1 made
+    subst (λ (x : List ℕ × List ℕ). TakesFrame bytes (counted x.0) x.1) g.1 made
 
 pub counted_again : (text rest : List ℕ) → length text < 65536 → counted_then (counted text ++ rest) ≡ Some (text, rest)
 unfolding counted_then
@@ -224,7 +224,7 @@ or_zero true n = refl
 or_zero false n = refl
 
 -- a command that is taken has sizes as they may be
-pub taken_is_lawful : (request : Request) → is_taken request ≡ true → is_lawful request ≡ true
+pub taken_is_lawful : (request : Request) → is_taken request ≡ true → has_lawful_sizes request ≡ true
 taken_is_lawful (Put version key value) taken = taken
 taken_is_lawful (Get version key) taken = taken
 taken_is_lawful (Delete version key) taken = absurd cc

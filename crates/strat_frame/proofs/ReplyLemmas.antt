@@ -15,7 +15,7 @@ use Rattle.strat_model.specs.Answer.{Answer, plain, as_told}
 use Rattle.strat_model.specs.Spelling.{counted, status_byte, reply_fields, reply_body, is_given, FitsReply, SpellsReply}
 use Rattle.std.specs.Prelude.{IfSome, IfNone}
 use Rattle.strat_base.specs.Finds.{Finds}
-use Rattle.strat_frame.specs.Fields.{number_then, counted_then, simple_reply, value_in, answer_in, reply_in}
+use Rattle.strat_frame.specs.Fields.{number_then, counted_then, simple_reply, reply_value_in, answer_in, reply_in}
 use Rattle.strat_frame.proofs.FieldLemmas.{bind_some, chosen, number_takes, number_again, counted_takes, counted_again, all_parts, front_parts}
 
 -- a reply without fields has this status byte
@@ -79,8 +79,8 @@ map_some f (Some x) y e = (x, refl, cc)
 abbrev found : List ℕ → Answer
 found value = record { reply = reply.Found; pairs = (63 ∷ [], value) ∷ [] }
 
-value_takes : (fields value : List ℕ) → AreBytes fields → value_in fields ≡ Some value → (fields ≡ counted value) × (is_value value ≡ true)
-unfolding value_in
+value_takes : (fields value : List ℕ) → AreBytes fields → reply_value_in fields ≡ Some value → (fields ≡ counted value) × (is_value value ≡ true)
+unfolding reply_value_in
 value_takes fields value fits e =
     let a = bind_some (λ (v : List ℕ × List ℕ). cond (eqb (length v.1) 0) (cond (is_value v.0) (Some v.0) None) None) (counted_then fields) value e in
     let t = counted_takes fields a.0.0 a.0.1 fits a.1 in
@@ -98,7 +98,7 @@ unfolding answer_in
 answer_takes status fields a fits e =
     elim (chosen (eqb status 1) _ _ a e) [
       | inl h ↦
-          let m = map_some found (value_in fields) a h.1 in
+          let m = map_some found (reply_value_in fields) a h.1 in
           let v = value_takes fields m.0 fits m.1 in
           let byte : status ≡ 1 = eqb-true status 1 h.0 in
           subst (λ (x : Answer). IsAnswer status fields x) m.2 (record { text = λ j. byte j ∷ v.0 j; given = refl; fits = (m.0, refl, v.1) })
@@ -134,11 +134,11 @@ front_again tag status fields a tag_fits status_fits e =
     let byte : status ∷ fields ≡ be 1 status ++ fields = ap (λ (n : ℕ). n ∷ fields) (omega arith) in
     rw (number_again 4 tag (status ∷ fields) tag_fits) (rw byte (rw (number_again 1 status fields status_fits, e) refl))
 
-value_again : (value : List ℕ) → is_value value ≡ true → value_in (counted value) ≡ Some value
-unfolding value_in
+value_again : (value : List ℕ) → is_value value ≡ true → reply_value_in (counted value) ≡ Some value
+unfolding reply_value_in
 value_again value fits =
     let short : length value < 65536 = omega (arith, leb-true (length value) 1024 fits) in
-    ap value_in (sym (append-nil (counted value))) ∙ rw (counted_again value [] short) (rw fits refl)
+    ap reply_value_in (sym (append-nil (counted value))) ∙ rw (counted_again value [] short) (rw fits refl)
 
 -- a reply without fields
 simple_again : (tag : ℕ) (r : Reply) (pairs : Pairs) → tag < 2 ^ 32 → pairs ≡ [] → status_byte r < 256 → answer_in (status_byte r) [] ≡ Some (plain r) → reply_fields r [] ≡ []

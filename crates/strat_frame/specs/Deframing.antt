@@ -14,10 +14,10 @@ pub record Deframing : Type 0 where
   pub body : List ℕ
 
 -- what one look at the bytes held finds, and what it leaves
-abbrev pub Takes : Next → Deframing → Deframing → Type 0
-Takes next.Frame old new = (old.held ≡ frame new.body ++ new.held) × IsBody new.body
-Takes next.NotYet old new = (is_partial old.held ≡ true) × (new.held ≡ old.held)
-Takes (next.TooLong length) old new =
+abbrev pub TakesFrame : Next → Deframing → Deframing → Type 0
+TakesFrame next.Frame old new = (old.held ≡ frame new.body ++ new.held) × IsBody new.body
+TakesFrame next.NotYet old new = (is_partial old.held ≡ true) × (new.held ≡ old.held)
+TakesFrame (next.TooLong length) old new =
     (is_too_long old.held ≡ true) × (length ≡ number 4 old.held) × (new.held ≡ old.held)
 
 -- what bytes begin with

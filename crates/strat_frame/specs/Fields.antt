@@ -65,8 +65,8 @@ simple_reply status =
     if status == 32 then Some (reply.Refused why.NoMemory) else None
 
 -- the value of a reply to a look-up, all of the fields
-unfoldable pub value_in : List ℕ → Option (List ℕ)
-value_in fields = option_and_then
+unfoldable pub reply_value_in : List ℕ → Option (List ℕ)
+reply_value_in fields = option_and_then
     (λ value. if length value.1 == 0 then (if is_value value.0 then Some value.0 else None) else None)
     (counted_then fields)
 
@@ -74,7 +74,7 @@ value_in fields = option_and_then
 unfoldable pub answer_in : ℕ → List ℕ → Option Answer
 answer_in status fields =
     if status == 1 then
-    option_map (λ value. record { reply = reply.Found; pairs = (63 ∷ [], value) ∷ [] }) (value_in fields)
+    option_map (λ value. record { reply = reply.Found; pairs = (63 ∷ [], value) ∷ [] }) (reply_value_in fields)
     else if length fields == 0 then option_map plain (simple_reply status) else None
 
 -- a tag and a reply, all of the bytes

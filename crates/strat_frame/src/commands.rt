@@ -3,7 +3,7 @@
 ghost use Rattle.std.specs.Prelude.{◌≡◌, ◌+◌, ◌^◌, ◌<◌, ◌≤◌, [], ◌∷◌, ◌++◌, length, IfOk, IfErr, true};
 ghost use Rattle.strat_base.specs.Numbers.{be};
 ghost use Rattle.strat_model.specs.Command.{request_of};
-ghost use Rattle.strat_model.specs.Spelling.{Spells, counted, command_bytes, command_body, is_lawful};
+ghost use Rattle.strat_model.specs.Spelling.{Spells, counted, command_bytes, command_body, has_lawful_sizes};
 ghost use Rattle.strat_model.specs.Stream.{frame};
 ghost use Rattle.strat_base.specs.Finds.{Finds};
 ghost use Rattle.strat_frame.specs.Fields.{put_in, get_in, request_in, command_in};
@@ -85,7 +85,7 @@ fn command_of(body: &[u8]) -> Option<(u32, Command<'_>)>
 /// each byte at most once and copies none.
 pub fn parse_command(body: &[u8]) -> Result<(u32, Command<'_>), (u32, BodyFault)>
     ensures ok { IfOk result (λ r. Spells body.now r.0 (request_of r.1)) }
-    ensures fits { IfOk result (λ r. is_lawful (request_of r.1) ≡ true) }
+    ensures fits { IfOk result (λ r. has_lawful_sizes (request_of r.1) ≡ true) }
     ensures err { IfErr result (λ e. IsFaulty e.1 body.now e.0) }
 {
     match command_of(body) {
@@ -140,7 +140,7 @@ fn put_two(opcode: u8, version: u32, first: &[u8], second: &[u8], out: &mut OutB
 
 /// The opcode and the fields of a command.
 fn put_command(command: &Command<'_>, out: &mut OutBuf)
-    requires fits { is_lawful (request_of command.now) ≡ true }
+    requires fits { has_lawful_sizes (request_of command.now) ≡ true }
     requires room { length out.old + 4096 ≤ REPLY_MAX }
     ensures ok { out.new ≡ out.old ++ command_bytes (request_of command.now) }
     ensures len { length out.new ≤ length out.old + 4096 }
@@ -174,10 +174,10 @@ fn put_command(command: &Command<'_>, out: &mut OutBuf)
     }
 }
 
-/// Writes a command's frame: the spelling of these and no others. Takes no memory.
+/// Writes a command's frame: the spelling of these and no others. TakesFrame no memory.
 pub fn write_command(tag: u32, command: &Command<'_>, out: &mut OutBuf)
     requires empty { out.old ≡ [] }
-    requires fits { is_lawful (request_of command.now) ≡ true }
+    requires fits { has_lawful_sizes (request_of command.now) ≡ true }
     ensures ok { out.new ≡ frame (command_body tag (request_of command.now)) }
 {
     out.begin(tag);

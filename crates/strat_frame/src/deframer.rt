@@ -2,7 +2,7 @@
 
 ghost use Rattle.std.specs.Prelude.{◌≡◌, ◌+◌, ◌-◌, ◌≤◌, [], ◌++◌, length, IfOk};
 ghost use Rattle.strat_base.specs.Numbers.{AreBytes};
-ghost use Rattle.strat_frame.specs.Deframing.{Deframing, Takes, BeginsWith};
+ghost use Rattle.strat_frame.specs.Deframing.{Deframing, TakesFrame, BeginsWith};
 
 use std::alloc::Global;
 use std::marker::Model;
@@ -120,9 +120,9 @@ impl Deframer {
         self.body_len = 0;
     }
 
-    /// Takes the next frame, if one is whole. A frame that is too long stays, and is found again.
+    /// TakesFrame the next frame, if one is whole. A frame that is too long stays, and is found again.
     pub fn next(&mut self) -> Next
-        ensures ok { Takes result self.old self.new }
+        ensures ok { TakesFrame result self.old self.new }
         ensures bytes { AreBytes self.new.held }
     {
         match look_at(&self.bytes[self.start..]) {

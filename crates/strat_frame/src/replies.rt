@@ -6,7 +6,7 @@ ghost use Rattle.strat_model.specs.Spelling.{status_byte, flag, parent_bytes, pa
 ghost use Rattle.strat_model.specs.Spelling.{reply_body, SpellsReply};
 ghost use Rattle.strat_model.specs.Stream.{frame};
 ghost use Rattle.strat_base.specs.Finds.{Finds};
-ghost use Rattle.strat_frame.specs.Fields.{simple_reply, value_in, answer_in, reply_in};
+ghost use Rattle.strat_frame.specs.Fields.{simple_reply, reply_value_in, answer_in, reply_in};
 
 use crate::buffer::{OutBuf, REPLY_MAX};
 use crate::fields::{counted_bytes_then, u8_then, u32_then};
@@ -127,7 +127,7 @@ fn put_fields(reply: Reply, pairs: &PairBuf, out: &mut OutBuf)
     }
 }
 
-/// Writes a reply's frame: the spelling of these and no others. Takes no memory, and copies each pair once.
+/// Writes a reply's frame: the spelling of these and no others. TakesFrame no memory, and copies each pair once.
 pub fn write_reply(tag: u32, reply: &Reply, pairs: &PairBuf, out: &mut OutBuf)
     requires empty { out.old ≡ [] }
     requires found { reply.now ≡ Reply.Found → length pairs.now ≡ 1 }
@@ -157,9 +157,9 @@ fn simple_of(status: u8) -> Option<Reply>
 }
 
 /// The value of a reply to a look-up, all of the fields.
-#[tactic(auto, unfolding(crate::specs::Fields::value_in))]
+#[tactic(auto, unfolding(crate::specs::Fields::reply_value_in))]
 fn value_of(fields: &[u8]) -> Option<&[u8]>
-    ensures ok { Finds (λ x. x.now) result (value_in fields.now) }
+    ensures ok { Finds (λ x. x.now) result (reply_value_in fields.now) }
     ensures fits { IfSome result (λ x. length x.now ≤ VALUE_MAX) }
 {
     let (value, rest) = counted_bytes_then(fields)?;
@@ -199,7 +199,7 @@ fn reply_of(body: &[u8], pairs: &mut PairBuf) -> Option<(u32, Reply)>
 }
 
 /// The tag and the reply of a body, of those that are given so far; the value of `Found` stands in `pairs`
-/// under the key `?`. Nothing is said of the pairs where no reply has this body. Takes no memory.
+/// under the key `?`. Nothing is said of the pairs where no reply has this body. TakesFrame no memory.
 pub fn parse_reply(body: &[u8], pairs: &mut PairBuf) -> Option<(u32, Reply)>
     ensures found { IfSome result (λ r. SpellsReply body.now r.0 (as_told r.1 pairs.new)) }
     ensures none { IfNone result ((tag : ℕ) (a : Answer) → SpellsReply body.now tag a → ⊥) }

@@ -3,7 +3,7 @@
 
 ghost use Rattle.std.specs.Prelude.{◌≡◌, ◌≤◌, true, IsTrue, length};
 ghost use Rattle.strat_model.specs.Command.{request_of};
-ghost use Rattle.strat_model.specs.Spelling.{is_lawful};
+ghost use Rattle.strat_model.specs.Spelling.{has_lawful_sizes};
 
 use crate::{
     BodyFault, Deframer, Next, OutBuf, parse_command, parse_reply, write_command, write_reply,
@@ -123,7 +123,7 @@ fn hear(rt: &impl Abort, deframer: &mut Deframer, piece: &[u8], bodies: &[Vec<u8
     bodies.len()
 }
 
-/// Looks at what is found behind the last frame, and finds it again.
+/// OnlyReads at what is found behind the last frame, and finds it again.
 fn ends(rt: &impl Abort, deframer: &mut Deframer, stream: &Stream) {
     assert_eq!(rt; deframer.next(), stream.end, "{}", stream.bytes);
     assert_eq!(rt; deframer.held(), stream.held, "{}", stream.bytes);
@@ -218,7 +218,7 @@ fn get(version: u32, key: &'static str) -> Command<'static> {
 }
 
 fn sizes_ok(command: &Command<'_>) -> bool
-    ensures { IsTrue result → is_lawful (request_of command.now) ≡ true }
+    ensures { IsTrue result → has_lawful_sizes (request_of command.now) ≡ true }
 {
     match *command {
         Command::Put { key, value, .. } => key_ok(key) && value_ok(value),

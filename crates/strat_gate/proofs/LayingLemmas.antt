@@ -3,12 +3,12 @@ use Rattle.std.proofs.Common.{◌≡◌, ◌≢◌, ◌≤◌, ◌<◌, ℕ, zer
 use Rattle.std.proofs.lemmas.Bool.{cases_lt, cases_eq, cond-true}
 use Rattle.std.proofs.lemmas.List.{get_or_append_left}
 use Rattle.strat_crash.specs.Image.{Image, SameIn, Outside, patch}
-use Rattle.strat_crash.specs.Moments.{View, Images, Since, Passes, TearsOnly, LeavesOld, Settled}
+use Rattle.strat_crash.specs.Moments.{DiskView, Images, Since, Passes, TearsOnly, KeepsImages, IsDurable}
 use Rattle.strat_format.specs.SuperBlock.{Super, Slot, IsLawful, spelled, fields, zeros, body, slot_in, newer, chosen_in, verdict, newest_in}
 use Rattle.strat_crash.proofs.ImageLemmas.{below, inside, above, lies, is_over, over_below, over_inside, over_above, is_window, outside_patch}
 use Rattle.strat_crash.proofs.MomentLemmas.{now_since_start, each_then, settled_at, at_told}
 use Rattle.strat_format.proofs.SuperBlockLemmas.{open_fields, length-spelled, length-body, gate_first, open_rest, lawful_in_range, slot_closed, slot_same, slot_laid, newer_first_gone, newer_second_gone, newer_first, newer_second}
-use Rattle.strat_gate.specs.Gates.{Closed}
+use Rattle.strat_gate.specs.Gates.{EndsShut}
 use Rattle.strat_gate.specs.Laying.{LaysOver, OldOrNew}
 
 -- where a slot's block begins, and where the other's does
@@ -19,7 +19,7 @@ at_slot n = 4096 * n
 pub record OtherSame (f : Image) (n : ℕ) (c : Image) : Type 0 where
   pub byte : (i : ℕ) → i < 8192 → (i < 4096 * n) ⊎ (4096 * n + 4096 ≤ i) → c i ≡ f i
 
-module _ (f : Image) (n : ℕ) (sb : Super) (low : n < 2) (lawful : IsLawful sb) (v0 : View) (lays : LaysOver v0 f n sb) where
+module _ (f : Image) (n : ℕ) (sb : Super) (low : n < 2) (lawful : IsLawful sb) (v0 : DiskView) (lays : LaysOver v0 f n sb) where
   one_or_other : (n ≡ 0) ⊎ (n ≡ 1)
   one_or_other = elim (cases_lt n 1) [ inl none ↦ inl (omega arith) | inr one ↦ inr (omega arith) ]
 
@@ -75,7 +75,7 @@ module _ (f : Image) (n : ℕ) (sb : Super) (low : n < 2) (lawful : IsLawful sb)
       λ j. verdict (newer (first j) (second j))
 
   -- while the gate is being closed
-  pub closing : (v1 : View) → TearsOnly v0 v1 (4096 * n) 1 → (f (4096 * n) ≢ 0xa7 → LeavesOld v0 v1) → (c : Image) → Since v1 v0.moment c → newest_in c ≡ newest_in f
+  pub closing : (v1 : DiskView) → TearsOnly v0 v1 (4096 * n) 1 → (f (4096 * n) ≢ 0xa7 → KeepsImages v0 v1) → (c : Image) → Since v1 v0.moment c → newest_in c ≡ newest_in f
   closing v1 tears alone c since =
       let torn = tears.each c since in
       let before : SameIn 0 8192 f torn.0 = lays.same torn.0 torn.1 in
@@ -102,17 +102,17 @@ module _ (f : Image) (n : ℕ) (sb : Super) (low : n < 2) (lawful : IsLawful sb)
       ]
 
   -- once it is closed: the content is told, this gate reads closed in every image, and the other slot is as before
-  pub record Shut (v : View) : Type 0 where
+  pub record Shut (v : DiskView) : Type 0 where
     pub content : Image
-    pub told : v.content ≡ Some content
+    pub exposed : v.content ≡ Some content
     pub same : (i : ℕ) → i ≢ 4096 * n → content i ≡ f i
     pub down : (c : Image) → Images v c → c (4096 * n) ≢ 0xa7
     pub other : (c : Image) → Images v c → OtherSame f n c
 
-  pub closed : (v1 : View) → Passes v0 v1 → Closed f (4096 * n) v0 v1 → Shut v1
+  pub closed : (v1 : DiskView) → Passes v0 v1 → EndsShut f (4096 * n) v0 v1 → Shut v1
   closed v1 passes (inl read_shut) = record {
     content = f;
-    told = read_shut.1;
+    exposed = read_shut.1;
     same = λ i apart. refl;
     down = λ c left is.
         let before : SameIn 0 8192 f c = lays.same c (read_shut.2.each c (now_since_start v0 v1 c passes left)) in
@@ -125,7 +125,7 @@ module _ (f : Image) (n : ℕ) (sb : Super) (low : n < 2) (lawful : IsLawful sb)
   }
   closed v1 passes (inr written) = record {
     content = patch f (4096 * n) (0 ∷ []);
-    told = written.0;
+    exposed = written.0;
     same = elsewhere;
     down = λ c left is.
         let whole : c ≡ patch f (4096 * n) (0 ∷ []) = settled_at v1 (patch f (4096 * n) (0 ∷ [])) written.0 written.1 c left in
@@ -151,7 +151,7 @@ module _ (f : Image) (n : ℕ) (sb : Super) (low : n < 2) (lawful : IsLawful sb)
       ]
 
   -- while the body is being written
-  pub writing : (v1 v2 : View) → Shut v1 → TearsOnly v1 v2 (4096 * n + 1) (length (body sb)) → (c : Image) → Since v2 v1.moment c → newest_in c ≡ newest_in f
+  pub writing : (v1 v2 : DiskView) → Shut v1 → TearsOnly v1 v2 (4096 * n + 1) (length (body sb)) → (c : Image) → Since v2 v1.moment c → newest_in c ≡ newest_in f
   writing v1 v2 shut tears c since =
       let len : length (body sb) ≡ 4095 = length-body sb in
       let torn = tears.each c since in
@@ -166,25 +166,25 @@ module _ (f : Image) (n : ℕ) (sb : Super) (low : n < 2) (lawful : IsLawful sb)
       })
 
   -- once the body is there: each image is the content, which has the body behind the gate and the other slot as before
-  pub record Bodied (v : View) : Type 0 where
+  pub record Bodied (v : DiskView) : Type 0 where
     pub content : Image
-    pub told : v.content ≡ Some content
+    pub exposed : v.content ≡ Some content
     pub only : (c : Image) → Images v c → c ≡ content
     pub before : Image
     pub behind : content ≡ patch before (4096 * n + 1) (body sb)
     pub same : (i : ℕ) → i ≢ 4096 * n → before i ≡ f i
 
-  pub bodied : (v1 v2 : View) (s : Shut v1) → v2.content ≡ Some (patch s.content (4096 * n + 1) (body sb)) → Settled v2 → Bodied v2
-  bodied v1 v2 s told settled = record {
+  pub bodied : (v1 v2 : DiskView) (s : Shut v1) → v2.content ≡ Some (patch s.content (4096 * n + 1) (body sb)) → IsDurable v2 → Bodied v2
+  bodied v1 v2 s exposed settled = record {
     content = patch s.content (4096 * n + 1) (body sb);
-    told = told;
-    only = λ c left. settled_at v2 _ told settled c left;
+    exposed = exposed;
+    only = λ c left. settled_at v2 _ exposed settled c left;
     before = s.content;
     behind = refl;
     same = s.same;
   }
 
-  module _ (v2 : View) (b : Bodied v2) where
+  module _ (v2 : DiskView) (b : Bodied v2) where
     -- the content behind the gate
     content_behind : (j : ℕ) → j < 4095 → b.content (4096 * n + suc j) ≡ get_or (body sb) j 0
     content_behind j is =
@@ -234,16 +234,16 @@ module _ (f : Image) (n : ℕ) (sb : Super) (low : n < 2) (lawful : IsLawful sb)
             ∙ sym (out.above (4096 * n + suc j) (omega arith))
 
     -- while the gate is being raised
-    pub raising : (v3 : View) → TearsOnly v2 v3 (4096 * n) 1 → (c : Image) → Since v3 v2.moment c → OldOrNew f n sb c
+    pub raising : (v3 : DiskView) → TearsOnly v2 v3 (4096 * n) 1 → (c : Image) → Since v3 v2.moment c → OldOrNew f n sb c
     raising v3 tears c since =
         let torn = tears.each c since in
         let whole : torn.0 ≡ b.content = b.only torn.0 torn.1 in
         (with_gate c (subst (λ (d : Image). Outside (4096 * n) 1 d c) whole torn.2)).0
 
     -- once it is raised
-    pub raised : (v3 : View) → v3.content ≡ Some (patch b.content (4096 * n) (0xa7 ∷ [])) → Settled v3 → (c : Image) → Images v3 c → newest_in c ≡ Ok (Some (n, sb))
-    raised v3 told settled c left =
-        let whole : c ≡ patch b.content (4096 * n) (0xa7 ∷ []) = settled_at v3 _ told settled c left in
+    pub raised : (v3 : DiskView) → v3.content ≡ Some (patch b.content (4096 * n) (0xa7 ∷ [])) → IsDurable v3 → (c : Image) → Images v3 c → newest_in c ≡ Ok (Some (n, sb))
+    raised v3 exposed settled c left =
+        let whole : c ≡ patch b.content (4096 * n) (0xa7 ∷ []) = settled_at v3 _ exposed settled c left in
         let e : 4096 * n - 4096 * n ≡ 0 = omega arith in
         let up : patch b.content (4096 * n) (0xa7 ∷ []) (4096 * n) ≡ 0xa7 =
         over_inside (4096 * n) 1 (λ i. get_or (0xa7 ∷ []) (i - 4096 * n) 0) b.content (4096 * n) (omega arith) (omega arith)
@@ -251,12 +251,12 @@ module _ (f : Image) (n : ℕ) (sb : Super) (low : n < 2) (lawful : IsLawful sb)
         subst (λ (d : Image). newest_in d ≡ Ok (Some (n, sb))) (sym whole) ((with_gate (patch b.content (4096 * n) (0xa7 ∷ [])) (outside_patch b.content (4096 * n) (0xa7 ∷ []))).1 up)
 
   -- up to the end of the second phase, and of the third
-  pub to_second : (v1 v2 : View) → Passes v1 v2 → TearsOnly v0 v1 (4096 * n) 1 → (f (4096 * n) ≢ 0xa7 → LeavesOld v0 v1) → Shut v1
+  pub to_second : (v1 v2 : DiskView) → Passes v1 v2 → TearsOnly v0 v1 (4096 * n) 1 → (f (4096 * n) ≢ 0xa7 → KeepsImages v0 v1) → Shut v1
       → TearsOnly v1 v2 (4096 * n + 1) (length (body sb)) → (c : Image) → Since v2 v0.moment c → OldOrNew f n sb c
   to_second v1 v2 passes tears alone shut second =
       each_then v1 v2 v0.moment (λ c. OldOrNew f n sb c) passes (λ c since. inl (closing v1 tears alone c since)) (λ c since. inl (writing v1 v2 shut second c since))
 
-  pub to_third : (v1 v2 v3 : View) → Passes v1 v2 → Passes v2 v3 → TearsOnly v0 v1 (4096 * n) 1 → (f (4096 * n) ≢ 0xa7 → LeavesOld v0 v1) → Shut v1
+  pub to_third : (v1 v2 v3 : DiskView) → Passes v1 v2 → Passes v2 v3 → TearsOnly v0 v1 (4096 * n) 1 → (f (4096 * n) ≢ 0xa7 → KeepsImages v0 v1) → Shut v1
       → TearsOnly v1 v2 (4096 * n + 1) (length (body sb)) → Bodied v2 → TearsOnly v2 v3 (4096 * n) 1 → (c : Image) → Since v3 v0.moment c → OldOrNew f n sb c
   to_third v1 v2 v3 passes later tears alone shut second b third =
       each_then v2 v3 v0.moment (λ c. OldOrNew f n sb c) later (to_second v1 v2 passes tears alone shut second) (raising v2 b v3 third)
@@ -279,7 +279,7 @@ gate_over f g at bytes same =
     (λ i is. over_above at 1 _ _ i (omega arith) ∙ over_above (at + 1) (length bytes) _ g i (omega arith) ∙ same i (omega arith))
 
 -- the content once all is done
-pub content_laid : (f : Image) (at : ℕ) (bytes : List ℕ) (v0 v1 v2 v3 : View) → Closed f at v0 v1
+pub content_laid : (f : Image) (at : ℕ) (bytes : List ℕ) (v0 v1 v2 v3 : DiskView) → EndsShut f at v0 v1
     → IfSome v1.content (λ g. v2.content ≡ Some (patch g (at + 1) bytes)) → IfSome v2.content (λ h. v3.content ≡ Some (patch h at (0xa7 ∷ [])))
     → v3.content ≡ Some (patch f at (0xa7 ∷ bytes))
 content_laid f at bytes v0 v1 v2 v3 closed second third = elim closed [
@@ -292,7 +292,7 @@ content_laid f at bytes v0 v1 v2 v3 closed second third = elim closed [
 ]
   where
     laid : (g : Image) → v1.content ≡ Some g → ((i : ℕ) → i ≢ at → g i ≡ f i) → v3.content ≡ Some (patch f at (0xa7 ∷ bytes))
-    laid g told same =
-        let after = at_told v1.content (λ (g : Image). v2.content ≡ Some (patch g (at + 1) bytes)) g told second in
+    laid g exposed same =
+        let after = at_told v1.content (λ (g : Image). v2.content ≡ Some (patch g (at + 1) bytes)) g exposed second in
         let end = at_told v2.content (λ (h : Image). v3.content ≡ Some (patch h at (0xa7 ∷ []))) (patch g (at + 1) bytes) after third in
         end ∙ ap (λ (c : Image). Some c) (gate_over f g at bytes same)

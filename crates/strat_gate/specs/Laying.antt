@@ -1,12 +1,12 @@
 -- A superblock laid into a slot.
 use Rattle.std.specs.Prelude.{◌≡◌, ◌≢◌, ◌<◌, ◌⊎◌, ℕ, Some, IfSome, Ok}
 use Rattle.strat_crash.specs.Image.{Image, SameIn}
-use Rattle.strat_crash.specs.Moments.{View, Images}
+use Rattle.strat_crash.specs.Moments.{DiskView, Exposes, Images}
 use Rattle.strat_format.specs.SuperBlock.{Super, chosen_in, newest_in}
 
 -- the content is told, both slots are the same in every image, and the newest is in the other slot and of a smaller generation
-pub record LaysOver (v : View) (f : Image) (slot : ℕ) (sb : Super) : Type 0 where
-  pub content : v.content ≡ Some f
+pub record LaysOver (v : DiskView) (f : Image) (slot : ℕ) (sb : Super) : Type 0 where
+  pub content : Exposes v f
   pub same : (c : Image) → Images v c → SameIn 0 8192 f c
   pub newest : IfSome (chosen_in f) (λ s. (s.0 ≢ slot) × (s.1.sb.generation < sb.generation))
 

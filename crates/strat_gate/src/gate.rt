@@ -1,21 +1,20 @@
 //! Gates: a record counts only while the byte before it reads 0xa7. A gate is written alone, with a sync on either side.
 ghost use Rattle.std.specs.Prelude.{◌≡◌, ◌≢◌, ◌≤◌, ◌<◌, ◌==◌, ℕ, ◌+◌, ◌^◌, [], ◌∷◌, Some, IfOk, OnOk};
-ghost use Rattle.strat_crash.specs.Faults.{Counts};
+ghost use Rattle.strat_crash.specs.Faults.{CountsFaults};
 ghost use Rattle.strat_crash.specs.Image.{Image};
-ghost use Rattle.strat_crash.specs.Moments.{Passes, TearsOnly, LeavesOld, WritesThrough};
-ghost use Rattle.strat_gate.specs.Gates.{Closed};
+ghost use Rattle.strat_crash.specs.Moments.{Exposes, Passes, TearsOnly, KeepsImages, WritesThrough};
+ghost use Rattle.strat_gate.specs.Gates.{EndsShut};
+ghost use Rattle.strat_format.specs.Layout.{open_flag};
 
 use strat_base::Failed;
 use strat_disk::{Disk, write_through};
-
-/// What an open gate reads as; any other byte is a closed one.
-const OPEN: u8 = 0xa7;
+use strat_format::OPEN;
 
 /// Closes the gate at this byte: one write and one sync.
 pub fn gate_shut<D: Disk>(disk: &mut D, at: u64) -> Result<(), Failed>
     requires { at < 2 ^ 44 }
     ensures through { WritesThrough (D.view disk.old) (D.view disk.new) at (0 ∷ []) result }
-    ensures cause { Counts (D.faults disk.old) (D.faults disk.new) result }
+    ensures cause { CountsFaults (D.faults disk.old) (D.faults disk.new) result }
     ensures reads { D.reads disk.new ≡ D.reads disk.old }
 {
     write_through(disk, at, &[0])
@@ -24,8 +23,8 @@ pub fn gate_shut<D: Disk>(disk: &mut D, at: u64) -> Result<(), Failed>
 /// Opens the gate at this byte: one write and one sync. What stands behind it must be there for good before.
 pub fn gate_raise<D: Disk>(disk: &mut D, at: u64) -> Result<(), Failed>
     requires { at < 2 ^ 44 }
-    ensures through { WritesThrough (D.view disk.old) (D.view disk.new) at (0xa7 ∷ []) result }
-    ensures cause { Counts (D.faults disk.old) (D.faults disk.new) result }
+    ensures through { WritesThrough (D.view disk.old) (D.view disk.new) at (open_flag ∷ []) result }
+    ensures cause { CountsFaults (D.faults disk.old) (D.faults disk.new) result }
     ensures reads { D.reads disk.new ≡ D.reads disk.old }
 {
     write_through(disk, at, &[OPEN])
@@ -34,12 +33,12 @@ pub fn gate_raise<D: Disk>(disk: &mut D, at: u64) -> Result<(), Failed>
 /// Whether the gate at this byte is open: one read.
 pub fn gate_up<D: Disk>(disk: &mut D, at: u64) -> Result<bool, Failed>
     requires { at < 2 ^ 44 }
-    ensures ok { IfOk result (λ up. (f : Image) → (D.view disk.old).content ≡ Some f
-        → up ≡ (f at == 0xa7)) }
+    ensures ok { IfOk result (λ up. (f : Image) → Exposes (D.view disk.old) f
+        → up ≡ (f at == open_flag)) }
     ensures same { (D.view disk.new).content ≡ (D.view disk.old).content }
-    ensures images { LeavesOld (D.view disk.old) (D.view disk.new) }
+    ensures images { KeepsImages (D.view disk.old) (D.view disk.new) }
     ensures time { Passes (D.view disk.old) (D.view disk.new) }
-    ensures cause { Counts (D.faults disk.old) (D.faults disk.new) result }
+    ensures cause { CountsFaults (D.faults disk.old) (D.faults disk.new) result }
     ensures fewest_reads { D.reads disk.old ≤ D.reads disk.new }
     ensures most_reads { D.reads disk.new ≤ D.reads disk.old + 1 }
 {
@@ -50,15 +49,15 @@ pub fn gate_up<D: Disk>(disk: &mut D, at: u64) -> Result<bool, Failed>
 
 /// Closes the gate at this byte where it reads open, and writes nothing where it does not: a write over a closed gate
 /// could leave it open after a crash.
-pub fn gate_close<D: Disk>(disk: &mut D, at: u64) -> Result<(), Failed>
+pub fn gate_ensure_shut<D: Disk>(disk: &mut D, at: u64) -> Result<(), Failed>
     requires { at < 2 ^ 44 }
-    ensures ok { OnOk result ((f : Image) → (D.view disk.old).content ≡ Some f
-        → Closed f at (D.view disk.old) (D.view disk.new)) }
-    ensures alone { (f : Image) → (D.view disk.old).content ≡ Some f → f at ≢ 0xa7
-        → LeavesOld (D.view disk.old) (D.view disk.new) }
+    ensures ok { OnOk result ((f : Image) → Exposes (D.view disk.old) f
+        → EndsShut f at (D.view disk.old) (D.view disk.new)) }
+    ensures alone { (f : Image) → Exposes (D.view disk.old) f → f at ≢ open_flag
+        → KeepsImages (D.view disk.old) (D.view disk.new) }
     ensures images { TearsOnly (D.view disk.old) (D.view disk.new) at 1 }
     ensures time { Passes (D.view disk.old) (D.view disk.new) }
-    ensures cause { Counts (D.faults disk.old) (D.faults disk.new) result }
+    ensures cause { CountsFaults (D.faults disk.old) (D.faults disk.new) result }
 {
     if gate_up(disk, at)? {
         gate_shut(disk, at)?;

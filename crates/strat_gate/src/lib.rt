@@ -5,7 +5,7 @@ mod gate;
 mod slots;
 mod superblock;
 
-pub use gate::{gate_close, gate_raise, gate_shut, gate_up};
+pub use gate::{gate_ensure_shut, gate_raise, gate_shut, gate_up};
 pub use slots::{lay, newest};
 pub use superblock::SuperBlock;
 

@@ -1,15 +1,15 @@
 //! The two slots of a store's superblocks, blocks 0 and 1: the newest is read from them, and the next is laid into the other.
 ghost use Rattle.std.specs.Prelude.{◌≡◌, ◌≤◌, ◌<◌, ◌*◌, ◌+◌, ◌^◌, ◌∷◌, ℕ, Some, IfSome, IfOk, IfErr, OnOk, length};
-ghost use Rattle.strat_base.specs.Causes.{HasCause};
-ghost use Rattle.strat_crash.specs.Faults.{Counts};
+ghost use Rattle.strat_crash.specs.Faults.{CountsFaults, HasCause};
 ghost use Rattle.strat_crash.specs.Image.{Image, patch};
-ghost use Rattle.strat_crash.specs.Moments.{Images, Since, Passes, TearsOnly, LeavesOld, Settled, WritesThrough};
+ghost use Rattle.strat_crash.specs.Moments.{Exposes, Images, Since, Passes, TearsOnly, KeepsImages, IsDurable, WritesThrough};
 ghost use Rattle.strat_format.specs.SuperBlock.{IsLawful, body, slot_in, newer, verdict, newest_in};
-ghost use Rattle.strat_base.specs.declared.failures.Fault.TheVariants.{Damaged};
+ghost use Rattle.strat_base.specs.declared.failures.Fault.TheVariants.{Damaged, Device};
 ghost use Rattle.strat_gate.specs.SuperView.{super_of, seen, slot_seen};
 ghost use Rattle.strat_gate.specs.Laying.{LaysOver, OldOrNew};
+ghost use Rattle.strat_format.specs.Layout.{open_flag};
 
-use crate::gate::{gate_close, gate_raise};
+use crate::gate::{gate_ensure_shut, gate_raise};
 use crate::superblock::{SuperBlock, is_in_range, parse, spell};
 use strat_base::{Failed, Fault};
 use strat_disk::{Disk, write_through};
@@ -19,13 +19,13 @@ use strat_disk::{Disk, write_through};
 /// block is damaged.
 pub fn newest<D: Disk>(disk: &mut D) -> Result<Option<(u8, SuperBlock)>, Fault>
     ensures lawful { IfOk result (λ r. IfSome r (λ x. (x.0 < 2) × IsLawful (super_of x.1))) }
-    ensures found { IfOk result (λ r. (f : Image) → (D.view disk.old).content ≡ Some f
+    ensures found { IfOk result (λ r. (f : Image) → Exposes (D.view disk.old) f
         → newest_in f ≡ Ok (seen r)) }
     ensures damaged { IfErr result (λ e. (block : ℕ) → e ≡ Damaged block
-        → (f : Image) → (D.view disk.old).content ≡ Some f → newest_in f ≡ Err block) }
-    ensures cause { HasCause (D.faults disk.old) (D.faults disk.new) result }
+        → (f : Image) → Exposes (D.view disk.old) f → newest_in f ≡ Err block) }
+    ensures cause { HasCause Device (D.faults disk.old) (D.faults disk.new) result }
     ensures same { (D.view disk.new).content ≡ (D.view disk.old).content }
-    ensures images { LeavesOld (D.view disk.old) (D.view disk.new) }
+    ensures images { KeepsImages (D.view disk.old) (D.view disk.new) }
     ensures time { Passes (D.view disk.old) (D.view disk.new) }
 {
     let Ok(first) = read_slot(disk, 0) else {
@@ -39,12 +39,12 @@ pub fn newest<D: Disk>(disk: &mut D) -> Result<Option<(u8, SuperBlock)>, Fault>
 
 fn read_slot<D: Disk>(disk: &mut D, at: u64) -> Result<Option<(u16, SuperBlock)>, Failed>
     requires { at ≤ 4096 }
-    ensures ok { IfOk result (λ r. (f : Image) → (D.view disk.old).content ≡ Some f
+    ensures ok { IfOk result (λ r. (f : Image) → Exposes (D.view disk.old) f
         → slot_in f at ≡ slot_seen r) }
     ensures same { (D.view disk.new).content ≡ (D.view disk.old).content }
-    ensures images { LeavesOld (D.view disk.old) (D.view disk.new) }
+    ensures images { KeepsImages (D.view disk.old) (D.view disk.new) }
     ensures time { Passes (D.view disk.old) (D.view disk.new) }
-    ensures cause { Counts (D.faults disk.old) (D.faults disk.new) result }
+    ensures cause { CountsFaults (D.faults disk.old) (D.faults disk.new) result }
 {
     let mut bytes = [0; 40];
     disk.read_at(at, &mut bytes)?;
@@ -89,16 +89,16 @@ pub fn lay<D: Disk>(disk: &mut D, slot: u8, sb: &SuperBlock) -> Result<(), Faile
     ensures laid { (f : Image) → LaysOver (D.view disk.old) f slot (super_of sb.now)
         → OnOk result ((c : Image) → Images (D.view disk.new) c
         → newest_in c ≡ Ok (Some (slot, super_of sb.now))) }
-    ensures ok { OnOk result ((f : Image) → (D.view disk.old).content ≡ Some f
+    ensures ok { OnOk result ((f : Image) → Exposes (D.view disk.old) f
         → (D.view disk.new).content
-        ≡ Some (patch f (4096 * slot) (0xa7 ∷ body (super_of sb.now)))) }
-    ensures settled { OnOk result (Settled (D.view disk.new)) }
+        ≡ Some (patch f (4096 * slot) (open_flag ∷ body (super_of sb.now)))) }
+    ensures settled { OnOk result (IsDurable (D.view disk.new)) }
     ensures images { TearsOnly (D.view disk.old) (D.view disk.new) (4096 * slot) 4096 }
     ensures time { Passes (D.view disk.old) (D.view disk.new) }
-    ensures cause { Counts (D.faults disk.old) (D.faults disk.new) result }
+    ensures cause { CountsFaults (D.faults disk.old) (D.faults disk.new) result }
 {
     let gate = 4096 * (slot as u64);
-    gate_close(disk, gate)?;
+    gate_ensure_shut(disk, gate)?;
     write_body(disk, gate + 1, sb)?;
     gate_raise(disk, gate)?;
     Ok(())
@@ -108,7 +108,7 @@ fn write_body<D: Disk>(disk: &mut D, at: u64, sb: &SuperBlock) -> Result<(), Fai
     requires { at ≤ 4097 }
     ensures through { WritesThrough (D.view disk.old) (D.view disk.new)
         at (body (super_of sb.now)) result }
-    ensures cause { Counts (D.faults disk.old) (D.faults disk.new) result }
+    ensures cause { CountsFaults (D.faults disk.old) (D.faults disk.new) result }
 {
     let mut bytes = [0; 4095];
     spell(sb, &mut bytes);

@@ -17,11 +17,12 @@
 
 ghost use Rattle.std.specs.Prelude.{IsTrue, ◌≡◌, ◌≤◌, ◌<◌, ◌==◌, ℕ, ◌+◌, length, drop};
 ghost use Rattle.strat_base.specs.Numbers.{be, number, placed};
-ghost use Rattle.strat_format.specs.SuperBlock.{IsLawful, zeros, body, slot_of, in_range, first_free};
+ghost use Rattle.strat_format.specs.SuperBlock.{IsLawful, zeros, body, slot_of, in_range};
 ghost use Rattle.strat_gate.specs.SuperView.{super_of, slot_seen};
 
 use strat_base::limits::{CHANGES_MAX, MEM_MAX, MEM_MIN, VERSIONS_MAX};
 use strat_base::{get_u8, get_u16, get_u32, get_u64, put_u16, put_u32, put_u64};
+use strat_format::{MANIFEST_MIN, OPEN, first_free};
 
 /// What says where the rest of a store is.
 #[derive(Clone, Copy, Debug, PartialEq, Eq)]
@@ -46,10 +47,6 @@ pub struct SuperBlock {
 const MAGIC: u64 = 0x5354_5241_5442_5431;
 /// The only format.
 const FORMAT: u16 = 1;
-/// What an open gate reads as.
-const OPEN: u8 = 0xa7;
-/// Bytes of the shortest manifest.
-const MANIFEST_MIN: u32 = 29;
 /// The block 2^32 - 1 is never used.
 const BLOCKS_END: u32 = 0xffff_ffff;
 
@@ -110,14 +107,6 @@ pub(crate) fn is_in_range(format: u16, sb: &SuperBlock) -> bool
         && sb.changes_max <= CHANGES_MAX
         && 1 <= sb.versions_max
         && sb.versions_max <= VERSIONS_MAX
-}
-
-/// The first block behind both journal regions of so many changes each.
-fn first_free(mem: u32) -> u32
-    requires { mem ≤ 4096 }
-    ensures { result ≡ first_free mem }
-{
-    2 + 2 * ((1288 * mem + 4096) / 4096)
 }
 
 fn put_u8(into: &mut [u8], at: usize, n: u8)

@@ -65,7 +65,7 @@ fn the_example_is_written_and_read(rt: HostRuntime) -> Result<(), Fail> {
     assert_eq!(rt; gate_up(&mut disk, 0), Ok(false));
     assert_eq!(rt; newest(&mut disk), Ok(None));
     gate_raise(&mut disk, 0)?;
-    gate_close(&mut disk, 0)?;
+    gate_ensure_shut(&mut disk, 0)?;
     assert_eq!(rt; gate_up(&mut disk, 0), Ok(false));
     Ok(())
 }

@@ -6,8 +6,8 @@ use Rattle.strat_io.specs.Streams.{Appends}
 
 pub appends_then : (a b c : Option (List ℕ)) (x y : List ℕ) → Appends a b x → Appends b c y → Appends a c (x ++ y)
 appends_then a b c x y first second = record {
-  told = λ held e. second.told (held ++ x) (first.told held e) ∙ ap (λ (z : List ℕ). Some z) (append_assoc held x y);
-  untold = λ e. second.untold (first.untold e);
+  exposed = λ held e. second.exposed (held ++ x) (first.exposed held e) ∙ ap (λ (z : List ℕ). Some z) (append_assoc held x y);
+  hidden = λ e. second.hidden (first.hidden e);
 }
 
 -- the front of a list, and the next n items

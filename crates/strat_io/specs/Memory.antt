@@ -16,7 +16,3 @@ pub record Recording : Type 0 where
   pub failing : List ℕ
   pub calls : ℕ
   pub faults : ℕ
-
--- a count after one more; at the last number of 64 bits it stands still
-abbrev pub one_more : ℕ → ℕ
-one_more n = min (n + 1) (2 ^ 64 - 1)

@@ -7,9 +7,9 @@ pub record Gives (before now : Option (List ℕ)) (into : List ℕ) (n : ℕ) : 
   pub rest : (left : List ℕ) → before ≡ Some left → now ≡ Some (drop n left)
   -- nothing is given to a buffer with room only at the end of the input
   pub at_end : (left : List ℕ) → before ≡ Some left → n ≡ 0 → 0 < length into → left ≡ []
-  pub untold : before ≡ None → now ≡ None
+  pub hidden : before ≡ None → now ≡ None
 
 -- the sink holds these bytes more, behind what it held
 pub record Appends (before now : Option (List ℕ)) (bytes : List ℕ) : Type 0 where
-  pub told : (held : List ℕ) → before ≡ Some held → now ≡ Some (held ++ bytes)
-  pub untold : before ≡ None → now ≡ None
+  pub exposed : (held : List ℕ) → before ≡ Some held → now ≡ Some (held ++ bytes)
+  pub hidden : before ≡ None → now ≡ None

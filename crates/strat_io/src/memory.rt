@@ -1,8 +1,7 @@
 //! A source and a sink in memory, for tests. They fail at the calls that they are told to fail at.
 
 ghost use Rattle.std.specs.Prelude.{◌≡◌, ◌≤◌, ◌<◌, ◌+◌, ◌↔◌, ℕ, List, [], length, take, min, Option, IsErr, IfOk, OnErr, IsTrue, Contains, if◌then◌else◌};
-ghost use Rattle.strat_crash.specs.Faults.{Counts};
-ghost use Rattle.strat_io.specs.Memory.{one_more};
+ghost use Rattle.strat_crash.specs.Faults.{CountsFaults, one_more};
 ghost use Rattle.strat_io.specs.Streams.{Gives, Appends};
 
 use crate::sink::Sink;
@@ -32,7 +31,7 @@ impl Calls {
         })
     }
 
-    /// Counts one more call, and tells whether it is to fail.
+    /// CountsFaults one more call, and tells whether it is to fail.
     fn next_fails(&mut self) -> bool
         ensures found { IsTrue result ↔ Contains self.old.failing.items self.new.made }
         ensures same { self.new ≡ record self.old { made = one_more self.old.made } }
@@ -41,7 +40,7 @@ impl Calls {
         self.failing.contains(&self.made)
     }
 
-    /// Counts one more failure.
+    /// CountsFaults one more failure.
     fn fail(&mut self) -> Failed
         ensures same { self.new ≡ record self.old { faults = one_more self.old.faults } }
         ensures later { self.old.faults ≤ self.new.faults }
@@ -125,7 +124,7 @@ impl Source for MemSource {
         ensures fits { IfOk result (λ n. n ≤ length into.new) }
         ensures ok { IfOk result (λ n. Gives (Some self.old.left) (Some self.new.left) into.new n) }
         ensures err { OnErr result (self.new.left ≡ self.old.left) }
-        ensures cause { Counts self.old.faults self.new.faults result }
+        ensures cause { CountsFaults self.old.faults self.new.faults result }
         // It fails exactly at the calls that it was told to fail at.
         ensures which { IsErr result ↔ Contains self.old.failing self.new.calls }
         ensures calls { self.new.calls ≡ one_more self.old.calls }
@@ -210,7 +209,7 @@ impl Sink for MemSink {
         ensures ok { IfOk result
             (λ n. Appends (Some self.old.held) (Some self.new.held) (take n piece.now)) }
         ensures err { OnErr result (self.new.held ≡ self.old.held) }
-        ensures cause { Counts self.old.faults self.new.faults result }
+        ensures cause { CountsFaults self.old.faults self.new.faults result }
         // Beside the calls that it was told to fail at, it fails where it finds no memory.
         ensures which { Contains self.old.failing self.new.calls → IsErr result }
         ensures calls { self.new.calls ≡ one_more self.old.calls }

@@ -1,7 +1,7 @@
 //! Where bytes go.
 
 ghost use Rattle.std.specs.Prelude.{◌≡◌, ◌≤◌, ◌<◌, ℕ, List, length, take, Option, IfOk, OnOk, OnErr};
-ghost use Rattle.strat_crash.specs.Faults.{Counts};
+ghost use Rattle.strat_crash.specs.Faults.{CountsFaults};
 ghost use Rattle.strat_io.specs.Streams.{Appends};
 
 use strat_base::Failed;
@@ -21,7 +21,7 @@ pub trait Sink {
         ensures some { IfOk result (λ n. 0 < length piece.now → 0 < n) }
         ensures ok { IfOk result (λ n. Appends (held self.old) (held self.new) (take n piece.now)) }
         ensures err { OnErr result (held self.new ≡ held self.old) }
-        ensures cause { Counts (faults self.old) (faults self.new) result };
+        ensures cause { CountsFaults (faults self.old) (faults self.new) result };
 }
 
 /// Writes all the bytes, in as many calls as the sink needs, and none where there are no bytes. It gives
@@ -31,7 +31,7 @@ pub fn put_all<K: Sink>(sink: &mut K, bytes: &[u8]) -> Result<(), Failed>
     ensures ok { OnOk result (Appends (K.held sink.old) (K.held sink.new) bytes.now) }
     ensures err { OnErr result ((n : ℕ) × (n < length bytes.now)
         × Appends (K.held sink.old) (K.held sink.new) (take n bytes.now)) }
-    ensures cause { Counts (K.faults sink.old) (K.faults sink.new) result }
+    ensures cause { CountsFaults (K.faults sink.old) (K.faults sink.new) result }
 {
     let mut done = 0;
     while done < bytes.len() {

@@ -1,7 +1,7 @@
 //! Where bytes come from.
 
 ghost use Rattle.std.specs.Prelude.{◌≡◌, ◌≤◌, ℕ, List, length, Option, IfOk, OnErr};
-ghost use Rattle.strat_crash.specs.Faults.{Counts};
+ghost use Rattle.strat_crash.specs.Faults.{CountsFaults};
 ghost use Rattle.strat_io.specs.Streams.{Gives};
 
 use strat_base::Failed;
@@ -21,5 +21,5 @@ pub trait Source {
         ensures fits { IfOk result (λ n. n ≤ length into.new) }
         ensures ok { IfOk result (λ n. Gives (left self.old) (left self.new) into.new n) }
         ensures err { OnErr result (left self.new ≡ left self.old) }
-        ensures cause { Counts (faults self.old) (faults self.new) result };
+        ensures cause { CountsFaults (faults self.old) (faults self.new) result };
 }

@@ -3,13 +3,13 @@ use Rattle.std.proofs.Common.{Bool, take, drop, Some, ◌-◌, ◌≡◌, ◌≢
 use Rattle.std.specs.List.{list_all}
 use Rattle.std.proofs.lemmas.Bool.{cases_eq}
 use Rattle.strat_crash.specs.Image.{Image, HoldsBytes, Outside, window, patch}
-use Rattle.strat_crash.specs.Moments.{View, Images, Since, TearsOnly, Settled}
+use Rattle.strat_crash.specs.Moments.{DiskView, Images, Since, TearsOnly, IsDurable}
 use Rattle.strat_base.specs.Change.{Change, is_lawful}
 use Rattle.strat_format.specs.Layout.{region_at, region_size, other_region}
 use Rattle.strat_crash.proofs.ImageLemmas.{window_same, window_patch, outside_patch}
 use Rattle.strat_crash.proofs.MomentLemmas.{settled_at, tears_wider}
 use Rattle.strat_format.specs.Records.{records_bytes}
-use Rattle.strat_journal.specs.Records.{changes_of}
+use Rattle.strat_journal.specs.Records.{journal_changes}
 use Rattle.strat_journal.specs.Raising.{BehindOrRaised}
 use Rattle.strat_journal.proofs.KeepLemmas.{behind_split}
 use Rattle.strat_journal.proofs.RaisingLemmas.{patched_first, patched_twice}
@@ -88,7 +88,7 @@ module _ (log : Log) (ready : Ready log) where
       }
 
 -- an append, over the views of the disk before and after it
-module _ (log : Log) (ready : Ready log) (old : View) (holds : (d : Image) → Images old d → HoldsBytes d) (stands : Stands old log)
+module _ (log : Log) (ready : Ready log) (old : DiskView) (holds : (d : Image) → Images old d → HoldsBytes d) (stands : Stands old log)
     (f : Image) (there : Images old f) (rest : List ℕ) (split : 0xa7 ∷ rest ≡ records_bytes log.batch ++ 0 ∷ [])
     (high : gate_of log + 1 + length rest ≤ region_at log.mem log.active + region_size log.mem) where
   fewer : length log.list < log.mem
@@ -110,13 +110,13 @@ module _ (log : Log) (ready : Ready log) (old : View) (holds : (d : Image) → I
       stands.shut f there fewer (sym (keeps_other log ready f written (gate_of log + 1) (length rest) (omega arith) high (outside_patch f (gate_of log + 1) rest))
       ∙ sym (keeps_other log ready written c (gate_of log) 1 (omega arith) (omega (arith, high)) out) ∙ up)
 
-  raised_given : (c : Image) → Outside (gate_of log) 1 written c → c (gate_of log) ≡ 0xa7 → changes_of c log.mem log.active ≡ Ok (log.list ++ log.batch)
+  raised_given : (c : Image) → Outside (gate_of log) 1 written c → c (gate_of log) ≡ 0xa7 → journal_changes c log.mem log.active ≡ Ok (log.list ++ log.batch)
   raised_given c out up =
       laid_given c log.mem log.active (log.list ++ log.batch)
       (raised_laid log ready written c rest split written_laid (window_patch f (gate_of log + 1) rest) out up)
       (λ full. raised_other c out)
 
-  shut_given : (c : Image) → Outside (gate_of log) 1 written c → c (gate_of log) ≢ 0xa7 → changes_of c log.mem log.active ≡ Ok log.list
+  shut_given : (c : Image) → Outside (gate_of log) 1 written c → c (gate_of log) ≢ 0xa7 → journal_changes c log.mem log.active ≡ Ok log.list
   shut_given c out shut =
       laid_given c log.mem log.active log.list
       (record {
@@ -139,12 +139,12 @@ module _ (log : Log) (ready : Ready log) (old : View) (holds : (d : Image) → I
       ]
 
   -- and after it all
-  pub all_given : (new : View) → ((c : Image) → Images new c → c ≡ patch f (gate_of log) (0xa7 ∷ rest)) → Stands new (batch_joined log)
+  pub all_given : (new : DiskView) → ((c : Image) → Images new c → c ≡ patch f (gate_of log) (0xa7 ∷ rest)) → Stands new (batch_joined log)
   all_given new settled =
       let out : Outside (gate_of log) 1 written (patch f (gate_of log) (0xa7 ∷ rest)) = patched_twice f (gate_of log) rest in
       let up : patch f (gate_of log) (0xa7 ∷ rest) (gate_of log) ≡ 0xa7 = patched_first f (gate_of log) 0xa7 rest in
       record {
-        given = λ c left. subst (λ (c : Image). changes_of c log.mem log.active ≡ Ok (log.list ++ log.batch)) (sym (settled c left)) (raised_given (patch f (gate_of log) (0xa7 ∷ rest)) out up);
+        given = λ c left. subst (λ (c : Image). journal_changes c log.mem log.active ≡ Ok (log.list ++ log.batch)) (sym (settled c left)) (raised_given (patch f (gate_of log) (0xa7 ∷ rest)) out up);
         shut = λ c left lt. subst (λ (c : Image). c (region_at log.mem (other_region log.active)) ≢ 0xa7) (sym (settled c left)) (raised_other (patch f (gate_of log) (0xa7 ∷ rest)) out);
       }
 
@@ -154,7 +154,7 @@ module _ (mem active : ℕ) (stale : Bool) (list batch : List Change) (bytes : L
   len_within =
       omega (arith, keeps.room, keeps.list_end, keeps.batch_end, length-records_bytes list keeps.list_fits, length-records_bytes batch keeps.batch_fits, keeps.list_count, keeps.batch_count, keeps.few)
 
-  module _ (some : 0 < length batch) (old new : View) (gate : ℕ) (rest : List ℕ) (gate_is : gate ≡ region_at mem active + end)
+  module _ (some : 0 < length batch) (old new : DiskView) (gate : ℕ) (rest : List ℕ) (gate_is : gate ≡ region_at mem active + end)
       (rest_is : rest ≡ take (len - end) (drop (end + 1) bytes)) where
     abbrev log : Log
     log = record { mem = mem; active = active; stale = stale; list = list; batch = batch }
@@ -192,15 +192,15 @@ module _ (mem active : ℕ) (stale : Bool) (list batch : List Change) (bytes : L
 
     pub append_moment : ((f : Image) → old.content ≡ Some f → (c : Image) → Since new old.moment c → BehindOrRaised old f gate rest c)
         → (f : Image) → old.content ≡ Some f → Images old f → ((d : Image) → Images old d → HoldsBytes d) → Stands old log → (c : Image) → Since new old.moment c → GivesAllOrNone log c
-    append_moment each f told there holds stands c since =
-        any_given log ready old holds stands f there rest split high c (subst (λ (n : ℕ). BehindOrRaised old f n rest c) gate_same (each f told c since))
+    append_moment each f exposed there holds stands c since =
+        any_given log ready old holds stands f there rest split high c (subst (λ (n : ℕ). BehindOrRaised old f n rest c) gate_same (each f exposed c since))
 
-    pub append_stands : ((f : Image) → old.content ≡ Some f → new.content ≡ Some (patch f gate (0xa7 ∷ rest))) → Settled new
+    pub append_stands : ((f : Image) → old.content ≡ Some f → new.content ≡ Some (patch f gate (0xa7 ∷ rest))) → IsDurable new
         → (f : Image) → old.content ≡ Some f → Images old f → ((d : Image) → Images old d → HoldsBytes d) → Stands old log → Stands new (batch_joined log)
-    append_stands content settled f told there holds stands =
+    append_stands content settled f exposed there holds stands =
         all_given log ready old holds stands f there rest split high new
-        (settled_at new (patch f (gate_of log) (0xa7 ∷ rest)) (content f told ∙ ap (λ (n : ℕ). Some (patch f n (0xa7 ∷ rest))) gate_same) settled)
+        (settled_at new (patch f (gate_of log) (0xa7 ∷ rest)) (content f exposed ∙ ap (λ (n : ℕ). Some (patch f n (0xa7 ∷ rest))) gate_same) settled)
 
     pub append_content : ((f : Image) → old.content ≡ Some f → new.content ≡ Some (patch f gate (0xa7 ∷ rest)))
         → (f : Image) → old.content ≡ Some f → new.content ≡ Some (patch f (gate_of log) (records_bytes batch ++ 0 ∷ []))
-    append_content content f told = content f told ∙ (λ i. Some (patch f (gate_same i) (split i)))
+    append_content content f exposed = content f exposed ∙ (λ i. Some (patch f (gate_same i) (split i)))

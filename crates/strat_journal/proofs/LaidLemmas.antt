@@ -11,7 +11,7 @@ use Rattle.strat_base.proofs.ChangeLemmas.{length-change_bytes}
 use Rattle.strat_journal.specs.Laid.{Laid}
 use Rattle.strat_format.specs.Damage.{Read, and_then}
 use Rattle.strat_format.specs.Records.{Logged, records_bytes, full_then, region_records, journal_of}
-use Rattle.strat_journal.specs.Records.{logged_from, changes_in_order, changes_of}
+use Rattle.strat_journal.specs.Records.{logged_from, changes_in_order, journal_changes}
 use Rattle.strat_journal.proofs.RecordLemmas.{changes, none_text, laid_read, read_laid}
 
 -- two lists, one behind the other
@@ -83,7 +83,7 @@ closed_records c mem region shut = laid_read c (region_at mem region + region_si
 
 -- the changes that stand in the active region are given, where the other region has none behind a full one
 pub laid_given : (c : Image) (mem active : ℕ) (list : List Change) → LaidIn c mem active list
-    → (length list ≡ mem → c (region_at mem (other_region active)) ≢ 0xa7) → changes_of c mem active ≡ Ok list
+    → (length list ≡ mem → c (region_at mem (other_region active)) ≢ 0xa7) → journal_changes c mem active ≡ Ok list
 laid_given c mem active list laid shut =
     let s : ℕ = region_at mem active in
     let read : region_records c mem active ≡ Ok (logged_from s list) = laid_read c (s + region_size mem) mem s list laid in
@@ -110,7 +110,7 @@ given_part mem others (Ok xs) list few e = elim (cases_eq (length xs) mem) [
 ]
 
 -- changes that are given, fewer than a region takes, stand in the active region
-pub given_laid : (c : Image) (mem active : ℕ) (list : List Change) → HoldsBytes c → changes_of c mem active ≡ Ok list → length list < mem → LaidIn c mem active list
+pub given_laid : (c : Image) (mem active : ℕ) (list : List Change) → HoldsBytes c → journal_changes c mem active ≡ Ok list → length list < mem → LaidIn c mem active list
 given_laid c mem active list holds given few =
     let s : ℕ = region_at mem active in
     let others : Result (List Logged) ℕ = region_records c mem (other_region active) in

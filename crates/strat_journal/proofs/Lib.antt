@@ -4,7 +4,7 @@ pub mod RaisingLemmas
 pub mod KeepLemmas
 pub mod AppendLemmas
 pub mod TextLemmas
-pub mod FrontLemmas
+pub mod RegionReaderLemmas
 pub mod ReadLemmas
 pub mod ClosingLemmas
 pub mod NowLemmas

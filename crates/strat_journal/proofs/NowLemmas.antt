@@ -5,12 +5,12 @@ use Rattle.std.proofs.lemmas.Bool.{and_from, eqb-true, eq-eqb, and_parts, cases_
 use Rattle.std.proofs.lemmas.List.{append-nil, length-map}
 use Rattle.strat_crash.specs.Image.{Image, window}
 use Rattle.strat_base.specs.Change.{Change, change_bytes, change_in}
-use Rattle.strat_format.specs.Layout.{region_first, region_at, region_size, other_region}
+use Rattle.strat_format.specs.Layout.{region_first, region_at, region_size, other_region, is_open}
 use Rattle.strat_format.specs.Damage.{Read, and_then, passed_or, put_first}
-use Rattle.strat_format.specs.Records.{Logged, is_open, block_of, record_then, records, region_records, journal_of}
+use Rattle.strat_format.specs.Records.{Logged, block_of, record_then, records, region_records, journal_of}
 use Rattle.strat_journal.specs.declared.journal.Logged.{Logged as Owned}
 use Rattle.std.specs.Option.{option_map}
-use Rattle.strat_journal.specs.Records.{changes_in_order, changes_of, logged_of, is_plain, plain_or, plain, alone_then, journal_now}
+use Rattle.strat_journal.specs.Records.{changes_in_order, journal_changes, logged_of, is_plain, plain_or, plain_records, alone_then, recover_journal_now}
 use Rattle.strat_journal.proofs.RecordLemmas.{open_gate}
 use Rattle.strat_journal.proofs.LaidLemmas.{joined, fully, full_true, full_false, closed_records}
 
@@ -31,20 +31,20 @@ shut_of others n mem one same = ap (λ (b : Bool). b && others) (sym (eq-eqb n m
 
 -- plain records of a journal that one region holds, out of those of the active region
 abbrev now : ℕ → Bool → ℕ → Read (List Logged) → Read (List Logged)
-now n others block read = and_then (and_then read (λ logged. passed_or block (not (eqb (length logged) n && others)) logged)) plain
+now n others block read = and_then (and_then read (λ logged. passed_or block (not (eqb (length logged) n && others)) logged)) plain_records
 
 now_part : (mem block : ℕ) (others : Bool) (r : Read (List Logged)) (logged : List Logged) → now mem others block r ≡ Ok logged
     → (r ≡ Ok logged) × (length logged ≡ mem → others ≡ false)
 now_part mem block others (Err bad) logged e = absurd (cc)
 now_part mem block others (Ok xs) logged e = elim (cases_Bool (eqb (length xs) mem && others)) [
-  | inl both ↦ absurd (let f : Err block ≡ Ok logged = sym (ap (λ (b : Bool). and_then (passed_or block (not b) xs) plain) both) ∙ e in cc)
+  | inl both ↦ absurd (let f : Err block ≡ Ok logged = sym (ap (λ (b : Bool). and_then (passed_or block (not b) xs) plain_records) both) ∙ e in cc)
   | inr one ↦
-      let there : plain xs ≡ Ok logged = sym (ap (λ (b : Bool). and_then (passed_or block (not b) xs) plain) one) ∙ e in
+      let there : plain_records xs ≡ Ok logged = sym (ap (λ (b : Bool). and_then (passed_or block (not b) xs) plain_records) one) ∙ e in
       let same : xs ≡ logged = plain_same xs logged (find (λ (l : Logged). not (is_plain l.change)) xs) there in
       (ap (λ (zs : List Logged). Ok zs) same, λ full. shut_of others (length xs) mem one (ap length same ∙ full))
 ]
 
-pub narrow : (c : Image) (mem active : ℕ) (logged : List Logged) → journal_now c mem active ≡ Ok logged → journal_of c mem active ≡ Ok logged
+pub narrow : (c : Image) (mem active : ℕ) (logged : List Logged) → recover_journal_now c mem active ≡ Ok logged → journal_of c mem active ≡ Ok logged
 narrow c mem active logged e =
     let part = now_part mem (region_first mem (other_region active)) (is_open (c (region_at mem (other_region active)))) (region_records c mem active) logged e in
     let others : Result (List Logged) ℕ = region_records c mem (other_region active) in
@@ -89,30 +89,30 @@ and_false false = refl
 
 wide_part : (mem block : ℕ) (others : Bool) (rest r : Result (List Logged) ℕ) (logged : List Logged) → fully mem rest r ≡ Ok logged → length logged ≤ mem
     → (rest ≡ Ok [] → others ≡ false) → list_all (λ (l : Logged). is_plain l.change) logged ≡ true → now mem others block r ≡ Ok logged
-wide_part mem block others rest (Err bad) logged e few shut plain' = absurd (cc)
-wide_part mem block others rest (Ok xs) logged e few shut plain' = elim (cases_eq (length xs) mem) [
+wide_part mem block others rest (Err bad) logged e few shut plain_records' = absurd (cc)
+wide_part mem block others rest (Ok xs) logged e few shut plain_records' = elim (cases_eq (length xs) mem) [
   | inr short ↦
       let same : Ok xs ≡ Ok logged = sym (full_false mem rest xs short) ∙ e in
       let xs_is : xs ≡ logged = cc in
       let no : (eqb (length xs) mem && others) ≡ false = apart_test (length xs) mem others short in
-      ap (λ (b : Bool). and_then (passed_or block (not b) xs) plain) no ∙ ap plain xs_is ∙ ap (plain_or logged) (none_other logged plain')
+      ap (λ (b : Bool). and_then (passed_or block (not b) xs) plain_records) no ∙ ap plain_records xs_is ∙ ap (plain_or logged) (none_other logged plain_records')
   | inl full ↦
       let none = joined_few xs rest logged (sym (full_true mem rest xs full) ∙ e) (omega (arith, full)) in
       let no : (eqb (length xs) mem && others) ≡ false = ap (λ (b : Bool). eqb (length xs) mem && b) (shut none.0) ∙ and_false (eqb (length xs) mem) in
-      ap (λ (b : Bool). and_then (passed_or block (not b) xs) plain) no ∙ ap plain none.1 ∙ ap (plain_or logged) (none_other logged plain')
+      ap (λ (b : Bool). and_then (passed_or block (not b) xs) plain_records) no ∙ ap plain_records none.1 ∙ ap (plain_or logged) (none_other logged plain_records')
 ]
 
 pub wide : (c : Image) (mem active : ℕ) (logged : List Logged) → 0 < mem → journal_of c mem active ≡ Ok logged → length logged ≤ mem
-    → list_all (λ (l : Logged). is_plain l.change) logged ≡ true → journal_now c mem active ≡ Ok logged
-wide c mem active logged some e few plain' =
+    → list_all (λ (l : Logged). is_plain l.change) logged ≡ true → recover_journal_now c mem active ≡ Ok logged
+wide c mem active logged some e few plain_records' =
     wide_part mem (region_first mem (other_region active)) (is_open (c (region_at mem (other_region active)))) (region_records c mem (other_region active)) (region_records c mem active) logged e few
-    (open_some c (region_at mem (other_region active) + region_size mem) mem (region_at mem (other_region active)) some) plain'
+    (open_some c (region_at mem (other_region active) + region_size mem) mem (region_at mem (other_region active)) some) plain_records'
 
-pub empty : (c : Image) (mem active : ℕ) → 0 < mem → c (region_at mem active) ≢ 0xa7 → journal_now c mem active ≡ Ok []
+pub empty : (c : Image) (mem active : ℕ) → 0 < mem → c (region_at mem active) ≢ 0xa7 → recover_journal_now c mem active ≡ Ok []
 empty c mem active some shut =
     let none : region_records c mem active ≡ Ok [] = closed_records c mem active shut in
     ap (now mem (is_open (c (region_at mem (other_region active)))) (region_first mem (other_region active))) none
-    ∙ ap (λ (b : Bool). and_then (passed_or (region_first mem (other_region active)) (not b) []) plain) (apart_test 0 mem (is_open (c (region_at mem (other_region active)))) (λ same. omega (arith, some, same)))
+    ∙ ap (λ (b : Bool). and_then (passed_or (region_first mem (other_region active)) (not b) []) plain_records) (apart_test 0 mem (is_open (c (region_at mem (other_region active)))) (λ same. omega (arith, some, same)))
 
 -- a search among records in memory is one among those that they stand for
 pub other_mapped : (xs : List Owned) → find (λ (l : Logged). not (is_plain l.change)) (map logged_of xs) ≡ option_map logged_of (find (λ (l : Owned). not (is_plain l.change)) xs)
@@ -137,20 +137,20 @@ test_off n others xs shut = elim (cases_eq (length xs) n) [
 pub test_passed : (n : ℕ) (others : Bool) (block : ℕ) (xs : List Owned) (o : Option Owned) → find (λ (l : Owned). not (is_plain l.change)) xs ≡ o → (length xs ≡ n → others ≡ false)
     → alone_then n others block (map logged_of xs) ≡ plain_or (map logged_of xs) (option_map logged_of o)
 test_passed n others block xs o e shut =
-    ap (λ (b : Bool). and_then (passed_or block (not b) (map logged_of xs)) plain) (test_off n others (map logged_of xs) (λ full. shut (sym (length-map xs logged_of) ∙ full)))
+    ap (λ (b : Bool). and_then (passed_or block (not b) (map logged_of xs)) plain_records) (test_off n others (map logged_of xs) (λ full. shut (sym (length-map xs logged_of) ∙ full)))
     ∙ ap (plain_or (map logged_of xs)) (other_mapped xs ∙ ap (option_map logged_of) e)
 
 pub test_refused : (n : ℕ) (others : Bool) (block : ℕ) (xs : List Owned) → length xs ≡ n → others ≡ true → alone_then n others block (map logged_of xs) ≡ Err block
 test_refused n others block xs full up =
-    ap (λ (b : Bool). and_then (passed_or block (not b) (map logged_of xs)) plain)
+    ap (λ (b : Bool). and_then (passed_or block (not b) (map logged_of xs)) plain_records)
     (and_from (eqb (length (map logged_of xs)) n) others (eq-eqb (length (map logged_of xs)) n (length-map xs logged_of ∙ full)) up)
 
 -- the journal of the moment by the active region's records and the tests behind them
 pub now_of : (c : Image) (mem active : ℕ) (logged : List Logged) → region_records c mem active ≡ Ok logged
-    → journal_now c mem active ≡ alone_then mem (is_open (c (region_at mem (other_region active)))) (region_first mem (other_region active)) logged
+    → recover_journal_now c mem active ≡ alone_then mem (is_open (c (region_at mem (other_region active)))) (region_first mem (other_region active)) logged
 now_of c mem active logged e = ap (now mem (is_open (c (region_at mem (other_region active)))) (region_first mem (other_region active))) e
 
-pub now_torn : (c : Image) (mem active block : ℕ) → region_records c mem active ≡ Err block → journal_now c mem active ≡ Err block
+pub now_torn : (c : Image) (mem active block : ℕ) → region_records c mem active ≡ Err block → recover_journal_now c mem active ≡ Err block
 now_torn c mem active block e = ap (now mem (is_open (c (region_at mem (other_region active)))) (region_first mem (other_region active))) e
 
 -- a test of two things that failed, where one of them holds
@@ -165,8 +165,8 @@ changes-mapped [] = refl
 changes-mapped (l ∷ items) = ap (λ (xs : List Change). l.change ∷ xs) (changes-mapped items)
 
 -- the changes that an opening reads are those of the journal
-pub changes_now : (c : Image) (mem active : ℕ) (items : List Owned) (list : List Change) → journal_now c mem active ≡ Ok (map logged_of items)
-    → list ≡ map (λ (l : Owned). l.change) items → changes_of c mem active ≡ Ok list
+pub changes_now : (c : Image) (mem active : ℕ) (items : List Owned) (list : List Change) → recover_journal_now c mem active ≡ Ok (map logged_of items)
+    → list ≡ map (λ (l : Owned). l.change) items → journal_changes c mem active ≡ Ok list
 changes_now c mem active items list e list_is =
     ap changes_in_order (narrow c mem active (map logged_of items) e)
     ∙ ap (λ (xs : List Change). Ok xs) (changes-mapped items ∙ sym list_is)

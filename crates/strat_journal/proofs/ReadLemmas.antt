@@ -3,32 +3,32 @@ use Rattle.std.proofs.Common.{map, ◌≡◌, ◌≢◌, ◌≤◌, ◌<◌, ◌
 use Rattle.std.proofs.lemmas.Bool.{eqb-true, eq-eqb}
 use Rattle.std.proofs.lemmas.List.{append-nil, map-append}
 use Rattle.strat_crash.specs.Image.{Image, window}
-use Rattle.strat_crash.specs.Moments.{View}
+use Rattle.strat_crash.specs.Moments.{DiskView, OnlyReads}
 use Rattle.strat_base.specs.Change.{change_bytes, change_in}
-use Rattle.strat_format.specs.Layout.{region_at, region_size}
+use Rattle.strat_format.specs.Layout.{region_at, region_size, is_open}
 use Rattle.strat_journal.specs.declared.journal.Logged.{Logged as Owned}
 use Rattle.strat_format.specs.Damage.{put_first}
-use Rattle.strat_format.specs.Records.{Logged, is_open, block_of, record_then, records, region_records}
+use Rattle.strat_format.specs.Records.{Logged, block_of, record_then, records, region_records}
 use Rattle.strat_journal.specs.Records.{logged_of}
 use Rattle.strat_journal.proofs.LaidLemmas.{joined}
-use Rattle.strat_journal.specs.Front.{Part, Looks, Shows, ReadsOn, Stored, StoredNone}
+use Rattle.strat_journal.specs.RegionReader.{ReadSoFar, MatchesImage, ReadsOn, Stored, StoredNone}
 use Rattle.strat_journal.proofs.RecordLemmas.{open_gate, shut_gate}
-use Rattle.strat_journal.proofs.FrontLemmas.{looks_refl, looks_trans}
+use Rattle.strat_journal.proofs.RegionReaderLemmas.{looks_refl, looks_trans}
 
 -- the records from a place on that are still to be read
 abbrev pub left : Image → ℕ → ℕ → ℕ → ℕ → Result (List Logged) ℕ
 left f mem region n at = records f (region_at mem region + region_size mem) n (region_at mem region + at)
 
 -- after n records of a region
-pub record SoFar (old now : View) (before reads : ℕ) (mem region n at : ℕ) (part : Part) (items : List Owned) : Type 0 where
+pub record SoFar (old now : DiskView) (before reads : ℕ) (mem region n at : ℕ) (part : ReadSoFar) (items : List Owned) : Type 0 where
   pub first : part.first ≡ region_at mem region
   pub size : part.size ≡ region_size mem
   pub near : at ≤ length part.bytes
   pub far : at ≤ 1288 * n
   pub within : length part.bytes ≤ part.size
   pub count : length items ≡ n
-  pub looks : Looks old now
-  pub shows : (f : Image) → old.content ≡ Some f → Shows f part
+  pub looks : OnlyReads old now
+  pub shows : (f : Image) → old.content ≡ Some f → MatchesImage f part
   pub found : (f : Image) → old.content ≡ Some f → region_records f mem region ≡ joined (map logged_of items) (left f mem region (mem - n) at)
   pub fewest : before ≤ reads
   pub each_once : 4096 * reads ≤ 4096 * before + length part.bytes
@@ -41,7 +41,7 @@ pub joined_first : {X : Type 0} (xs : List X) (x : X) (r : Result (List X) ℕ) 
 joined_first xs x (Ok ys) = ap (λ (zs : List _). Ok zs) (sym (append_assoc xs (x ∷ []) ys))
 joined_first xs x (Err block) = refl
 
-module _ (f : Image) (mem region : ℕ) (part : Part) (first : part.first ≡ region_at mem region) (size : part.size ≡ region_size mem) (at m : ℕ) where
+module _ (f : Image) (mem region : ℕ) (part : ReadSoFar) (first : part.first ≡ region_at mem region) (size : part.size ≡ region_size mem) (at m : ℕ) where
   abbrev place : ℕ
   place = region_at mem region + at
 
@@ -88,10 +88,10 @@ nothing_shown : (f : Image) (at : ℕ) → [] ≡ window f at 0
 unfolding window
 nothing_shown f at = refl
 
-pub begun : (v : View) (reads mem region : ℕ) (part : Part) (items : List Owned) → part ≡ record { first = region_at mem region; size = region_size mem; bytes = [] } → items ≡ []
+pub begun : (v : DiskView) (reads mem region : ℕ) (part : ReadSoFar) (items : List Owned) → part ≡ record { first = region_at mem region; size = region_size mem; bytes = [] } → items ≡ []
     → SoFar v v reads reads mem region 0 0 part items
 begun v reads mem region part items part_is none =
-    subst (λ (p : Part). SoFar v v reads reads mem region 0 0 p items) (sym part_is)
+    subst (λ (p : ReadSoFar). SoFar v v reads reads mem region 0 0 p items) (sym part_is)
     (subst (λ (xs : List Owned). SoFar v v reads reads mem region 0 0 (record { first = region_at mem region; size = region_size mem; bytes = [] }) xs) (sym none) (record {
       first = refl;
       size = refl;
@@ -100,8 +100,8 @@ begun v reads mem region part items part_is none =
       within = omega arith;
       count = refl;
       looks = looks_refl v;
-      shows = λ f told. nothing_shown f (region_at mem region);
-      found = λ f told.
+      shows = λ f exposed. nothing_shown f (region_at mem region);
+      found = λ f exposed.
           let all : mem ≡ mem - 0 = omega arith in
           let start : region_at mem region ≡ region_at mem region + 0 = omega arith in
           (λ i. records f (region_at mem region + region_size mem) (all i) (start i)) ∙ sym (joined_none (left f mem region (mem - 0) 0));
@@ -109,7 +109,7 @@ begun v reads mem region part items part_is none =
       each_once = omega arith;
     }))
 
-module _ (old mid new : View) (before between reads : ℕ) (mem region n at : ℕ) (part next : Part) (items : List Owned) (sofar : SoFar old mid before between mem region n at part items) where
+module _ (old mid new : DiskView) (before between reads : ℕ) (mem region n at : ℕ) (part next : ReadSoFar) (items : List Owned) (sofar : SoFar old mid before between mem region n at part items) where
   abbrev logged : List Logged
   logged = map logged_of items
 
@@ -117,10 +117,10 @@ module _ (old mid new : View) (before between reads : ℕ) (mem region n at : �
   rest f = left f mem region (suc (mem - (n + 1))) at
 
   found_left : n < mem → (f : Image) → old.content ≡ Some f → region_records f mem region ≡ joined logged (rest f)
-  found_left few f told = let m : mem - n ≡ suc (mem - (n + 1)) = omega arith in sofar.found f told ∙ ap (λ (k : ℕ). joined logged (left f mem region k at)) m
+  found_left few f exposed = let m : mem - n ≡ suc (mem - (n + 1)) = omega arith in sofar.found f exposed ∙ ap (λ (k : ℕ). joined logged (left f mem region k at)) m
 
   pub one_more : {T E : Type 0} (x : T) (l : Owned) (to : ℕ) → n < mem → ReadsOn {T = T} {E = E} mid new between reads part next (Ok x)
-      → ((f : Image) → mid.content ≡ Some f → Shows f part → Stored f part at (Some (l, to))) → (to ≤ at + 1288) × (to ≤ length next.bytes)
+      → ((f : Image) → mid.content ≡ Some f → MatchesImage f part → Stored f part at (Some (l, to))) → (to ≤ at + 1288) × (to ≤ length next.bytes)
       → (all : List Owned) → all ≡ items ++ l ∷ [] → SoFar old new before reads mem region (n + 1) to next all
   one_more x l to few on there near all all_is = record {
     first = on.first ∙ sofar.first;
@@ -130,31 +130,31 @@ module _ (old mid new : View) (before between reads : ℕ) (mem region n at : �
     within = on.within;
     count = omega (arith, ap length all_is, length-append items (l ∷ []), sofar.count);
     looks = looks_trans sofar.looks on.looks;
-    shows = λ f told. on.shows f (sofar.looks.same ∙ told) (sofar.shows f told);
-    found = λ f told.
-        found_left few f told
-        ∙ ap (joined logged) (left_record f mem region part sofar.first sofar.size at (mem - (n + 1)) l to (there f (sofar.looks.same ∙ told) (sofar.shows f told)))
+    shows = λ f exposed. on.shows f (sofar.looks.same ∙ exposed) (sofar.shows f exposed);
+    found = λ f exposed.
+        found_left few f exposed
+        ∙ ap (joined logged) (left_record f mem region part sofar.first sofar.size at (mem - (n + 1)) l to (there f (sofar.looks.same ∙ exposed) (sofar.shows f exposed)))
         ∙ joined_first logged (logged_of l) (left f mem region (mem - (n + 1)) to)
         ∙ ap (λ (xs : List Logged). joined xs (left f mem region (mem - (n + 1)) to)) (sym (map-append logged_of items (l ∷ [])) ∙ ap (map logged_of) (sym all_is));
     fewest = omega (arith, sofar.fewest, on.fewest);
     each_once = omega (arith, sofar.each_once, on.each_once);
   }
 
-  pub ends_shut : n < mem → ((f : Image) → mid.content ≡ Some f → Shows f part → Stored f part at None) → (f : Image) → old.content ≡ Some f → region_records f mem region ≡ Ok logged
-  ends_shut few there f told =
-      found_left few f told
-      ∙ ap (joined logged) (left_shut f mem region part sofar.first sofar.size at (mem - (n + 1)) (there f (sofar.looks.same ∙ told) (sofar.shows f told)))
+  pub ends_shut : n < mem → ((f : Image) → mid.content ≡ Some f → MatchesImage f part → Stored f part at None) → (f : Image) → old.content ≡ Some f → region_records f mem region ≡ Ok logged
+  ends_shut few there f exposed =
+      found_left few f exposed
+      ∙ ap (joined logged) (left_shut f mem region part sofar.first sofar.size at (mem - (n + 1)) (there f (sofar.looks.same ∙ exposed) (sofar.shows f exposed)))
       ∙ ap (λ (xs : List Logged). Ok xs) (append-nil logged)
 
-  pub ends_torn : (b : ℕ) → n < mem → ((f : Image) → mid.content ≡ Some f → Shows f part → StoredNone f part at b) → (f : Image) → old.content ≡ Some f → region_records f mem region ≡ Err b
-  ends_torn b few there f told =
-      found_left few f told
-      ∙ ap (joined logged) (left_torn f mem region part sofar.first sofar.size at (mem - (n + 1)) b (there f (sofar.looks.same ∙ told) (sofar.shows f told)))
+  pub ends_torn : (b : ℕ) → n < mem → ((f : Image) → mid.content ≡ Some f → MatchesImage f part → StoredNone f part at b) → (f : Image) → old.content ≡ Some f → region_records f mem region ≡ Err b
+  ends_torn b few there f exposed =
+      found_left few f exposed
+      ∙ ap (joined logged) (left_torn f mem region part sofar.first sofar.size at (mem - (n + 1)) b (there f (sofar.looks.same ∙ exposed) (sofar.shows f exposed)))
 
   pub ends_full : mem ≤ n → (f : Image) → old.content ≡ Some f → region_records f mem region ≡ Ok logged
-  ends_full full f told =
+  ends_full full f exposed =
       let none : mem - n ≡ 0 = omega arith in
-      sofar.found f told
+      sofar.found f exposed
       ∙ ap (λ (k : ℕ). joined logged (left f mem region k at)) none
       ∙ ap (joined logged) (left_none f mem region at)
       ∙ ap (λ (xs : List Logged). Ok xs) (append-nil logged)

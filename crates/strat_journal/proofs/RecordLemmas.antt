@@ -5,14 +5,15 @@ use Rattle.std.proofs.lemmas.Bool.{eqb-true, eq-eqb, and_parts, and_from, cond-t
 use Rattle.std.proofs.lemmas.List.{take_at, drop_at, get_or_past}
 use Rattle.strat_crash.specs.Image.{Image, HoldsBytes, window}
 use Rattle.strat_base.specs.Numbers.{AreBytes}
-use Rattle.strat_base.specs.Change.{Change, Put, Delete, Clone, change_bytes, change_in, is_lawful, BeginsWith}
+use Rattle.strat_base.specs.Change.{Change, Put, Delete, Clone, change_bytes, change_in, is_lawful, BeginsWithChange}
 use Rattle.strat_crash.proofs.ImageLemmas.{length-window, window_at, window_split}
 use Rattle.strat_base.proofs.ChangeLemmas.{change_in-bytes, change_in-some}
 use Rattle.strat_base.proofs.TreeLemmas.{option_cases}
 use Rattle.strat_journal.specs.Laid.{Laid}
 use Rattle.strat_format.specs.Damage.{put_first}
-use Rattle.strat_format.specs.Records.{Logged, is_open, records_bytes, block_of, record_then, records}
+use Rattle.strat_format.specs.Records.{Logged, records_bytes, block_of, record_then, records}
 use Rattle.strat_journal.specs.Records.{logged_from}
+use Rattle.strat_format.specs.Layout.{is_open}
 
 size_some : (change : Change) → 1 ≤ length (change_bytes change)
 size_some (Put version key value) = omega arith
@@ -145,7 +146,7 @@ none_read c end n at within shut = (
   refl,
 )
 
-first_read : (c : Image) (end n at : ℕ) (change : Change) (logged : List Logged) → c at ≡ 0xa7 → BeginsWith (window c (at + 1) (end - (at + 1))) change
+first_read : (c : Image) (end n at : ℕ) (change : Change) (logged : List Logged) → c at ≡ 0xa7 → BeginsWithChange (window c (at + 1) (end - (at + 1))) change
     → Read c end n (at + 1 + length (change_bytes change)) logged → Read c end (suc n) at (record { change = change; block = block_of at } ∷ logged)
 first_read c end n at change logged up begins later =
     let cb : List ℕ = change_bytes change in
@@ -167,7 +168,7 @@ put_first_ok : {X : Type 0} (x : X) (r : Result (List X) ℕ) (xs : List X) → 
 put_first_ok x (Ok ys) xs e = (ys, refl, cc)
 put_first_ok x (Err block) xs e = absurd (cc)
 
-begins_within : (c : Image) (end at : ℕ) (change : Change) → BeginsWith (window c (at + 1) (end - (at + 1))) change → at + 1 + length (change_bytes change) ≤ end
+begins_within : (c : Image) (end at : ℕ) (change : Change) → BeginsWithChange (window c (at + 1) (end - (at + 1))) change → at + 1 + length (change_bytes change) ≤ end
 begins_within c end at change begins =
     omega (arith, length-window c (at + 1) (end - (at + 1)), ap length begins.split, length-append (change_bytes change) begins.rest, size_some change)
 

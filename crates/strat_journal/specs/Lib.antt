@@ -1,5 +1,5 @@
 pub mod Records
 pub mod Log
 pub mod Raising
-pub mod Front
+pub mod RegionReader
 pub mod Laid

@@ -3,11 +3,11 @@ use Rattle.std.specs.Prelude.{◌≡◌, ◌≢◌, ◌⊎◌, ◌≤◌, ◌<�
 use Rattle.std.specs.List.{list_all}
 use Rattle.strat_base.specs.Change.{Change, change_bytes, change_in, is_lawful}
 use Rattle.strat_crash.specs.Image.{Image}
-use Rattle.strat_format.specs.Layout.{region_at, other_region}
-use Rattle.strat_crash.specs.Moments.{View, Images}
+use Rattle.strat_format.specs.Layout.{region_at, other_region, open_flag}
+use Rattle.strat_crash.specs.Moments.{DiskView, Images}
 use Rattle.strat_journal.specs.declared.journal.Logged.{Logged}
 use Rattle.strat_format.specs.Records.{records_bytes}
-use Rattle.strat_journal.specs.Records.{changes_of}
+use Rattle.strat_journal.specs.Records.{journal_changes}
 
 -- what a journal holds: how many changes a region takes, the active region, whether the other one is to be shut, the changes that are there for good, and those that become so together
 pub record Log : Type 0 where
@@ -66,14 +66,14 @@ pub record Keeps (list batch : List Change) (bytes : List ℕ) (mem active count
   pub room : length bytes ≡ room_for mem
 
 -- every image gives the list, and where that is shorter than a region takes the first gate of the region that is not active is closed
-pub record Stands (v : View) (log : Log) : Type 0 where
-  pub given : (c : Image) → Images v c → changes_of c log.mem log.active ≡ Ok log.list
-  pub shut : (c : Image) → Images v c → length log.list < log.mem → c (region_at log.mem (other_region log.active)) ≢ 0xa7
+pub record Stands (v : DiskView) (log : Log) : Type 0 where
+  pub given : (c : Image) → Images v c → journal_changes c log.mem log.active ≡ Ok log.list
+  pub shut : (c : Image) → Images v c → length log.list < log.mem → c (region_at log.mem (other_region log.active)) ≢ open_flag
 
 -- an image gives the list, or the list with the whole batch behind it
 abbrev pub GivesAllOrNone : Log → Image → Type 0
 GivesAllOrNone log c =
-    (changes_of c log.mem log.active ≡ Ok log.list) ⊎ (changes_of c log.mem log.active ≡ Ok (log.list ++ log.batch))
+    (journal_changes c log.mem log.active ≡ Ok log.list) ⊎ (journal_changes c log.mem log.active ≡ Ok (log.list ++ log.batch))
 
 -- a journal whose list are these changes in their order
 pub record Restores (mem active : ℕ) (logged : List Logged) (log : Log) : Type 0 where
@@ -85,4 +85,4 @@ pub record Restores (mem active : ℕ) (logged : List Logged) (log : Log) : Type
 
 -- so many changes leave room in the active region, and the other one's first gate is open
 abbrev pub IsStale : Image → ℕ → ℕ → ℕ → Type 0
-IsStale f mem active count = (count < mem) × (f (region_at mem (other_region active)) ≡ 0xa7)
+IsStale f mem active count = (count < mem) × (f (region_at mem (other_region active)) ≡ open_flag)

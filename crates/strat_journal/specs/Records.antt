@@ -21,8 +21,8 @@ abbrev pub changes_in_order : Read (List Logged) → Read (List Change)
 changes_in_order read = and_then read (λ logged. Ok (map (λ l. l.change) logged))
 
 -- the changes of the journal of these bytes
-abbrev pub changes_of : Image → ℕ → ℕ → Read (List Change)
-changes_of c mem active = changes_in_order (journal_of c mem active)
+abbrev pub journal_changes : Image → ℕ → ℕ → Read (List Change)
+journal_changes c mem active = changes_in_order (journal_of c mem active)
 
 -- a put at version 0
 abbrev pub is_plain : Change → Bool
@@ -35,13 +35,13 @@ plain_or logged None = Ok logged
 plain_or logged (Some l) = Err l.block
 
 -- records that are all plain, or the block of the first that is not
-abbrev pub plain : List Logged → Read (List Logged)
-plain logged = plain_or logged (find (λ l. not (is_plain l.change)) logged)
+abbrev pub plain_records : List Logged → Read (List Logged)
+plain_records logged = plain_or logged (find (λ l. not (is_plain l.change)) logged)
 
 -- plain records, where they are not n or another gate is closed; else the block of that gate
 abbrev pub alone_then : ℕ → Bool → ℕ → List Logged → Read (List Logged)
-alone_then n others block logged = and_then (passed_or block (not ((length logged == n) && others)) logged) plain
+alone_then n others block logged = and_then (passed_or block (not ((length logged == n) && others)) logged) plain_records
 
 -- what an opening reads as long as stores have one version and use one region at a time: a journal that one region holds, and all of its records plain
-abbrev pub journal_now : Image → ℕ → ℕ → Read (List Logged)
-journal_now c mem active = and_then (journal_in_one c mem active) plain
+abbrev pub recover_journal_now : Image → ℕ → ℕ → Read (List Logged)
+recover_journal_now c mem active = and_then (journal_in_one c mem active) plain_records

@@ -1,17 +1,18 @@
 //! Closing a region before the journal goes on in the other one.
 
 ghost use Rattle.std.specs.Prelude.{◌≡◌, ◌≢◌, ◌≤◌, ◌<◌, ℕ, List, length, Some, Ok, OnOk};
-ghost use Rattle.strat_crash.specs.Faults.{Counts};
+ghost use Rattle.strat_crash.specs.Faults.{CountsFaults};
 ghost use Rattle.strat_crash.specs.Image.{Image};
 ghost use Rattle.strat_format.specs.Layout as places;
-ghost use Rattle.strat_crash.specs.Moments.{Images, Since, Passes, TearsOnly, Settled};
-ghost use Rattle.strat_gate.specs.Gates.{Closed};
+ghost use Rattle.strat_crash.specs.Moments.{Exposes, Images, Since, Passes, TearsOnly, IsDurable};
+ghost use Rattle.strat_gate.specs.Gates.{EndsShut};
 ghost use Rattle.strat_format.specs.Records.{Logged, journal_of};
+ghost use Rattle.strat_format.specs.Layout.{open_flag};
 
-use crate::layout::region_at;
 use strat_base::Failed;
 use strat_disk::Disk;
-use strat_gate::gate_close;
+use strat_format::region_at;
+use strat_gate::gate_ensure_shut;
 
 /// Shuts a region's first gate where it reads open, and writes nothing where it does not: at most one read,
 /// one write and one sync. The region should not be the active one.
@@ -24,14 +25,14 @@ pub fn close_region<D: Disk>(disk: &mut D, mem: u32, region: u8) -> Result<(), F
         → journal_of c mem (places.other_region region) ≡ Ok logged)
         → (c : Image) → Since (D.view disk.new) (D.view disk.old).moment c
         → journal_of c mem (places.other_region region) ≡ Ok logged }
-    ensures shut { OnOk result ((f : Image) → (D.view disk.old).content ≡ Some f → Settled (D.view disk.old)
-        → (c : Image) → Images (D.view disk.new) c → c (places.region_at mem region) ≢ 0xa7) }
-    ensures ok { OnOk result ((f : Image) → (D.view disk.old).content ≡ Some f
-        → Closed f (places.region_at mem region) (D.view disk.old) (D.view disk.new)) }
+    ensures shut { OnOk result ((f : Image) → Exposes (D.view disk.old) f → IsDurable (D.view disk.old)
+        → (c : Image) → Images (D.view disk.new) c → c (places.region_at mem region) ≢ open_flag) }
+    ensures ok { OnOk result ((f : Image) → Exposes (D.view disk.old) f
+        → EndsShut f (places.region_at mem region) (D.view disk.old) (D.view disk.new)) }
     ensures images { TearsOnly (D.view disk.old) (D.view disk.new) (places.region_at mem region) 1 }
     ensures time { Passes (D.view disk.old) (D.view disk.new) }
-    ensures cause { Counts (D.faults disk.old) (D.faults disk.new) result }
+    ensures cause { CountsFaults (D.faults disk.old) (D.faults disk.new) result }
 {
-    gate_close(disk, region_at(mem, region))?;
+    gate_ensure_shut(disk, region_at(mem, region))?;
     Ok(())
 }

@@ -3,20 +3,20 @@
 ghost use Rattle.std.specs.Prelude.{◌≡◌, ◌≤◌, ◌<◌, ℕ, ◌+◌, ◌-◌, [], ◌∷◌, ◌++◌, length, map, Some, IsTrue, IfOk, OnOk, OnErr};
 ghost use Rattle.strat_base.specs.Change.{is_lawful};
 ghost use Rattle.strat_base.specs.ChangeView.{change_of};
-ghost use Rattle.strat_crash.specs.Faults.{Counts};
+ghost use Rattle.strat_crash.specs.Faults.{CountsFaults};
 ghost use Rattle.strat_crash.specs.Image.{Image, patch};
 ghost use Rattle.strat_format.specs.Layout as places;
-ghost use Rattle.strat_crash.specs.Moments.{Since, Passes, TearsOnly, Settled};
+ghost use Rattle.strat_crash.specs.Moments.{Exposes, Since, Passes, TearsOnly, IsDurable};
 ghost use Rattle.strat_journal.specs.Log.{Stands, GivesAllOrNone, batch_joined, with_list, empty_log, gate_of};
 ghost use Rattle.strat_format.specs.Records.{records_bytes};
 
-use crate::layout::{RECORD_MAX, region_at};
 use crate::raising::raise_over;
 use crate::text::{behind_gate, put_record};
 use std::alloc::Global;
 use std::marker::Model;
 use strat_base::{Change, Failed, NoMemory, OwnedChange};
 use strat_disk::Disk;
+use strat_format::{RECORD_MAX, region_at};
 
 /// Most changes of a batch.
 pub const BATCH_MAX: usize = 16;
@@ -168,20 +168,20 @@ impl Journal {
     /// size. After an error the journal is spent.
     pub fn append<D: Disk>(&mut self, disk: &mut D) -> Result<(), Failed>
         requires { 0 < length self.old.batch }
-        ensures any_moment { (f : Image) → (D.view disk.old).content ≡ Some f
+        ensures any_moment { (f : Image) → Exposes (D.view disk.old) f
             → Stands (D.view disk.old) self.old
             → (c : Image) → Since (D.view disk.new) (D.view disk.old).moment c → GivesAllOrNone self.old c }
-        ensures kept { OnOk result ((f : Image) → (D.view disk.old).content ≡ Some f
+        ensures kept { OnOk result ((f : Image) → Exposes (D.view disk.old) f
             → Stands (D.view disk.old) self.old → Stands (D.view disk.new) self.new) }
         ensures ok { OnOk result (self.new ≡ batch_joined self.old) }
         ensures err { OnErr result (self.new ≡ self.old) }
-        ensures content { OnOk result ((f : Image) → (D.view disk.old).content ≡ Some f
+        ensures content { OnOk result ((f : Image) → Exposes (D.view disk.old) f
             → (D.view disk.new).content ≡ Some (patch f (gate_of self.old) (records_bytes self.old.batch ++ 0 ∷ []))) }
-        ensures settled { OnOk result (Settled (D.view disk.new)) }
+        ensures settled { OnOk result (IsDurable (D.view disk.new)) }
         ensures images { TearsOnly (D.view disk.old) (D.view disk.new)
             (places.region_at self.old.mem self.old.active) (places.region_size self.old.mem) }
         ensures time { Passes (D.view disk.old) (D.view disk.new) }
-        ensures cause { Counts (D.faults disk.old) (D.faults disk.new) result }
+        ensures cause { CountsFaults (D.faults disk.old) (D.faults disk.new) result }
         ensures reads { D.reads disk.new ≡ D.reads disk.old }
     {
         let gate = region_at(self.mem, self.active) + self.end as u64;

@@ -4,24 +4,23 @@ ghost use Rattle.std.specs.Prelude.{◌≡◌, ◌≢◌, ◌≤◌, ◌<◌, �
 ghost use Rattle.std.specs.Option.{option_copied};
 ghost use Rattle.strat_crash.specs.Image.{Image};
 ghost use Rattle.strat_format.specs.Layout as places;
-ghost use Rattle.strat_crash.specs.Moments.{Passes, LeavesOld};
-ghost use Rattle.strat_format.specs.SuperBlock as layout;
+ghost use Rattle.strat_crash.specs.Moments.{Exposes, Passes, KeepsImages, OnlyReads};
 ghost use Rattle.strat_format.specs.SuperBlock.{IsLawful};
-ghost use Rattle.strat_base.specs.Troubles.{HasTrouble};
-ghost use Rattle.strat_base.specs.declared.failures.Trouble.TheVariants.{Damaged};
+ghost use Rattle.strat_base.specs.declared.failures.Trouble.TheVariants.{Damaged, Device};
 ghost use Rattle.strat_gate.specs.SuperView.{super_of};
-ghost use Rattle.strat_journal.specs.Front.{Looks};
 ghost use Rattle.strat_journal.specs.Log.{Restores, IsStale};
-ghost use Rattle.strat_format.specs.Records.{is_open, region_records};
-ghost use Rattle.strat_journal.specs.Records.{logged_of, changes_of, alone_then, journal_now};
+ghost use Rattle.strat_format.specs.Records.{region_records};
+ghost use Rattle.strat_journal.specs.Records.{logged_of, journal_changes, alone_then, recover_journal_now};
 ghost use Rattle.strat_journal.specs.Records.{is_plain as plain_change};
+ghost use Rattle.strat_crash.specs.Faults.{HasCause};
+ghost use Rattle.strat_format.specs.Layout.{is_open};
 
-use crate::front::Front;
 use crate::journal::{Journal, Logged};
-use crate::layout::{region_at, region_first};
+use crate::region_reader::RegionReader;
 use std::alloc::Global;
 use strat_base::{Change, OwnedChange, Trouble};
 use strat_disk::Disk;
+use strat_format::{region_at, region_first};
 use strat_gate::{SuperBlock, gate_up};
 
 /// The records of a region, up to its first closed gate or as many as it takes. Reads each block at most
@@ -34,21 +33,21 @@ fn read_region<D: Disk>(
 ) -> Result<Vec<Logged>, Trouble>
     requires mem { mem ≤ 4096 }
     requires region { region ≤ 1 }
-    ensures found { IfOk result (λ v. (f : Image) → (D.view disk.old).content ≡ Some f
+    ensures found { IfOk result (λ v. (f : Image) → Exposes (D.view disk.old) f
         → region_records f mem region ≡ Ok (map logged_of v.items)) }
     ensures few { IfOk result (λ v. vec_len v ≤ mem) }
     ensures damaged { (b : ℕ) → IsErrOf result (Damaged b) → (f : Image)
-        → (D.view disk.old).content ≡ Some f → region_records f mem region ≡ Err b }
-    ensures looks { Looks (D.view disk.old) (D.view disk.new) }
-    ensures cause { HasTrouble (D.faults disk.old) (D.faults disk.new) result }
+        → Exposes (D.view disk.old) f → region_records f mem region ≡ Err b }
+    ensures looks { OnlyReads (D.view disk.old) (D.view disk.new) }
+    ensures cause { HasCause Device (D.faults disk.old) (D.faults disk.new) result }
     ensures fewest_reads { D.reads disk.old ≤ D.reads disk.new }
-    ensures most_reads { D.reads disk.new ≤ D.reads disk.old + layout.region_blocks mem }
+    ensures most_reads { D.reads disk.new ≤ D.reads disk.old + places.region_blocks mem }
 {
-    let mut front = Front::new(alloc, mem, region)?;
+    let mut reader = RegionReader::new(alloc, mem, region)?;
     let mut logged = Vec::with_capacity(alloc, mem as usize)?;
     let mut at = 0;
     for _i in 0..mem {
-        let Some((record, next)) = front.next(alloc, disk, at)? else {
+        let Some((record, next)) = reader.next(alloc, disk, at)? else {
             return Ok(logged);
         };
         logged.push(record)?;
@@ -86,7 +85,7 @@ fn goes_on(len: usize, mem: u32, others: bool) -> bool
 }
 
 /// Tests what holds as long as stores have one version and use one region at a time.
-fn test(logged: &[Logged], mem: u32, others: bool, block: u32) -> Result<(), Trouble>
+fn require_plain(logged: &[Logged], mem: u32, others: bool, block: u32) -> Result<(), Trouble>
     ensures ok { OnOk result (alone_then mem others block (map logged_of logged.now)
         ≡ Ok (map logged_of logged.now)) }
     ensures apart { OnOk result (IsTrue others → length logged.now ≢ mem) }
@@ -112,21 +111,21 @@ fn read_records<D: Disk>(
 ) -> Result<(Vec<Logged>, bool), Trouble>
     requires mem { mem ≤ 4096 }
     requires region { region ≤ 1 }
-    ensures found { IfOk result (λ r. (f : Image) → (D.view disk.old).content ≡ Some f
-        → journal_now f mem region ≡ Ok (map logged_of r.0.items)) }
-    ensures others { IfOk result (λ r. (f : Image) → (D.view disk.old).content ≡ Some f
+    ensures found { IfOk result (λ r. (f : Image) → Exposes (D.view disk.old) f
+        → recover_journal_now f mem region ≡ Ok (map logged_of r.0.items)) }
+    ensures others { IfOk result (λ r. (f : Image) → Exposes (D.view disk.old) f
         → r.1 ≡ is_open (f (places.region_at mem (places.other_region region)))) }
     ensures few { IfOk result (λ r. (vec_len r.0 ≤ mem) × (IsTrue r.1 → vec_len r.0 ≢ mem)) }
     ensures damaged { (b : ℕ) → IsErrOf result (Damaged b) → (f : Image)
-        → (D.view disk.old).content ≡ Some f → journal_now f mem region ≡ Err b }
-    ensures looks { Looks (D.view disk.old) (D.view disk.new) }
-    ensures cause { HasTrouble (D.faults disk.old) (D.faults disk.new) result }
+        → Exposes (D.view disk.old) f → recover_journal_now f mem region ≡ Err b }
+    ensures looks { OnlyReads (D.view disk.old) (D.view disk.new) }
+    ensures cause { HasCause Device (D.faults disk.old) (D.faults disk.new) result }
     ensures fewest_reads { D.reads disk.old ≤ D.reads disk.new }
-    ensures most_reads { D.reads disk.new ≤ D.reads disk.old + layout.region_blocks mem + 1 }
+    ensures most_reads { D.reads disk.new ≤ D.reads disk.old + places.region_blocks mem + 1 }
 {
     let logged = read_region(alloc, disk, mem, region)?;
     let others = gate_up(disk, region_at(mem, 1 - region))?;
-    test(&logged, mem, others, region_first(mem, 1 - region))?;
+    require_plain(&logged, mem, others, region_first(mem, 1 - region))?;
     Ok((logged, others))
 }
 
@@ -140,22 +139,22 @@ impl Journal {
         sb: &SuperBlock,
     ) -> Result<(Journal, Vec<Logged>), Trouble>
         requires { IsLawful (super_of sb.now) }
-        ensures found { IfOk result (λ r. (f : Image) → (D.view disk.old).content ≡ Some f
-            → journal_now f sb.now.mem sb.now.region ≡ Ok (map logged_of r.1.items)) }
-        ensures given { IfOk result (λ r. (f : Image) → (D.view disk.old).content ≡ Some f
-            → changes_of f sb.now.mem sb.now.region ≡ Ok r.0.list) }
+        ensures found { IfOk result (λ r. (f : Image) → Exposes (D.view disk.old) f
+            → recover_journal_now f sb.now.mem sb.now.region ≡ Ok (map logged_of r.1.items)) }
+        ensures given { IfOk result (λ r. (f : Image) → Exposes (D.view disk.old) f
+            → journal_changes f sb.now.mem sb.now.region ≡ Ok r.0.list) }
         ensures log { IfOk result (λ r. Restores sb.now.mem sb.now.region r.1.items r.0) }
-        ensures stale { IfOk result (λ r. (f : Image) → (D.view disk.old).content ≡ Some f
+        ensures stale { IfOk result (λ r. (f : Image) → Exposes (D.view disk.old) f
             → IsTrue r.0.stale ↔ IsStale f sb.now.mem sb.now.region (length r.0.list)) }
         ensures damaged { (b : ℕ) → IsErrOf result (Damaged b) → (f : Image)
-            → (D.view disk.old).content ≡ Some f
-            → journal_now f sb.now.mem sb.now.region ≡ Err b }
+            → Exposes (D.view disk.old) f
+            → recover_journal_now f sb.now.mem sb.now.region ≡ Err b }
         ensures same { (D.view disk.new).content ≡ (D.view disk.old).content }
-        ensures images { LeavesOld (D.view disk.old) (D.view disk.new) }
+        ensures images { KeepsImages (D.view disk.old) (D.view disk.new) }
         ensures time { Passes (D.view disk.old) (D.view disk.new) }
-        ensures cause { HasTrouble (D.faults disk.old) (D.faults disk.new) result }
+        ensures cause { HasCause Device (D.faults disk.old) (D.faults disk.new) result }
         ensures fewest_reads { D.reads disk.old ≤ D.reads disk.new }
-        ensures most_reads { D.reads disk.new ≤ D.reads disk.old + layout.region_blocks sb.now.mem + 1 }
+        ensures most_reads { D.reads disk.new ≤ D.reads disk.old + places.region_blocks sb.now.mem + 1 }
     {
         let mut journal = Journal::empty(alloc, sb.mem, sb.region)?;
         let (logged, others) = read_records(alloc, disk, sb.mem, sb.region)?;

@@ -4,11 +4,10 @@ ghost use Rattle.std.specs.Prelude.{◌≡◌, ◌≤◌, ◌<◌, ◌+◌, ◌-
 ghost use Rattle.strat_base.specs.Change.{is_lawful, change_bytes};
 ghost use Rattle.strat_base.specs.ChangeView.{change_of};
 ghost use Rattle.strat_base.specs.Numbers.{placed};
+ghost use Rattle.strat_format.specs.Layout.{open_flag};
 
 use strat_base::{Change, put_change};
-
-/// What an open gate reads as; any other byte is a closed one.
-pub(crate) const OPEN: u8 = 0xa7;
+use strat_format::OPEN;
 
 /// Puts a record and a closed gate behind it into the buffer, and gives the place of that gate.
 pub(crate) fn put_record(bytes: &mut Vec<u8>, at: usize, change: &Change<'_>) -> usize
@@ -16,7 +15,7 @@ pub(crate) fn put_record(bytes: &mut Vec<u8>, at: usize, change: &Change<'_>) ->
     requires room { at + 2 + length (change_bytes (change_of change.now)) ≤ vec_len bytes.old }
     ensures end { result ≡ at + 1 + length (change_bytes (change_of change.now)) }
     ensures ok { bytes.new.items
-        ≡ placed bytes.old.items at (0xa7 ∷ (change_bytes (change_of change.now) ++ 0 ∷ [])) }
+        ≡ placed bytes.old.items at (open_flag ∷ (change_bytes (change_of change.now) ++ 0 ∷ [])) }
 {
     bytes[at] = OPEN;
     let end = put_change(change, bytes, at + 1);

@@ -14,7 +14,7 @@ use Rattle.strat_model.specs.declared.replies.Refusal.TheVariants as why
 use Rattle.strat_model.specs.Pairs.{Pair, Pairs, set, unset}
 use Rattle.strat_model.specs.Request.{Request, Put, Delete, Get, Clone, Scan, Info, OpenCursor, NextPairs, CloseCursor, Stat}
 use Rattle.strat_model.specs.Table.{Table, Cursor}
-use Rattle.strat_model.specs.Step.{Outcome, step, update, is_known, is_frozen, pairs_at, page, refuses, advanced}
+use Rattle.strat_model.specs.Step.{Outcome, step, update, has_row, is_frozen, pairs_at, page, refuses, advanced}
 
 -- a key's pair keeps its place when it gets another value
 pub set_here : (key value : List ℕ) (pairs : Pairs) (i : ℕ) (pair : Pair) → i < length pairs → pair ≡ get_or pairs i pair
@@ -78,7 +78,7 @@ OpensOne t outcome = outcome.table.next_cursor ≤ t.next_cursor + 1
 -- an update opens none
 opens_by_update : (t : Table) (v : ℕ) (pairs : Pairs) → OpensOne t (update t v pairs)
 opens_by_update t v pairs =
-    either (OpensOne t) (not (is_known t v)) _ _ (omega arith)
+    either (OpensOne t) (not (has_row t v)) _ _ (omega arith)
     (either (OpensOne t) (is_frozen t v) _ _ (omega arith) (either (OpensOne t) (t.changes == t.changes_max) _ _ (omega arith) (omega arith)))
 
 -- the next pairs of a cursor open none
@@ -91,14 +91,14 @@ opens_by_next t n limit (Some c) = omega arith
 pub next_cursor_after : (t : Table) (request : Request) → (step t request).table.next_cursor ≤ t.next_cursor + 1
 next_cursor_after t (Put v key value) = opens_by_update t v (set key value (pairs_at t v))
 next_cursor_after t (Delete v key) = opens_by_update t v (unset key (pairs_at t v))
-next_cursor_after t (Get v key) = either (OpensOne t) (is_known t v) _ _ (omega arith) (omega arith)
+next_cursor_after t (Get v key) = either (OpensOne t) (has_row t v) _ _ (omega arith) (omega arith)
 next_cursor_after t (Clone v) =
-    either (OpensOne t) (not (is_known t v)) _ _ (omega arith)
+    either (OpensOne t) (not (has_row t v)) _ _ (omega arith)
     (either (OpensOne t) (length t.rows == t.versions_max) _ _ (omega arith) (either (OpensOne t) (t.changes == t.changes_max) _ _ (omega arith) (omega arith)))
-next_cursor_after t (Scan v lo hi limit) = either (OpensOne t) (is_known t v) _ _ (omega arith) (omega arith)
-next_cursor_after t (Info v) = either (OpensOne t) (is_known t v) _ _ (omega arith) (omega arith)
+next_cursor_after t (Scan v lo hi limit) = either (OpensOne t) (has_row t v) _ _ (omega arith) (omega arith)
+next_cursor_after t (Info v) = either (OpensOne t) (has_row t v) _ _ (omega arith) (omega arith)
 next_cursor_after t (OpenCursor v lo hi) =
-    either (OpensOne t) (not (is_known t v)) _ _ (omega arith) (either (OpensOne t) (length t.cursors == CURSORS_MAX) _ _ (omega arith) (omega arith))
+    either (OpensOne t) (not (has_row t v)) _ _ (omega arith) (either (OpensOne t) (length t.cursors == CURSORS_MAX) _ _ (omega arith) (omega arith))
 next_cursor_after t (NextPairs n limit) = opens_by_next t n limit (find (λ c. c.number == n) t.cursors)
 next_cursor_after t (CloseCursor n) = either (OpensOne t) (list_any (λ c. c.number == n) t.cursors) _ _ (omega arith) (omega arith)
 next_cursor_after t Stat = omega arith

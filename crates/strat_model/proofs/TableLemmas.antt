@@ -13,7 +13,7 @@ use Rattle.strat_model.specs.declared.replies.Refusal.TheVariants as why
 use Rattle.strat_model.specs.Pairs.{Pairs, set, unset, range, is_between}
 use Rattle.strat_model.specs.Request.{Request, Put, Delete, Get, Clone, Scan, Info, OpenCursor, NextPairs, CloseCursor, Stat}
 use Rattle.strat_model.specs.Table.{Row, Cursor, Table, fresh, parents_of}
-use Rattle.strat_model.specs.Step.{Outcome, step, update, is_known, is_frozen, no_row, pairs_at, with_pairs, clone, start_cursor, page, refuses, advanced}
+use Rattle.strat_model.specs.Step.{Outcome, step, update, has_row, is_frozen, no_row, pairs_at, with_pairs, clone, start_cursor, page, refuses, advanced}
 use Rattle.strat_model.specs.Answer.{accepts}
 use Rattle.strat_model.specs.Kept.{IsMap, IsTable, updated}
 use Rattle.strat_model.proofs.MapLemmas.{set_keeps_map, unset_keeps_map, filter_keeps_map, drop_keeps_map}
@@ -48,7 +48,7 @@ map_in (row ∷ rows) (suc v) maps = map_in rows v (λ k d lt. maps (suc k) d (o
 -- an update
 update_keeps : (t : Table) (v : ℕ) (pairs : Pairs) → IsTable t → IsMap pairs → Keeps (update t v pairs)
 update_keeps t v pairs is sorted =
-    chosen Keeps (not (is_known t v)) _ _ (λ _. is) (λ known.
+    chosen Keeps (not (has_row t v)) _ _ (λ _. is) (λ known.
     chosen Keeps (is_frozen t v) _ _ (λ _. is) (λ unfrozen.
     chosen Keeps (t.changes == t.changes_max) _ _ (λ _. is) (λ room. record {
       maps = All-set {X = Row} (λ row. IsMap row.pairs) t.rows v _ sorted is.maps;
@@ -87,12 +87,12 @@ one_more parents v older below i =
 -- a clone
 clone_keeps : (t : Table) (v : ℕ) → IsTable t → Keeps (clone t v)
 clone_keeps t v is =
-    chosen Keeps (not (is_known t v)) _ _ (λ _. is) (λ known.
+    chosen Keeps (not (has_row t v)) _ _ (λ _. is) (λ known.
     chosen Keeps (length t.rows == t.versions_max) _ _ (λ _. is) (λ more.
     chosen Keeps (t.changes == t.changes_max) _ _ (λ _. is) (λ room.
     let row : Row = record { parent = Some v; pairs = pairs_at t v } in
     let child : parents_of t ++ Some v ∷ [] ≡ map {A = Row} (λ r. r.parent) (t.rows ++ row ∷ []) = sym (map_push (λ (r : Row). r.parent) t.rows row) in
-    let below : v < length t.rows = ltb-true v (length t.rows) (true_from_not (is_known t v) known) in
+    let below : v < length t.rows = ltb-true v (length t.rows) (true_from_not (has_row t v) known) in
     let P : Parents → Type 0 = IsTree in
     record {
       maps = All-push {X = Row} (λ r. IsMap r.pairs) t.rows row is.maps (map_in t.rows v is.maps);
@@ -114,7 +114,7 @@ clone_keeps t v is =
 -- a cursor that is opened
 start_keeps : (t : Table) (v : ℕ) (lo hi : List ℕ) → IsTable t → Keeps (start_cursor t v lo hi)
 start_keeps t v lo hi is =
-    chosen Keeps (not (is_known t v)) _ _ (λ _. is) (λ known.
+    chosen Keeps (not (has_row t v)) _ _ (λ _. is) (λ known.
     chosen Keeps (length t.cursors == CURSORS_MAX) _ _ (λ _. is) (λ room.
     let cursor : Cursor = record { number = t.next_cursor; left = range (pairs_at t v) lo hi } in
     record {
@@ -164,10 +164,10 @@ next_keeps t n limit is (Some c) =
 pub step_keeps_table : (t : Table) (request : Request) → IsTable t → IsTable (step t request).table
 step_keeps_table t (Put v key value) is = update_keeps t v (set key value (pairs_at t v)) is (set_keeps_map key value (pairs_at t v) (map_in t.rows v is.maps))
 step_keeps_table t (Delete v key) is = update_keeps t v (unset key (pairs_at t v)) is (unset_keeps_map key (pairs_at t v) (map_in t.rows v is.maps))
-step_keeps_table t (Get v key) is = chosen Keeps (is_known t v) _ _ (λ _. is) (λ _. is)
+step_keeps_table t (Get v key) is = chosen Keeps (has_row t v) _ _ (λ _. is) (λ _. is)
 step_keeps_table t (Clone v) is = clone_keeps t v is
-step_keeps_table t (Scan v lo hi limit) is = chosen Keeps (is_known t v) _ _ (λ _. is) (λ _. is)
-step_keeps_table t (Info v) is = chosen Keeps (is_known t v) _ _ (λ _. is) (λ _. is)
+step_keeps_table t (Scan v lo hi limit) is = chosen Keeps (has_row t v) _ _ (λ _. is) (λ _. is)
+step_keeps_table t (Info v) is = chosen Keeps (has_row t v) _ _ (λ _. is) (λ _. is)
 step_keeps_table t (OpenCursor v lo hi) is = start_keeps t v lo hi is
 step_keeps_table t (NextPairs n limit) is = next_keeps t n limit is (find (λ c. c.number == n) t.cursors)
 step_keeps_table t (CloseCursor n) is =
@@ -198,7 +198,7 @@ fresh_is_table changes_max versions_max changes some versions = record {
 update_leaves : (t : Table) (v : ℕ) (pairs : Pairs) (w : ℕ) → (is_frozen t v ≡ false → w ≢ v) → pairs_at (update t v pairs).table w ≡ pairs_at t w
 update_leaves t v pairs w apart =
     let Same : Outcome → Type 0 = λ o. pairs_at o.table w ≡ pairs_at t w in
-    chosen Same (not (is_known t v)) _ _ (λ _. refl) (λ _.
+    chosen Same (not (has_row t v)) _ _ (λ _. refl) (λ _.
     chosen Same (is_frozen t v) _ _ (λ _. refl) (λ unfrozen.
     chosen Same (t.changes == t.changes_max) _ _ (λ _. refl) (λ _.
     ap (λ (row : Row). row.pairs) (get_or-set_other t.rows v w _ no_row (apart unfrozen)))))
@@ -207,7 +207,7 @@ update_leaves t v pairs w apart =
 clone_leaves : (t : Table) (v w : ℕ) → w < length t.rows → pairs_at (clone t v).table w ≡ pairs_at t w
 clone_leaves t v w there =
     let Same : Outcome → Type 0 = λ o. pairs_at o.table w ≡ pairs_at t w in
-    chosen Same (not (is_known t v)) _ _ (λ _. refl) (λ _.
+    chosen Same (not (has_row t v)) _ _ (λ _. refl) (λ _.
     chosen Same (length t.rows == t.versions_max) _ _ (λ _. refl) (λ _.
     chosen Same (t.changes == t.changes_max) _ _ (λ _. refl) (λ _.
     ap (λ (row : Row). row.pairs) (get_or_append_left t.rows (record { parent = Some v; pairs = pairs_at t v } ∷ []) no_row w there))))
@@ -228,12 +228,12 @@ step_leaves t request w there apart = by_command request apart
     by_command : (r : Request) → ((v : ℕ) → updated r ≡ Some v → is_frozen t v ≡ false → w ≢ v) → Same (step t r)
     by_command (Put v key value) apart = update_leaves t v _ w (apart v refl)
     by_command (Delete v key) apart = update_leaves t v _ w (apart v refl)
-    by_command (Get v key) apart = chosen Same (is_known t v) _ _ (λ _. refl) (λ _. refl)
+    by_command (Get v key) apart = chosen Same (has_row t v) _ _ (λ _. refl) (λ _. refl)
     by_command (Clone v) apart = clone_leaves t v w there
-    by_command (Scan v lo hi limit) apart = chosen Same (is_known t v) _ _ (λ _. refl) (λ _. refl)
-    by_command (Info v) apart = chosen Same (is_known t v) _ _ (λ _. refl) (λ _. refl)
+    by_command (Scan v lo hi limit) apart = chosen Same (has_row t v) _ _ (λ _. refl) (λ _. refl)
+    by_command (Info v) apart = chosen Same (has_row t v) _ _ (λ _. refl) (λ _. refl)
     by_command (OpenCursor v lo hi) apart =
-        chosen Same (not (is_known t v)) _ _ (λ _. refl) (λ _. chosen Same (length t.cursors == CURSORS_MAX) _ _ (λ _. refl) (λ _. refl))
+        chosen Same (not (has_row t v)) _ _ (λ _. refl) (λ _. chosen Same (length t.cursors == CURSORS_MAX) _ _ (λ _. refl) (λ _. refl))
     by_command (NextPairs n limit) apart = next n limit (find (λ c. c.number == n) t.cursors)
     by_command (CloseCursor n) apart = chosen Same (list_any (λ c. c.number == n) t.cursors) _ _ (λ _. refl) (λ _. refl)
     by_command Stat apart = refl
@@ -251,7 +251,7 @@ step_leaves_frozen t request w there frozen =
 pub clone_has_map : (t : Table) (v : ℕ) → accepts (step t (Clone v)).answer.reply ≡ true → pairs_at (step t (Clone v)).table (length t.rows) ≡ pairs_at t v
 clone_has_map t v =
     let Has : Outcome → Type 0 = λ o. accepts o.answer.reply ≡ true → pairs_at o.table (length t.rows) ≡ pairs_at t v in
-    chosen Has (not (is_known t v)) _ _ (λ _ h. cc) (λ _.
+    chosen Has (not (has_row t v)) _ _ (λ _ h. cc) (λ _.
     chosen Has (length t.rows == t.versions_max) _ _ (λ _ h. cc) (λ _.
     chosen Has (t.changes == t.changes_max) _ _ (λ _ h. cc) (λ _ h.
     ap (λ (row : Row). row.pairs) (get_or_push t.rows (record { parent = Some v; pairs = pairs_at t v }) no_row (length t.rows) refl))))

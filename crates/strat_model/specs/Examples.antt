@@ -22,8 +22,8 @@ abbrev pub has : Pair → Answer
 has pair = record { reply = reply.Found; pairs = pair ∷ [] }
 
 -- these pairs, and whether others follow
-abbrev pub told : Bool → Pairs → Answer
-told more pairs = record { reply = reply.Pairs more; pairs = pairs }
+abbrev pub exposed : Bool → Pairs → Answer
+exposed more pairs = record { reply = reply.Pairs more; pairs = pairs }
 
 -- keys a, b and c with the values 1, 2 and 3
 abbrev pub abc : Pairs
@@ -50,8 +50,8 @@ scanning =
 -- pairs come in the order of their keys, an upper bound is left out, and it is said whether others follow
 abbrev pub scanned : List Answer
 scanned =
-    done ∷ done ∷ done ∷ told true ((codes "a", codes "1") ∷ (codes "b", codes "2") ∷ [])
-    ∷ told false abc ∷ told false ((codes "b", codes "2") ∷ []) ∷ []
+    done ∷ done ∷ done ∷ exposed true ((codes "a", codes "1") ∷ (codes "b", codes "2") ∷ [])
+    ∷ exposed false abc ∷ exposed false ((codes "b", codes "2") ∷ []) ∷ []
 
 -- a clone, and what is asked of the tree before and after
 abbrev pub growing : List Request
@@ -83,7 +83,7 @@ paging =
 abbrev pub paged : List Answer
 paged =
     done ∷ done ∷ plain (reply.Opened 1) ∷ done ∷ done ∷ done
-    ∷ told true ((codes "a", codes "1") ∷ []) ∷ told false ((codes "b", codes "2") ∷ []) ∷ told false []
+    ∷ exposed true ((codes "a", codes "1") ∷ []) ∷ exposed false ((codes "b", codes "2") ∷ []) ∷ exposed false []
     ∷ done ∷ refusal why.UnknownCursor ∷ []
 
 -- settings, two clones of them, and a change in each
@@ -98,7 +98,7 @@ staging =
 abbrev pub staged : List Answer
 staged =
     done ∷ done ∷ plain (reply.Made 1) ∷ plain (reply.Made 2) ∷ done ∷ done
-    ∷ told false ((codes "user/1/name", codes "Ann") ∷ (codes "user/2/name", codes "Rob") ∷ [])
-    ∷ told false ((codes "user/2/name", codes "Bob") ∷ [])
-    ∷ told false ((codes "user/1/name", codes "Ann") ∷ (codes "user/2/name", codes "Bob") ∷ [])
+    ∷ exposed false ((codes "user/1/name", codes "Ann") ∷ (codes "user/2/name", codes "Rob") ∷ [])
+    ∷ exposed false ((codes "user/2/name", codes "Bob") ∷ [])
+    ∷ exposed false ((codes "user/1/name", codes "Ann") ∷ (codes "user/2/name", codes "Bob") ∷ [])
     ∷ plain (reply.Stat 3 4 6 0) ∷ []

@@ -8,7 +8,7 @@ use Rattle.strat_model.specs.Pairs.{Pairs}
 use Rattle.strat_model.specs.Request.{Request, Put, Clone, OpenCursor}
 use Rattle.strat_model.specs.Table.{Table}
 use Rattle.strat_model.specs.Answer.{refusal, accepts}
-use Rattle.strat_model.specs.Step.{step, is_known, is_frozen}
+use Rattle.strat_model.specs.Step.{step, has_row, is_frozen}
 use Rattle.strat_model.specs.Run.{takes_memory}
 
 -- a command makes a table larger
@@ -38,19 +38,19 @@ IsStepOrShort before request reply pairs after =
 -- why an update of a version is refused, if it is
 abbrev pub update_refusal : Table → ℕ → Option Refusal
 update_refusal t v =
-    if not (is_known t v) then Some why.UnknownVersion else
+    if not (has_row t v) then Some why.UnknownVersion else
     if is_frozen t v then Some why.Frozen else
     if t.changes == t.changes_max then Some why.ChangeLimit else None
 
 -- why a clone of a version is refused, if it is
 abbrev pub clone_refusal : Table → ℕ → Option Refusal
 clone_refusal t v =
-    if not (is_known t v) then Some why.UnknownVersion else
+    if not (has_row t v) then Some why.UnknownVersion else
     if length t.rows == t.versions_max then Some why.VersionLimit else
     if t.changes == t.changes_max then Some why.ChangeLimit else None
 
 -- why a cursor over a version is refused, if it is
 abbrev pub cursor_refusal : Table → ℕ → Option Refusal
 cursor_refusal t v =
-    if not (is_known t v) then Some why.UnknownVersion else
+    if not (has_row t v) then Some why.UnknownVersion else
     if length t.cursors == CURSORS_MAX then Some why.CursorLimit else None

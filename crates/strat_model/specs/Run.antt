@@ -33,22 +33,22 @@ abbrev pub fill_after : ℕ → ℕ → ℕ
 fill_after mem fill = if nat_lt fill mem then fill + 1 else 1
 
 -- where a run stands: its table and its fill
-pub record Place : Type 0 where
+pub record Position : Type 0 where
   pub table : Table
   pub fill : ℕ
 
 -- a reply as it is sent: the tag of the body that it answers, and the answer
-pub record Told : Type 0 where
+pub record Response : Type 0 where
   pub tag : ℕ
   pub answer : Answer
 
 -- the bytes that are sent
-abbrev pub told_bytes : Told → List ℕ
-told_bytes told = frame (reply_body told.tag told.answer)
+abbrev pub response_bytes : Response → List ℕ
+response_bytes response = frame (reply_body response.tag response.answer)
 
 -- the place after a command was carried out
-abbrev pub place_after : ℕ → Place → Request → Place
-place_after mem at request =
+abbrev pub position_after : ℕ → Position → Request → Position
+position_after mem at request =
     let outcome = step at.table request in
     record {
       table = outcome.table;
@@ -56,89 +56,89 @@ place_after mem at request =
     }
 
 -- a body that is no command is told so, and changes nothing
-pub record ToldMalformed (at : Place) (body : List ℕ) (told : Told) (after : Place) : Type 0 where
-  pub malformed : IsMalformed body told.tag
-  pub answer : told.answer ≡ refusal why.Malformed
+pub record AnswersMalformed (at : Position) (body : List ℕ) (response : Response) (after : Position) : Type 0 where
+  pub malformed : IsMalformed body response.tag
+  pub answer : response.answer ≡ refusal why.Malformed
   pub same : after ≡ at
 
 -- a command is carried out as the table says
-pub record ToldByTable (mem : ℕ) (at : Place) (body : List ℕ) (told : Told) (after : Place) : Type 0 where
+pub record AnswersByTable (mem : ℕ) (at : Position) (body : List ℕ) (response : Response) (after : Position) : Type 0 where
   pub request : Request
-  pub spelled : Spells body told.tag request
-  pub answer : told.answer ≡ (step at.table request).answer
-  pub place : after ≡ place_after mem at request
+  pub spelled : Spells body response.tag request
+  pub answer : response.answer ≡ (step at.table request).answer
+  pub place : after ≡ position_after mem at request
 
 -- a command that the table accepts is refused for want of memory, and changes nothing
-pub record ToldShort (at : Place) (body : List ℕ) (told : Told) (after : Place) : Type 0 where
+pub record AnswersNoMemory (at : Position) (body : List ℕ) (response : Response) (after : Position) : Type 0 where
   pub request : Request
-  pub spelled : Spells body told.tag request
+  pub spelled : Spells body response.tag request
   pub takes : takes_memory request ≡ true
   pub accepted : accepts (step at.table request).answer.reply ≡ true
-  pub answer : told.answer ≡ refusal why.NoMemory
+  pub answer : response.answer ≡ refusal why.NoMemory
   pub same : after ≡ at
 
 -- how one body may be answered, and where the run stands then
-abbrev pub Answers : ℕ → Place → List ℕ → Told → Place → Type 0
-Answers mem at body told after = ToldMalformed at body told after ⊎ ToldByTable mem at body told after ⊎ ToldShort at body told after
+abbrev pub Answers : ℕ → Position → List ℕ → Response → Position → Type 0
+Answers mem at body response after = AnswersMalformed at body response after ⊎ AnswersByTable mem at body response after ⊎ AnswersNoMemory at body response after
 
 -- a body with its answer, and the place at which it was answered
 pub record Exchange : Type 0 where
   pub body : List ℕ
-  pub told : Told
-  pub at : Place
+  pub response : Response
+  pub at : Position
 
 -- a run that answers so, each body at its place, and then stands at another
-abbrev pub Run : ℕ → Place → List Exchange → Place → Type 0
-Run mem at [] after = after ≡ at
-Run mem at (x ∷ xs) after = (x.at ≡ at) × ((mid : Place) × Answers mem at x.body x.told mid × Run mem mid xs after)
+abbrev pub IsRun : ℕ → Position → List Exchange → Position → Type 0
+IsRun mem at [] after = after ≡ at
+IsRun mem at (x ∷ xs) after = (x.at ≡ at) × ((mid : Position) × Answers mem at x.body x.response mid × IsRun mem mid xs after)
 
 -- an answer tells that the device failed, or that a block is damaged
 abbrev pub IsFault : Answer → Type 0
 IsFault answer = (answer ≡ refusal why.DeviceFault) ⊎ ((block : ℕ) × (answer ≡ refusal (why.Damaged block)))
 
 -- a command that the table accepts met a fault: whether it was carried out is open, and this is the place if it was
-pub record ToldFault (mem : ℕ) (at : Place) (body : List ℕ) (told : Told) (done : Place) : Type 0 where
+pub record AnswersFault (mem : ℕ) (at : Position) (body : List ℕ) (response : Response) (done : Position) : Type 0 where
   pub request : Request
-  pub spelled : Spells body told.tag request
+  pub spelled : Spells body response.tag request
   pub reaches : reaches_disk request ≡ true
   pub accepted : accepts (step at.table request).answer.reply ≡ true
-  pub answer : IsFault told.answer
-  pub place : done ≡ place_after mem at request
+  pub answer : IsFault response.answer
+  pub place : done ≡ position_after mem at request
 
 -- a body that met a fault, its answer, and the place after it if it was carried out
-pub record Halt : Type 0 where
+pub record Interruption : Type 0 where
   pub body : List ℕ
-  pub told : Told
-  pub done : Place
+  pub response : Response
+  pub done : Position
 
 -- what was said to bodies in their order: the answers, the place after them, and the fault that the next body met, if it met one
-pub record Talk : Type 0 where
+pub record Transcript : Type 0 where
   pub exchanges : List Exchange
-  pub after : Place
-  pub halt : Option Halt
+  pub after : Position
+  pub interruption : Option Interruption
 
 -- the bodies were answered as a run from this place may answer them, and no body after one that met a fault
-pub record IsTalk (mem : ℕ) (at : Place) (talk : Talk) : Type 0 where
-  pub run : Run mem at talk.exchanges talk.after
-  pub halted : IfSome talk.halt (λ h. ToldFault mem talk.after h.body h.told h.done)
+pub record IsTranscript (mem : ℕ) (at : Position) (transcript : Transcript) : Type 0 where
+  pub run : IsRun mem at transcript.exchanges transcript.after
+  pub interrupted : IfSome transcript.interruption (λ h. AnswersFault mem transcript.after h.body h.response h.done)
 
 -- what is made of a body that met a fault, if one did
-abbrev pub of_halt : {A : Type 0} → (Halt → A) → Option Halt → List A
-of_halt f None = []
-of_halt f (Some halt) = f halt ∷ []
+abbrev pub of_interruption : {A : Type 0} → (Interruption → A) → Option Interruption → List A
+of_interruption f None = []
+of_interruption f (Some interruption) = f interruption ∷ []
 
 -- the bodies that were answered
-abbrev pub bodies_of : Talk → List (List ℕ)
-bodies_of talk = map (λ x. x.body) talk.exchanges ++ of_halt (λ h. h.body) talk.halt
+abbrev pub bodies_of : Transcript → List (List ℕ)
+bodies_of transcript = map (λ x. x.body) transcript.exchanges ++ of_interruption (λ h. h.body) transcript.interruption
 
 -- the answers
-abbrev pub tolds_of : Talk → List Told
-tolds_of talk = map (λ x. x.told) talk.exchanges ++ of_halt (λ h. h.told) talk.halt
+abbrev pub responses_of : Transcript → List Response
+responses_of transcript = map (λ x. x.response) transcript.exchanges ++ of_interruption (λ h. h.response) transcript.interruption
 
 -- the tables after no body, after one, after two and so on, without cursors; one that met a fault counts as carried out
-abbrev pub tables_of : Talk → List Table
-tables_of talk = map (λ x. bare x.at.table) talk.exchanges ++ (bare talk.after.table ∷ of_halt (λ h. bare h.done.table) talk.halt)
+abbrev pub tables_of : Transcript → List Table
+tables_of transcript = map (λ x. bare x.at.table) transcript.exchanges ++ (bare transcript.after.table ∷ of_interruption (λ h. bare h.done.table) transcript.interruption)
 
 -- the bytes of all replies
-abbrev pub text : List Told → List ℕ
-text tolds = flat_map told_bytes tolds
+abbrev pub sent_bytes : List Response → List ℕ
+sent_bytes responses = flat_map response_bytes responses

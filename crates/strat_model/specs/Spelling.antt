@@ -41,22 +41,22 @@ abbrev pub is_limit : ℕ → Bool
 is_limit limit = nat_le 1 limit && nat_le limit PAIRS_MAX
 
 -- the sizes of a command are as they may be
-abbrev pub is_lawful : Request → Bool
-is_lawful (Put version key value) = is_key key && is_value value
-is_lawful (Delete version key) = is_key key
-is_lawful (Get version key) = is_key key
-is_lawful (Clone version) = true
-is_lawful (Scan version lo hi limit) = is_bound lo && (is_bound hi && is_limit limit)
-is_lawful (Info version) = true
-is_lawful (OpenCursor version lo hi) = is_bound lo && is_bound hi
-is_lawful (NextPairs cursor limit) = is_limit limit
-is_lawful (CloseCursor cursor) = true
-is_lawful Stat = true
+abbrev pub has_lawful_sizes : Request → Bool
+has_lawful_sizes (Put version key value) = is_key key && is_value value
+has_lawful_sizes (Delete version key) = is_key key
+has_lawful_sizes (Get version key) = is_key key
+has_lawful_sizes (Clone version) = true
+has_lawful_sizes (Scan version lo hi limit) = is_bound lo && (is_bound hi && is_limit limit)
+has_lawful_sizes (Info version) = true
+has_lawful_sizes (OpenCursor version lo hi) = is_bound lo && is_bound hi
+has_lawful_sizes (NextPairs cursor limit) = is_limit limit
+has_lawful_sizes (CloseCursor cursor) = true
+has_lawful_sizes Stat = true
 
 -- a command that is taken so far, with sizes as they may be
 abbrev pub is_taken : Request → Bool
-is_taken (Put version key value) = is_lawful (Put version key value)
-is_taken (Get version key) = is_lawful (Get version key)
+is_taken (Put version key value) = has_lawful_sizes (Put version key value)
+is_taken (Get version key) = has_lawful_sizes (Get version key)
 is_taken _ = false
 
 -- the numbers of a command fit their fields

@@ -18,16 +18,16 @@ pub record Outcome : Type 0 where
   pub table : Table
 
 -- an answer that leaves the table as it was
-abbrev pub says : Table → Answer → Outcome
-says t a = record { answer = a; table = t }
+abbrev pub replies_with : Table → Answer → Outcome
+replies_with t a = record { answer = a; table = t }
 
 -- a refusal, which leaves the table as it was
 abbrev pub refuses : Table → Refusal → Outcome
-refuses t r = says t (refusal r)
+refuses t r = replies_with t (refusal r)
 
 -- the table has this version
-abbrev pub is_known : Table → ℕ → Bool
-is_known t v = nat_lt v (length t.rows)
+abbrev pub has_row : Table → ℕ → Bool
+has_row t v = nat_lt v (length t.rows)
 
 -- a version has a child, and takes no more updates
 abbrev pub is_frozen : Table → ℕ → Bool
@@ -48,7 +48,7 @@ with_pairs rows v pairs = slice_set rows v (record { parent = (slice_index_or ro
 -- an update of one version's map
 abbrev pub update : Table → ℕ → Pairs → Outcome
 update t v pairs =
-    if not (is_known t v) then refuses t why.UnknownVersion else
+    if not (has_row t v) then refuses t why.UnknownVersion else
     if is_frozen t v then refuses t why.Frozen else
     if t.changes == t.changes_max then refuses t why.ChangeLimit else
     record {
@@ -68,7 +68,7 @@ page pairs limit = record { reply = reply.Pairs (nat_lt limit (length pairs)); p
 -- a child of a version, with that version's map
 abbrev pub clone : Table → ℕ → Outcome
 clone t v =
-    if not (is_known t v) then refuses t why.UnknownVersion else
+    if not (has_row t v) then refuses t why.UnknownVersion else
     if length t.rows == t.versions_max then refuses t why.VersionLimit else
     if t.changes == t.changes_max then refuses t why.ChangeLimit else
     record {
@@ -79,7 +79,7 @@ clone t v =
 -- a cursor over a range as it is now
 abbrev pub start_cursor : Table → ℕ → List ℕ → List ℕ → Outcome
 start_cursor t v lo hi =
-    if not (is_known t v) then refuses t why.UnknownVersion else
+    if not (has_row t v) then refuses t why.UnknownVersion else
     if length t.cursors == CURSORS_MAX then refuses t why.CursorLimit else
     record {
       answer = plain (reply.Opened t.next_cursor);
@@ -105,13 +105,13 @@ abbrev pub step : Table → Request → Outcome
 step t (Put v key value) = update t v (set key value (pairs_at t v))
 step t (Delete v key) = update t v (unset key (pairs_at t v))
 step t (Get v key) =
-    if is_known t v then says t (found key (value_of (pairs_at t v) key)) else refuses t why.UnknownVersion
+    if has_row t v then replies_with t (found key (value_of (pairs_at t v) key)) else refuses t why.UnknownVersion
 step t (Clone v) = clone t v
 step t (Scan v lo hi limit) =
-    if is_known t v then says t (page (range (pairs_at t v) lo hi) limit) else refuses t why.UnknownVersion
+    if has_row t v then replies_with t (page (range (pairs_at t v) lo hi) limit) else refuses t why.UnknownVersion
 step t (Info v) =
-    if is_known t v then
-    says t (plain (reply.Info (parent_of (parents_of t) v) (depth (parents_of t) v) (is_frozen t v)))
+    if has_row t v then
+    replies_with t (plain (reply.Info (parent_of (parents_of t) v) (depth (parents_of t) v) (is_frozen t v)))
     else refuses t why.UnknownVersion
 step t (OpenCursor v lo hi) = start_cursor t v lo hi
 step t (NextPairs n limit) = next_pairs t n limit
@@ -119,4 +119,4 @@ step t (CloseCursor n) =
     if list_any (λ c. c.number == n) t.cursors then
     record { answer = plain reply.Done; table = record t { cursors = filter (λ c. not (c.number == n)) t.cursors } }
     else refuses t why.UnknownCursor
-step t Stat = says t (plain (reply.Stat (length t.rows) t.updates t.changes (length t.cursors)))
+step t Stat = replies_with t (plain (reply.Stat (length t.rows) t.updates t.changes (length t.cursors)))

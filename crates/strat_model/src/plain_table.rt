@@ -9,8 +9,8 @@ ghost use Rattle.strat_model.specs.declared.replies.Reply.TheVariants as reply;
 ghost use Rattle.strat_model.specs.Request.{Put, Delete, Get, Clone, Scan, Info, OpenCursor, NextPairs, CloseCursor, Stat};
 ghost use Rattle.strat_model.specs.Pairs.{range};
 ghost use Rattle.strat_model.specs.Table.{fresh, parents_of};
-ghost use Rattle.strat_model.specs.Step.{is_known, is_frozen, pairs_at};
-ghost use Rattle.strat_model.specs.Spelling.{is_lawful};
+ghost use Rattle.strat_model.specs.Step.{has_row, is_frozen, pairs_at};
+ghost use Rattle.strat_model.specs.Spelling.{has_lawful_sizes};
 ghost use Rattle.strat_model.specs.Plain.{IsStep, IsStepOrShort, grows, update_refusal, clone_refusal, cursor_refusal};
 
 use crate::commands::Command;
@@ -40,12 +40,12 @@ impl Model for PlainTable {
 
     ghost Value = { Table };
 
-    ghost use Rattle.strat_model.specs.PlainView.{table_of};
+    ghost use Rattle.strat_model.specs.PlainView.{table_seen};
     ghost use Rattle.strat_model.specs.Kept.{IsWithin};
 
-    ghost view = { table_of };
+    ghost view = { table_seen };
 
-    ghost invariant = { λ t. IsWithin (table_of t) };
+    ghost invariant = { λ t. IsWithin (table_seen t) };
 }
 
 impl PlainTable {
@@ -73,7 +73,7 @@ impl PlainTable {
     /// Fewer than 2^63 cursors may have been opened before.
     #[tactic(auto, using(crate::proofs::PlainLemmas::next_cursor_after))]
     pub fn step(&mut self, command: &Command<'_>, out: &mut PairBuf) -> Reply
-        requires fits { is_lawful (request_of command.now) ≡ true }
+        requires fits { has_lawful_sizes (request_of command.now) ≡ true }
         requires room { self.old.next_cursor < 2 ^ 63 }
         ensures ok { IsStepOrShort self.old (request_of command.now) result out.new self.new }
         ensures next { self.new.next_cursor ≤ self.old.next_cursor + 1 }
@@ -107,8 +107,8 @@ impl PlainTable {
         }
     }
 
-    fn is_known(&self, version: Version) -> bool
-        ensures ok { result ≡ is_known self.now version }
+    fn has_row(&self, version: Version) -> bool
+        ensures ok { result ≡ has_row self.now version }
     {
         (version as usize) < self.rows.len()
     }
@@ -129,7 +129,7 @@ impl PlainTable {
     fn update_refusal(&self, version: Version) -> Option<Refusal>
         ensures ok { result ≡ update_refusal self.now version }
     {
-        if !self.is_known(version) {
+        if !self.has_row(version) {
             Some(Refusal::UnknownVersion)
         } else if self.is_frozen(version) {
             Some(Refusal::Frozen)
@@ -154,7 +154,7 @@ impl PlainTable {
     }
 
     fn put(&mut self, version: Version, key: &[u8], value: &[u8]) -> Reply
-        requires fits { is_lawful (Put version key.now value.now) ≡ true }
+        requires fits { has_lawful_sizes (Put version key.now value.now) ≡ true }
         ensures ok { IsStepOrShort self.old (Put version key.now value.now) result [] self.new }
     {
         if let Some(refusal) = self.update_refusal(version) {
@@ -177,11 +177,11 @@ impl PlainTable {
     }
 
     fn get(&self, version: Version, key: &[u8], out: &mut PairBuf) -> Reply
-        requires fits { is_lawful (Get version key.now) ≡ true }
+        requires fits { has_lawful_sizes (Get version key.now) ≡ true }
         requires empty { out.old ≡ [] }
         ensures ok { IsStep self.now (Get version key.now) result out.new self.now }
     {
-        if !self.is_known(version) {
+        if !self.has_row(version) {
             return Reply::Refused(Refusal::UnknownVersion);
         }
         match self.rows[version as usize].pairs().get(key) {
@@ -196,7 +196,7 @@ impl PlainTable {
     fn clone_refusal(&self, version: Version) -> Option<Refusal>
         ensures ok { result ≡ clone_refusal self.now version }
     {
-        if !self.is_known(version) {
+        if !self.has_row(version) {
             Some(Refusal::UnknownVersion)
         } else if self.rows.len() == self.versions_max as usize {
             Some(Refusal::VersionLimit)
@@ -225,11 +225,11 @@ impl PlainTable {
     }
 
     fn scan(&self, version: Version, lo: &[u8], hi: &[u8], limit: u16, out: &mut PairBuf) -> Reply
-        requires fits { is_lawful (Scan version lo.now hi.now limit) ≡ true }
+        requires fits { has_lawful_sizes (Scan version lo.now hi.now limit) ≡ true }
         requires empty { out.old ≡ [] }
         ensures ok { IsStep self.now (Scan version lo.now hi.now limit) result out.new self.now }
     {
-        if !self.is_known(version) {
+        if !self.has_row(version) {
             return Reply::Refused(Refusal::UnknownVersion);
         }
         let pairs = self.rows[version as usize].pairs();
@@ -240,7 +240,7 @@ impl PlainTable {
     fn parent_of(&self, version: Version) -> Option<Version>
         ensures ok { result ≡ parent_of (parents_of self.now) version }
     {
-        if self.is_known(version) {
+        if self.has_row(version) {
             self.rows[version as usize].parent()
         } else {
             None
@@ -267,7 +267,7 @@ impl PlainTable {
     fn info(&self, version: Version) -> Reply
         ensures ok { IsStep self.now (Info version) result [] self.now }
     {
-        if !self.is_known(version) {
+        if !self.has_row(version) {
             return Reply::Refused(Refusal::UnknownVersion);
         }
         Reply::Info {
@@ -280,7 +280,7 @@ impl PlainTable {
     fn cursor_refusal(&self, version: Version) -> Option<Refusal>
         ensures ok { result ≡ cursor_refusal self.now version }
     {
-        if !self.is_known(version) {
+        if !self.has_row(version) {
             Some(Refusal::UnknownVersion)
         } else if self.cursors.len() == CURSORS_MAX {
             Some(Refusal::CursorLimit)
@@ -314,7 +314,7 @@ impl PlainTable {
     }
 
     fn next_pairs(&mut self, number: u64, limit: u16, out: &mut PairBuf) -> Reply
-        requires fits { is_lawful (NextPairs number limit) ≡ true }
+        requires fits { has_lawful_sizes (NextPairs number limit) ≡ true }
         requires empty { out.old ≡ [] }
         ensures ok { IsStep self.old (NextPairs number limit) result out.new self.new }
     {

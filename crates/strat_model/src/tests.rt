@@ -3,7 +3,7 @@
 
 ghost use Rattle.std.specs.Prelude.{◌≡◌, ◌≤◌, true, IsTrue};
 ghost use Rattle.strat_model.specs.Command.{request_of};
-ghost use Rattle.strat_model.specs.Spelling.{is_lawful};
+ghost use Rattle.strat_model.specs.Spelling.{has_lawful_sizes};
 
 use crate::{Command, PlainTable, Refusal, Reply};
 use std::alloc::Global;
@@ -82,7 +82,7 @@ fn clone_of(version: u32) -> Command<'static> {
 }
 
 fn sizes_ok(command: &Command<'_>) -> bool
-    ensures { IsTrue result → is_lawful (request_of command.now) ≡ true }
+    ensures { IsTrue result → has_lawful_sizes (request_of command.now) ≡ true }
 {
     match *command {
         Command::Put { key, value, .. } => key_ok(key) && value_ok(value),

@@ -21,7 +21,7 @@ use Rattle.strat_state.proofs.LevelLemmas.{lead_below}
 use Rattle.strat_base.proofs.ListFacts.{Among, any_among, all_at, all_from, among_left, among_right, among_flat, get_among, each_of}
 use Rattle.strat_state.proofs.SoundLemmas.{sound_tree}
 use Rattle.strat_recovery.specs.Head.{Head, descriptors}
-use Rattle.strat_recovery.specs.Opening.{head_in, state_of}
+use Rattle.strat_recovery.specs.Opening.{recover, state_of}
 use Rattle.strat_recovery.specs.Bad.{block_on, IsUnread, begins_after, fits_behind, IsMisplaced, IsBad, refused, unread, misplaced}
 use Rattle.strat_recovery.proofs.OpeningLemmas.{map_some, next_some, each_some}
 use Rattle.strat_recovery.proofs.HeadLemmas.{state_with}
@@ -172,7 +172,7 @@ module _ (c : Image) (h : Head) (s : State) (reads : state_of c h ≡ Some s) (s
       let wrong = bad.misfit in
       cc
 
-pub no_bad_block : (c : Image) (h : Head) (s : State) (b : ℕ) → head_in c ≡ Ok (Some h) → state_of c h ≡ Some s → IsSound s → IsBad c (length (versions_of s)) (descriptors h.manifest) (descriptors h.manifest) b → ⊥
+pub no_bad_block : (c : Image) (h : Head) (s : State) (b : ℕ) → recover c ≡ Ok (Some h) → state_of c h ≡ Some s → IsSound s → IsBad c (length (versions_of s)) (descriptors h.manifest) (descriptors h.manifest) b → ⊥
 no_bad_block c h s b opens reads sound (refused e) = cc
 no_bad_block c h s b opens reads sound (unread a named bad) = no_unread c h s reads sound a (contained_at a (descriptors h.manifest) named.0 named.1 named.2) b bad
 no_bad_block c h s b opens reads sound (misplaced a named bad) = no_misplaced c h s reads sound a (contained_at a (descriptors h.manifest) named.0 named.1 named.2) b bad

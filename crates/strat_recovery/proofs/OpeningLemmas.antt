@@ -22,7 +22,7 @@ use Rattle.strat_format.proofs.DamageLemmas.{and_then_ok, passed_ok, found_ok, p
 use Rattle.strat_format.proofs.ManifestLemmas.{pass_at, manifest_in-some}
 use Rattle.strat_format.proofs.RegionLemmas.{records_few}
 use Rattle.strat_recovery.specs.Head.{Head}
-use Rattle.strat_recovery.specs.Opening.{belongs, manifest_of, accepted_in, journal_behind, head_behind, head_of_slot, head_in, opened, state_of, reads_as}
+use Rattle.strat_recovery.specs.Opening.{belongs, recover_manifest, accepted_in, recover_journal, recover_head, recover_slot, recover, opened, state_of, reads_as}
 
 pub map_some : {A B : Type 0} (f : A → B) (o : Option A) (y : B) → option_map f o ≡ Some y → (x : A) × (o ≡ Some x) × (f x ≡ y)
 map_some f None y e = absurd (cc)
@@ -153,7 +153,7 @@ lawful_read c first n blocks found e =
     let P : Chained → Type 0 = λ x. is_lawful_manifest x.manifest ≡ true in
     subst P read.2 (manifest_in-some read.0 (take n bytes) here).lawful
 
-module _ (c : Image) (sb : Super) (m : Manifest) (journal : List Change) (found : manifest_of c sb ≡ Ok m) (changes : journal_behind c sb m ≡ Ok journal) where
+module _ (c : Image) (sb : Super) (m : Manifest) (journal : List Change) (found : recover_manifest c sb ≡ Ok m) (changes : recover_journal c sb m ≡ Ok journal) where
   lawful_found : is_lawful_manifest m ≡ true
   lawful_found =
       let test : Chained → Read Manifest = λ x. passed_or sb.manifest (belongs sb x) x.manifest in
@@ -203,10 +203,10 @@ opened_ok (Ok found) h e = ap (λ (o : Option Head). Ok o) e
 opened_ok (Err b) h e = absurd (cc)
 
 -- a head that is found is the one behind its superblock
-slot_ok : (c : Image) (slot : Option (ℕ × Super)) (h : Head) → head_of_slot c slot ≡ Ok (Some h) → (sb : Super) × (head_behind c sb ≡ Ok h)
+slot_ok : (c : Image) (slot : Option (ℕ × Super)) (h : Head) → recover_slot c slot ≡ Ok (Some h) → (sb : Super) × (recover_head c sb ≡ Ok h)
 slot_ok c None h e = absurd (cc)
 slot_ok c (Some slot) h e =
-    let found = and_then_ok (head_behind c slot.1) (λ x. Ok (Some x)) (Some h) e in
+    let found = and_then_ok (recover_head c slot.1) (λ x. Ok (Some x)) (Some h) e in
     let last : Ok (Some found.0) ≡ Ok (Some h) = found.2 in
     let same : found.0 ≡ h = cc in
     (slot.1, found.1 ∙ ap (λ (x : Head). Ok x) same)
@@ -214,13 +214,13 @@ slot_ok c (Some slot) h e =
 -- what an opening reads has passed what an opening tests
 pub read_openable : (c : Image) (s : State) → reads_as c ≡ Some s → IsWellFormed s
 read_openable c s e =
-    let head = next_some (state_of c) (opened (head_in c)) s e in
-    let slot = and_then_ok (newest_in c) (head_of_slot c) (Some head.0) (opened_ok (head_in c) head.0 head.1) in
+    let head = next_some (state_of c) (opened (recover c)) s e in
+    let slot = and_then_ok (newest_in c) (recover_slot c) (Some head.0) (opened_ok (recover c) head.0 head.1) in
     let behind = slot_ok c slot.0 head.0 slot.2 in
     let sb : Super = behind.0 in
-    let rest : Manifest → Read Head = λ m. and_then (journal_behind c sb m) (λ journal. Ok (record { sb = sb; manifest = m; journal = journal })) in
-    let manifest = and_then_ok (manifest_of c sb) rest head.0 behind.1 in
-    let journal = and_then_ok (journal_behind c sb manifest.0) (λ journal. Ok (record { sb = sb; manifest = manifest.0; journal = journal })) head.0 manifest.2 in
+    let rest : Manifest → Read Head = λ m. and_then (recover_journal c sb m) (λ journal. Ok (record { sb = sb; manifest = m; journal = journal })) in
+    let manifest = and_then_ok (recover_manifest c sb) rest head.0 behind.1 in
+    let journal = and_then_ok (recover_journal c sb manifest.0) (λ journal. Ok (record { sb = sb; manifest = manifest.0; journal = journal })) head.0 manifest.2 in
     let last : Ok (record { sb = sb; manifest = manifest.0; journal = journal.0 }) ≡ Ok head.0 = journal.2 in
     let same : record { sb = sb; manifest = manifest.0; journal = journal.0 } ≡ head.0 = cc in
     openable c sb manifest.0 journal.0 manifest.1 journal.1 s (subst (λ (x : Head). state_of c x ≡ Some s) (sym same) head.2)

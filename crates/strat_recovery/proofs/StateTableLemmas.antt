@@ -26,7 +26,7 @@ use Rattle.strat_model.specs.declared.replies.Refusal.TheVariants as why
 use Rattle.strat_model.specs.declared.replies.Refusal.{Refusal}
 use Rattle.strat_model.specs.Answer.{plain, accepts}
 use Rattle.strat_model.specs.Request.{Put, Delete, Clone}
-use Rattle.strat_model.specs.Step.{Outcome, refuses, step, update, clone, is_known, is_frozen, no_row, pairs_at, with_pairs}
+use Rattle.strat_model.specs.Step.{Outcome, refuses, step, update, clone, has_row, is_frozen, no_row, pairs_at, with_pairs}
 use Rattle.strat_recovery.specs.StateTable.{rows_from, table_of, request_for, answer_for}
 
 pub length-rows_from : (s : State) (v : ℕ) (parents : Parents) → length (rows_from s v parents) ≡ length parents
@@ -72,7 +72,7 @@ rows_push s v (p ∷ parents) q =
     the_row q m = record { parent = q; pairs = m }
 
 module _ (s : State) where
-  known_same : (v : ℕ) → is_known (table_of s) v ≡ Tree.is_known (versions_of s) v
+  known_same : (v : ℕ) → has_row (table_of s) v ≡ Tree.is_known (versions_of s) v
   known_same v = ap (λ (n : ℕ). ltb v n) (length-rows_from s 0 (versions_of s))
 
   frozen_same : (v : ℕ) → is_frozen (table_of s) v ≡ has_child (versions_of s) v
@@ -83,7 +83,7 @@ module _ (s : State) where
 
 -- an update that is accepted
 module _ (t : Table) (v : ℕ) (new : Pairs) where
-  update_made : is_known t v ≡ true → is_frozen t v ≡ false → eqb t.changes t.changes_max ≡ false
+  update_made : has_row t v ≡ true → is_frozen t v ≡ false → eqb t.changes t.changes_max ≡ false
       → update t v new ≡ record { answer = plain reply.Done; table = record t { rows = with_pairs t.rows v new; updates = t.updates + 1; changes = t.changes + 1 } }
   update_made known free some =
       let choose : Bool → Bool → Bool → Outcome = λ k f l.
@@ -93,7 +93,7 @@ module _ (t : Table) (v : ℕ) (new : Pairs) where
 
 -- a clone that is accepted
 module _ (t : Table) (v : ℕ) where
-  clone_made : is_known t v ≡ true → eqb (length t.rows) t.versions_max ≡ false → eqb t.changes t.changes_max ≡ false
+  clone_made : has_row t v ≡ true → eqb (length t.rows) t.versions_max ≡ false → eqb t.changes t.changes_max ≡ false
       → clone t v ≡ record { answer = plain (reply.Made (length t.rows)); table = record t { rows = t.rows ++ record { parent = Some v; pairs = pairs_at t v } ∷ []; changes = t.changes + 1 } }
   clone_made known few some =
       let choose : Bool → Bool → Bool → Outcome = λ k f l.
@@ -109,14 +109,14 @@ three_taken true true l t a b c made takes = refl
 three_taken true false true t a b c made takes = refl
 three_taken true false false t a b c made takes = takes
 
-update_taken : (t : Table) (v : ℕ) (new : Pairs) → accepts (update t v new).answer.reply ≡ ((is_known t v && not (is_frozen t v)) && not (eqb t.changes t.changes_max))
+update_taken : (t : Table) (v : ℕ) (new : Pairs) → accepts (update t v new).answer.reply ≡ ((has_row t v && not (is_frozen t v)) && not (eqb t.changes t.changes_max))
 update_taken t v new =
-    three_taken (is_known t v) (is_frozen t v) (eqb t.changes t.changes_max) t why.UnknownVersion why.Frozen why.ChangeLimit
+    three_taken (has_row t v) (is_frozen t v) (eqb t.changes t.changes_max) t why.UnknownVersion why.Frozen why.ChangeLimit
     (record { answer = plain reply.Done; table = record t { rows = with_pairs t.rows v new; updates = t.updates + 1; changes = t.changes + 1 } }) refl
 
-clone_taken : (t : Table) (v : ℕ) → accepts (clone t v).answer.reply ≡ ((is_known t v && not (eqb (length t.rows) t.versions_max)) && not (eqb t.changes t.changes_max))
+clone_taken : (t : Table) (v : ℕ) → accepts (clone t v).answer.reply ≡ ((has_row t v && not (eqb (length t.rows) t.versions_max)) && not (eqb t.changes t.changes_max))
 clone_taken t v =
-    three_taken (is_known t v) (eqb (length t.rows) t.versions_max) (eqb t.changes t.changes_max) t why.UnknownVersion why.VersionLimit why.ChangeLimit
+    three_taken (has_row t v) (eqb (length t.rows) t.versions_max) (eqb t.changes t.changes_max) t why.UnknownVersion why.VersionLimit why.ChangeLimit
     (record { answer = plain (reply.Made (length t.rows)); table = record t { rows = t.rows ++ record { parent = Some v; pairs = pairs_at t v } ∷ []; changes = t.changes + 1 } }) refl
 
 module _ (s : State) where
@@ -244,14 +244,14 @@ three_bare true false false t a b c made other table answer = (table, answer)
 
 update_bare : (t : Table) (v : ℕ) (new : Pairs) → (bare (update t v new).table ≡ (update (bare t) v new).table) × ((update t v new).answer ≡ (update (bare t) v new).answer)
 update_bare t v new =
-    three_bare (is_known t v) (is_frozen t v) (eqb t.changes t.changes_max) t why.UnknownVersion why.Frozen why.ChangeLimit
+    three_bare (has_row t v) (is_frozen t v) (eqb t.changes t.changes_max) t why.UnknownVersion why.Frozen why.ChangeLimit
     (record { answer = plain reply.Done; table = record t { rows = with_pairs t.rows v new; updates = t.updates + 1; changes = t.changes + 1 } })
     (record { answer = plain reply.Done; table = record (bare t) { rows = with_pairs t.rows v new; updates = t.updates + 1; changes = t.changes + 1 } })
     refl refl
 
 clone_bare : (t : Table) (v : ℕ) → (bare (clone t v).table ≡ (clone (bare t) v).table) × ((clone t v).answer ≡ (clone (bare t) v).answer)
 clone_bare t v =
-    three_bare (is_known t v) (eqb (length t.rows) t.versions_max) (eqb t.changes t.changes_max) t why.UnknownVersion why.VersionLimit why.ChangeLimit
+    three_bare (has_row t v) (eqb (length t.rows) t.versions_max) (eqb t.changes t.changes_max) t why.UnknownVersion why.VersionLimit why.ChangeLimit
     (record { answer = plain (reply.Made (length t.rows)); table = record t { rows = t.rows ++ record { parent = Some v; pairs = pairs_at t v } ∷ []; changes = t.changes + 1 } })
     (record { answer = plain (reply.Made (length t.rows)); table = record (bare t) { rows = t.rows ++ record { parent = Some v; pairs = pairs_at t v } ∷ []; changes = t.changes + 1 } })
     refl refl

@@ -9,7 +9,7 @@ use Rattle.strat_base.specs.Entries.{Entry, lead_entries}
 use Rattle.strat_format.specs.Block.{block_in}
 use Rattle.strat_format.specs.Manifest.{ArrayDesc}
 use Rattle.strat_recovery.specs.Opened.{blocks_of, entries_on}
-use Rattle.strat_recovery.specs.Opening.{head_in}
+use Rattle.strat_recovery.specs.Opening.{recover}
 
 -- the entries of an image's block, where it is a block of entries
 abbrev pub block_on : Image → ℕ → Option (List Entry)
@@ -45,6 +45,6 @@ pub record IsMisplaced (c : Image) (versions : ℕ) (a : ArrayDesc) (b : ℕ) : 
 
 -- a block is bad: an opening refuses it; or it is of an array that is named, and is no block of entries; or it is of an array whose entries are merged into another, and does not fit its place
 pub data IsBad (c : Image) (versions : ℕ) (named merged : List ArrayDesc) (b : ℕ) : Type 0 where
-  refused : head_in c ≡ Err b → IsBad c versions named merged b
+  refused : recover c ≡ Err b → IsBad c versions named merged b
   unread : (a : ArrayDesc) → Contains named a → IsUnread c a b → IsBad c versions named merged b
   misplaced : (a : ArrayDesc) → Contains merged a → IsMisplaced c versions a b → IsBad c versions named merged b

@@ -4,7 +4,7 @@ use Rattle.strat_crash.specs.Image.{Image, patch}
 use Rattle.strat_base.specs.EntryBytes.{entry_bytes}
 use Rattle.strat_base.specs.Numbers.{be}
 use Rattle.strat_base.specs.Change.{Put, change_bytes}
-use Rattle.strat_format.specs.Manifest.{LevelDesc, Manifest, manifest_bytes}
+use Rattle.strat_format.specs.Manifest.{LevelDesc, Manifest, manifest_bytes, new_manifest}
 use Rattle.strat_format.specs.SuperBlock.{Super, spelled, fields}
 use Rattle.strat_base.specs.Samples.{says}
 use Rattle.strat_recovery.specs.Head.{Head}
@@ -27,10 +27,6 @@ formatted = patch (patch (λ i. 0) 0 first_block) 24576 manifest_block
 -- the superblock of a new store
 abbrev pub new_super : Super
 new_super = record { generation = 1; manifest = 6; length = 29; region = 0; mem = 4; changes_max = 100; versions_max = 10 }
-
--- the manifest of a new store
-abbrev pub new_manifest : Manifest
-new_manifest = record { changes = 0; updates = 0; written = 0; next_array = 1; parents = []; levels = [] }
 
 -- the head of a new store
 abbrev pub new_head : Head

@@ -5,7 +5,7 @@ use Rattle.strat_base.specs.Change.{Change}
 use Rattle.strat_state.specs.Level.{TaggedArray, Level}
 use Rattle.strat_format.specs.Manifest.{ArrayDesc, LevelDesc, Manifest}
 use Rattle.strat_recovery.specs.Opened.{parents_in}
-use Rattle.strat_state.specs.State.{State, tree_after, entry_of}
+use Rattle.strat_state.specs.State.{State, tree_after, update_of}
 use Rattle.strat_format.specs.SuperBlock.{Super}
 
 -- a head: the superblock, the manifest, and the changes of the journal
@@ -20,7 +20,7 @@ head_versions h = fold tree_after (parents_in h.manifest) h.journal
 
 -- how many updates the journal has
 abbrev pub journal_count : Head → ℕ
-journal_count h = length (filter_map entry_of h.journal)
+journal_count h = length (filter_map update_of h.journal)
 
 -- how many changes were accepted
 abbrev pub head_changes : Head → ℕ

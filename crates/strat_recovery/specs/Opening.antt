@@ -8,12 +8,13 @@ use Rattle.strat_format.specs.Manifest.{ArrayDesc, LevelDesc, Manifest, all_pass
 use Rattle.strat_recovery.specs.Opened.{blocks_of, parents_in, state_on}
 use Rattle.strat_state.specs.State.{State, tree_after}
 use Rattle.strat_state.specs.Sound.{is_accepted}
-use Rattle.strat_format.specs.SuperBlock.{Super, first_free, newest_in}
+use Rattle.strat_format.specs.SuperBlock.{Super, newest_in}
 use Rattle.strat_base.specs.Change.{Change}
 use Rattle.strat_format.specs.Damage.{Read, and_then, passed_or, put_first}
 use Rattle.strat_format.specs.Chained.{Chained, manifest_at}
 use Rattle.strat_format.specs.Records.{Logged, journal_in_one}
 use Rattle.strat_recovery.specs.Head.{Head, descriptors}
+use Rattle.strat_format.specs.Layout.{first_free}
 
 -- how many blocks an array has
 abbrev pub array_blocks : ArrayDesc → ℕ
@@ -58,8 +59,8 @@ belongs sb found = all_pass (
     ∷ [])
 
 -- the manifest of a superblock, or the block that is damaged
-abbrev pub manifest_of : Image → Super → Read Manifest
-manifest_of c sb = and_then (manifest_at c sb.manifest sb.length) (λ found. passed_or sb.manifest (belongs sb found) found.manifest)
+abbrev pub recover_manifest : Image → Super → Read Manifest
+recover_manifest c sb = and_then (manifest_at c sb.manifest sb.length) (λ found. passed_or sb.manifest (belongs sb found) found.manifest)
 
 -- the changes of these records, each accepted in its turn, or the block of the first that is not
 abbrev pub accepted_in : ℕ → ℕ → Parents → ℕ → List Logged → Read (List Change)
@@ -70,23 +71,23 @@ accepted_in changes_max versions_max parents changes (l ∷ logged) =
     else Err l.block
 
 -- the journal of a superblock and a manifest, or the block that is damaged
-abbrev pub journal_behind : Image → Super → Manifest → Read (List Change)
-journal_behind c sb m =
+abbrev pub recover_journal : Image → Super → Manifest → Read (List Change)
+recover_journal c sb m =
     and_then (journal_in_one c sb.mem sb.region) (accepted_in sb.changes_max sb.versions_max (parents_in m) m.changes)
 
 -- the head of a store with this superblock, or the block that is damaged
-abbrev pub head_behind : Image → Super → Read Head
-head_behind c sb =
-    and_then (manifest_of c sb) (λ m. and_then (journal_behind c sb m) (λ journal. Ok (record { sb = sb; manifest = m; journal = journal })))
+abbrev pub recover_head : Image → Super → Read Head
+recover_head c sb =
+    and_then (recover_manifest c sb) (λ m. and_then (recover_journal c sb m) (λ journal. Ok (record { sb = sb; manifest = m; journal = journal })))
 
 -- the head of a store, where there is one
-abbrev pub head_of_slot : Image → Option (ℕ × Super) → Read (Option Head)
-head_of_slot c None = Ok None
-head_of_slot c (Some slot) = and_then (head_behind c slot.1) (λ h. Ok (Some h))
+abbrev pub recover_slot : Image → Option (ℕ × Super) → Read (Option Head)
+recover_slot c None = Ok None
+recover_slot c (Some slot) = and_then (recover_head c slot.1) (λ h. Ok (Some h))
 
 -- what an opening finds: nothing where the disk is no store, the store's head, or the block that is damaged
-abbrev pub head_in : Image → Read (Option Head)
-head_in c = and_then (newest_in c) (head_of_slot c)
+abbrev pub recover : Image → Read (Option Head)
+recover c = and_then (newest_in c) (recover_slot c)
 
 -- the head that was found, if one was
 abbrev pub opened : Read (Option Head) → Option Head
@@ -99,4 +100,4 @@ state_of c h = state_on c h.sb.mem h.sb.changes_max h.sb.versions_max h.manifest
 
 -- the state that the bytes of a disk read as
 abbrev pub reads_as : Image → Option State
-reads_as c = option_and_then (state_of c) (opened (head_in c))
+reads_as c = option_and_then (state_of c) (opened (recover c))

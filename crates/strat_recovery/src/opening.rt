@@ -4,21 +4,21 @@
 ghost use Rattle.std.specs.Prelude.{◌≡◌, ℕ, [], ◌∷◌, ◌++◌, length, map, take, Some, None, Ok, Err};
 ghost use Rattle.strat_base.specs.Change.{Put};
 ghost use Rattle.strat_crash.specs.Image.{Image, patch};
-ghost use Rattle.strat_format.specs.Manifest.{manifest_bytes};
+ghost use Rattle.strat_format.specs.Manifest.{manifest_bytes, new_manifest};
 ghost use Rattle.strat_base.specs.Numbers.{be};
 ghost use Rattle.strat_state.specs.Sound.{IsWellFormed, IsSound};
 ghost use Rattle.strat_state.specs.State.{State, fresh_state, versions_of, updates_of, changes_of};
 ghost use Rattle.strat_format.specs.SuperBlock.{body};
 ghost use Rattle.strat_state.specs.Worked.{chain};
 ghost use Rattle.strat_recovery.specs.Bad.{IsBad};
-ghost use Rattle.strat_recovery.specs.Disks.{formatted, first_block, manifest_block, new_super, new_manifest, new_head, chain_super, chain_manifest, with_horizon, published_by, published, doubly_open};
+ghost use Rattle.strat_recovery.specs.Disks.{formatted, first_block, manifest_block, new_super, new_head, chain_super, chain_manifest, with_horizon, published_by, published, doubly_open};
 ghost use Rattle.strat_recovery.specs.Head.{Head, head_of, head_versions, head_updates, head_changes, descriptors};
-ghost use Rattle.strat_recovery.specs.Opening.{head_in, reads_as, state_of};
+ghost use Rattle.strat_recovery.specs.Opening.{recover, reads_as, state_of};
 ghost use Rattle.strat_recovery.specs.Texts.{report, summary};
 
 /// A disk that was just formatted opens as a new store.
 pub fn formatted_disks_open()
-    ensures found { head_in formatted ≡ Ok (Some new_head) }
+    ensures found { recover formatted ≡ Ok (Some new_head) }
     ensures ok { reads_as formatted ≡ Some (fresh_state 4 100 10) }
     ensures block { first_block ≡ take 40 (0xa7 ∷ body new_super) }
     ensures manifest { manifest_block ≡ be 4 0 ++ manifest_bytes new_manifest }
@@ -44,26 +44,26 @@ pub fn published_disks_open()
 /// behind it, a change that the table refuses, and an open gate in the other region where the active one is
 /// full. A disk of zeros is no store.
 pub fn damage_is_named()
-    ensures none { head_in (λ i. 0) ≡ Ok None }
-    ensures region { head_in (patch formatted 27 (2 ∷ [])) ≡ Err 0 }
-    ensures link { head_in (patch formatted 24579 (7 ∷ [])) ≡ Err 6 }
-    ensures circle { head_in (patch formatted 24579 (6 ∷ [])) ≡ Err 6 }
-    ensures fill { head_in (patch formatted 28671 (1 ∷ [])) ≡ Err 6 }
-    ensures gate { head_in (patch formatted 8192 (0xa7 ∷ [])) ≡ Err 2 }
-    ensures refused { head_in (patch formatted 8192
+    ensures none { recover (λ i. 0) ≡ Ok None }
+    ensures region { recover (patch formatted 27 (2 ∷ [])) ≡ Err 0 }
+    ensures link { recover (patch formatted 24579 (7 ∷ [])) ≡ Err 6 }
+    ensures circle { recover (patch formatted 24579 (6 ∷ [])) ≡ Err 6 }
+    ensures fill { recover (patch formatted 28671 (1 ∷ [])) ≡ Err 6 }
+    ensures gate { recover (patch formatted 8192 (0xa7 ∷ [])) ≡ Err 2 }
+    ensures refused { recover (patch formatted 8192
         (0xa7 ∷ 1 ∷ 0 ∷ 0 ∷ 0 ∷ 5 ∷ 1 ∷ 0x61 ∷ 0 ∷ 1 ∷ 0x31 ∷ 0 ∷ [])) ≡ Err 2 }
-    ensures full { head_in doubly_open ≡ Err 4 }
+    ensures full { recover doubly_open ≡ Err 4 }
 {}
 
 /// A manifest that no store with its superblock has is blamed on its first block: one with a version that
 /// is not below the horizon, with more versions than the store takes, with more leads than updates, with
 /// fewer changes than publications.
 pub fn strange_manifests_are_refused()
-    ensures horizon { head_in (published_by chain_super
+    ensures horizon { recover (published_by chain_super
         (record chain_manifest { levels = map (with_horizon 3) chain_manifest.levels })) ≡ Err 8 }
-    ensures versions { head_in (published_by (record chain_super { versions_max = 3 }) chain_manifest) ≡ Err 8 }
-    ensures updates { head_in (published_by chain_super (record chain_manifest { updates = 0 })) ≡ Err 8 }
-    ensures generation { head_in (published_by (record chain_super { generation = 6 }) chain_manifest) ≡ Err 8 }
+    ensures versions { recover (published_by (record chain_super { versions_max = 3 }) chain_manifest) ≡ Err 8 }
+    ensures updates { recover (published_by chain_super (record chain_manifest { updates = 0 })) ≡ Err 8 }
+    ensures generation { recover (published_by (record chain_super { generation = 6 }) chain_manifest) ≡ Err 8 }
 {}
 
 /// What the bytes of a disk read as is a well formed state.
@@ -86,7 +86,7 @@ pub fn texts_speak_of_states()
 /// A disk that reads as a sound state has no bad block: no opening refuses it, and each block of
 /// its arrays holds entries that fit their place.
 pub fn sound_disks_have_no_bad_block()
-    ensures { (c : Image) (h : Head) (s : State) (b : ℕ) → head_in c ≡ Ok (Some h)
+    ensures { (c : Image) (h : Head) (s : State) (b : ℕ) → recover c ≡ Ok (Some h)
         → state_of c h ≡ Some s → IsSound s
         → ¬ IsBad c (length (versions_of s)) (descriptors h.manifest) (descriptors h.manifest) b }
 {}

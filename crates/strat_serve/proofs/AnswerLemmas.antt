@@ -10,35 +10,35 @@ use Rattle.strat_model.specs.Pairs.{Pairs}
 use Rattle.strat_model.specs.Request.{Request}
 use Rattle.strat_model.specs.Spelling.{Spells, reply_body}
 use Rattle.strat_model.specs.Stream.{frame}
-use Rattle.strat_model.specs.Run.{place_after}
+use Rattle.strat_model.specs.Run.{position_after}
 use Rattle.strat_serve.specs.Refusals.{refusal_for}
 use Rattle.strat_serve.specs.Session.{IsAnswered}
-use Rattle.strat_store.specs.Store.{Attached, place_of, IsApplied}
+use Rattle.strat_store.specs.Store.{Attached, position_of, IsApplied}
 
 -- a command that the store answered
 pub answered : (old new : Attached) (body : List ℕ) (tag : ℕ) (request : Request) (r : Reply) (pairs : Pairs) (bytes : List ℕ)
     → Spells body tag request → IsApplied old request (as_told r pairs) new → bytes ≡ frame (reply_body tag (as_told r pairs)) → IsAnswered old body new bytes
-answered old new body tag request r pairs bytes spelled (inl is) text = record {
-  told = record { tag = tag; answer = as_told r pairs };
-  spelled = text;
+answered old new body tag request r pairs bytes spelled (inl is) sent_bytes = record {
+  response = record { tag = tag; answer = as_told r pairs };
+  spelled = sent_bytes;
   how = inl (record {
     answers = inr (inl (record { request = request; spelled = spelled; answer = is.answer_is; place = is.place }));
     going = is.going;
   });
 }
-answered old new body tag request r pairs bytes spelled (inr (inl is)) text = record {
-  told = record { tag = tag; answer = as_told r pairs };
-  spelled = text;
+answered old new body tag request r pairs bytes spelled (inr (inl is)) sent_bytes = record {
+  response = record { tag = tag; answer = as_told r pairs };
+  spelled = sent_bytes;
   how = inl (record {
     answers = inr (inr (record { request = request; spelled = spelled; takes = is.takes; accepted = is.accepted; answer = is.answer_is; same = is.same }));
     going = is.going;
   });
 }
-answered old new body tag request r pairs bytes spelled (inr (inr is)) text = record {
-  told = record { tag = tag; answer = as_told r pairs };
-  spelled = text;
+answered old new body tag request r pairs bytes spelled (inr (inr is)) sent_bytes = record {
+  response = record { tag = tag; answer = as_told r pairs };
+  spelled = sent_bytes;
   how = inr (record {
-    done = place_after old.log.mem (place_of old) request;
+    done = position_after old.log.mem (position_of old) request;
     fault = record { request = request; spelled = spelled; reaches = is.reaches; accepted = is.accepted; answer = inl is.answer_is; place = refl };
     answer = is.answer_is;
     table = sym is.table;
@@ -49,14 +49,14 @@ answered old new body tag request r pairs bytes spelled (inr (inr is)) text = re
 -- a body that is no command
 pub told_faulty : (s : Attached) (body : List ℕ) (tag : ℕ) (f : BodyFault) (pairs : Pairs) (bytes : List ℕ) → s.spent ≡ false
     → IsFaulty f body tag → pairs ≡ [] → bytes ≡ frame (reply_body tag (as_told (reply.Refused (refusal_for f)) pairs)) → IsAnswered s body s bytes
-told_faulty s body tag fault.Malformed pairs bytes going is none text = record {
-  told = record { tag = tag; answer = as_told (reply.Refused (refusal_for fault.Malformed)) pairs };
-  spelled = text;
+told_faulty s body tag fault.Malformed pairs bytes going is none sent_bytes = record {
+  response = record { tag = tag; answer = as_told (reply.Refused (refusal_for fault.Malformed)) pairs };
+  spelled = sent_bytes;
   how = inl (record {
     answers = inl (record { malformed = is; answer = λ j. as_told (reply.Refused (refusal_for fault.Malformed)) (none j); same = refl });
     going = going;
   });
 }
-told_faulty s body tag fault.KeySize pairs bytes going is none text = absurd is
-told_faulty s body tag fault.ValueSize pairs bytes going is none text = absurd is
-told_faulty s body tag fault.ScanSize pairs bytes going is none text = absurd is
+told_faulty s body tag fault.KeySize pairs bytes going is none sent_bytes = absurd is
+told_faulty s body tag fault.ValueSize pairs bytes going is none sent_bytes = absurd is
+told_faulty s body tag fault.ScanSize pairs bytes going is none sent_bytes = absurd is

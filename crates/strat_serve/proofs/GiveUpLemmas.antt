@@ -2,13 +2,13 @@
 use Rattle.std.proofs.Common.{◌≡◌, ◌≢◌, ℕ, List, length, Some, refl, sym, ap, subst, ◌∙◌, inl, inr}
 use Rattle.std.proofs.lemmas.Bool.{cases_eq}
 use Rattle.strat_crash.specs.Image.{Image}
-use Rattle.strat_crash.specs.Moments.{View}
+use Rattle.strat_crash.specs.Moments.{DiskView}
 use Rattle.strat_model.specs.declared.ended.Ended.{Ended}
 use Rattle.strat_model.specs.declared.ended.Ended.TheVariants as ended
 use Rattle.strat_store.specs.declared.opening.AttachFault.{AttachFault}
 use Rattle.strat_store.specs.declared.opening.AttachFault.TheVariants as fault
 use Rattle.strat_store.specs.Causes.{ended_for}
-use Rattle.strat_store.specs.Opened.{IsLeft, FailsToOpen}
+use Rattle.strat_store.specs.Opened.{IsUnchanged, FailsToOpen}
 use Rattle.strat_serve.specs.Session.{IsGivenUp, GaveUp, RefusesFor}
 use Rattle.strat_serve.specs.World.{World}
 
@@ -27,9 +27,9 @@ device_is (fault.Damaged block) e = absurd (let x : ended.Damaged block ≡ ende
 device_is fault.NoMemory e = absurd (let x : ended.NoMemory ≡ ended.Device = e in cc)
 
 -- nothing was read or sent, and nothing became of the disk but what an opening may make of it
-pub gave_up : (how : Ended) (f : AttachFault) (before : World) (disk : View) (faults : ℕ) → how ≡ ended_for f
+pub gave_up : (how : Ended) (f : AttachFault) (before : World) (disk : DiskView) (faults : ℕ) → how ≡ ended_for f
     → (f ≡ fault.Device → (g : Image) → before.disk.content ≡ Some g → FailsToOpen before.disk disk g)
-    → (f ≢ fault.Device → IsLeft before.disk disk) → GaveUp how before (record before { disk = disk; disk_faults = faults })
+    → (f ≢ fault.Device → IsUnchanged before.disk disk) → GaveUp how before (record before { disk = disk; disk_faults = faults })
 gave_up how f before disk faults is device kept = record {
   ends = subst IsGivenUp (sym is) (ends_given_up f);
   source = refl;
@@ -38,22 +38,8 @@ gave_up how f before disk faults is device kept = record {
   failed = λ fails. device (device_is f (sym is ∙ fails));
 }
 
--- an opening that gave up says of the disk what the run's end says
-pub refuses_for : (how : Ended) (f : AttachFault) (before : View) → how ≡ ended_for f
-    → (f ≡ fault.NotAStore → RefusesFor (ended_for f) before) → ((block : ℕ) → f ≡ fault.Damaged block → RefusesFor (ended_for f) before) → RefusesFor how before
-refuses_for how fault.NotAStore before is none damaged = subst (λ (x : Ended). RefusesFor x before) (sym is) (none refl)
-refuses_for how fault.Device before is none damaged = subst (λ (x : Ended). RefusesFor x before) (sym is) (record {
-  none = λ e. absurd (let f : ended.Device ≡ ended.NotAStore = e in cc);
-  damaged = λ block e. absurd (let f : ended.Device ≡ ended.Damaged block = e in cc);
-})
-refuses_for how (fault.Damaged block) before is none damaged = subst (λ (x : Ended). RefusesFor x before) (sym is) (damaged block refl)
-refuses_for how fault.NoMemory before is none damaged = subst (λ (x : Ended). RefusesFor x before) (sym is) (record {
-  none = λ e. absurd (let f : ended.NoMemory ≡ ended.NotAStore = e in cc);
-  damaged = λ block e. absurd (let f : ended.NoMemory ≡ ended.Damaged block = e in cc);
-})
-
 -- a run that ended with its input says nothing of the opening
-pub ends_by_input : (how : Ended) (held : List ℕ) (before : View) → (length held ≡ 0 → how ≡ ended.Done) → (length held ≢ 0 → how ≡ ended.Truncated) → RefusesFor how before
+pub ends_by_input : (how : Ended) (held : List ℕ) (before : DiskView) → (length held ≡ 0 → how ≡ ended.Done) → (length held ≢ 0 → how ≡ ended.Truncated) → RefusesFor how before
 ends_by_input how held before done truncated = elim (cases_eq (length held) 0) [
   | inl none ↦ let is : how ≡ ended.Done = done none in record {
     none = λ e. absurd (let f : ended.Done ≡ ended.NotAStore = sym is ∙ e in cc);

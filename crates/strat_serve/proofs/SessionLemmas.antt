@@ -15,10 +15,10 @@ use Rattle.strat_model.specs.declared.ended.Ended.{Ended}
 use Rattle.strat_model.specs.declared.ended.Ended.TheVariants as ended
 use Rattle.strat_model.specs.Stream.{frame, IsBody, is_partial, is_too_long, Splits, Whole, Rest, Long, ending_of}
 use Rattle.strat_model.specs.Table.{Table, bare}
-use Rattle.strat_model.specs.Run.{Told, told_bytes, ToldFault, Exchange, Halt, Talk, bodies_of, tolds_of, tables_of, text}
+use Rattle.strat_model.specs.Run.{Response, response_bytes, AnswersFault, Exchange, Interruption, Transcript, bodies_of, responses_of, tables_of, sent_bytes}
 use Rattle.strat_store.specs.Opened.{Shows, IsAtRest, Follows}
-use Rattle.strat_store.specs.Store.{Attached, place_of}
-use Rattle.strat_serve.specs.Session.{Took, IsAtEnd, SendsPrefix, too_long_bytes, IsTold, IsHalted, IsAnswered, Session, IsSession, IsWhole, said, said_last, Sends, EndsFor, Served}
+use Rattle.strat_store.specs.Store.{Attached, position_of}
+use Rattle.strat_serve.specs.Session.{Took, IsAtEnd, SendsPrefix, too_long_bytes, ContinuesWith, StopsWith, IsAnswered, Session, IsSession, AnswersAll, output, last_output, Sends, EndsFor, Served}
 use Rattle.strat_serve.specs.World.{World}
 use Rattle.strat_serve.proofs.ProgressLemmas.{Progress, Answered, tables_before, follows_more, text_more, answers}
 use Rattle.strat_serve.proofs.StreamLemmas.{partial_not_long, frames_of}
@@ -40,19 +40,19 @@ frames_same (x ∷ xs) = ap (λ (y : List ℕ). frame x.body ++ y) (frames_same 
 
 -- a run that was not broken, over the bodies answered and others behind them
 module _ (start current : Attached) (count budget : ℕ) (held : List ℕ) (before now : World) (p : Progress start current count held before now) (within : count ≤ budget) where
-  abbrev talk : Talk
-  talk = record { exchanges = p.exchanges; after = place_of current; halt = None }
+  abbrev transcript : Transcript
+  transcript = record { exchanges = p.exchanges; after = position_of current; interruption = None }
 
   abbrev session : List (List ℕ) → List ℕ → Session
-  session others rest = record { taken = p.taken; bodies = map (λ (x : Exchange). x.body) p.exchanges ++ others; rest = rest; talk = talk }
+  session others rest = record { taken = p.taken; bodies = map (λ (x : Exchange). x.body) p.exchanges ++ others; rest = rest; transcript = transcript }
 
-  bodies_all : bodies_of talk ≡ map (λ (x : Exchange). x.body) p.exchanges
+  bodies_all : bodies_of transcript ≡ map (λ (x : Exchange). x.body) p.exchanges
   bodies_all = append-nil (map (λ (x : Exchange). x.body) p.exchanges)
 
-  tolds_all : tolds_of talk ≡ map (λ (x : Exchange). x.told) p.exchanges
-  tolds_all = append-nil (map (λ (x : Exchange). x.told) p.exchanges)
+  tolds_all : responses_of transcript ≡ map (λ (x : Exchange). x.response) p.exchanges
+  tolds_all = append-nil (map (λ (x : Exchange). x.response) p.exchanges)
 
-  is_session : (others : List (List ℕ)) (rest : List ℕ) → Splits held others rest → IsSession start.log.mem budget (place_of start) (session others rest)
+  is_session : (others : List (List ℕ)) (rest : List ℕ) → Splits held others rest → IsSession start.log.mem budget (position_of start) (session others rest)
   is_session others rest splits =
       let bodies = map (λ (x : Exchange). x.body) p.exchanges in
       record {
@@ -63,12 +63,12 @@ module _ (start current : Attached) (count budget : ℕ) (held : List ℕ) (befo
           each = each_then bodies others (bodies_fit p.exchanges p.each) splits.each;
           last = splits.last;
         };
-        talk = record { run = p.run; halted = tt };
+        transcript = record { run = p.run; interrupted = tt };
         front = ap (λ (x : List (List ℕ)). take (length x) (bodies ++ others)) bodies_all ∙ take_at bodies others (length bodies) refl ∙ sym bodies_all;
         within = omega (arith, p.counted);
       }
 
-  is_whole : IsWhole (session [] held)
+  is_whole : AnswersAll (session [] held)
   is_whole = record {
     all = sym (length-map p.exchanges (λ (x : Exchange). x.body)) ∙ ap length (sym (append-nil (map (λ (x : Exchange). x.body) p.exchanges)));
     unbroken = refl;
@@ -76,19 +76,19 @@ module _ (start current : Attached) (count budget : ℕ) (held : List ℕ) (befo
 
   -- a crash leaves one image, as after each answer
   one_image : (f : Image) → before.disk.content ≡ Some f → IsAtRest now.disk
-  one_image f e = let stands = p.stands f e in record { content = stands.holds.content; told = stands.holds.told; alone = stands.holds.settled }
+  one_image f e = let stands = p.stands f e in record { content = stands.holds.content; exposed = stands.holds.exposed; alone = stands.holds.settled }
 
   -- all that was said so far
-  sent_so_far : Appends before.held now.held (text (tolds_of talk))
-  sent_so_far = subst (λ (x : List Told). Appends before.held now.held (text x)) (sym tolds_all) p.sent
+  sent_so_far : Appends before.held now.held (sent_bytes (responses_of transcript))
+  sent_so_far = subst (λ (x : List Response). Appends before.held now.held (sent_bytes x)) (sym tolds_all) p.sent
 
   -- the run ended so, with these bytes sent
   served : (how : Ended) (others : List (List ℕ)) (rest : List ℕ) → Splits held others rest → (sent : Option (List ℕ)) (faults : ℕ)
-      → Sends how before.held sent (said (session others rest)) → EndsFor how budget (session others rest) now.left
+      → Sends how before.held sent (output (session others rest)) → EndsFor how budget (session others rest) now.left
       → Served budget how before (record now { held = sent; sink_faults = faults })
   served how others rest splits sent faults sends ends = record {
     mem = start.log.mem;
-    start = place_of start;
+    start = position_of start;
     session = session others rest;
     is = is_session others rest splits;
     took = p.took;
@@ -102,16 +102,16 @@ module _ (start current : Attached) (count budget : ℕ) (held : List ℕ) (befo
   }
 
   -- the sink failed at the reply that went before
-  pub ends_cut : (sent : Option (List ℕ)) (faults : ℕ) → AreBytes held → SendsPrefix before.held sent (text (map (λ (x : Exchange). x.told) p.exchanges))
+  pub ends_cut : (sent : Option (List ℕ)) (faults : ℕ) → AreBytes held → SendsPrefix before.held sent (sent_bytes (map (λ (x : Exchange). x.response) p.exchanges))
       → Served budget ended.Sink before (record now { held = sent; sink_faults = faults })
   ends_cut sent faults fits front =
       let f = frames_of held fits in
-      let last = said_last None (eqb (length p.exchanges) (length (session f.bodies f.rest).bodies)) (is_too_long f.rest) in
+      let last = last_output None (eqb (length p.exchanges) (length (session f.bodies f.rest).bodies)) (is_too_long f.rest) in
       served ended.Sink f.bodies f.rest f.splits sent faults
       (record {
         sent = front.sent;
         later = front.later ++ last;
-        parts = ap (λ (x : List ℕ). x ++ last) (ap text tolds_all ∙ front.parts) ∙ append_assoc front.sent front.later last;
+        parts = ap (λ (x : List ℕ). x ++ last) (ap sent_bytes tolds_all ∙ front.parts) ∙ append_assoc front.sent front.later last;
         some = omega (arith, front.some, length-append front.later last);
         appends = front.appends;
       })
@@ -122,24 +122,24 @@ module _ (start current : Attached) (count budget : ℕ) (held : List ℕ) (befo
     splits_long : Splits held [] held
     splits_long = record { whole = refl; each = tt; last = or_left (is_too_long held) (is_partial held) long }
 
-    said_long : said (session [] held) ≡ text (tolds_of talk) ++ too_long_bytes
+    said_long : output (session [] held) ≡ sent_bytes (responses_of transcript) ++ too_long_bytes
     said_long = let all : eqb (length p.exchanges) (length (session [] held).bodies) ≡ true = eq-eqb _ _ is_whole.all in rw (all, long) refl
 
     pub ends_long : (sent : Option (List ℕ)) (faults : ℕ) → Appends now.held sent too_long_bytes → Served budget ended.FrameTooLong before (record now { held = sent; sink_faults = faults })
     ends_long sent faults more =
         served ended.FrameTooLong [] held splits_long sent faults
-        (subst (λ (x : List ℕ). Appends before.held sent x) (sym said_long) (appends_then before.held now.held sent (text (tolds_of talk)) too_long_bytes sent_so_far more))
+        (subst (λ (x : List ℕ). Appends before.held sent x) (sym said_long) (appends_then before.held now.held sent (sent_bytes (responses_of transcript)) too_long_bytes sent_so_far more))
         (is_whole, let e : ending_of held ≡ Long = rw long refl in e)
 
     pub ends_long_cut : (sent : Option (List ℕ)) (faults : ℕ) → SendsPrefix now.held sent too_long_bytes → Served budget ended.Sink before (record now { held = sent; sink_faults = faults })
     ends_long_cut sent faults front =
         served ended.Sink [] held splits_long sent faults
         (subst (λ (x : List ℕ). SendsPrefix before.held sent x) (sym said_long) (record {
-          sent = text (tolds_of talk) ++ front.sent;
+          sent = sent_bytes (responses_of transcript) ++ front.sent;
           later = front.later;
-          parts = ap (λ (x : List ℕ). text (tolds_of talk) ++ x) front.parts ∙ sym (append_assoc (text (tolds_of talk)) front.sent front.later);
+          parts = ap (λ (x : List ℕ). sent_bytes (responses_of transcript) ++ x) front.parts ∙ sym (append_assoc (sent_bytes (responses_of transcript)) front.sent front.later);
           some = front.some;
-          appends = appends_then before.held now.held sent (text (tolds_of talk)) front.sent sent_so_far front.appends;
+          appends = appends_then before.held now.held sent (sent_bytes (responses_of transcript)) front.sent sent_so_far front.appends;
         }))
         tt
 
@@ -148,14 +148,14 @@ module _ (start current : Attached) (count budget : ℕ) (held : List ℕ) (befo
     splits_part : Splits held [] held
     splits_part = record { whole = refl; each = tt; last = or_right (is_too_long held) (is_partial held) part }
 
-    said_all : said (session [] held) ≡ text (tolds_of talk)
-    said_all = rw (partial_not_long held part) (rw (and_right (eqb (length p.exchanges) (length (session [] held).bodies)) false refl) (append-nil (text (tolds_of talk))))
+    said_all : output (session [] held) ≡ sent_bytes (responses_of transcript)
+    said_all = rw (partial_not_long held part) (rw (and_right (eqb (length p.exchanges) (length (session [] held).bodies)) false refl) (append-nil (sent_bytes (responses_of transcript))))
 
     not_long : ending_of held ≢ Long
     not_long e = let f : cond (eqb (length held) 0) Whole Rest ≡ Long = rw (partial_not_long held part) at e in
         elim (eqb (length held) 0) as (λ b. cond b Whole Rest ≡ Long → ⊥) [ true ↦ λ f. absurd cc | false ↦ λ f. absurd cc ] f
 
-    sends_all : Appends before.held now.held (said (session [] held))
+    sends_all : Appends before.held now.held (output (session [] held))
     sends_all = subst (λ (x : List ℕ). Appends before.held now.held x) (sym said_all) sent_so_far
 
     -- the source ended
@@ -185,47 +185,47 @@ with_bytes (Some held) bytes = Some (held ++ bytes)
 
 -- such a sink took them
 took_all : (s : Option (List ℕ)) (bytes : List ℕ) → Appends s (with_bytes s bytes) bytes
-took_all None bytes = record { told = λ held e. absurd (let f : ◌≡◌ {A = Option (List ℕ)} None (Some held) = e in cc); untold = λ e. refl }
+took_all None bytes = record { exposed = λ held e. absurd (let f : ◌≡◌ {A = Option (List ℕ)} None (Some held) = e in cc); hidden = λ e. refl }
 took_all (Some held) bytes = record {
-  told = λ other e. let same : held ≡ other = cc in ap (λ (x : List ℕ). Some (x ++ bytes)) same;
-  untold = λ e. absurd (let f : ◌≡◌ {A = Option (List ℕ)} (Some held) None = e in cc);
+  exposed = λ other e. let same : held ≡ other = cc in ap (λ (x : List ℕ). Some (x ++ bytes)) same;
+  hidden = λ e. absurd (let f : ◌≡◌ {A = Option (List ℕ)} (Some held) None = e in cc);
 }
 
 -- the next body was answered and kept, and the sink failed at its reply
-pub answers_cut : (start old new : Attached) (count budget : ℕ) (held rest body : List ℕ) (told : Told) (before mid now : World) → Progress start old count held before mid → count ≤ budget
-    → IsTold old body told new → Answered old new mid now → held ≡ frame body ++ rest → IsBody body → AreBytes rest → SendsPrefix mid.held now.held (told_bytes told)
+pub answers_cut : (start old new : Attached) (count budget : ℕ) (held rest body : List ℕ) (response : Response) (before mid now : World) → Progress start old count held before mid → count ≤ budget
+    → ContinuesWith old body response new → Answered old new mid now → held ≡ frame body ++ rest → IsBody body → AreBytes rest → SendsPrefix mid.held now.held (response_bytes response)
     → Served budget ended.Sink before now
-answers_cut start old new count budget held rest body told before mid now p within is done front fits bytes cut =
-    let all = with_bytes mid.held (told_bytes told) in
+answers_cut start old new count budget held rest body response before mid now p within is done front fits bytes cut =
+    let all = with_bytes mid.held (response_bytes response) in
     let sent : World = record now { held = all } in
-    let q = answers start old new count held rest body told before mid sent p is (record { mem = done.mem; left = done.left; moves = done.moves; passes = done.passes; breaks = done.breaks }) front fits
-    (took_all mid.held (told_bytes told)) in
-    let earlier = text (map (λ (x : Exchange). x.told) p.exchanges) in
+    let q = answers start old new count held rest body response before mid sent p is (record { mem = done.mem; left = done.left; moves = done.moves; passes = done.passes; breaks = done.breaks }) front fits
+    (took_all mid.held (response_bytes response)) in
+    let earlier = sent_bytes (map (λ (x : Exchange). x.response) p.exchanges) in
     ends_cut start new count budget rest before sent q.0 within now.held now.sink_faults bytes (record {
       sent = earlier ++ cut.sent;
       later = cut.later;
-      parts = ap (λ (xs : List Exchange). text (map (λ (x : Exchange). x.told) xs)) q.1
-          ∙ text_more start old new count held rest body told before mid now p
+      parts = ap (λ (xs : List Exchange). sent_bytes (map (λ (x : Exchange). x.response) xs)) q.1
+          ∙ text_more start old new count held rest body response before mid now p
           ∙ ap (λ (x : List ℕ). earlier ++ x) cut.parts ∙ sym (append_assoc earlier cut.sent cut.later);
       some = cut.some;
       appends = appends_then before.held mid.held now.held earlier cut.sent p.sent cut.appends;
     })
 
 -- the next body met a fault
-module _ (start old new : Attached) (count budget : ℕ) (held rest body : List ℕ) (told : Told) (before mid now : World) (p : Progress start old count held before mid) (within : count ≤ budget)
-    (is : IsHalted old body told new) (done : Answered old new mid now) (front : held ≡ frame body ++ rest) (fits : IsBody body) (bytes : AreBytes rest) where
-  abbrev halt : Halt
-  halt = record { body = body; told = told; done = is.done }
+module _ (start old new : Attached) (count budget : ℕ) (held rest body : List ℕ) (response : Response) (before mid now : World) (p : Progress start old count held before mid) (within : count ≤ budget)
+    (is : StopsWith old body response new) (done : Answered old new mid now) (front : held ≡ frame body ++ rest) (fits : IsBody body) (bytes : AreBytes rest) where
+  abbrev interruption : Interruption
+  interruption = record { body = body; response = response; done = is.done }
 
-  abbrev halted : Talk
-  halted = record { exchanges = p.exchanges; after = place_of old; halt = Some halt }
+  abbrev interrupted : Transcript
+  interrupted = record { exchanges = p.exchanges; after = position_of old; interruption = Some interruption }
 
   abbrev broken : Session
   broken =
       let f = frames_of rest bytes in
-      record { taken = p.taken; bodies = bodies_of halted ++ f.bodies; rest = f.rest; talk = halted }
+      record { taken = p.taken; bodies = bodies_of interrupted ++ f.bodies; rest = f.rest; transcript = interrupted }
 
-  is_broken : IsSession start.log.mem budget (place_of start) broken
+  is_broken : IsSession start.log.mem budget (position_of start) broken
   is_broken =
       let f = frames_of rest bytes in
       let bodies = map (λ (x : Exchange). x.body) p.exchanges in
@@ -242,19 +242,19 @@ module _ (start old new : Attached) (count budget : ℕ) (held rest body : List 
           each = each_then (bodies ++ body ∷ []) f.bodies (each_then bodies (body ∷ []) (bodies_fit p.exchanges p.each) (fits, tt)) f.splits.each;
           last = f.splits.last;
         };
-        talk = record { run = p.run; halted = subst (λ (m : ℕ). ToldFault m (place_of old) body told is.done) p.mem is.fault };
+        transcript = record { run = p.run; interrupted = subst (λ (m : ℕ). AnswersFault m (position_of old) body response is.done) p.mem is.fault };
         front = take_at (bodies ++ body ∷ []) f.bodies (length (bodies ++ body ∷ [])) refl;
         within = omega (arith, p.counted);
       }
 
-  said_broken : said broken ≡ text (map (λ (x : Exchange). x.told) p.exchanges) ++ told_bytes told
-  said_broken =
-      append-nil (text (tolds_of halted))
-      ∙ flat_map-append told_bytes (map (λ (x : Exchange). x.told) p.exchanges) (told ∷ [])
-      ∙ ap (λ (x : List ℕ). text (map (λ (y : Exchange). y.told) p.exchanges) ++ x) (append-nil (told_bytes told))
+  output_broken : output broken ≡ sent_bytes (map (λ (x : Exchange). x.response) p.exchanges) ++ response_bytes response
+  output_broken =
+      append-nil (sent_bytes (responses_of interrupted))
+      ∙ flat_map-append response_bytes (map (λ (x : Exchange). x.response) p.exchanges) (response ∷ [])
+      ∙ ap (λ (x : List ℕ). sent_bytes (map (λ (y : Exchange). y.response) p.exchanges) ++ x) (append-nil (response_bytes response))
 
   -- the disk followed the run, whether the body was carried out or not
-  follows_broken : (f : Image) → before.disk.content ≡ Some f → Follows before.disk now.disk f start.log.mem (tables_of halted) (length p.exchanges)
+  follows_broken : (f : Image) → before.disk.content ≡ Some f → Follows before.disk now.disk f start.log.mem (tables_of interrupted) (length p.exchanges)
   follows_broken f e =
       let moves = done.moves (p.stands f e) in
       let last : Trail Shows now.disk mid.disk.moment (bare old.table ∷ bare new.table ∷ []) 0 =
@@ -265,40 +265,40 @@ module _ (start old new : Attached) (count budget : ℕ) (held rest body : List 
       (subst (λ (n : ℕ). Follows before.disk now.disk f start.log.mem (tables_before p.exchanges ++ bare old.table ∷ bare new.table ∷ []) n) same joined)
 
   -- the run ended so, with the device's fault told or not
-  halts : (how : Ended) → Sends how before.held now.held (said broken) → EndsFor how budget broken now.left → Served budget how before now
+  halts : (how : Ended) → Sends how before.held now.held (output broken) → EndsFor how budget broken now.left → Served budget how before now
   halts how sends ends = record {
     mem = start.log.mem;
-    start = place_of start;
+    start = position_of start;
     session = broken;
     is = is_broken;
     took = subst (λ (x : Option (List ℕ)). Took before.left x p.taken) (sym done.left) p.took;
     sends = sends;
     ends = ends;
     faulted = λ some. subst (λ (n : ℕ). Rose n now.disk_faults) p.calm (done.breaks.rose is.spent);
-    calm = λ none. absurd (let x : ◌≡◌ {A = Option Halt} (Some halt) None = none in cc);
+    calm = λ none. absurd (let x : ◌≡◌ {A = Option Interruption} (Some interruption) None = none in cc);
     begins = p.begins;
     follows = follows_broken;
-    one_image = λ f e none. absurd (let x : ◌≡◌ {A = Option Halt} (Some halt) None = none in cc);
+    one_image = λ f e none. absurd (let x : ◌≡◌ {A = Option Interruption} (Some interruption) None = none in cc);
   }
 
   -- its reply was sent
-  pub ends_device : Appends mid.held now.held (told_bytes told) → Served budget ended.Device before now
+  pub ends_device : Appends mid.held now.held (response_bytes response) → Served budget ended.Device before now
   ends_device more =
       halts ended.Device
-      (subst (λ (x : List ℕ). Appends before.held now.held x) (sym said_broken) (appends_then before.held mid.held now.held (text (map (λ (x : Exchange). x.told) p.exchanges)) (told_bytes told) p.sent more))
+      (subst (λ (x : List ℕ). Appends before.held now.held x) (sym output_broken) (appends_then before.held mid.held now.held (sent_bytes (map (λ (x : Exchange). x.response) p.exchanges)) (response_bytes response) p.sent more))
       is.answer
 
   -- the sink failed at its reply
-  pub ends_device_cut : SendsPrefix mid.held now.held (told_bytes told) → Served budget ended.Sink before now
+  pub ends_device_cut : SendsPrefix mid.held now.held (response_bytes response) → Served budget ended.Sink before now
   ends_device_cut cut =
       halts ended.Sink
-      (subst (λ (x : List ℕ). SendsPrefix before.held now.held x) (sym said_broken) (record {
-        sent = text (map (λ (x : Exchange). x.told) p.exchanges) ++ cut.sent;
+      (subst (λ (x : List ℕ). SendsPrefix before.held now.held x) (sym output_broken) (record {
+        sent = sent_bytes (map (λ (x : Exchange). x.response) p.exchanges) ++ cut.sent;
         later = cut.later;
-        parts = ap (λ (x : List ℕ). text (map (λ (y : Exchange). y.told) p.exchanges) ++ x) cut.parts
-            ∙ sym (append_assoc (text (map (λ (x : Exchange). x.told) p.exchanges)) cut.sent cut.later);
+        parts = ap (λ (x : List ℕ). sent_bytes (map (λ (y : Exchange). y.response) p.exchanges) ++ x) cut.parts
+            ∙ sym (append_assoc (sent_bytes (map (λ (x : Exchange). x.response) p.exchanges)) cut.sent cut.later);
         some = cut.some;
-        appends = appends_then before.held mid.held now.held (text (map (λ (x : Exchange). x.told) p.exchanges)) cut.sent p.sent cut.appends;
+        appends = appends_then before.held mid.held now.held (sent_bytes (map (λ (x : Exchange). x.response) p.exchanges)) cut.sent p.sent cut.appends;
       }))
       tt
 
@@ -308,18 +308,18 @@ module _ (start old new : Attached) (count budget : ℕ) (held rest body out : L
   -- the sink failed at its reply, whether it met a fault or not
   pub ends_unsent : SendsPrefix mid.held now.held out → Served budget ended.Sink before now
   ends_unsent cut =
-      let unsent : SendsPrefix mid.held now.held (told_bytes is.told) = subst (λ (x : List ℕ). SendsPrefix mid.held now.held x) is.spelled cut in
+      let unsent : SendsPrefix mid.held now.held (response_bytes is.response) = subst (λ (x : List ℕ). SendsPrefix mid.held now.held x) is.spelled cut in
       elim is.how [
-        | inl told ↦ answers_cut start old new count budget held rest body is.told before mid now p within told done front fits bytes unsent
-        | inr halted ↦ ends_device_cut start old new count budget held rest body is.told before mid now p within halted done front fits bytes unsent
+        | inl response ↦ answers_cut start old new count budget held rest body is.response before mid now p within response done front fits bytes unsent
+        | inr interrupted ↦ ends_device_cut start old new count budget held rest body is.response before mid now p within interrupted done front fits bytes unsent
       ]
 
   -- it met a fault, and its reply was sent
   pub ends_broken : new.spent ≡ true → Appends mid.held now.held out → Served budget ended.Device before now
   ends_broken spent sent =
       elim is.how [
-        | inl told ↦ absurd (let f : true ≡ false = sym spent ∙ told.going in cc)
-        | inr halted ↦ ends_device start old new count budget held rest body is.told before mid now p within halted done front fits bytes
+        | inl response ↦ absurd (let f : true ≡ false = sym spent ∙ response.going in cc)
+        | inr interrupted ↦ ends_device start old new count budget held rest body is.response before mid now p within interrupted done front fits bytes
             (subst (λ (x : List ℕ). Appends mid.held now.held x) is.spelled sent)
       ]
 
@@ -327,6 +327,6 @@ module _ (start old new : Attached) (count budget : ℕ) (held rest body out : L
   pub goes_on : new.spent ≡ false → Appends mid.held now.held out → Progress start new count rest before now
   goes_on going sent =
       elim is.how [
-        | inl told ↦ (answers start old new count held rest body is.told before mid now p told done front fits (subst (λ (x : List ℕ). Appends mid.held now.held x) is.spelled sent)).0
-        | inr halted ↦ absurd (let f : true ≡ false = sym halted.spent ∙ going in cc)
+        | inl response ↦ (answers start old new count held rest body is.response before mid now p response done front fits (subst (λ (x : List ℕ). Appends mid.held now.held x) is.spelled sent)).0
+        | inr interrupted ↦ absurd (let f : true ≡ false = sym interrupted.spent ∙ going in cc)
       ]

@@ -1,7 +1,7 @@
 //! The serving run: frames from a source, carried out by a store, and replies to a sink.
 #![tactic(auto)]
 
-mod server;
+mod answering;
 mod serving;
 
 pub use serving::serve;

@@ -1,20 +1,20 @@
 //! The serving run.
 
-ghost use Rattle.std.specs.Prelude.{◌≡◌, ◌≢◌, ◌<◌, ◌≤◌, ℕ, length, take, [], IfOk, OnErr};
-ghost use Rattle.strat_crash.specs.Faults.{Counts};
+ghost use Rattle.std.specs.Prelude.{◌≡◌, ◌≢◌, ◌<◌, ◌≤◌, ℕ, length, take, [], IfOk, OnErr, false};
+ghost use Rattle.strat_crash.specs.Faults.{CountsFaults};
 ghost use Rattle.strat_crash.specs.Moments.{Passes};
 ghost use Rattle.strat_store.specs.Causes.{ended_for};
-ghost use Rattle.strat_serve.specs.Session.{Took, IsAtEnd, Outcome, RefusesFor, IsGivenUp, EndHasCause};
+ghost use Rattle.strat_serve.specs.Session.{Took, IsAtEnd, RunOutcome, RefusesFor, IsGivenUp, EndHasCause};
 ghost use Rattle.strat_serve.specs.World.{world};
 
-use crate::server::Server;
+use crate::answering::{Buffers, answer, refuse_long};
 use std::alloc::Global;
 use strat_base::Failed;
 use strat_disk::Disk;
 use strat_frame::Next;
 use strat_io::{Sink, Source, put_all};
 use strat_model::Ended;
-use strat_store::AttachFault;
+use strat_store::{AttachFault, Store};
 
 /// Most bytes that are read at a time.
 const PIECE: usize = 4096;
@@ -38,15 +38,28 @@ fn read_piece<S: Source>(source: &mut S, piece: &mut [u8], most: usize) -> Resul
     ensures ok { IfOk result (λ n. Took (S.left source.old) (S.left source.new) (take n piece.new)) }
     ensures end { IfOk result (λ n. n ≡ 0 → 0 < most → IsAtEnd (S.left source.new)) }
     ensures err { OnErr result (Took (S.left source.old) (S.left source.new) []) }
-    ensures cause { Counts (S.faults source.old) (S.faults source.new) result }
+    ensures cause { CountsFaults (S.faults source.old) (S.faults source.new) result }
 {
     let n = source.read(&mut piece[..most])?;
     Ok(n)
 }
 
+/// How a run ends whose input has ended: within a frame where bytes of one are held.
+fn at_end(held: usize) -> Ended
+    ensures none { held ≡ 0 → result ≡ Ended.Done }
+    ensures end { held ≢ 0 → result ≡ Ended.Truncated }
+{
+    if held == 0 {
+        Ended::Done
+    } else {
+        Ended::Truncated
+    }
+}
+
 /// Opens the store on a disk and serves frames from a source to a sink, until the source ends or as many bytes were
-/// read as the budget has. It reads at most 4,096 bytes at a time, and answers each whole frame among them before it
-/// reads on. A reply goes out when the change that it answers is durable.
+/// read as the budget has. It takes the memory for frames, pairs and replies before it touches the disk, and reads at
+/// most 4,096 bytes at a time. Each whole frame among them is answered before it reads on; a reply goes out when the
+/// change that it answers is durable.
 #[tactic(auto, using(strat_crash::proofs::MomentLemmas::passes_trans))]
 pub fn serve<S: Source, K: Sink, D: Disk>(
     alloc: Global,
@@ -55,35 +68,44 @@ pub fn serve<S: Source, K: Sink, D: Disk>(
     disk: &mut D,
     budget: u64,
 ) -> Ended
-    ensures ok { Outcome budget result
+    ensures ok { RunOutcome budget result
         (world (S.left source.old) (S.faults source.old) (K.held sink.old) (K.faults sink.old)
         (D.view disk.old) (D.faults disk.old))
         (world (S.left source.new) (S.faults source.new) (K.held sink.new) (K.faults sink.new)
         (D.view disk.new) (D.faults disk.new)) }
-    ensures refuses { RefusesFor result (D.view disk.old) }
+    ensures found { RefusesFor result (D.view disk.old) }
     ensures time { Passes (D.view disk.old) (D.view disk.new) }
     ensures cause { EndHasCause result
         (world (S.left source.old) (S.faults source.old) (K.held sink.old) (K.faults sink.old)
         (D.view disk.old) (D.faults disk.old))
         (world (S.left source.new) (S.faults source.new) (K.held sink.new) (K.faults sink.new)
         (D.view disk.new) (D.faults disk.new)) }
-    ensures unread { IsGivenUp result → result ≢ Ended.Device
+    ensures same { IsGivenUp result → result ≢ Ended.Device
         → (source.new ≡ source.old) × (sink.new ≡ sink.old) }
 {
-    let mut server = match Server::open(alloc, disk) {
-        Ok(server) => server,
+    let Ok(mut buffers) = Buffers::new(alloc) else {
+        return Ended::NoMemory;
+    };
+    let mut store = match Store::attach(alloc, disk) {
+        Ok(store) => store,
         Err(fault) => return ended_for(fault),
     };
     let mut piece = [0; PIECE];
     let mut taken = 0;
     loop {
-        match server.deframer.next() {
+        match buffers.frames.next() {
             Next::Frame => {
-                server.answer(disk);
-                let Ok(()) = put_all(sink, server.out.bytes()) else {
+                answer(
+                    &mut store,
+                    disk,
+                    buffers.frames.body(),
+                    &mut buffers.pairs,
+                    &mut buffers.out,
+                );
+                let Ok(()) = put_all(sink, buffers.out.bytes()) else {
                     return Ended::Sink;
                 };
-                if server.store.is_spent() {
+                if store.is_spent() {
                     return Ended::Device;
                 }
             }
@@ -96,13 +118,13 @@ pub fn serve<S: Source, K: Sink, D: Disk>(
                     return Ended::Source;
                 };
                 if n == 0 {
-                    return server.at_end();
+                    return at_end(buffers.frames.held());
                 }
                 taken += n as u64;
-                server.deframer.feed(&piece[..n]);
+                buffers.frames.feed(&piece[..n]);
             }
             Next::TooLong { .. } => {
-                return match server.refuse_long(sink) {
+                return match refuse_long(sink, &mut buffers.pairs, &mut buffers.out) {
                     Ok(()) => Ended::FrameTooLong,
                     Err(Failed) => Ended::Sink,
                 };

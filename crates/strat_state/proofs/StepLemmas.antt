@@ -10,7 +10,7 @@ use Rattle.strat_base.specs.Entries.{Entry, is_at}
 use Rattle.strat_base.specs.Change.{Change}
 use Rattle.strat_state.specs.Live.{first_some, deciding}
 use Rattle.strat_state.specs.Level.{level_leads}
-use Rattle.strat_state.specs.State.{State, versions_of, tree_after, entry_of, journal_updates, sources, value_at, appended}
+use Rattle.strat_state.specs.State.{State, versions_of, tree_after, update_of, journal_updates, sources, value_at, appended}
 use Rattle.strat_state.specs.Sound.{accepts_change, IsSound}
 use Rattle.strat_base.proofs.ListFacts.{Among, any_from, among_split, get_among, fold-push, filter_map-append}
 use Rattle.strat_base.proofs.EntryLemmas.{bytes_same, at_key_version, is_at_version}
@@ -72,11 +72,11 @@ module _ (s : State) (c : Change) where
   pub versions-appended : versions_of (appended s c) ≡ tree_after (versions_of s) c
   versions-appended = fold-push tree_after s.parents s.journal c
 
-  pub updates-appended : journal_updates (appended s c) ≡ journal_updates s ++ filter_map entry_of (c ∷ [])
-  updates-appended = filter_map-append entry_of s.journal (c ∷ [])
+  pub updates-appended : journal_updates (appended s c) ≡ journal_updates s ++ filter_map update_of (c ∷ [])
+  updates-appended = filter_map-append update_of s.journal (c ∷ [])
 
 -- a change that writes an entry
-module _ (s : State) (sound : IsSound s) (c : Change) (e : Entry) (writes : filter_map entry_of (c ∷ []) ≡ e ∷ []) (stays : tree_after (versions_of s) c ≡ versions_of s)
+module _ (s : State) (sound : IsSound s) (c : Change) (e : Entry) (writes : filter_map update_of (c ∷ []) ≡ e ∷ []) (stays : tree_after (versions_of s) c ≡ versions_of s)
     (accepted : accepts_change s c ≡ true) (childless : has_child (versions_of s) e.version ≡ false) (room : length s.journal < s.mem) where
   pub update_versions : versions_of (appended s c) ≡ versions_of s
   update_versions = versions-appended s c ∙ stays

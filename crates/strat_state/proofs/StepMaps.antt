@@ -14,7 +14,7 @@ use Rattle.strat_base.specs.Entries.{Entry, is_of, is_at}
 use Rattle.strat_base.specs.Change.{Change, Put, Delete, Clone}
 use Rattle.strat_state.specs.Live.{first_some, deciding}
 use Rattle.strat_state.specs.Level.{level_leads, IsStratified}
-use Rattle.strat_state.specs.State.{State, versions_of, tree_after, entry_of, journal_updates, sources, value_at, with_value, map_at, changes_of, appended}
+use Rattle.strat_state.specs.State.{State, versions_of, tree_after, update_of, journal_updates, sources, value_at, with_value, map_at, changes_of, appended}
 use Rattle.strat_state.specs.Sound.{has_old_horizon, shallower, is_accepted, are_accepted, accepts_change, IsSound}
 use Rattle.strat_base.proofs.ListFacts.{Among, any_from, all_at, among_split, among_flat, each_of}
 use Rattle.strat_base.proofs.EntryLemmas.{bytes_same, same_bytes}
@@ -110,7 +110,7 @@ module _ (s : State) (v : ℕ) where
 
 -- what a sound state speaks of are its versions
 known_updates : (changes_max versions_max : ℕ) (journal : List Change) (parents : Parents) (n : ℕ) → are_accepted changes_max versions_max parents n journal ≡ true
-    → (e : Entry) → Among e (filter_map entry_of journal) → e.version < length (fold tree_after parents journal)
+    → (e : Entry) → Among e (filter_map update_of journal) → e.version < length (fold tree_after parents journal)
 known_updates changes_max versions_max [] parents n h e among = absurd among
 known_updates changes_max versions_max (Put v key value ∷ journal) parents n h e (inl here) =
     let parts = and_parts (is_accepted changes_max versions_max parents n (Put v key value)) (are_accepted changes_max versions_max parents (suc n) journal) h in

@@ -7,8 +7,8 @@ use Rattle.strat_base.specs.Samples.{says}
 use Rattle.strat_state.specs.Worked.{array_of, first_level, fan}
 
 -- a state with an empty journal
-abbrev pub at_rest : Parents → ℕ → List Level → State
-at_rest parents updates levels = record {
+abbrev pub with_empty_journal : Parents → ℕ → List Level → State
+with_empty_journal parents updates levels = record {
   mem = 4;
   changes_max = 100;
   versions_max = 10;
@@ -23,54 +23,54 @@ at_rest parents updates levels = record {
 
 -- a: version 1 is in two tags
 abbrev pub overlapping_tags : State
-overlapping_tags = at_rest (None ∷ Some 0 ∷ Some 1 ∷ []) 2 (first_level 3 (
+overlapping_tags = with_empty_journal (None ∷ Some 0 ∷ Some 1 ∷ []) 2 (first_level 3 (
     array_of 1 (0 ∷ 1 ∷ []) (says 97 0 49 ∷ []) 1 1 1
     ∷ array_of 2 (1 ∷ 2 ∷ []) (says 97 0 49 ∷ says 98 2 49 ∷ []) 2 1 1 ∷ []))
 
 -- b: version 1 sees a, and is in no tag
 abbrev pub untagged_version : State
-untagged_version = at_rest (None ∷ Some 0 ∷ []) 1 (first_level 2 (array_of 1 (0 ∷ []) (says 97 0 49 ∷ []) 1 1 1 ∷ []))
+untagged_version = with_empty_journal (None ∷ Some 0 ∷ []) 1 (first_level 2 (array_of 1 (0 ∷ []) (says 97 0 49 ∷ []) 1 1 1 ∷ []))
 
 -- c: the array for version 1 lacks a copy of a
 abbrev pub missing_copy : State
-missing_copy = at_rest (None ∷ Some 0 ∷ []) 2 (first_level 2 (
+missing_copy = with_empty_journal (None ∷ Some 0 ∷ []) 2 (first_level 2 (
     array_of 1 (0 ∷ []) (says 97 0 49 ∷ []) 1 1 1
     ∷ array_of 2 (1 ∷ []) (says 98 1 49 ∷ []) 1 1 1 ∷ []))
 
 -- d: of four entries one is live at version 0
 abbrev pub sparse_array : State
-sparse_array = at_rest (None ∷ Some 0 ∷ Some 0 ∷ Some 0 ∷ []) 4 (first_level 4 (
+sparse_array = with_empty_journal (None ∷ Some 0 ∷ Some 0 ∷ Some 0 ∷ []) 4 (first_level 4 (
     array_of 1 (0 ∷ 1 ∷ 2 ∷ 3 ∷ []) (says 97 0 49 ∷ says 98 1 49 ∷ says 99 2 49 ∷ says 100 3 49 ∷ []) 4 4 1 ∷ []))
 
 -- e: of three entries one is a lead
 abbrev pub mostly_copies : State
-mostly_copies = at_rest (None ∷ Some 0 ∷ []) 3 (first_level 2 (
+mostly_copies = with_empty_journal (None ∷ Some 0 ∷ []) 3 (first_level 2 (
     array_of 1 (0 ∷ []) (says 97 0 49 ∷ says 98 0 49 ∷ []) 2 2 2
     ∷ array_of 2 (1 ∷ []) (says 97 0 49 ∷ says 98 0 49 ∷ says 99 1 49 ∷ []) 3 1 3 ∷ []))
 
 -- f: an entry that is no lead of the level
 abbrev pub stray_entry : State
-stray_entry = at_rest (None ∷ Some 0 ∷ []) 2 (first_level 2 (
+stray_entry = with_empty_journal (None ∷ Some 0 ∷ []) 2 (first_level 2 (
     array_of 1 (0 ∷ []) (says 97 0 49 ∷ []) 1 1 1
     ∷ array_of 2 (1 ∷ []) (says 97 1 50 ∷ says 97 0 57 ∷ []) 2 1 1 ∷ []))
 
 -- g: a has two values at version 0
 abbrev pub two_values : State
-two_values = at_rest (None ∷ []) 2 (first_level 1 (array_of 1 (0 ∷ []) (says 97 0 49 ∷ says 97 0 50 ∷ []) 2 2 2 ∷ []))
+two_values = with_empty_journal (None ∷ []) 2 (first_level 1 (array_of 1 (0 ∷ []) (says 97 0 49 ∷ says 97 0 50 ∷ []) 2 2 2 ∷ []))
 
 -- h: nine leads where there is room for eight
 abbrev pub overfull_level : State
-overfull_level = at_rest (None ∷ []) 9 (first_level 1 (array_of 1 (0 ∷ []) (
+overfull_level = with_empty_journal (None ∷ []) 9 (first_level 1 (array_of 1 (0 ∷ []) (
     says 97 0 49 ∷ says 98 0 49 ∷ says 99 0 49 ∷ says 100 0 49 ∷ says 101 0 49
     ∷ says 102 0 49 ∷ says 103 0 49 ∷ says 104 0 49 ∷ says 105 0 49 ∷ []) 9 9 9 ∷ []))
 
 -- i: a horizon past the versions
 abbrev pub early_horizon : State
-early_horizon = at_rest (None ∷ []) 1 (first_level 2 (array_of 1 (0 ∷ []) (says 97 0 49 ∷ []) 1 1 1 ∷ []))
+early_horizon = with_empty_journal (None ∷ []) 1 (first_level 2 (array_of 1 (0 ∷ []) (says 97 0 49 ∷ []) 1 1 1 ∷ []))
 
 -- j: version 0 has a child below the horizon of level 2, and a lead in level 1
 abbrev pub lead_above_frozen : State
-lead_above_frozen = at_rest (None ∷ Some 0 ∷ []) 2 (
+lead_above_frozen = with_empty_journal (None ∷ Some 0 ∷ []) 2 (
     record { number = 1; horizon = 2; arrays = array_of 2 (0 ∷ 1 ∷ []) (says 98 0 49 ∷ []) 1 1 1 ∷ [] }
     ∷ record { number = 2; horizon = 2; arrays = array_of 1 (0 ∷ 1 ∷ []) (says 97 0 49 ∷ []) 1 1 1 ∷ [] } ∷ [])
 
@@ -84,8 +84,8 @@ wrong_descriptor = record fan {
 
 -- l: two leads of one update
 abbrev pub more_leads_than_updates : State
-more_leads_than_updates = at_rest (None ∷ []) 1 (first_level 1 (array_of 1 (0 ∷ []) (says 97 0 49 ∷ says 98 0 49 ∷ []) 2 2 2 ∷ []))
+more_leads_than_updates = with_empty_journal (None ∷ []) 1 (first_level 1 (array_of 1 (0 ∷ []) (says 97 0 49 ∷ says 98 0 49 ∷ []) 2 2 2 ∷ []))
 
 -- m: b stands before a
 abbrev pub unordered_entries : State
-unordered_entries = at_rest (None ∷ []) 2 (first_level 1 (array_of 1 (0 ∷ []) (says 98 0 49 ∷ says 97 0 49 ∷ []) 2 2 2 ∷ []))
+unordered_entries = with_empty_journal (None ∷ []) 2 (first_level 1 (array_of 1 (0 ∷ []) (says 98 0 49 ∷ says 97 0 49 ∷ []) 2 2 2 ∷ []))

@@ -54,14 +54,14 @@ abbrev pub is_living : State → ℕ → Bool
 is_living s v = true
 
 -- the entry that a change writes
-abbrev pub entry_of : Change → Option Entry
-entry_of (Put version key value) = Some (record { key = key; version = version; value = Some value })
-entry_of (Delete version key) = Some (record { key = key; version = version; value = None })
-entry_of (Clone version) = None
+abbrev pub update_of : Change → Option Entry
+update_of (Put version key value) = Some (record { key = key; version = version; value = Some value })
+update_of (Delete version key) = Some (record { key = key; version = version; value = None })
+update_of (Clone version) = None
 
 -- the updates in the journal, the oldest first
 abbrev pub journal_updates : State → List Entry
-journal_updates s = filter_map entry_of s.journal
+journal_updates s = filter_map update_of s.journal
 
 -- all that a state says of keys: the journal's updates, the latest first, then the levels' leads, the shallowest first
 abbrev pub sources : State → List Entry

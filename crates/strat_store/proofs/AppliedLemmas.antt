@@ -3,12 +3,12 @@ use Rattle.std.proofs.Common.{◌≡◌, ◌<◌, ℕ, ◌⊎◌, inl, inr, List
 use Rattle.strat_base.specs.Change.{Change}
 use Rattle.strat_crash.specs.Image.{Image, Outside}
 use Rattle.strat_format.specs.Layout.{region_at, region_size, other_region}
-use Rattle.strat_crash.specs.Moments.{View, Images, Since, Passes, TearsOnly, Settled}
+use Rattle.strat_crash.specs.Moments.{DiskView, Images, Since, Passes, TearsOnly, IsDurable}
 use Rattle.strat_crash.proofs.MomentLemmas.{now_since_start, settled_at}
 use Rattle.strat_journal.specs.Log.{Log, Stands, GivesAllOrNone, batch_joined}
-use Rattle.strat_journal.specs.Records.{changes_of}
+use Rattle.strat_journal.specs.Records.{journal_changes}
 use Rattle.strat_recovery.specs.Head.{Head}
-use Rattle.strat_store.specs.Opened.{head_now, head_with, MayFollow}
+use Rattle.strat_store.specs.Opened.{recover_now, head_with, MayFollow}
 use Rattle.strat_store.specs.Store.{Holds}
 use Rattle.strat_store.proofs.ChangeLemmas.{head_changes, same_head, next_head}
 
@@ -19,7 +19,7 @@ pub record Adds (h : Head) (change : Change) (log : Log) : Type 0 where
   pub list : log.list ≡ h.journal
   pub batch : log.batch ≡ change ∷ []
 
-pub adds_one : (v : View) (log added : Log) (h : Head) (change : Change) → Holds v log h → log.batch ≡ [] → added ≡ record log { batch = log.batch ++ change ∷ [] } → Adds h change added
+pub adds_one : (v : DiskView) (log added : Log) (h : Head) (change : Change) → Holds v log h → log.batch ≡ [] → added ≡ record log { batch = log.batch ++ change ∷ [] } → Adds h change added
 adds_one v log added h change holds none is = record {
   mem = ap (λ (l : Log). l.mem) is ∙ holds.mem;
   active = ap (λ (l : Log). l.active) is ∙ holds.active;
@@ -28,11 +28,11 @@ adds_one v log added h change holds none is = record {
 }
 
 -- a journal in memory that is a head's stands on a disk that has the head for good
-pub added_stands : (v : View) (log added : Log) (h : Head) (change : Change) → Holds v log h → Adds h change added → Stands v added
+pub added_stands : (v : DiskView) (log added : Log) (h : Head) (change : Change) → Holds v log h → Adds h change added → Stands v added
 added_stands v log added h change holds adds = record {
   given = λ c left.
       let here : c ≡ holds.content = holds.settled c left in
-      (λ i. changes_of (here i) (adds.mem i) (adds.active i)) ∙ (head_changes holds.content h holds.found).read ∙ ap (λ (cs : List Change). Ok cs) (sym adds.list);
+      (λ i. journal_changes (here i) (adds.mem i) (adds.active i)) ∙ (head_changes holds.content h holds.found).read ∙ ap (λ (cs : List Change). Ok cs) (sym adds.list);
   shut = λ c left lt up.
       let here : c ≡ holds.content = holds.settled c left in
       let same : holds.content (region_at h.sb.mem (other_region h.sb.region)) ≡ c (region_at added.mem (other_region added.active)) =
@@ -45,7 +45,7 @@ outside_moved : {at n from m : ℕ} (d f c : Image) → at ≡ from → n ≡ m 
 outside_moved {at} {n} {from} {m} d f c place size same out =
     subst (λ (x : Image). Outside from m x c) same (subst (λ (k : ℕ). Outside from k d c) size (subst (λ (k : ℕ). Outside k n d c) place out))
 
-module _ (old new : View) (log added : Log) (h : Head) (change : Change) (holds : Holds old log h) (adds : Adds h change added) (follows : MayFollow h change)
+module _ (old new : DiskView) (log added : Log) (h : Head) (change : Change) (holds : Holds old log h) (adds : Adds h change added) (follows : MayFollow h change)
     (room : length h.journal < h.sb.mem) (tears : TearsOnly old new (region_at added.mem added.active) (region_size added.mem)) where
   -- an image since then is the content outside the active region
   outside : (c : Image) → Since new old.moment c → Outside (region_at h.sb.mem h.sb.region) (region_size h.sb.mem) holds.content c
@@ -54,39 +54,39 @@ module _ (old new : View) (log added : Log) (h : Head) (change : Change) (holds 
       let here : torn.0 ≡ holds.content = holds.settled torn.0 torn.1 in
       outside_moved torn.0 holds.content c (λ i. region_at (adds.mem i) (adds.active i)) (ap region_size adds.mem) here torn.2
 
-  with_list : (c : Image) → Since new old.moment c → changes_of c added.mem added.active ≡ Ok added.list → head_now c ≡ Ok (Some h)
+  with_list : (c : Image) → Since new old.moment c → journal_changes c added.mem added.active ≡ Ok added.list → recover_now c ≡ Ok (Some h)
   with_list c since e =
       same_head holds.content h holds.found c (outside c since)
-      ((λ i. changes_of c (sym adds.mem i) (sym adds.active i)) ∙ e ∙ ap (λ (cs : List Change). Ok cs) adds.list)
+      ((λ i. journal_changes c (sym adds.mem i) (sym adds.active i)) ∙ e ∙ ap (λ (cs : List Change). Ok cs) adds.list)
 
-  with_all : (c : Image) → Since new old.moment c → changes_of c added.mem added.active ≡ Ok (added.list ++ added.batch) → head_now c ≡ Ok (Some (head_with h change))
+  with_all : (c : Image) → Since new old.moment c → journal_changes c added.mem added.active ≡ Ok (added.list ++ added.batch) → recover_now c ≡ Ok (Some (head_with h change))
   with_all c since e =
       next_head holds.content h holds.found c (outside c since) change follows room
-      ((λ i. changes_of c (sym adds.mem i) (sym adds.active i)) ∙ e ∙ (λ i. Ok (adds.list i ++ adds.batch i)))
+      ((λ i. journal_changes c (sym adds.mem i) (sym adds.active i)) ∙ e ∙ (λ i. Ok (adds.list i ++ adds.batch i)))
 
   -- each image since then has the head, or the head with the change
   pub either_head : ((f : Image) → old.content ≡ Some f → Stands old added → (c : Image) → Since new old.moment c → GivesAllOrNone added c)
-      → (c : Image) → Since new old.moment c → (head_now c ≡ Ok (Some h)) ⊎ (head_now c ≡ Ok (Some (head_with h change)))
-  either_head each c since = elim (each holds.content holds.told (added_stands old log added h change holds adds) c since) [
+      → (c : Image) → Since new old.moment c → (recover_now c ≡ Ok (Some h)) ⊎ (recover_now c ≡ Ok (Some (head_with h change)))
+  either_head each c since = elim (each holds.content holds.exposed (added_stands old log added h change holds adds) c since) [
     | inl none ↦ inl (with_list c since none)
     | inr all ↦ inr (with_all c since all)
   ]
 
   -- and when all is done the disk has the head with the change for good
   pub holds_more : (joined : Log) (f : Image) → joined ≡ batch_joined added → Passes old new → ((f : Image) → old.content ≡ Some f → Stands old added → Stands new joined)
-      → new.content ≡ Some f → Images new f → Settled new → Holds new joined (head_with h change)
-  holds_more joined f is passes kept told left settled =
-      let stands : Stands new joined = kept holds.content holds.told (added_stands old log added h change holds adds) in
+      → new.content ≡ Some f → Images new f → IsDurable new → Holds new joined (head_with h change)
+  holds_more joined f is passes kept exposed left settled =
+      let stands : Stands new joined = kept holds.content holds.exposed (added_stands old log added h change holds adds) in
       let mem : joined.mem ≡ h.sb.mem = ap (λ (l : Log). l.mem) is ∙ adds.mem in
       let active : joined.active ≡ h.sb.region = ap (λ (l : Log). l.active) is ∙ adds.active in
       let list : joined.list ≡ added.list ++ added.batch = ap (λ (l : Log). l.list) is in
       record {
         content = f;
-        told = told;
-        settled = settled_at new f told settled;
+        exposed = exposed;
+        settled = settled_at new f exposed settled;
         found =
             with_all f (now_since_start old new f passes left)
-            ((λ i. changes_of f (sym is i).mem (sym is i).active) ∙ stands.given f left ∙ ap (λ (cs : List Change). Ok cs) list);
+            ((λ i. journal_changes f (sym is i).mem (sym is i).active) ∙ stands.given f left ∙ ap (λ (cs : List Change). Ok cs) list);
         mem = mem;
         active = active;
         list = list ∙ (λ i. adds.list i ++ adds.batch i);

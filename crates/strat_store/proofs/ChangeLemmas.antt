@@ -10,12 +10,12 @@ use Rattle.strat_recovery.specs.Opened.{parents_in}
 use Rattle.strat_state.specs.Sound.{is_accepted, are_accepted}
 use Rattle.strat_state.specs.State.{tree_after}
 use Rattle.strat_base.specs.Tree.{Parents}
-use Rattle.strat_journal.specs.Records.{changes_of, is_plain}
-use Rattle.strat_recovery.specs.Disks.{new_manifest}
+use Rattle.strat_journal.specs.Records.{journal_changes, is_plain}
 use Rattle.strat_recovery.specs.Head.{Head}
-use Rattle.strat_store.specs.Opened.{head_now, head_with, MayFollow, SameButJournal}
+use Rattle.strat_store.specs.Opened.{recover_now, head_with, MayFollow, SameButJournal}
 use Rattle.strat_store.proofs.OpenedLemmas.{Parts, parts_of, few_now, fits_of, head_is}
 use Rattle.strat_store.proofs.HeadSameLemmas.{same_but, Changes, changes_behind, head_of_changes}
+use Rattle.strat_format.specs.Manifest.{new_manifest}
 
 -- a plain change more
 plain_push : (journal : List Change) (change : Change) → list_all is_plain journal ≡ true → is_plain change ≡ true → list_all is_plain (journal ++ change ∷ []) ≡ true
@@ -55,11 +55,11 @@ accepted_wider limit versions_max mem parents n (Clone version) room e =
     let parts = and_parts _ (not (eqb n (min limit mem))) e in and_from _ (not (eqb n limit)) parts.0 (not_limit n limit mem room parts.1)
 
 -- the journal of a head that is found
-pub head_changes : (f : Image) (h : Head) → head_now f ≡ Ok (Some h) → Changes f h.sb h.journal
+pub head_changes : (f : Image) (h : Head) → recover_now f ≡ Ok (Some h) → Changes f h.sb h.journal
 head_changes f h found = changes_behind f h.sb h.journal (parts_of f h found).behind (few_now f h found)
 
 -- an image that differs from one with a head in the active region alone
-module _ (f : Image) (h : Head) (found : head_now f ≡ Ok (Some h)) (c : Image) (out : Outside (region_at h.sb.mem h.sb.region) (region_size h.sb.mem) f c) where
+module _ (f : Image) (h : Head) (found : recover_now f ≡ Ok (Some h)) (c : Image) (out : Outside (region_at h.sb.mem h.sb.region) (region_size h.sb.mem) f c) where
   parts : Parts f h
   parts = parts_of f h found
 
@@ -69,15 +69,15 @@ module _ (f : Image) (h : Head) (found : head_now f ≡ Ok (Some h)) (c : Image)
       same_but f c h.sb.mem h.sb.region (region_at h.sb.mem h.sb.region) (region_size h.sb.mem) fits.region (omega arith) (omega arith) out
 
   -- it has that head where its journal is the head's
-  pub same_head : changes_of c h.sb.mem h.sb.region ≡ Ok h.journal → head_now c ≡ Ok (Some h)
+  pub same_head : journal_changes c h.sb.mem h.sb.region ≡ Ok h.journal → recover_now c ≡ Ok (Some h)
   same_head e =
       let old = head_changes f h found in
       head_of_changes f c parts.slot h.sb h.journal parts.newest parts.behind.block differs (record { read = e; few = old.few; plain = old.plain; accepted = old.accepted })
       ∙ (λ i. Ok (Some (head_is h parts.manifest i)))
 
   -- it has the head with a change where its journal has that change more
-  pub next_head : (change : Change) → MayFollow h change → length h.journal < h.sb.mem → changes_of c h.sb.mem h.sb.region ≡ Ok (h.journal ++ change ∷ [])
-      → head_now c ≡ Ok (Some (head_with h change))
+  pub next_head : (change : Change) → MayFollow h change → length h.journal < h.sb.mem → journal_changes c h.sb.mem h.sb.region ≡ Ok (h.journal ++ change ∷ [])
+      → recover_now c ≡ Ok (Some (head_with h change))
   next_head change follows room e =
       let old = head_changes f h found in
       head_of_changes f c parts.slot h.sb (h.journal ++ change ∷ []) parts.newest parts.behind.block differs (record {

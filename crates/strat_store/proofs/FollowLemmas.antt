@@ -3,15 +3,14 @@ use Rattle.std.proofs.Common.{◌≡◌, ◌≤◌, ℕ, ◌+◌, List, [], ◌�
 use Rattle.std.specs.Prelude.{Ok}
 use Rattle.strat_crash.specs.Image.{Image, Outside}
 use Rattle.strat_format.specs.Layout.{region_at, other_region}
-use Rattle.strat_crash.specs.Moments.{View, Images, Since, Passes, TearsOnly, Settled}
+use Rattle.strat_crash.specs.Moments.{DiskView, Images, Since, Passes, TearsOnly, IsDurable, OnlyReads}
 use Rattle.strat_crash.specs.Trail.{At, Trail}
 use Rattle.strat_crash.proofs.ImageLemmas.{outside_refl}
 use Rattle.strat_crash.proofs.MomentLemmas.{each_then, now_since, passes_trans, settled_at, since_earlier}
 use Rattle.strat_crash.proofs.TrailLemmas.{trail_of_one, trail_join}
-use Rattle.strat_journal.specs.Front.{Looks}
 use Rattle.strat_recovery.specs.Head.{Head}
 use Rattle.strat_model.specs.Table.{Table, bare}
-use Rattle.strat_store.specs.Opened.{head_now, state_now, table_now, Shows, SameButJournal, Follows, Opens}
+use Rattle.strat_store.specs.Opened.{recover_now, state_now, table_now, Shows, SameButJournal, Follows, Opens}
 use Rattle.strat_store.proofs.AttachLemmas.{settled_looks}
 use Rattle.strat_store.proofs.HeadSameLemmas.{same_but, same_journal_trans}
 use Rattle.strat_store.proofs.OpenedLemmas.{reads_now, sound_now}
@@ -19,11 +18,11 @@ use Rattle.strat_store.proofs.StaleLemmas.{first_within}
 use Rattle.strat_store.proofs.StandLemmas.{shows_bare}
 
 -- each image at the end of a trail shows a table at its number or behind it
-at_last : (now : View) (tables : List Table) (n start : ℕ) → Trail Shows now start tables n → (c : Image) → Images now c → (i : ℕ) × (n ≤ i) × At tables i (Shows c)
+at_last : (now : DiskView) (tables : List Table) (n start : ℕ) → Trail Shows now start tables n → (c : Image) → Images now c → (i : ℕ) × (n ≤ i) × At tables i (Shows c)
 at_last now tables n start trail c left = trail.each n now.moment c (omega arith) trail.last (omega arith) left
 
 -- a disk that followed tables up to the last of them goes on from it
-pub follows_on : (before mid now : View) (f : Image) (mem : ℕ) (xs ys : List Table) (x : Table) (n : ℕ) → Passes mid now → Follows before mid f mem (xs ++ x ∷ []) (length xs)
+pub follows_on : (before mid now : DiskView) (f : Image) (mem : ℕ) (xs ys : List Table) (x : Table) (n : ℕ) → Passes mid now → Follows before mid f mem (xs ++ x ∷ []) (length xs)
     → Trail Shows now mid.moment (x ∷ ys) n → ((c : Image) → Since now mid.moment c → (d : Image) × Images mid d × SameButJournal mem d c)
     → Follows before now f mem (xs ++ x ∷ ys) (length xs + n)
 follows_on before mid now f mem xs ys x n passes so_far more journal =
@@ -44,15 +43,15 @@ follows_on before mid now f mem xs ys x n passes so_far more journal =
 
 -- an image has this head, and differs from the content at the first gate of the other region alone
 record IsOpening (f : Image) (h : Head) (c : Image) : Type 0 where
-  pub found : head_now c ≡ Ok (Some h)
+  pub found : recover_now c ≡ Ok (Some h)
   pub gate : Outside (region_at h.sb.mem (other_region h.sb.region)) 1 f c
 
 -- a disk was synced and looked at, and then one gate was shut
-pub opens_by : (before synced read now : View) (f : Image) (h : Head) (t : Table) → before.content ≡ Some f → Looks before synced → Settled synced → Images synced f → Looks synced read → Passes read now
-    → head_now f ≡ Ok (Some h) → table_now h ≡ t → ((c : Image) → Since now read.moment c → head_now c ≡ Ok (Some h))
+pub opens_by : (before synced read now : DiskView) (f : Image) (h : Head) (t : Table) → before.content ≡ Some f → OnlyReads before synced → IsDurable synced → Images synced f → OnlyReads synced read → Passes read now
+    → recover_now f ≡ Ok (Some h) → table_now h ≡ t → ((c : Image) → Since now read.moment c → recover_now c ≡ Ok (Some h))
     → TearsOnly read now (region_at h.sb.mem (other_region h.sb.region)) 1 → Opens before now f h.sb.mem (bare t)
-opens_by before synced read now f h t told syncs settled left looks passes found table heads tears =
-    let there : synced.content ≡ Some f = syncs.same ∙ told in
+opens_by before synced read now f h t exposed syncs settled left looks passes found table heads tears =
+    let there : synced.content ≡ Some f = syncs.same ∙ exposed in
     let on : Passes synced now = passes_trans looks.time passes in
     let is_content : (c : Image) → Images synced c → IsOpening f h c = λ c left.
     subst (λ (d : Image). IsOpening f h d) (sym (settled_at synced f there settled c left)) (record { found = found; gate = outside_refl _ _ f }) in

@@ -4,21 +4,20 @@ use Rattle.std.proofs.lemmas.List.{length-replicate}
 use Rattle.strat_format.specs.Chain.{link_bytes}
 use Rattle.strat_format.specs.Damage.{Read, and_then, passed_or}
 use Rattle.strat_crash.specs.Image.{Image, Outside, SameIn, patch, window}
-use Rattle.strat_format.specs.Layout.{region_at}
-use Rattle.strat_format.specs.Manifest.{manifest_bytes}
-use Rattle.strat_crash.specs.Moments.{View, Images, Since, Passes, TearsOnly, Settled}
+use Rattle.strat_format.specs.Layout.{region_at, first_free}
+use Rattle.strat_format.specs.Manifest.{manifest_bytes, new_manifest}
+use Rattle.strat_crash.specs.Moments.{DiskView, Images, Since, Passes, TearsOnly, IsDurable}
 use Rattle.strat_base.specs.Numbers.{be}
-use Rattle.strat_format.specs.SuperBlock.{Super, Slot, first_free, slot_in, newer, verdict, chosen_in, newest_in}
+use Rattle.strat_format.specs.SuperBlock.{Super, Slot, slot_in, newer, verdict, chosen_in, newest_in}
 use Rattle.strat_crash.proofs.ImageLemmas.{over_below, outside_same_above, window_same, window_patch}
 use Rattle.strat_base.proofs.EntryLemmas.{same_bytes}
 use Rattle.strat_crash.proofs.MomentLemmas.{now_since_start, at_told, settled_at}
 use Rattle.strat_format.proofs.SuperBlockLemmas.{slot_closed}
 use Rattle.strat_gate.specs.Laying.{LaysOver, OldOrNew}
 use Rattle.strat_journal.proofs.NowLemmas.{empty}
-use Rattle.strat_journal.specs.Records.{journal_now}
-use Rattle.strat_recovery.specs.Disks.{new_manifest}
+use Rattle.strat_journal.specs.Records.{recover_journal_now}
 use Rattle.strat_store.specs.Format.{IsNewDisk, IsShut, IsNewStore, IsNoneOrNew, super_for, head_for}
-use Rattle.strat_store.specs.Opened.{new_block, has_new_manifest, accepted_now, head_from, head_now_of_slot, head_now}
+use Rattle.strat_store.specs.Opened.{new_block, has_new_manifest, accepted_now, head_from, recover_slot_now, recover_now}
 use Rattle.strat_store.proofs.OpenedLemmas.{reads_now}
 use Rattle.strat_store.proofs.ShutLemmas.{StaysBlank}
 
@@ -35,13 +34,13 @@ none_newest c first second =
     λ j. verdict (newer (one j) (two j))
 
 -- where both slots stay shut, no image is a store
-pub none_yet : (mem changes_max versions_max : ℕ) (old new : View) → StaysBlank old new → (c : Image) → Since new old.moment c → IsNoneOrNew mem changes_max versions_max c
+pub none_yet : (mem changes_max versions_max : ℕ) (old new : DiskView) → StaysBlank old new → (c : Image) → Since new old.moment c → IsNoneOrNew mem changes_max versions_max c
 none_yet mem changes_max versions_max old new stays c since = let shut = stays.each c since in inl (none_newest c shut.0 shut.1)
 
 -- once the manifest is there: each image is the content, in which both slots and both regions are shut, and the manifest has its block
-pub record Prepared (mem : ℕ) (v : View) : Type 0 where
+pub record Prepared (mem : ℕ) (v : DiskView) : Type 0 where
   pub content : Image
-  pub told : v.content ≡ Some content
+  pub exposed : v.content ≡ Some content
   pub only : (c : Image) → Images v c → c ≡ content
   pub first : content 0 ≢ 0xa7
   pub second : content 4096 ≢ 0xa7
@@ -50,16 +49,16 @@ pub record Prepared (mem : ℕ) (v : View) : Type 0 where
   pub block : window content (4096 * first_free mem) 4096 ≡ new_block
 
 -- after the gates were shut and the manifest was written
-pub prepared : (mem : ℕ) (v1 v2 : View) → IsShut mem v1 → IfSome v1.content (λ f. v2.content ≡ Some (patch f (4096 * first_free mem) new_block)) → Settled v2 → Prepared mem v2
+pub prepared : (mem : ℕ) (v1 v2 : DiskView) → IsShut mem v1 → IfSome v1.content (λ f. v2.content ≡ Some (patch f (4096 * first_free mem) new_block)) → IsDurable v2 → Prepared mem v2
 prepared mem v1 v2 shut writes settled =
     let at : ℕ = 4096 * first_free mem in
     let f : Image = shut.content in
-    let told : v2.content ≡ Some (patch f at new_block) =
-    at_told v1.content (λ (g : Image). v2.content ≡ Some (patch g at new_block)) f shut.told writes in
+    let exposed : v2.content ≡ Some (patch f at new_block) =
+    at_told v1.content (λ (g : Image). v2.content ≡ Some (patch g at new_block)) f shut.exposed writes in
     record {
       content = patch f at new_block;
-      told = told;
-      only = settled_at v2 (patch f at new_block) told settled;
+      exposed = exposed;
+      only = settled_at v2 (patch f at new_block) exposed settled;
       first = λ up. shut.first (sym (over_below at (length new_block) _ f 0 (omega arith)) ∙ up);
       second = λ up. shut.second (sym (over_below at (length new_block) _ f 4096 (omega arith)) ∙ up);
       active = λ up. shut.active (sym (over_below at (length new_block) _ f (region_at mem 0) (omega arith)) ∙ up);
@@ -68,18 +67,18 @@ prepared mem v1 v2 shut writes settled =
     }
 
 -- the superblock may be laid into the first slot
-pub lays_over : (mem : ℕ) (v : View) (p : Prepared mem v) (sb : Super) → LaysOver v p.content 0 sb
+pub lays_over : (mem : ℕ) (v : DiskView) (p : Prepared mem v) (sb : Super) → LaysOver v p.content 0 sb
 lays_over mem v p sb =
     let one : slot_in p.content 0 ≡ None = slot_closed p.content 0 p.first in
     let two : slot_in p.content 4096 ≡ None = slot_closed p.content 4096 p.second in
     let none : chosen_in p.content ≡ None = λ j. newer (one j) (two j) in
     record {
-      content = p.told;
+      content = p.exposed;
       same = λ c left. record { byte = λ i from to. λ j. p.only c left j i };
       newest = subst (λ (o : Option (ℕ × Slot)). IfSome o (λ s. (s.0 ≢ 0) × (s.1.sb.generation < sb.generation))) (sym none) tt;
     }
 
-module _ (mem changes_max versions_max : ℕ) (some : 0 < mem) (v : View) (p : Prepared mem v) where
+module _ (mem changes_max versions_max : ℕ) (some : 0 < mem) (v : DiskView) (p : Prepared mem v) where
   -- the content with the new superblock in the first block is a new store
   new_store : (c : Image) → Outside 0 4096 p.content c → newest_in c ≡ Ok (Some (0, super_for mem changes_max versions_max)) → IsNewStore mem changes_max versions_max c
   new_store c out newest =
@@ -87,9 +86,9 @@ module _ (mem changes_max versions_max : ℕ) (some : 0 < mem) (v : View) (p : P
       let same : SameIn (4096 * first_free mem) 4096 p.content c = outside_same_above 0 4096 (4096 * first_free mem) 4096 (omega arith) out in
       let block : window c (4096 * first_free mem) 4096 ≡ new_block = window_same p.content c (4096 * first_free mem) 4096 same ∙ p.block in
       let has : has_new_manifest c sb ≡ true = same_bytes (window c (4096 * first_free mem) 4096) new_block block in
-      let none : journal_now c mem 0 ≡ Ok [] = empty c mem 0 some (λ up. p.active (sym (out.above (region_at mem 0) (omega arith)) ∙ up)) in
-      let found : head_now c ≡ Ok (Some (head_for mem changes_max versions_max)) =
-      ap (λ (r : Read (Option (ℕ × Super))). and_then r (head_now_of_slot c)) newest
+      let none : recover_journal_now c mem 0 ≡ Ok [] = empty c mem 0 some (λ up. p.active (sym (out.above (region_at mem 0) (omega arith)) ∙ up)) in
+      let found : recover_now c ≡ Ok (Some (head_for mem changes_max versions_max)) =
+      ap (λ (r : Read (Option (ℕ × Super))). and_then r (recover_slot_now c)) newest
       ∙ (λ j. and_then (and_then (passed_or sb.manifest (has j) new_manifest) (λ _. and_then (none j) (λ logged.
       and_then (accepted_now sb logged) (λ journal. Ok (head_from sb journal))))) (λ h. Ok (Some h))) in
       record {
@@ -104,11 +103,11 @@ module _ (mem changes_max versions_max : ℕ) (some : 0 < mem) (v : View) (p : P
   super_at first = record (super_for mem changes_max versions_max) { manifest = first }
 
   -- an image of the content, but for the first block
-  torn_front : (new : View) → TearsOnly v new 0 4096 → (c : Image) → Since new v.moment c → Outside 0 4096 p.content c
+  torn_front : (new : DiskView) → TearsOnly v new 0 4096 → (c : Image) → Since new v.moment c → Outside 0 4096 p.content c
   torn_front new tears c since = let torn = tears.each c since in subst (λ (d : Image). Outside 0 4096 d c) (p.only torn.0 torn.1) torn.2
 
   -- while the superblock is laid, an image is no store or the new one
-  pub laying : (new : View) (first : ℕ) → first ≡ first_free mem → TearsOnly v new 0 4096
+  pub laying : (new : DiskView) (first : ℕ) → first ≡ first_free mem → TearsOnly v new 0 4096
       → ((c : Image) → Since new v.moment c → OldOrNew p.content 0 (super_at first) c) → (c : Image) → Since new v.moment c → IsNoneOrNew mem changes_max versions_max c
   laying new first is tears either c since = elim (either c since) [
     | inl old ↦ inl (old ∙ none_newest p.content p.first p.second)
@@ -116,15 +115,15 @@ module _ (mem changes_max versions_max : ℕ) (some : 0 < mem) (v : View) (p : P
   ]
 
   -- once it is laid, an image is the new store
-  pub laid : (new : View) (first : ℕ) → first ≡ first_free mem → Passes v new → TearsOnly v new 0 4096
+  pub laid : (new : DiskView) (first : ℕ) → first ≡ first_free mem → Passes v new → TearsOnly v new 0 4096
       → ((c : Image) → Images new c → newest_in c ≡ Ok (Some (0, super_at first))) → (c : Image) → Images new c → IsNewStore mem changes_max versions_max c
   laid new first is passes tears newest c left =
       new_store c (torn_front new tears c (now_since_start v new c passes left)) (newest c left ∙ (λ j. Ok (Some (0, super_at (is j)))))
 
 -- a settled disk each of whose images is a new store is a new disk
-pub new_disk : (mem changes_max versions_max : ℕ) (v : View) (f : Image) → v.content ≡ Some f → ((c : Image) → Images v c → c ≡ f) → IfSome v.content (Images v)
+pub new_disk : (mem changes_max versions_max : ℕ) (v : DiskView) (f : Image) → v.content ≡ Some f → ((c : Image) → Images v c → c ≡ f) → IfSome v.content (Images v)
     → ((c : Image) → Images v c → IsNewStore mem changes_max versions_max c) → IsNewDisk mem changes_max versions_max v
-new_disk mem changes_max versions_max v f told alone law each = record {
-  rest = record { content = f; told = told; alone = alone };
-  new = each f (at_told v.content (Images v) f told law);
+new_disk mem changes_max versions_max v f exposed alone law each = record {
+  rest = record { content = f; exposed = exposed; alone = alone };
+  new = each f (at_told v.content (Images v) f exposed law);
 }

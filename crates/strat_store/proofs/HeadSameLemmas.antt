@@ -8,22 +8,22 @@ use Rattle.strat_base.specs.declared.limits.TheConstants.{BLOCK}
 use Rattle.strat_base.specs.Change.{Change}
 use Rattle.strat_format.specs.Damage.{Read, put_first}
 use Rattle.strat_crash.specs.Image.{Image, window, Outside}
-use Rattle.strat_format.specs.Layout.{region_at, region_size}
+use Rattle.strat_format.specs.Layout.{region_at, region_size, region_blocks, first_free}
 use Rattle.strat_recovery.specs.Opened.{parents_in}
 use Rattle.strat_format.specs.Records.{Logged, journal_of, journal_in_one}
 use Rattle.strat_state.specs.Sound.{is_accepted, are_accepted}
 use Rattle.strat_state.specs.State.{tree_after}
-use Rattle.strat_format.specs.SuperBlock.{Super, region_blocks, first_free, slot_in, newer, verdict, newest_in}
+use Rattle.strat_format.specs.SuperBlock.{Super, slot_in, newer, verdict, newest_in}
 use Rattle.strat_base.specs.Tree.{Parents}
 use Rattle.strat_format.proofs.DamageLemmas.{and_then_ok, put_first_ok}
 use Rattle.strat_crash.proofs.ImageLemmas.{window_same}
 use Rattle.strat_format.proofs.SuperBlockLemmas.{slot_same}
-use Rattle.strat_journal.specs.Records.{is_plain, plain_or, plain, changes_in_order, changes_of, journal_now}
+use Rattle.strat_journal.specs.Records.{is_plain, plain_or, plain_records, changes_in_order, journal_changes, recover_journal_now}
 use Rattle.strat_journal.proofs.NowLemmas.{narrow, wide}
-use Rattle.strat_recovery.specs.Disks.{new_manifest}
 use Rattle.strat_recovery.specs.Opening.{accepted_in}
-use Rattle.strat_store.specs.Opened.{new_block, has_new_manifest, accepted_now, head_from, head_now, SameButJournal}
+use Rattle.strat_store.specs.Opened.{new_block, has_new_manifest, accepted_now, head_from, recover_now, SameButJournal}
 use Rattle.strat_store.proofs.OpenedLemmas.{Behind, fits_of, head_from_parts}
+use Rattle.strat_format.specs.Manifest.{new_manifest}
 
 -- an image is the same as itself, and as one that is the same as another that is the same
 pub same_journal_refl : (mem : ℕ) (f : Image) → SameButJournal mem f f
@@ -66,7 +66,7 @@ manifest_same f c sb from same =
 
 -- an image that differs in the journal has a head with the changes that are read there
 pub head_same : (f c : Image) (slot : ℕ) (sb : Super) (journal : List Change) (logged : List Logged) → newest_in f ≡ Ok (Some (slot, sb)) → has_new_manifest f sb ≡ true
-    → SameButJournal sb.mem f c → journal_now c sb.mem sb.region ≡ Ok logged → accepted_now sb logged ≡ Ok journal → head_now c ≡ Ok (Some (head_from sb journal))
+    → SameButJournal sb.mem f c → recover_journal_now c sb.mem sb.region ≡ Ok logged → accepted_now sb logged ≡ Ok journal → recover_now c ≡ Ok (Some (head_from sb journal))
 head_same f c slot sb journal logged newest block same read accepted =
     let fits = fits_of f slot sb newest in
     head_from_parts c slot sb journal (newest_same f c same.front ∙ newest)
@@ -119,9 +119,9 @@ all_plain (l ∷ logged) e = by_test (is_plain l.change) refl (all_plain logged)
     by_test false is rest e = absurd (cc)
 
 -- a journal that is read has plain records
-pub read_plain : (c : Image) (mem active : ℕ) (logged : List Logged) → journal_now c mem active ≡ Ok logged → list_all (λ (l : Logged). is_plain l.change) logged ≡ true
+pub read_plain : (c : Image) (mem active : ℕ) (logged : List Logged) → recover_journal_now c mem active ≡ Ok logged → list_all (λ (l : Logged). is_plain l.change) logged ≡ true
 read_plain c mem active logged e =
-    let found = and_then_ok (journal_in_one c mem active) plain logged e in
+    let found = and_then_ok (journal_in_one c mem active) plain_records logged e in
     by_find found.0 (find (λ (l : Logged). not (is_plain l.change)) found.0) refl found.2
   where
     by_find : (xs : List Logged) (o : Option Logged) → find (λ (l : Logged). not (is_plain l.change)) xs ≡ o → plain_or xs o ≡ Ok logged
@@ -138,14 +138,14 @@ plain_mapped (l ∷ logged) = ap (λ (b : Bool). is_plain l.change && b) (plain_
 
 -- the changes of a head's journal are plain, each accepted in its turn, and no more than a region takes
 pub record Changes (c : Image) (sb : Super) (journal : List Change) : Type 0 where
-  pub read : changes_of c sb.mem sb.region ≡ Ok journal
+  pub read : journal_changes c sb.mem sb.region ≡ Ok journal
   pub few : length journal ≤ sb.mem
   pub plain : list_all is_plain journal ≡ true
   pub accepted : are_accepted sb.changes_max sb.versions_max (parents_in new_manifest) 0 journal ≡ true
 
 -- an image that differs in the journal has a head with the changes that stand there
 pub head_of_changes : (f c : Image) (slot : ℕ) (sb : Super) (journal : List Change) → newest_in f ≡ Ok (Some (slot, sb)) → has_new_manifest f sb ≡ true
-    → SameButJournal sb.mem f c → Changes c sb journal → head_now c ≡ Ok (Some (head_from sb journal))
+    → SameButJournal sb.mem f c → Changes c sb journal → recover_now c ≡ Ok (Some (head_from sb journal))
 head_of_changes f c slot sb journal newest block same changes =
     let found = and_then_ok (journal_of c sb.mem sb.region) (λ logged. Ok (map (λ (l : Logged). l.change) logged)) journal changes.read in
     let last : Ok (map (λ (l : Logged). l.change) found.0) ≡ Ok journal = found.2 in
@@ -153,7 +153,7 @@ head_of_changes f c slot sb journal newest block same changes =
     let fits = fits_of f slot sb newest in
     let few : length found.0 ≤ sb.mem = omega (arith, changes.few, ap length is, length-map found.0 (λ (l : Logged). l.change)) in
     let all : list_all (λ (l : Logged). is_plain l.change) found.0 ≡ true = plain_mapped found.0 ∙ ap (list_all is_plain) is ∙ changes.plain in
-    let read : journal_now c sb.mem sb.region ≡ Ok found.0 = wide c sb.mem sb.region found.0 (omega (arith, fits.mem_least)) found.1 few all in
+    let read : recover_journal_now c sb.mem sb.region ≡ Ok found.0 = wide c sb.mem sb.region found.0 (omega (arith, fits.mem_least)) found.1 few all in
     let each : are_accepted sb.changes_max sb.versions_max (parents_in new_manifest) 0 (map (λ (l : Logged). l.change) found.0) ≡ true =
     ap (are_accepted sb.changes_max sb.versions_max (parents_in new_manifest) 0) is ∙ changes.accepted in
     head_same f c slot sb journal found.0 newest block same read

@@ -1,11 +1,10 @@
 -- The block of a new store's manifest, spelled into zeros.
 use Rattle.std.proofs.Common.{◌≡◌, ℕ, zero, suc, ◌+◌, List, [], ◌∷◌, ◌++◌, replicate, refl, ap, ◌∙◌, arith}
 use Rattle.strat_format.specs.Chain.{link_bytes}
-use Rattle.strat_format.specs.Manifest.{manifest_bytes}
+use Rattle.strat_format.specs.Manifest.{manifest_bytes, new_manifest}
 use Rattle.strat_base.specs.Numbers.{be, placed}
 use Rattle.strat_format.specs.SuperBlock.{spelled, zeros}
 use Rattle.strat_format.proofs.SuperBlockLemmas.{spelled_next}
-use Rattle.strat_recovery.specs.Disks.{new_manifest}
 use Rattle.strat_store.specs.Opened.{new_block}
 
 -- zeros are zeros in front of zeros

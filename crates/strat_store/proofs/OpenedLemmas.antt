@@ -10,30 +10,30 @@ use Rattle.strat_format.specs.Chained.{Chained, manifest_at}
 use Rattle.strat_base.specs.Change.{Change, Put, Delete, Clone}
 use Rattle.strat_format.specs.Damage.{Read, and_then, passed_or}
 use Rattle.strat_crash.specs.Image.{Image, window}
-use Rattle.strat_format.specs.Manifest.{Manifest, manifest_bytes, all_pass, Spells}
+use Rattle.strat_format.specs.Manifest.{Manifest, manifest_bytes, all_pass, SpellsManifest, new_manifest}
 use Rattle.strat_base.specs.Numbers.{be}
 use Rattle.strat_recovery.specs.Opened.{parents_in}
 use Rattle.strat_format.specs.Records.{Logged, journal_in_one}
 use Rattle.strat_state.specs.Sound.{is_accepted, are_accepted, IsWellFormed, IsSound}
 use Rattle.strat_state.specs.State.{tree_after, fresh_state}
-use Rattle.strat_format.specs.SuperBlock.{Super, Slot, first_free, in_range, chosen_in, verdict, newest_in}
+use Rattle.strat_format.specs.SuperBlock.{Super, Slot, in_range, chosen_in, verdict, newest_in}
 use Rattle.strat_base.specs.Tree.{Parents, is_known, has_child}
 use Rattle.strat_format.proofs.ChainLemmas.{chain_read}
 use Rattle.strat_format.proofs.DamageLemmas.{and_then_ok, passed_ok}
 use Rattle.strat_base.proofs.EntryLemmas.{bytes_same}
-use Rattle.strat_journal.specs.Records.{is_plain, plain_or, plain, journal_now}
-use Rattle.strat_recovery.specs.Disks.{new_manifest}
+use Rattle.strat_journal.specs.Records.{is_plain, plain_or, plain_records, recover_journal_now}
 use Rattle.strat_recovery.specs.Head.{Head}
 use Rattle.strat_recovery.specs.Opening as model
-use Rattle.strat_recovery.specs.Opening.{belongs, manifest_of, accepted_in, journal_behind, opened, state_of, reads_as}
+use Rattle.strat_recovery.specs.Opening.{belongs, recover_manifest, accepted_in, recover_journal, opened, state_of, reads_as}
 use Rattle.strat_recovery.proofs.OpeningLemmas.{read_openable}
-use Rattle.strat_store.specs.Opened.{new_block, has_new_manifest, manifest_now, accepted_now, head_from, head_now_behind, head_now_of_slot, head_now, state_now, limited}
+use Rattle.strat_store.specs.Opened.{new_block, has_new_manifest, recover_manifest_now, accepted_now, head_from, recover_head_now, recover_slot_now, recover_now, state_now, limited}
+use Rattle.strat_format.specs.Layout.{first_free}
 
 -- a head behind a superblock comes of these parts
 pub record Behind (c : Image) (sb : Super) (journal : List Change) : Type 0 where
   pub block : has_new_manifest c sb ≡ true
   pub logged : List Logged
-  pub read : journal_now c sb.mem sb.region ≡ Ok logged
+  pub read : recover_journal_now c sb.mem sb.region ≡ Ok logged
   pub accepted : accepted_now sb logged ≡ Ok journal
 
 -- a head that is found comes of these parts
@@ -44,11 +44,11 @@ pub record Parts (c : Image) (h : Head) : Type 0 where
   pub manifest : h.manifest ≡ new_manifest
 
 -- the parts of a head behind a superblock
-pub behind_of : (c : Image) (sb : Super) (h : Head) → head_now_behind c sb ≡ Ok h → Behind c sb h.journal × (head_from sb h.journal ≡ h)
+pub behind_of : (c : Image) (sb : Super) (h : Head) → recover_head_now c sb ≡ Ok h → Behind c sb h.journal × (head_from sb h.journal ≡ h)
 behind_of c sb h e =
-    let first = and_then_ok (manifest_now c sb) (λ _. and_then (journal_now c sb.mem sb.region) (λ logged. and_then (accepted_now sb logged) (λ journal. Ok (head_from sb journal)))) h e in
+    let first = and_then_ok (recover_manifest_now c sb) (λ _. and_then (recover_journal_now c sb.mem sb.region) (λ logged. and_then (accepted_now sb logged) (λ journal. Ok (head_from sb journal)))) h e in
     let passed = passed_ok sb.manifest (has_new_manifest c sb) new_manifest first.0 first.1 in
-    let second = and_then_ok (journal_now c sb.mem sb.region) (λ logged. and_then (accepted_now sb logged) (λ journal. Ok (head_from sb journal))) h first.2 in
+    let second = and_then_ok (recover_journal_now c sb.mem sb.region) (λ logged. and_then (accepted_now sb logged) (λ journal. Ok (head_from sb journal))) h first.2 in
     let third = and_then_ok (accepted_now sb second.0) (λ journal. Ok (head_from sb journal)) h second.2 in
     let last : Ok (head_from sb third.0) ≡ Ok h = third.2 in
     let same : head_from sb third.0 ≡ h = cc in
@@ -58,22 +58,22 @@ behind_of c sb h e =
     )
 
 -- and what they make
-pub behind_from : (c : Image) (sb : Super) (journal : List Change) → Behind c sb journal → head_now_behind c sb ≡ Ok (head_from sb journal)
+pub behind_from : (c : Image) (sb : Super) (journal : List Change) → Behind c sb journal → recover_head_now c sb ≡ Ok (head_from sb journal)
 behind_from c sb journal b =
-    ap (λ (test : Bool). and_then (passed_or sb.manifest test new_manifest) (λ _. and_then (journal_now c sb.mem sb.region) (λ logged. and_then (accepted_now sb logged) (λ j. Ok (head_from sb j))))) b.block
+    ap (λ (test : Bool). and_then (passed_or sb.manifest test new_manifest) (λ _. and_then (recover_journal_now c sb.mem sb.region) (λ logged. and_then (accepted_now sb logged) (λ j. Ok (head_from sb j))))) b.block
     ∙ ap (λ (r : Read (List Logged)). and_then r (λ logged. and_then (accepted_now sb logged) (λ j. Ok (head_from sb j)))) b.read
     ∙ ap (λ (r : Read (List Change)). and_then r (λ j. Ok (head_from sb j))) b.accepted
 
 -- the parts of a head that is found
-pub parts_of : (c : Image) (h : Head) → head_now c ≡ Ok (Some h) → Parts c h
+pub parts_of : (c : Image) (h : Head) → recover_now c ≡ Ok (Some h) → Parts c h
 parts_of c h found =
-    let first = and_then_ok (newest_in c) (head_now_of_slot c) (Some h) found in
+    let first = and_then_ok (newest_in c) (recover_slot_now c) (Some h) found in
     by_slot first.0 first.1 first.2
   where
-    by_slot : (slot : Option (ℕ × Super)) → newest_in c ≡ Ok slot → head_now_of_slot c slot ≡ Ok (Some h) → Parts c h
+    by_slot : (slot : Option (ℕ × Super)) → newest_in c ≡ Ok slot → recover_slot_now c slot ≡ Ok (Some h) → Parts c h
     by_slot None newest e = absurd (cc)
     by_slot (Some slot) newest e =
-        let behind = and_then_ok (head_now_behind c slot.1) (λ x. Ok (Some x)) (Some h) e in
+        let behind = and_then_ok (recover_head_now c slot.1) (λ x. Ok (Some x)) (Some h) e in
         let last : Ok (Some behind.0) ≡ Ok (Some h) = behind.2 in
         let same : behind.0 ≡ h = cc in
         let parts = behind_of c slot.1 behind.0 behind.1 in
@@ -81,9 +81,9 @@ parts_of c h found =
 
 -- a head is found where its parts are
 pub head_from_parts : (c : Image) (slot : ℕ) (sb : Super) (journal : List Change) → newest_in c ≡ Ok (Some (slot, sb)) → Behind c sb journal
-    → head_now c ≡ Ok (Some (head_from sb journal))
+    → recover_now c ≡ Ok (Some (head_from sb journal))
 head_from_parts c slot sb journal newest behind =
-    ap (λ (r : Read (Option (ℕ × Super))). and_then r (head_now_of_slot c)) newest
+    ap (λ (r : Read (Option (ℕ × Super))). and_then r (recover_slot_now c)) newest
     ∙ ap (λ (r : Read Head). and_then r (λ h. Ok (Some h))) (behind_from c sb journal behind)
 
 -- a head with a new store's manifest is the one from its superblock and its journal
@@ -146,7 +146,7 @@ fits_of c slot sb e =
     }
 
 -- a new store's manifest is spelled in 29 bytes
-new_spelled : Spells (manifest_bytes new_manifest) new_manifest
+new_spelled : SpellsManifest (manifest_bytes new_manifest) new_manifest
 unfolding all_pass
 new_spelled = record { lawful = refl; text = refl }
 
@@ -191,47 +191,47 @@ module _ (c : Image) (sb : Super) (block : has_new_manifest c sb ≡ true) where
         simp (low, some, once, least)
 
     -- it is the manifest of the superblock
-    manifest_found : manifest_of c sb ≡ Ok new_manifest
+    manifest_found : recover_manifest c sb ≡ Ok new_manifest
     manifest_found =
         ap (λ (r : Read Chained). and_then r (λ found. passed_or sb.manifest (belongs sb found) found.manifest)) found_chain
         ∙ ap (λ (test : Bool). passed_or sb.manifest test new_manifest) it_belongs
 
--- plain records are all of them
+-- plain_records records are all of them
 plain_same : (logged xs : List Logged) (o : Option Logged) → plain_or logged o ≡ Ok xs → logged ≡ xs
 plain_same logged xs None e = cc
 plain_same logged xs (Some l) e = absurd (cc)
 
--- a journal of plain records is one that one region holds
-in_one : (c : Image) (mem active : ℕ) (logged : List Logged) → journal_now c mem active ≡ Ok logged → journal_in_one c mem active ≡ Ok logged
+-- a journal of plain_records records is one that one region holds
+in_one : (c : Image) (mem active : ℕ) (logged : List Logged) → recover_journal_now c mem active ≡ Ok logged → journal_in_one c mem active ≡ Ok logged
 in_one c mem active logged e =
-    let found = and_then_ok (journal_in_one c mem active) plain logged e in
+    let found = and_then_ok (journal_in_one c mem active) plain_records logged e in
     let same : found.0 ≡ logged = plain_same found.0 logged (find (λ (l : Logged). not (is_plain l.change)) found.0) found.2 in
     found.1 ∙ ap (λ (xs : List Logged). Ok xs) same
 
 -- an opening finds the head
 module _ (c : Image) (slot : ℕ) (sb : Super) (journal : List Change) (newest : newest_in c ≡ Ok (Some (slot, sb))) (behind : Behind c sb journal) where
-  journal_found : journal_behind c sb new_manifest ≡ Ok journal
+  journal_found : recover_journal c sb new_manifest ≡ Ok journal
   journal_found =
       ap (λ (r : Read (List Logged)). and_then r (accepted_in sb.changes_max sb.versions_max (parents_in new_manifest) new_manifest.changes)) (in_one c sb.mem sb.region behind.logged behind.read)
       ∙ behind.accepted
 
-  head_found : model.head_in c ≡ Ok (Some (head_from sb journal))
+  head_found : model.recover c ≡ Ok (Some (head_from sb journal))
   head_found =
-      ap (λ (r : Read (Option (ℕ × Super))). and_then r (model.head_of_slot c)) newest
-      ∙ ap (λ (r : Read Manifest). and_then (and_then r (λ m. and_then (journal_behind c sb m) (λ journal. Ok (record { sb = sb; manifest = m; journal = journal })))) (λ h. Ok (Some h))) (manifest_found c sb behind.block (fits_of c slot sb newest))
+      ap (λ (r : Read (Option (ℕ × Super))). and_then r (model.recover_slot c)) newest
+      ∙ ap (λ (r : Read Manifest). and_then (and_then r (λ m. and_then (recover_journal c sb m) (λ journal. Ok (record { sb = sb; manifest = m; journal = journal })))) (λ h. Ok (Some h))) (manifest_found c sb behind.block (fits_of c slot sb newest))
       ∙ ap (λ (r : Read (List Change)). and_then (and_then r (λ journal. Ok (head_from sb journal))) (λ h. Ok (Some h))) journal_found
 
   state_found : reads_as c ≡ Some (state_now (head_from sb journal))
   state_found = ap (λ (r : Read (Option Head)). option_and_then (state_of c) (opened r)) head_found
 
 -- it reads as the state of the head
-pub reads_now : (c : Image) (h : Head) → head_now c ≡ Ok (Some h) → reads_as c ≡ Some (state_now h)
+pub reads_now : (c : Image) (h : Head) → recover_now c ≡ Ok (Some h) → reads_as c ≡ Some (state_now h)
 reads_now c h found =
     let parts = parts_of c h found in
     state_found c parts.slot h.sb h.journal parts.newest parts.behind ∙ ap (λ (x : Head). Some (state_now x)) (head_is h parts.manifest)
 
 -- its journal has no more changes than a region takes
-pub few_now : (c : Image) (h : Head) → head_now c ≡ Ok (Some h) → length h.journal ≤ h.sb.mem
+pub few_now : (c : Image) (h : Head) → recover_now c ≡ Ok (Some h) → length h.journal ≤ h.sb.mem
 few_now c h found = leb-true (length h.journal) h.sb.mem (read_openable c (state_now h) (reads_now c h found)).fits
 
 -- a new store's state with a journal is sound where it is well formed
@@ -241,7 +241,7 @@ sound_from mem changes_max versions_max journal formed =
     record { formed = formed; stratified = tt; roomy = refl; old = refl; settled = refl; described = refl; few = refl; ascending = refl }
 
 -- that state is sound
-pub sound_now : (c : Image) (h : Head) → head_now c ≡ Ok (Some h) → IsSound (state_now h)
+pub sound_now : (c : Image) (h : Head) → recover_now c ≡ Ok (Some h) → IsSound (state_now h)
 sound_now c h found = sound_from h.sb.mem h.sb.changes_max h.sb.versions_max h.journal (read_openable c (state_now h) (reads_now c h found))
 
 -- below b a number is the lesser of a and b where it is a
@@ -270,7 +270,7 @@ fewer a b versions_max parents n (c ∷ journal) few e =
     (fewer a b versions_max (tree_after parents c) (suc n) journal (omega arith) parts.1)
 
 -- and it is so with no more changes than the journal takes
-pub limited_sound : (c : Image) (h : Head) → head_now c ≡ Ok (Some h) → IsSound (limited (state_now h))
+pub limited_sound : (c : Image) (h : Head) → recover_now c ≡ Ok (Some h) → IsSound (limited (state_now h))
 limited_sound c h found =
     let formed = read_openable c (state_now h) (reads_now c h found) in
     let few : length h.journal ≤ h.sb.mem = leb-true (length h.journal) h.sb.mem formed.fits in

@@ -2,31 +2,31 @@
 use Rattle.std.proofs.Common.{◌≡◌, false, [], ◌∷◌, length, Some, sym, ap, subst, ◌∙◌, inl, arith}
 use Rattle.std.specs.Prelude.{if◌then◌else◌, Ok}
 use Rattle.strat_crash.specs.Image.{Image}
-use Rattle.strat_crash.specs.Moments.{View, Images}
+use Rattle.strat_crash.specs.Moments.{DiskView, Images}
 use Rattle.strat_crash.specs.Trail.{Trail}
 use Rattle.strat_crash.proofs.MomentLemmas.{since_now}
 use Rattle.strat_crash.proofs.TrailLemmas.{trail_of_two}
 use Rattle.strat_journal.specs.Log.{Log}
 use Rattle.strat_recovery.specs.Head.{Head}
 use Rattle.strat_model.specs.Table.{Table, bare}
-use Rattle.strat_store.specs.Opened.{head_now, state_now, table_now, Shows}
-use Rattle.strat_store.specs.Store.{Attached, place_of, Holds, StandsOn, OpensFrom, Moves}
+use Rattle.strat_store.specs.Opened.{recover_now, state_now, table_now, Shows}
+use Rattle.strat_store.specs.Store.{Attached, position_of, Holds, StandsOn, OpensFrom, Moves}
 use Rattle.strat_store.proofs.HeadSameLemmas.{same_journal_refl}
 use Rattle.strat_store.proofs.OpenedLemmas.{reads_now, sound_now}
 
 -- an image with a head shows the table that the head means, without cursors
-pub shows_bare : (c : Image) (h : Head) (t : Table) → head_now c ≡ Ok (Some h) → table_now h ≡ t → Shows c (bare t)
+pub shows_bare : (c : Image) (h : Head) (t : Table) → recover_now c ≡ Ok (Some h) → table_now h ≡ t → Shows c (bare t)
 shows_bare c h t found table =
     record { head = h; found = found; state = state_now h; reads = reads_now c h found; sound = sound_now c h found; table = ap bare table }
 
 -- each image of a disk shows the table of the store that stands on it
-pub stands_shows : (v : View) (s : Attached) → StandsOn v s → (c : Image) → Images v c → Shows c (bare s.table)
+pub stands_shows : (v : DiskView) (s : Attached) → StandsOn v s → (c : Image) → Images v c → Shows c (bare s.table)
 stands_shows v s stands c left =
     let same : c ≡ stands.holds.content = stands.holds.settled c left in
-    shows_bare c stands.head s.table (ap head_now same ∙ stands.holds.found) stands.table
+    shows_bare c stands.head s.table (ap recover_now same ∙ stands.holds.found) stands.table
 
 -- where nothing reaches the disk and the table stays, so does all else
-pub stays : (v : View) (old new : Attached) → new.table ≡ old.table → new.log ≡ old.log → new.spent ≡ false → StandsOn v old → Moves v v old new
+pub stays : (v : DiskView) (old new : Attached) → new.table ≡ old.table → new.log ≡ old.log → new.spent ≡ false → StandsOn v old → Moves v v old new
 stays v old new table log going stands =
     let after : StandsOn v new = record {
       head = stands.head;

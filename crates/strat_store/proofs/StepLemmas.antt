@@ -21,10 +21,10 @@ use Rattle.strat_model.specs.Plain.{IsStep, IsStepOrShort}
 use Rattle.strat_model.specs.Request.{Request, Put, Get}
 use Rattle.strat_model.specs.Spelling.{is_taken}
 use Rattle.strat_recovery.specs.StateTable.{request_for}
-use Rattle.strat_model.specs.Step.{Outcome, says, refuses, step, is_known, is_frozen, pairs_at, with_pairs}
+use Rattle.strat_model.specs.Step.{Outcome, replies_with, refuses, step, has_row, is_frozen, pairs_at, with_pairs}
 use Rattle.strat_model.specs.Table.{Table}
 use Rattle.strat_recovery.proofs.StateTableLemmas.{length-rows_from, accepts_same, steps_to}
-use Rattle.strat_store.specs.Opened.{head_now, state_now, limited, table_now, head_with, MayFollow}
+use Rattle.strat_store.specs.Opened.{recover_now, state_now, limited, table_now, head_with, MayFollow}
 use Rattle.strat_store.specs.Store.{change_asked}
 use Rattle.strat_store.proofs.ChangeLemmas.{head_changes}
 use Rattle.strat_store.proofs.OpenedLemmas.{limited_sound}
@@ -48,7 +48,7 @@ three_kept true false true t a b c made takes e = refl
 three_kept true false false t a b c made takes e = absurd (true≢false (sym takes ∙ e))
 
 -- a look-up leaves the table as it was
-says_kept : (k : Bool) (t : Table) (a : Answer) (r : Refusal) → (if k then says t a else refuses t r).table ≡ t
+says_kept : (k : Bool) (t : Table) (a : Answer) (r : Refusal) → (if k then replies_with t a else refuses t r).table ≡ t
 says_kept true t a r = refl
 says_kept false t a r = refl
 
@@ -58,15 +58,15 @@ put_done t v new = record { answer = plain reply.Done; table = record t { rows =
 
 -- a command that is taken and asks for no change leaves the table as it was
 pub asks_none : (t : Table) (r : Request) → is_taken r ≡ true → change_asked r ≡ None → (step t r).table ≡ t
-asks_none t (Get v key) taken none = says_kept (is_known t v) t _ why.UnknownVersion
+asks_none t (Get v key) taken none = says_kept (has_row t v) t _ why.UnknownVersion
 asks_none t (Put v key value) taken none = absurd (cc)
 asks_none t _ taken none = absurd (true≢false (sym taken))
 
 -- so does one that is refused
 pub refused_kept : (t : Table) (r : Request) → is_taken r ≡ true → accepts (step t r).answer.reply ≡ false → (step t r).table ≡ t
-refused_kept t (Get v key) taken e = says_kept (is_known t v) t _ why.UnknownVersion
+refused_kept t (Get v key) taken e = says_kept (has_row t v) t _ why.UnknownVersion
 refused_kept t (Put v key value) taken e =
-    three_kept (is_known t v) (is_frozen t v) (eqb t.changes t.changes_max) t why.UnknownVersion why.Frozen why.ChangeLimit (put_done t v (set key value (pairs_at t v))) refl e
+    three_kept (has_row t v) (is_frozen t v) (eqb t.changes t.changes_max) t why.UnknownVersion why.Frozen why.ChangeLimit (put_done t v (set key value (pairs_at t v))) refl e
 refused_kept t _ taken e = absurd (true≢false (sym taken))
 
 -- a put that a table takes
@@ -80,7 +80,7 @@ pub record IsMade (t : Table) (r : Request) : Type 0 where
 pub is_made : (t : Table) (r : Request) (c : Change) → is_taken r ≡ true → change_asked r ≡ Some c → accepts (step t r).answer.reply ≡ true → IsMade t r
 is_made t (Get v key) c taken asked e = absurd (cc)
 is_made t (Put v key value) c taken asked e =
-    let made = three_made (is_known t v) (is_frozen t v) (eqb t.changes t.changes_max) t why.UnknownVersion why.Frozen why.ChangeLimit (put_done t v (set key value (pairs_at t v))) e in
+    let made = three_made (has_row t v) (is_frozen t v) (eqb t.changes t.changes_max) t why.UnknownVersion why.Frozen why.ChangeLimit (put_done t v (set key value (pairs_at t v))) e in
     record {
       known = λ w other text is. let same : v ≡ w = cc in omega (arith, ltb-true v (length t.rows) made.0);
       room = λ full. true≢false (sym (eq-eqb t.changes t.changes_max full) ∙ made.1);
@@ -91,23 +91,23 @@ is_made t (Put v key value) c taken asked e =
 is_made t _ c taken asked e = absurd (true≢false (sym taken))
 
 -- a call of a table that is no refusal is a step
-pub step_of : (t : Table) (r : Request) (told : Reply) (pairs : Pairs) (after : Table) → IsStepOrShort t r told pairs after → accepts told ≡ true → IsStep t r told pairs after
-step_of t r told pairs after (inl is) e = is
-step_of t r told pairs after (inr short) e = absurd (true≢false (sym e ∙ ap (λ (a : Answer). accepts a.reply) short.answer))
+pub step_of : (t : Table) (r : Request) (exposed : Reply) (pairs : Pairs) (after : Table) → IsStepOrShort t r exposed pairs after → accepts exposed ≡ true → IsStep t r exposed pairs after
+step_of t r exposed pairs after (inl is) e = is
+step_of t r exposed pairs after (inr short) e = absurd (true≢false (sym e ∙ ap (λ (a : Answer). accepts a.reply) short.answer))
 
 -- the step of such a call is no refusal either
-pub step_accepts : (t : Table) (r : Request) (told : Reply) (pairs : Pairs) (after : Table) (b : Bool) → IsStep t r told pairs after → accepts told ≡ b → accepts (step t r).answer.reply ≡ b
-step_accepts t r told pairs after b is e = sym (ap (λ (a : Answer). accepts a.reply) is.answer) ∙ e
+pub step_accepts : (t : Table) (r : Request) (exposed : Reply) (pairs : Pairs) (after : Table) (b : Bool) → IsStep t r exposed pairs after → accepts exposed ≡ b → accepts (step t r).answer.reply ≡ b
+step_accepts t r exposed pairs after b is e = sym (ap (λ (a : Answer). accepts a.reply) is.answer) ∙ e
 
 -- a command that asks for no change leaves the table as it was
-pub call_kept_none : (t : Table) (r : Request) (told : Reply) (pairs : Pairs) (after : Table) → IsStepOrShort t r told pairs after → is_taken r ≡ true → change_asked r ≡ None → after ≡ t
-call_kept_none t r told pairs after (inl is) taken none = is.table ∙ asks_none t r taken none
-call_kept_none t r told pairs after (inr short) taken none = short.same
+pub call_kept_none : (t : Table) (r : Request) (exposed : Reply) (pairs : Pairs) (after : Table) → IsStepOrShort t r exposed pairs after → is_taken r ≡ true → change_asked r ≡ None → after ≡ t
+call_kept_none t r exposed pairs after (inl is) taken none = is.table ∙ asks_none t r taken none
+call_kept_none t r exposed pairs after (inr short) taken none = short.same
 
 -- so does one that is refused
-pub call_kept : (t : Table) (r : Request) (told : Reply) (pairs : Pairs) (after : Table) → IsStepOrShort t r told pairs after → is_taken r ≡ true → accepts told ≡ false → after ≡ t
-call_kept t r told pairs after (inl is) taken e = is.table ∙ refused_kept t r taken (step_accepts t r told pairs after false is e)
-call_kept t r told pairs after (inr short) taken e = short.same
+pub call_kept : (t : Table) (r : Request) (exposed : Reply) (pairs : Pairs) (after : Table) → IsStepOrShort t r exposed pairs after → is_taken r ≡ true → accepts exposed ≡ false → after ≡ t
+call_kept t r exposed pairs after (inl is) taken e = is.table ∙ refused_kept t r taken (step_accepts t r exposed pairs after false is e)
+call_kept t r exposed pairs after (inr short) taken e = short.same
 
 -- the command that asks for a change
 pub asked_for : (r : Request) (c : Change) → is_taken r ≡ true → change_asked r ≡ Some c → request_for c ≡ r
@@ -123,7 +123,7 @@ plain_tree parents (change.Delete v key ∷ journal) e = absurd (true≢false (s
 plain_tree parents (change.Clone v ∷ journal) e = absurd (true≢false (sym e))
 
 -- the table of a head has one version
-pub one_row : (f : Image) (h : Head) → head_now f ≡ Ok (Some h) → length (table_now h).rows ≡ 1
+pub one_row : (f : Image) (h : Head) → recover_now f ≡ Ok (Some h) → length (table_now h).rows ≡ 1
 one_row f h found =
     length-rows_from (limited (state_now h)) 0 (versions_of (limited (state_now h)))
     ∙ ap (λ (ps : Parents). length ps) (plain_tree (None ∷ []) h.journal (head_changes f h found).plain)
@@ -133,7 +133,7 @@ plain_lawful : (v : ℕ) (key value : List ℕ) → v ≡ 0 → (is_key key && i
 plain_lawful v key value zero sizes = and_from (ltb v (2 ^ 32)) (is_key key && is_value value) (lt-ltb v (2 ^ 32) (omega arith)) sizes
 
 -- the change that a command asks of a head's table may follow in its journal
-pub may_follow : (f : Image) (h : Head) (r : Request) (c : Change) → head_now f ≡ Ok (Some h) → is_taken r ≡ true → change_asked r ≡ Some c → accepts (step (table_now h) r).answer.reply ≡ true → MayFollow h c
+pub may_follow : (f : Image) (h : Head) (r : Request) (c : Change) → recover_now f ≡ Ok (Some h) → is_taken r ≡ true → change_asked r ≡ Some c → accepts (step (table_now h) r).answer.reply ≡ true → MayFollow h c
 may_follow f h (Get v key) c found taken asked e = absurd (cc)
 may_follow f h (Put v key value) c found taken asked e =
     let same : change.Put v key value ≡ c = cc in
@@ -147,7 +147,7 @@ may_follow f h (Put v key value) c found taken asked e =
 may_follow f h _ c found taken asked e = absurd (true≢false (sym taken))
 
 -- the table after it is that of the head with the change
-pub table_after : (f : Image) (h : Head) (r : Request) (c : Change) → head_now f ≡ Ok (Some h) → MayFollow h c → length h.journal < h.sb.mem → request_for c ≡ r
+pub table_after : (f : Image) (h : Head) (r : Request) (c : Change) → recover_now f ≡ Ok (Some h) → MayFollow h c → length h.journal < h.sb.mem → request_for c ≡ r
     → table_now (head_with h c) ≡ (step (table_now h) r).table
 table_after f h r c found follows room asks =
     sym (steps_to (limited (state_now h)) c (record { sound = limited_sound f h found; accepted = follows.accepted; room = room }))

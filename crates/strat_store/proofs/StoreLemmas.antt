@@ -3,7 +3,7 @@ use Rattle.std.proofs.Common.{◌≡◌, ◌≤◌, ◌<◌, Bool, true, false, 
 use Rattle.strat_base.specs.Change.{Change}
 use Rattle.strat_crash.specs.Image.{Image}
 use Rattle.strat_format.specs.Layout.{region_at, region_size}
-use Rattle.strat_crash.specs.Moments.{View, Images, Since, Passes, TearsOnly}
+use Rattle.strat_crash.specs.Moments.{DiskView, Images, Since, Passes, TearsOnly}
 use Rattle.strat_crash.proofs.TrailLemmas.{trail_of_either, trail_of_two}
 use Rattle.strat_journal.specs.Log.{Log}
 use Rattle.strat_model.specs.Answer.{accepts}
@@ -12,7 +12,7 @@ use Rattle.strat_model.specs.Request.{Request}
 use Rattle.strat_model.specs.Spelling.{is_taken}
 use Rattle.strat_model.specs.Step.{step}
 use Rattle.strat_model.specs.Table.{Table, bare}
-use Rattle.strat_store.specs.Opened.{head_now, table_now, head_with, MayFollow, Shows, SameButJournal}
+use Rattle.strat_store.specs.Opened.{recover_now, table_now, head_with, MayFollow, Shows, SameButJournal}
 use Rattle.strat_store.specs.Store.{Attached, IsReady, Holds, StandsOn, Moves, change_asked}
 use Rattle.strat_store.proofs.HeadSameLemmas.{same_but}
 use Rattle.strat_store.proofs.OpenedLemmas.{parts_of, fits_of}
@@ -45,8 +45,8 @@ module _ (t : Table) (log : Log) (spent : Bool) (r : Request) (c : Change) (take
     cursors = ap (λ (x : Table). x.next_cursor) after_is ∙ made.cursor ∙ ready.cursors;
   }
 
-  module _ (before now : View) (passes : Passes before now)
-      (each : (h : Head) → Holds before log h → MayFollow h c → (x : Image) → Since now before.moment x → (head_now x ≡ Ok (Some h)) ⊎ (head_now x ≡ Ok (Some (head_with h c))))
+  module _ (before now : DiskView) (passes : Passes before now)
+      (each : (h : Head) → Holds before log h → MayFollow h c → (x : Image) → Since now before.moment x → (recover_now x ≡ Ok (Some h)) ⊎ (recover_now x ≡ Ok (Some (head_with h c))))
       (tears : TearsOnly before now (region_at log.mem log.active) (region_size log.mem))
       (after : Table) (next : Log) (after_is : after ≡ (step t r).table) (stands : StandsOn before old) where
     abbrev content : Image

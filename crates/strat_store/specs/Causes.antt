@@ -1,6 +1,4 @@
 -- Why an opening gave up.
-use Rattle.std.specs.Prelude.{◌≡◌, ◌≢◌, ◌≤◌, ℕ, Result, OnOk, IsErrOf, IfErr}
-use Rattle.strat_crash.specs.Faults.{Rose}
 use Rattle.strat_store.specs.declared.opening.AttachFault.{AttachFault}
 use Rattle.strat_store.specs.declared.opening.AttachFault.TheVariants.{NotAStore, Device, Damaged, NoMemory}
 use Rattle.strat_base.specs.declared.failures.Fault.{Fault}
@@ -27,10 +25,3 @@ ended_for NotAStore = ended.NotAStore
 ended_for Device = ended.Device
 ended_for (Damaged block) = ended.Damaged block
 ended_for NoMemory = ended.NoMemory
-
--- it tells of the device only where the device counted a fault in this call, and of anything else only where it counted none
-pub record HasAttachCause {T : Type 0} (before now : ℕ) (result : Result T AttachFault) : Type 0 where
-  pub later : before ≤ now
-  pub ok : OnOk result (now ≡ before)
-  pub device : IsErrOf result Device → Rose before now
-  pub other : IfErr result (λ e. e ≢ Device → now ≡ before)

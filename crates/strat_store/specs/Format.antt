@@ -1,21 +1,21 @@
 -- A disk that was just formatted.
 use Rattle.std.specs.Prelude.{◌≡◌, ◌≢◌, ◌⊎◌, ℕ, [], Some, None, Ok}
 use Rattle.strat_crash.specs.Image.{Image}
-use Rattle.strat_format.specs.Layout.{region_at}
-use Rattle.strat_crash.specs.Moments.{View, Images}
+use Rattle.strat_format.specs.Layout.{region_at, first_free, open_flag, manifest_min}
+use Rattle.strat_crash.specs.Moments.{DiskView, Exposes, Images}
 use Rattle.strat_state.specs.State.{fresh_state}
-use Rattle.strat_format.specs.SuperBlock.{Super, first_free, newest_in}
-use Rattle.strat_recovery.specs.Disks.{new_manifest}
+use Rattle.strat_format.specs.SuperBlock.{Super, newest_in}
 use Rattle.strat_recovery.specs.Head.{Head}
 use Rattle.strat_recovery.specs.Opening.{reads_as}
-use Rattle.strat_store.specs.Opened.{head_now, IsAtRest}
+use Rattle.strat_store.specs.Opened.{recover_now, IsAtRest}
+use Rattle.strat_format.specs.Manifest.{new_manifest}
 
 -- the superblock of a new store: the first generation, with the manifest in the first free block
 abbrev pub super_for : ℕ → ℕ → ℕ → Super
 super_for mem changes_max versions_max = record {
   generation = 1;
   manifest = first_free mem;
-  length = 29;
+  length = manifest_min;
   region = 0;
   mem = mem;
   changes_max = changes_max;
@@ -29,29 +29,29 @@ head_for mem changes_max versions_max =
 
 -- an image is a new store with these limits: an opening finds its head, it reads as the state of a new store, and the second superblock slot and the second journal region are shut
 pub record IsNewStore (mem changes_max versions_max : ℕ) (c : Image) : Type 0 where
-  pub found : head_now c ≡ Ok (Some (head_for mem changes_max versions_max))
+  pub found : recover_now c ≡ Ok (Some (head_for mem changes_max versions_max))
   pub reads : reads_as c ≡ Some (fresh_state mem changes_max versions_max)
-  pub slot : c 4096 ≢ 0xa7
-  pub region : c (region_at mem 1) ≢ 0xa7
+  pub slot : c 4096 ≢ open_flag
+  pub region : c (region_at mem 1) ≢ open_flag
 
 -- a crash leaves one image of the disk, a new store with these limits
-pub record IsNewDisk (mem changes_max versions_max : ℕ) (v : View) : Type 0 where
+pub record IsNewDisk (mem changes_max versions_max : ℕ) (v : DiskView) : Type 0 where
   pub rest : IsAtRest v
   pub new : IsNewStore mem changes_max versions_max rest.content
 
 -- both superblock slots are shut, whatever a crash leaves
-pub record IsBlank (v : View) : Type 0 where
-  pub first : (c : Image) → Images v c → c 0 ≢ 0xa7
-  pub second : (c : Image) → Images v c → c 4096 ≢ 0xa7
+pub record IsBlank (v : DiskView) : Type 0 where
+  pub first : (c : Image) → Images v c → c 0 ≢ open_flag
+  pub second : (c : Image) → Images v c → c 4096 ≢ open_flag
 
 -- the disk tells its content, in which both slots and the first gates of both journal regions are shut
-pub record IsShut (mem : ℕ) (v : View) : Type 0 where
+pub record IsShut (mem : ℕ) (v : DiskView) : Type 0 where
   pub content : Image
-  pub told : v.content ≡ Some content
-  pub first : content 0 ≢ 0xa7
-  pub second : content 4096 ≢ 0xa7
-  pub active : content (region_at mem 0) ≢ 0xa7
-  pub other : content (region_at mem 1) ≢ 0xa7
+  pub exposed : Exposes v content
+  pub first : content 0 ≢ open_flag
+  pub second : content 4096 ≢ open_flag
+  pub active : content (region_at mem 0) ≢ open_flag
+  pub other : content (region_at mem 1) ≢ open_flag
 
 -- an image is no store, or the whole of a new one
 abbrev pub IsNoneOrNew : ℕ → ℕ → ℕ → Image → Type 0

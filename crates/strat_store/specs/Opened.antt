@@ -6,21 +6,20 @@ use Rattle.strat_format.specs.Chain.{link_bytes}
 use Rattle.strat_base.specs.Change.{Change, is_lawful}
 use Rattle.strat_format.specs.Damage.{Read, and_then, passed_or}
 use Rattle.strat_crash.specs.Image.{Image, Outside, window}
-use Rattle.strat_format.specs.Layout.{region_at, other_region}
-use Rattle.strat_format.specs.Manifest.{Manifest, manifest_bytes}
-use Rattle.strat_crash.specs.Moments.{View, Images, Since, LeavesOld}
+use Rattle.strat_format.specs.Layout.{region_at, other_region, first_free, manifest_min}
+use Rattle.strat_format.specs.Manifest.{Manifest, manifest_bytes, new_manifest}
+use Rattle.strat_crash.specs.Moments.{DiskView, Exposes, Images, Since, KeepsImages}
 use Rattle.strat_recovery.specs.Opened.{parents_in}
 use Rattle.strat_format.specs.Records.{Logged}
 use Rattle.strat_state.specs.Sound.{IsSound, accepts_change}
 use Rattle.strat_state.specs.State.{State, fresh_state}
-use Rattle.strat_format.specs.SuperBlock.{Super, first_free, newest_in}
+use Rattle.strat_format.specs.SuperBlock.{Super, newest_in}
 use Rattle.strat_crash.specs.Trail.{At, Trail}
-use Rattle.strat_recovery.specs.Disks.{new_manifest}
 use Rattle.strat_recovery.specs.Head.{Head}
 use Rattle.strat_recovery.specs.Opening.{accepted_in, reads_as}
 use Rattle.strat_recovery.specs.StateTable.{table_of}
 use Rattle.strat_model.specs.Table.{Table}
-use Rattle.strat_journal.specs.Records.{is_plain, journal_now}
+use Rattle.strat_journal.specs.Records.{is_plain, recover_journal_now}
 
 -- the block of a new store's manifest: it is the last of its chain, and behind the manifest there are zeros
 abbrev pub new_block : List ℕ
@@ -28,11 +27,11 @@ new_block = link_bytes 0 (manifest_bytes new_manifest)
 
 -- a superblock has the manifest of a new store, with nothing else in its block
 abbrev pub has_new_manifest : Image → Super → Bool
-has_new_manifest c sb = (sb.generation == 1) && ((sb.length == 29) && bytes_eq (window c (BLOCK * sb.manifest) BLOCK) new_block)
+has_new_manifest c sb = (sb.generation == 1) && ((sb.length == manifest_min) && bytes_eq (window c (BLOCK * sb.manifest) BLOCK) new_block)
 
 -- the manifest of a superblock, which is that of a new store, or the block that is damaged
-abbrev pub manifest_now : Image → Super → Read Manifest
-manifest_now c sb = passed_or sb.manifest (has_new_manifest c sb) new_manifest
+abbrev pub recover_manifest_now : Image → Super → Read Manifest
+recover_manifest_now c sb = passed_or sb.manifest (has_new_manifest c sb) new_manifest
 
 -- the changes of these records, each accepted in its turn by a new store with this superblock, or the block of the first that is not
 abbrev pub accepted_now : Super → List Logged → Read (List Change)
@@ -44,19 +43,19 @@ abbrev pub head_from : Super → List Change → Head
 head_from sb journal = record { sb = sb; manifest = new_manifest; journal = journal }
 
 -- the head of a store with this superblock, or the block that is damaged
-abbrev pub head_now_behind : Image → Super → Read Head
-head_now_behind c sb =
-    and_then (manifest_now c sb) (λ _. and_then (journal_now c sb.mem sb.region) (λ logged.
+abbrev pub recover_head_now : Image → Super → Read Head
+recover_head_now c sb =
+    and_then (recover_manifest_now c sb) (λ _. and_then (recover_journal_now c sb.mem sb.region) (λ logged.
     and_then (accepted_now sb logged) (λ journal. Ok (head_from sb journal))))
 
 -- the head of a store, where there is one
-abbrev pub head_now_of_slot : Image → Option (ℕ × Super) → Read (Option Head)
-head_now_of_slot c None = Ok None
-head_now_of_slot c (Some slot) = and_then (head_now_behind c slot.1) (λ h. Ok (Some h))
+abbrev pub recover_slot_now : Image → Option (ℕ × Super) → Read (Option Head)
+recover_slot_now c None = Ok None
+recover_slot_now c (Some slot) = and_then (recover_head_now c slot.1) (λ h. Ok (Some h))
 
 -- what an opening finds: nothing where the disk is no store, the store's head, or the block that is damaged
-abbrev pub head_now : Image → Read (Option Head)
-head_now c = and_then (newest_in c) (head_now_of_slot c)
+abbrev pub recover_now : Image → Read (Option Head)
+recover_now c = and_then (newest_in c) (recover_slot_now c)
 
 -- the state of such a head: a new store's, with these changes in its journal
 abbrev pub state_now : Head → State
@@ -83,16 +82,16 @@ pub record MayFollow (h : Head) (change : Change) : Type 0 where
 -- an image shows a table: an opening finds its head, it reads as a sound state, and that state means the table, with no more changes to come than the journal takes
 pub record Shows (c : Image) (t : Table) : Type 0 where
   pub head : Head
-  pub found : head_now c ≡ Ok (Some head)
+  pub found : recover_now c ≡ Ok (Some head)
   pub state : State
   pub reads : reads_as c ≡ Some state
   pub sound : IsSound state
   pub table : table_of (limited state) ≡ t
 
 -- a crash leaves one image, the content
-pub record IsAtRest (v : View) : Type 0 where
+pub record IsAtRest (v : DiskView) : Type 0 where
   pub content : Image
-  pub told : v.content ≡ Some content
+  pub exposed : Exposes v content
   pub alone : (c : Image) → Images v c → c ≡ content
 
 -- two images are the same in both superblock slots, and behind both journal regions of so many changes
@@ -101,7 +100,7 @@ pub record SameButJournal (mem : ℕ) (f c : Image) : Type 0 where
   pub rest : (i : ℕ) → BLOCK * first_free mem ≤ i → c i ≡ f i
 
 -- a disk with this content was synced, and from then on followed tables
-pub record Follows (before now : View) (f : Image) (mem : ℕ) (tables : List Table) (n : ℕ) : Type 0 where
+pub record Follows (before now : DiskView) (f : Image) (mem : ℕ) (tables : List Table) (n : ℕ) : Type 0 where
   -- the moment of the sync, at which a crash leaves the content and nothing else
   pub synced : ℕ
   pub from : before.moment ≤ synced
@@ -117,16 +116,16 @@ pub record Follows (before now : View) (f : Image) (mem : ℕ) (tables : List Ta
   pub left : (c : Image) → Images now c → (i : ℕ) × (n ≤ i) × At tables i (Shows c)
 
 -- a disk with this content was opened as a store whose journal regions take so many changes: it followed the one table that the content shows, and nothing changed but the first gate of the region that is not active
-pub record Opens (before now : View) (f : Image) (mem : ℕ) (t : Table) : Type 0 where
+pub record Opens (before now : DiskView) (f : Image) (mem : ℕ) (t : Table) : Type 0 where
   pub shows : Shows f t
   pub mem_is : mem ≡ shows.head.sb.mem
   pub follows : Follows before now f mem (t ∷ []) 0
   pub gate : (c : Image) → Since now follows.synced c → Outside (region_at mem (other_region shows.head.sb.region)) 1 f c
 
 -- a disk is left as it was: it has the content of before, and a crash leaves only what it might have left before
-abbrev pub IsLeft : View → View → Type 0
-IsLeft before now = (now.content ≡ before.content) × LeavesOld before now
+abbrev pub IsUnchanged : DiskView → DiskView → Type 0
+IsUnchanged before now = (now.content ≡ before.content) × KeepsImages before now
 
 -- an opening of a disk with this content failed: the disk is left as it was, or the sync succeeded and the last step failed, which shuts a gate
-abbrev pub FailsToOpen : View → View → Image → Type 0
-FailsToOpen before now f = IsLeft before now ⊎ ((mem : ℕ) × ((t : Table) × Opens before now f mem t))
+abbrev pub FailsToOpen : DiskView → DiskView → Image → Type 0
+FailsToOpen before now f = IsUnchanged before now ⊎ ((mem : ℕ) × ((t : Table) × Opens before now f mem t))

@@ -4,8 +4,8 @@ use Rattle.strat_base.specs.Change.{Change}
 use Rattle.strat_base.specs.Change as change
 use Rattle.strat_crash.specs.Faults.{Rose}
 use Rattle.strat_crash.specs.Image.{Image}
-use Rattle.strat_format.specs.Layout.{region_at, other_region}
-use Rattle.strat_crash.specs.Moments.{View, Images, Since}
+use Rattle.strat_format.specs.Layout.{region_at, other_region, open_flag}
+use Rattle.strat_crash.specs.Moments.{DiskView, Exposes, Images, Since}
 use Rattle.strat_crash.specs.Trail.{Trail}
 use Rattle.strat_format.specs.SuperBlock.{Super, newest_in}
 use Rattle.strat_journal.specs.Log.{Log, IsStale}
@@ -13,10 +13,10 @@ use Rattle.strat_model.specs.declared.replies.Refusal.TheVariants as why
 use Rattle.strat_model.specs.Answer.{Answer, refusal, accepts}
 use Rattle.strat_recovery.specs.Head.{Head}
 use Rattle.strat_model.specs.Request.{Request, Put, Delete, Clone}
-use Rattle.strat_model.specs.Run.{Place, place_after, takes_memory, reaches_disk}
+use Rattle.strat_model.specs.Run.{Position, position_after, takes_memory, reaches_disk}
 use Rattle.strat_model.specs.Step.{step}
 use Rattle.strat_model.specs.Table.{Table, bare}
-use Rattle.strat_store.specs.Opened.{head_now, head_now_behind, head_from, table_now, Shows, SameButJournal}
+use Rattle.strat_store.specs.Opened.{recover_now, recover_head_now, head_from, table_now, Shows, SameButJournal, Opens}
 
 -- a store as its callers see it: its table, its journal, and whether a fault left it unfit for use
 pub record Attached : Type 0 where
@@ -25,8 +25,8 @@ pub record Attached : Type 0 where
   pub spent : Bool
 
 -- where a store stands in a run: its table, and how many changes its journal holds
-abbrev pub place_of : Attached → Place
-place_of s = record { table = s.table; fill = length s.log.list }
+abbrev pub position_of : Attached → Position
+position_of s = record { table = s.table; fill = length s.log.list }
 
 -- between two commands of a store all changes are in the journal, which has room for as many as the table takes
 pub record IsReady (s : Attached) : Type 0 where
@@ -36,15 +36,15 @@ pub record IsReady (s : Attached) : Type 0 where
   pub cursors : s.table.next_cursor ≡ 1
 
 -- the disk has this head for good, and a journal in memory is the head's
-pub record Holds (v : View) (log : Log) (h : Head) : Type 0 where
+pub record Holds (v : DiskView) (log : Log) (h : Head) : Type 0 where
   pub content : Image
-  pub told : v.content ≡ Some content
+  pub exposed : Exposes v content
   pub settled : (c : Image) → Images v c → c ≡ content
-  pub found : head_now content ≡ Ok (Some h)
+  pub found : recover_now content ≡ Ok (Some h)
   pub mem : log.mem ≡ h.sb.mem
   pub active : log.active ≡ h.sb.region
   pub list : log.list ≡ h.journal
-  pub shut : length h.journal < h.sb.mem → content (region_at h.sb.mem (other_region h.sb.region)) ≢ 0xa7
+  pub shut : length h.journal < h.sb.mem → content (region_at h.sb.mem (other_region h.sb.region)) ≢ open_flag
 
 -- a journal in memory is one of a superblock's region, with no batch
 pub record IsLogFor (sb : Super) (log : Log) : Type 0 where
@@ -55,7 +55,7 @@ pub record IsLogFor (sb : Super) (log : Log) : Type 0 where
 
 -- an image has a store behind this superblock, whose journal was read
 pub record IsRead (f : Image) (sb : Super) (log : Log) : Type 0 where
-  pub found : head_now_behind f sb ≡ Ok (head_from sb log.list)
+  pub found : recover_head_now f sb ≡ Ok (head_from sb log.list)
   pub stale : IsTrue log.stale ↔ IsStale f sb.mem sb.region (length log.list)
 
 -- an image has a store whose newest superblock is this one, and whose journal was read
@@ -65,7 +65,7 @@ pub record IsOpenedBy (f : Image) (sb : Super) (log : Log) : Type 0 where
   pub read : IsRead f sb log
 
 -- a store stands on a disk: the disk has a head for good, and the store has that head's journal and table
-pub record StandsOn (v : View) (s : Attached) : Type 0 where
+pub record StandsOn (v : DiskView) (s : Attached) : Type 0 where
   pub head : Head
   pub holds : Holds v s.log head
   pub table : table_now head ≡ s.table
@@ -73,7 +73,7 @@ pub record StandsOn (v : View) (s : Attached) : Type 0 where
 -- a store was opened from an image: its table and its journal are the image's
 pub record OpensFrom (f : Image) (s : Attached) : Type 0 where
   pub head : Head
-  pub found : head_now f ≡ Ok (Some head)
+  pub found : recover_now f ≡ Ok (Some head)
   pub table : table_now head ≡ s.table
   pub mem : s.log.mem ≡ head.sb.mem
   pub list : s.log.list ≡ head.journal
@@ -88,15 +88,15 @@ change_asked _ = None
 -- a command was answered as the table says
 pub record IsCarriedOut (old : Attached) (request : Request) (answer : Answer) (new : Attached) : Type 0 where
   pub answer_is : answer ≡ (step old.table request).answer
-  pub place : place_of new ≡ place_after old.log.mem (place_of old) request
+  pub place : position_of new ≡ position_after old.log.mem (position_of old) request
   pub going : new.spent ≡ false
 
 -- a command that the table accepts found no memory, and changed nothing
-pub record IsShort (old : Attached) (request : Request) (answer : Answer) (new : Attached) : Type 0 where
+pub record LacksMemory (old : Attached) (request : Request) (answer : Answer) (new : Attached) : Type 0 where
   pub takes : takes_memory request ≡ true
   pub accepted : accepts (step old.table request).answer.reply ≡ true
   pub answer_is : answer ≡ refusal why.NoMemory
-  pub same : place_of new ≡ place_of old
+  pub same : position_of new ≡ position_of old
   pub going : new.spent ≡ false
 
 -- a command that the table accepts met a fault of the device, and the store is not to be used again
@@ -110,10 +110,10 @@ pub record IsBroken (old : Attached) (request : Request) (answer : Answer) (new 
 -- how a store may answer a command, and what it is then
 abbrev pub IsApplied : Attached → Request → Answer → Attached → Type 0
 IsApplied old request answer new =
-    IsCarriedOut old request answer new ⊎ (IsShort old request answer new ⊎ IsBroken old request answer new)
+    IsCarriedOut old request answer new ⊎ (LacksMemory old request answer new ⊎ IsBroken old request answer new)
 
 -- while a store goes from one table to another the images of its disk do so too, and nothing is torn but the journal; where it did not break it stands on the disk again
-pub record Moves (before now : View) (old new : Attached) : Type 0 where
+pub record Moves (before now : DiskView) (old new : Attached) : Type 0 where
   pub trail : Trail Shows now before.moment (bare old.table ∷ bare new.table ∷ []) (if new.spent then 0 else 1)
   pub journal : (c : Image) → Since now before.moment c → (d : Image) × Images before d × SameButJournal old.log.mem d c
   pub stands : new.spent ≡ false → StandsOn now new
@@ -123,3 +123,10 @@ pub record BreaksByFault (before now : ℕ) (new : Attached) : Type 0 where
   pub later : before ≤ now
   pub rose : new.spent ≡ true → Rose before now
   pub same : new.spent ≡ false → now ≡ before
+
+-- a store that was opened is the content's, stands on the disk, and from the opening's sync on a crash leaves its table
+pub record IsAttached (before now : DiskView) (s : Attached) : Type 0 where
+  pub going : s.spent ≡ false
+  pub found : (f : Image) → Exposes before f → OpensFrom f s
+  pub stands : (f : Image) → Exposes before f → StandsOn now s
+  pub opens : (f : Image) → Exposes before f → Opens before now f s.log.mem (bare s.table)

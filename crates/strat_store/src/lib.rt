@@ -6,6 +6,6 @@ mod manifest;
 mod opening;
 mod store;
 
-pub use formatting::format;
+pub use formatting::{FormatFault, format};
 pub use opening::AttachFault;
 pub use store::Store;

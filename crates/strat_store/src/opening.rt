@@ -1,26 +1,23 @@
 //! Opening a store.
 
 ghost use Rattle.std.specs.Prelude.{◌≡◌, ◌≢◌, ◌≤◌, ◌⊎◌, ℕ, length, map, Some, None, Ok, Err, IfOk, IfErr, OnOk, IsErrOf, true, false};
-ghost use Rattle.strat_crash.specs.Faults.{Counts};
+ghost use Rattle.strat_crash.specs.Faults.{CountsFaults, HasCause};
 ghost use Rattle.strat_crash.specs.Image.{Image};
 ghost use Rattle.strat_format.specs.Layout.{region_at, other_region};
-ghost use Rattle.strat_crash.specs.Moments.{Since, Passes, TearsOnly, LeavesOld, Settled};
+ghost use Rattle.strat_crash.specs.Moments.{Exposes, Since, Passes, TearsOnly, KeepsImages, IsDurable, OnlyReads};
 ghost use Rattle.strat_format.specs.SuperBlock.{IsLawful, newest_in};
 ghost use Rattle.strat_gate.specs.SuperView.{super_of};
-ghost use Rattle.strat_journal.specs.Front.{Looks};
 ghost use Rattle.strat_model.specs.Command.{request_of};
 ghost use Rattle.strat_base.specs.ChangeView.{change_of};
 ghost use Rattle.strat_recovery.specs.Head.{Head};
 ghost use Rattle.strat_recovery.specs.StateTable.{request_for};
 ghost use Rattle.strat_model.specs.Answer.{accepts};
 ghost use Rattle.strat_model.specs.Step.{step};
-ghost use Rattle.strat_model.specs.Table.{bare};
 ghost use Rattle.strat_base.specs.declared.failures.Trouble.TheVariants.{Device, Damaged};
 ghost use Rattle.strat_journal.specs.Records.{logged_of};
 ghost use Rattle.strat_store.specs.declared.opening.AttachFault.TheVariants as fault;
-ghost use Rattle.strat_store.specs.Opened.{head_now, head_now_behind, head_from, accepted_now, table_now, Opens, IsLeft, FailsToOpen};
-ghost use Rattle.strat_store.specs.Store.{Holds, StandsOn, OpensFrom, IsLogFor, IsRead, IsOpenedBy};
-ghost use Rattle.strat_store.specs.Causes.{HasAttachCause};
+ghost use Rattle.strat_store.specs.Opened.{recover_now, recover_head_now, head_from, accepted_now, table_now, IsUnchanged, FailsToOpen};
+ghost use Rattle.strat_store.specs.Store.{Holds, IsAttached, IsLogFor, IsRead, IsOpenedBy};
 
 use crate::manifest::read_manifest;
 use crate::store::Store;
@@ -162,15 +159,15 @@ fn read_store<D: Disk>(
     sb: &SuperBlock,
 ) -> Result<(Journal, PlainTable), AttachFault>
     requires lawful { IsLawful (super_of sb.now) }
-    ensures found { IfOk result (λ r. (f : Image) → (D.view disk.old).content ≡ Some f
+    ensures found { IfOk result (λ r. (f : Image) → Exposes (D.view disk.old) f
         → IsRead f (super_of sb.now) r.0) }
     ensures log { IfOk result (λ r. IsLogFor (super_of sb.now) r.0) }
     ensures table { IfOk result (λ r. r.1 ≡ table_now (head_from (super_of sb.now) r.0.list)) }
     ensures damaged { (block : ℕ) → IsErrOf result (fault.Damaged block) → (f : Image)
-        → (D.view disk.old).content ≡ Some f → head_now_behind f (super_of sb.now) ≡ Err block }
+        → Exposes (D.view disk.old) f → recover_head_now f (super_of sb.now) ≡ Err block }
     ensures none { IsErrOf result fault.NotAStore → ⊥ }
-    ensures looks { Looks (D.view disk.old) (D.view disk.new) }
-    ensures cause { HasAttachCause (D.faults disk.old) (D.faults disk.new) result }
+    ensures looks { OnlyReads (D.view disk.old) (D.view disk.new) }
+    ensures cause { HasCause fault.Device (D.faults disk.old) (D.faults disk.new) result }
 {
     read_manifest(disk, sb)?;
     let (journal, logged) = Journal::read(alloc, disk, sb)?;
@@ -179,12 +176,12 @@ fn read_store<D: Disk>(
 }
 
 /// Syncs, so that what is read from now on is what a crash leaves.
-fn settle<D: Disk>(disk: &mut D) -> Result<(), Failed>
-    ensures ok { OnOk result (Settled (D.view disk.new)) }
+fn sync_first<D: Disk>(disk: &mut D) -> Result<(), Failed>
+    ensures ok { OnOk result (IsDurable (D.view disk.new)) }
     ensures same { (D.view disk.new).content ≡ (D.view disk.old).content }
-    ensures images { LeavesOld (D.view disk.old) (D.view disk.new) }
+    ensures images { KeepsImages (D.view disk.old) (D.view disk.new) }
     ensures time { Passes (D.view disk.old) (D.view disk.new) }
-    ensures cause { Counts (D.faults disk.old) (D.faults disk.new) result }
+    ensures cause { CountsFaults (D.faults disk.old) (D.faults disk.new) result }
 {
     disk.sync()?;
     Ok(())
@@ -194,17 +191,17 @@ fn settle<D: Disk>(disk: &mut D) -> Result<(), Failed>
 fn shut_other<D: Disk>(disk: &mut D, sb: &SuperBlock, journal: &Journal) -> Result<(), Failed>
     requires lawful { IsLawful (super_of sb.now) }
     requires log { IsLogFor (super_of sb.now) journal.now }
-    ensures any_moment { (f : Image) → (D.view disk.old).content ≡ Some f → Settled (D.view disk.old)
+    ensures any_moment { (f : Image) → Exposes (D.view disk.old) f → IsDurable (D.view disk.old)
         → IsOpenedBy f (super_of sb.now) journal.now
         → (c : Image) → Since (D.view disk.new) (D.view disk.old).moment c
-        → head_now c ≡ Ok (Some (head_from (super_of sb.now) journal.now.list)) }
-    ensures holds { OnOk result ((f : Image) → (D.view disk.old).content ≡ Some f
-        → Settled (D.view disk.old) → IsOpenedBy f (super_of sb.now) journal.now
+        → recover_now c ≡ Ok (Some (head_from (super_of sb.now) journal.now.list)) }
+    ensures holds { OnOk result ((f : Image) → Exposes (D.view disk.old) f
+        → IsDurable (D.view disk.old) → IsOpenedBy f (super_of sb.now) journal.now
         → Holds (D.view disk.new) journal.now (head_from (super_of sb.now) journal.now.list)) }
     ensures images { TearsOnly (D.view disk.old) (D.view disk.new)
         (region_at sb.now.mem (other_region sb.now.region)) 1 }
     ensures time { Passes (D.view disk.old) (D.view disk.new) }
-    ensures cause { Counts (D.faults disk.old) (D.faults disk.new) result }
+    ensures cause { CountsFaults (D.faults disk.old) (D.faults disk.new) result }
 {
     if journal.stale() {
         close_region(disk, sb.mem, 1 - sb.region)?;
@@ -218,25 +215,19 @@ impl Store {
     /// the memory for the journal and for the pairs of its changes. It reads each block of the journal once; each change
     /// walks the pairs of its version.
     pub fn attach<D: Disk>(alloc: Global, disk: &mut D) -> Result<Store, AttachFault>
-        ensures stands { IfOk result (λ s. (f : Image) → (D.view disk.old).content ≡ Some f
-            → StandsOn (D.view disk.new) s) }
-        ensures found { IfOk result (λ s. (f : Image) → (D.view disk.old).content ≡ Some f
-            → OpensFrom f s) }
-        ensures going { IfOk result (λ s. s.spent ≡ false) }
+        ensures ok { IfOk result (λ s. IsAttached (D.view disk.old) (D.view disk.new) s) }
         ensures none { IsErrOf result fault.NotAStore → (f : Image)
-            → (D.view disk.old).content ≡ Some f → newest_in f ≡ Ok None }
+            → Exposes (D.view disk.old) f → newest_in f ≡ Ok None }
         ensures damaged { (block : ℕ) → IsErrOf result (fault.Damaged block) → (f : Image)
-            → (D.view disk.old).content ≡ Some f → head_now f ≡ Err block }
-        ensures opens { IfOk result (λ s. (f : Image) → (D.view disk.old).content ≡ Some f
-            → Opens (D.view disk.old) (D.view disk.new) f s.log.mem (bare s.table)) }
-        ensures device { IsErrOf result fault.Device → (f : Image) → (D.view disk.old).content ≡ Some f
+            → Exposes (D.view disk.old) f → recover_now f ≡ Err block }
+        ensures err { IsErrOf result fault.Device → (f : Image) → Exposes (D.view disk.old) f
             → FailsToOpen (D.view disk.old) (D.view disk.new) f }
-        ensures kept { IfErr result (λ e. e ≢ fault.Device
-            → IsLeft (D.view disk.old) (D.view disk.new)) }
+        ensures same { IfErr result (λ e. e ≢ fault.Device
+            → IsUnchanged (D.view disk.old) (D.view disk.new)) }
         ensures time { Passes (D.view disk.old) (D.view disk.new) }
-        ensures cause { HasAttachCause (D.faults disk.old) (D.faults disk.new) result }
+        ensures cause { HasCause fault.Device (D.faults disk.old) (D.faults disk.new) result }
     {
-        settle(disk)?;
+        sync_first(disk)?;
         let Some((_, sb)) = newest(disk)? else {
             return Err(AttachFault::NotAStore);
         };

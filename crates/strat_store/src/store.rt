@@ -3,7 +3,7 @@
 ghost use Rattle.std.specs.Prelude.{◌≡◌, ◌≤◌, ◌<◌, ◌⊎◌, ℕ, ◌+◌, ◌-◌, [], ◌∷◌, ◌++◌, length, Some, Ok, IfOk, OnOk, IsTrue, true, false};
 ghost use Rattle.strat_base.specs.Change.{is_lawful};
 ghost use Rattle.strat_base.specs.ChangeView.{change_of};
-ghost use Rattle.strat_crash.specs.Faults.{Counts};
+ghost use Rattle.strat_crash.specs.Faults.{CountsFaults};
 ghost use Rattle.strat_base.specs.Finds.{Finds};
 ghost use Rattle.strat_crash.specs.Image.{Image};
 ghost use Rattle.strat_format.specs.Layout.{region_at, region_size};
@@ -12,7 +12,7 @@ ghost use Rattle.strat_model.specs.Answer.{as_told, accepts};
 ghost use Rattle.strat_model.specs.Command.{request_of};
 ghost use Rattle.strat_recovery.specs.Head.{Head};
 ghost use Rattle.strat_model.specs.Spelling.{is_taken};
-ghost use Rattle.strat_store.specs.Opened.{head_now, head_with, MayFollow};
+ghost use Rattle.strat_store.specs.Opened.{recover_now, head_with, MayFollow};
 ghost use Rattle.strat_store.specs.Store.{IsReady, Holds, StandsOn, IsApplied, Moves, BreaksByFault, change_asked};
 
 use std::marker::Model;
@@ -80,7 +80,7 @@ fn log_change<D: Disk>(
     ensures any_moment { (h : Head) → Holds (D.view disk.old) journal.old h
         → MayFollow h (change_of change.now)
         → (c : Image) → Since (D.view disk.new) (D.view disk.old).moment c
-        → (head_now c ≡ Ok (Some h)) ⊎ (head_now c ≡ Ok (Some (head_with h (change_of change.now)))) }
+        → (recover_now c ≡ Ok (Some h)) ⊎ (recover_now c ≡ Ok (Some (head_with h (change_of change.now)))) }
     ensures holds { OnOk result ((h : Head) → Holds (D.view disk.old) journal.old h
         → MayFollow h (change_of change.now)
         → Holds (D.view disk.new) journal.new (head_with h (change_of change.now))) }
@@ -89,7 +89,7 @@ fn log_change<D: Disk>(
     ensures images { TearsOnly (D.view disk.old) (D.view disk.new)
         (region_at journal.old.mem journal.old.active) (region_size journal.old.mem) }
     ensures time { Passes (D.view disk.old) (D.view disk.new) }
-    ensures cause { Counts (D.faults disk.old) (D.faults disk.new) result }
+    ensures cause { CountsFaults (D.faults disk.old) (D.faults disk.new) result }
 {
     journal.add(change);
     journal.append(disk)?;

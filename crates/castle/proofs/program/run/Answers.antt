@@ -1,71 +1,70 @@
-use Rattle.std.proofs.Common.{◌≡◌, ◌⊎◌, ℕ, sym, ap, subst, ◌∙◌, refl, map}
+use Rattle.std.proofs.Common.{◌≡◌, ◌⊎◌, ℕ, Option, sym, ap, subst, ◌∙◌, refl, map, inl, inr}
 use Rattle.std.specs.Prelude.{string_bytes, Some, None}
-use Rattle.castle.specs.Job.{EndsAsFound}
-use Rattle.strat_store.specs.Opened.{head_now}
-use Rattle.castle.specs.Words.{job_seen}
-use Rattle.castle.specs.declared.words.Job.{Job as Borrowed}
-use Rattle.strat_serve.specs.World.{world}
+use Rattle.castle.specs.Arguments.{Subcommand, subcommand_seen}
+use Rattle.castle.specs.Outcomes.{IsEarly, Runs, LeavesAlone}
+use Rattle.castle.specs.declared.arguments.Subcommand.{Subcommand as Borrowed}
+use Rattle.strat_serve.specs.World.{World, world}
 use Rattle.castle.proofs.CompleteLemmas.{completes, gave_up_by}
-use Rattle.castle.proofs.FormattedLemmas.{formats_as_asked, formatted_ends, formatting_gave_up}
-use Rattle.castle.proofs.SizeLemmas.{job_size}
+use Rattle.castle.proofs.FormattedLemmas.{formatted_ends, formatting_gave_up}
+use Rattle.castle.proofs.SizeLemmas.{limits_of}
+use Rattle.castle.proofs.program.run.Given.{Over}
 use Rattle.castle.proofs.program.run.Goals as goal
 
-pub make_store-requires-clause-mem_most : goal.make_store-requires-clause-mem_most
-make_store-requires-clause-mem_most g c =
-    (job_size (map string_bytes c.args.words.now) c.in-Some-Format.field-0-0.now c.in-Some-Format.mem c.in-Some-Format.changes_max c.in-Some-Format.versions_max
-    (c.in-Some-Format.ensures ∙ ap (λ (j : Borrowed). Some (job_seen j)) c.in-Some-Format.field-0-is)).mem_most
+-- what a source, a sink and a disk show
+abbrev shown : (g : Over) → g.row.S.Denot → g.row.K.Denot → g.row.D.Denot → World
+shown g source sink disk = world (g.S.Source.left source) (g.S.Source.faults source) (g.K.Sink.held sink) (g.K.Sink.faults sink) (g.D.Disk.view disk) (g.D.Disk.faults disk)
 
-pub make_store-requires-clause-changes_least : goal.make_store-requires-clause-changes_least
-make_store-requires-clause-changes_least g c =
-    (job_size (map string_bytes c.args.words.now) c.in-Some-Format.field-0-0.now c.in-Some-Format.mem c.in-Some-Format.changes_max c.in-Some-Format.versions_max
-    (c.in-Some-Format.ensures ∙ ap (λ (j : Borrowed). Some (job_seen j)) c.in-Some-Format.field-0-is)).changes_least
+pub make_store-requires : goal.make_store-requires
+make_store-requires g c = record {
+  fits = limits_of (map string_bytes c.args.words.now) c.in-Some-Format.field-0-0.now c.in-Some-Format.mem c.in-Some-Format.changes_max c.in-Some-Format.versions_max
+      (c.in-Some-Format.ensures ∙ ap (λ (j : Borrowed). Some (subcommand_seen j)) c.in-Some-Format.field-0-is);
+}
 
-pub make_store-requires-clause-changes_most : goal.make_store-requires-clause-changes_most
-make_store-requires-clause-changes_most g c =
-    (job_size (map string_bytes c.args.words.now) c.in-Some-Format.field-0-0.now c.in-Some-Format.mem c.in-Some-Format.changes_max c.in-Some-Format.versions_max
-    (c.in-Some-Format.ensures ∙ ap (λ (j : Borrowed). Some (job_seen j)) c.in-Some-Format.field-0-is)).changes_most
-
-pub make_store-requires-clause-versions_least : goal.make_store-requires-clause-versions_least
-make_store-requires-clause-versions_least g c =
-    (job_size (map string_bytes c.args.words.now) c.in-Some-Format.field-0-0.now c.in-Some-Format.mem c.in-Some-Format.changes_max c.in-Some-Format.versions_max
-    (c.in-Some-Format.ensures ∙ ap (λ (j : Borrowed). Some (job_seen j)) c.in-Some-Format.field-0-is)).versions_least
-
-pub make_store-requires-clause-versions_most : goal.make_store-requires-clause-versions_most
-make_store-requires-clause-versions_most g c =
-    (job_size (map string_bytes c.args.words.now) c.in-Some-Format.field-0-0.now c.in-Some-Format.mem c.in-Some-Format.changes_max c.in-Some-Format.versions_max
-    (c.in-Some-Format.ensures ∙ ap (λ (j : Borrowed). Some (job_seen j)) c.in-Some-Format.field-0-is)).versions_most
-
-pub returns-in-Some-Serve-clause-complete : goal.returns-in-Some-Serve-clause-complete
-returns-in-Some-Serve-clause-complete g c = λ path f named source sink disk told.
-    let before = world (g.S.Source.left c.args.source.now) (g.S.Source.faults c.args.source.now) (g.K.Sink.held c.args.sink.now) (g.K.Sink.faults c.args.sink.now) (g.D.Disk.view c.args.disk.now) (g.D.Disk.faults c.args.disk.now) in
-    let now = world (g.S.Source.left c.serve.new.source) (g.S.Source.faults c.serve.new.source) (g.K.Sink.held c.serve.new.sink) (g.K.Sink.faults c.serve.new.sink) (g.D.Disk.view c.serve.new.disk) (g.D.Disk.faults c.serve.new.disk) in
-    subst (λ (n : ℕ). EndsAsFound (head_now f) n) (sym c.status-in-Some-Serve.ensures)
-    (completes 1099511627776 c.serve.result before now f c.serve.ensures.ok c.serve.ensures.refuses c.serve.ensures.cause source sink disk told)
-
-pub returns-in-Some-Serve-clause-unread : goal.returns-in-Some-Serve-clause-unread
-returns-in-Some-Serve-clause-unread g c = λ is.
-    let gave = gave_up_by c.serve.result (subst (λ (n : ℕ). (n ≡ 2) ⊎ (n ≡ 8) ⊎ (n ≡ 9)) c.status-in-Some-Serve.ensures is) in
-    c.serve.ensures.unread gave.0 gave.1
-
-pub returns-in-Some-Format-clause-format : goal.returns-in-Some-Format-clause-format
-returns-in-Some-Format-clause-format g c = λ path mem changes_max versions_max named.
-    let before = world (g.S.Source.left c.args.source.now) (g.S.Source.faults c.args.source.now) (g.K.Sink.held c.args.sink.now) (g.K.Sink.faults c.args.sink.now) (g.D.Disk.view c.args.disk.now) (g.D.Disk.faults c.args.disk.now) in
-    let now = world (g.S.Source.left c.args.source.now) (g.S.Source.faults c.args.source.now) (g.K.Sink.held c.make_store.new.sink) (g.K.Sink.faults c.make_store.new.sink) (g.D.Disk.view c.make_store.new.disk) (g.D.Disk.faults c.make_store.new.disk) in (
-      refl,
-      formats_as_asked c.in-Some-Format.field-0-0.now path c.in-Some-Format.mem c.in-Some-Format.changes_max c.in-Some-Format.versions_max mem changes_max versions_max
-          c.status-in-Some-Format.result c.make_store.result before now
-          (sym (c.in-Some-Format.ensures ∙ ap (λ (j : Borrowed). Some (job_seen j)) c.in-Some-Format.field-0-is) ∙ named) c.status-in-Some-Format.ensures c.make_store.ensures.sends c.make_store.ensures.left
-          c.make_store.ensures.any_moment (c.make_store.ensures.cause before.left before.source_faults) c.make_store.ensures.calm,
+pub returns-in-Some-Serve-clause-ok : goal.returns-in-Some-Serve-clause-ok
+returns-in-Some-Serve-clause-ok g c =
+    let before = shown g c.args.source.now c.args.sink.now c.args.disk.now in
+    let now = shown g c.serve.new.source c.serve.new.sink c.serve.new.disk in
+    let named = c.in-Some-Serve.ensures ∙ ap (λ (j : Borrowed). Some (subcommand_seen j)) c.in-Some-Serve.field-0-is in
+    subst (λ (s : Option Subcommand). Runs s 1099511627776 c.status-in-Some-Serve.result before now) (sym named) (
+      c.serve.result,
+      c.status-in-Some-Serve.ensures,
+      record {
+        outcome = c.serve.ensures.ok;
+        refuses = c.serve.ensures.found;
+        cause = c.serve.ensures.cause;
+        complete = λ calm f exposed. completes 1099511627776 c.serve.result before now f c.serve.ensures.ok c.serve.ensures.found c.serve.ensures.cause calm.source calm.sink calm.disk exposed;
+      },
     )
 
-pub returns-in-Some-Format-clause-formatted : goal.returns-in-Some-Format-clause-formatted
-returns-in-Some-Format-clause-formatted g c = λ path mem changes_max versions_max named sink disk.
-    let before = world None 0 (g.K.Sink.held c.args.sink.now) (g.K.Sink.faults c.args.sink.now) (g.D.Disk.view c.args.disk.now) (g.D.Disk.faults c.args.disk.now) in
-    let now = world None 0 (g.K.Sink.held c.make_store.new.sink) (g.K.Sink.faults c.make_store.new.sink) (g.D.Disk.view c.make_store.new.disk) (g.D.Disk.faults c.make_store.new.disk) in
-    subst (λ (n : ℕ). (n ≡ 0) ⊎ (n ≡ 8)) (sym c.status-in-Some-Format.ensures)
-    (formatted_ends c.make_store.result _ before now c.make_store.ensures.sends (c.make_store.ensures.cause None 0) sink disk)
+pub returns-in-Some-Serve-clause-same : goal.returns-in-Some-Serve-clause-same
+returns-in-Some-Serve-clause-same g c =
+    let named = c.in-Some-Serve.ensures ∙ ap (λ (j : Borrowed). Some (subcommand_seen j)) c.in-Some-Serve.field-0-is in
+    subst (λ (s : Option Subcommand). LeavesAlone s c.status-in-Some-Serve.result (c.serve.new.source ≡ c.args.source.now) (c.serve.new.sink ≡ c.args.sink.now) (c.serve.new.disk ≡ c.args.disk.now)) (sym named)
+    (λ is. let gave = gave_up_by c.serve.result (subst IsEarly c.status-in-Some-Serve.ensures is) in c.serve.ensures.same gave.0 gave.1)
 
-pub returns-in-Some-Format-clause-unread : goal.returns-in-Some-Format-clause-unread
-returns-in-Some-Format-clause-unread g c = λ is.
-    let none = formatting_gave_up c.make_store.result _ _ _ c.make_store.ensures.sends (subst (λ (n : ℕ). (n ≡ 2) ⊎ (n ≡ 8) ⊎ (n ≡ 9)) c.status-in-Some-Format.ensures is) in
-    (refl, (c.make_store.ensures.untouched none).0)
+pub returns-in-Some-Format-clause-ok : goal.returns-in-Some-Format-clause-ok
+returns-in-Some-Format-clause-ok g c =
+    let before = shown g c.args.source.now c.args.sink.now c.args.disk.now in
+    let now = shown g c.args.source.now c.make_store.new.sink c.make_store.new.disk in
+    let named = c.in-Some-Format.ensures ∙ ap (λ (j : Borrowed). Some (subcommand_seen j)) c.in-Some-Format.field-0-is in
+    let cause = c.make_store.ensures.cause before.left before.source_faults in
+    subst (λ (s : Option Subcommand). Runs s 1099511627776 c.status-in-Some-Format.result before now) (sym named) (
+      c.make_store.result,
+      c.status-in-Some-Format.ensures,
+      record {
+        sends = c.make_store.ensures.ok;
+        left = c.make_store.ensures.found;
+        moments = c.make_store.ensures.images;
+        cause = cause;
+        calm = c.make_store.ensures.faults;
+        complete = λ sink disk. formatted_ends c.make_store.result _ before now c.make_store.ensures.ok cause sink disk;
+      },
+    )
+
+pub returns-in-Some-Format-clause-same : goal.returns-in-Some-Format-clause-same
+returns-in-Some-Format-clause-same g c =
+    let named = c.in-Some-Format.ensures ∙ ap (λ (j : Borrowed). Some (subcommand_seen j)) c.in-Some-Format.field-0-is in
+    let early : IsEarly c.status-in-Some-Format.result → (c.make_store.new.sink ≡ c.args.sink.now) × (c.make_store.new.disk ≡ c.args.disk.now) =
+    λ is. c.make_store.ensures.same (formatting_gave_up c.make_store.result _ _ _ c.make_store.ensures.ok (subst IsEarly c.status-in-Some-Format.ensures is)) in
+    subst (λ (s : Option Subcommand). LeavesAlone s c.status-in-Some-Format.result (c.args.source.now ≡ c.args.source.now) (c.make_store.new.sink ≡ c.args.sink.now) (c.make_store.new.disk ≡ c.args.disk.now)) (sym named)
+    (refl, λ is. (early is).0, λ is. (early (inr (inl is))).1)

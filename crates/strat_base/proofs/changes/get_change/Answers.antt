@@ -1,5 +1,5 @@
 use Rattle.std.proofs.Common.{drop, None, sym, ap, ◌∙◌, arith}
-use Rattle.strat_base.specs.Change.{change_in, BeginsWith}
+use Rattle.strat_base.specs.Change.{change_in, BeginsWithChange}
 use Rattle.strat_base.specs.ChangeView.{change_of}
 use Rattle.strat_base.proofs.NumberLemmas.{AreBytes-drop}
 use Rattle.strat_base.proofs.ChangeLemmas.{change_in-some}
@@ -8,7 +8,7 @@ use Rattle.strat_base.proofs.FoundLemmas.{change_at-is, change_in-past, none_beg
 use Rattle.strat_base.proofs.changes.get_change.Goals as goal
 use Rattle.strat_base.proofs.changes.get_change.Goals.{In_ok-change}
 
-begins : (c : In_ok-change) → BeginsWith (drop c.args.at c.args.bytes.now) (change_of c.in_ok-change.change)
+begins : (c : In_ok-change) → BeginsWithChange (drop c.args.at c.args.bytes.now) (change_of c.in_ok-change.change)
 begins c =
     change_in-some (drop c.args.at c.args.bytes.now) _
     (AreBytes-drop c.args.at c.args.bytes.now (λ i. omega (arith, c.type_inv.bytes i)))

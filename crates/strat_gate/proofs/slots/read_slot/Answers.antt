@@ -6,7 +6,7 @@ use Rattle.strat_gate.proofs.slots.read_slot.Goals as goal
 
 pub returns-clause-ok : goal.returns-clause-ok
 unfolding slot_in
-returns-clause-ok g c = λ f told.
+returns-clause-ok g c = λ f exposed.
     let into = c.read_at.new.into in
-    let read : into ≡ window f c.args.at 40 = at_told _ (λ (f : Image). into ≡ window f c.args.at 40) f told c.in_ok-read_at.ensures.ok in
+    let read : into ≡ window f c.args.at 40 = at_told _ (λ (f : Image). into ≡ window f c.args.at 40) f exposed c.in_ok-read_at.ensures.ok in
     ap slot_of (sym read) ∙ sym c.parse.ensures

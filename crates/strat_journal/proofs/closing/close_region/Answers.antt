@@ -2,19 +2,19 @@ use Rattle.strat_journal.proofs.LaidLemmas.{journal_kept}
 use Rattle.strat_journal.proofs.ClosingLemmas.{closed_shut}
 use Rattle.strat_journal.proofs.closing.close_region.Goals as goal
 
-pub returns-in_err-gate_close-clause-kept : goal.returns-in_err-gate_close-clause-kept
-returns-in_err-gate_close-clause-kept g c = λ logged short given image since.
-    let tears = rw c.region_at.ensures.ok at c.gate_close.ensures.images in
+pub returns-in_err-gate_ensure_shut-clause-kept : goal.returns-in_err-gate_ensure_shut-clause-kept
+returns-in_err-gate_ensure_shut-clause-kept g c = λ logged short given image since.
+    let tears = rw c.region_at.ensures.ok at c.gate_ensure_shut.ensures.images in
     let torn = tears.each image since in
     journal_kept torn.0 image c.args.mem c.args.region logged (g.met.D.Disk.leaves_bytes c.args.disk.now _ torn.0 torn.1) c.requires.region c.requires.least short torn.2 (given torn.0 torn.1)
 
 pub returns-clause-kept : goal.returns-clause-kept
 returns-clause-kept g c = λ logged short given image since.
-    let tears = rw c.region_at.ensures.ok at c.gate_close.ensures.images in
+    let tears = rw c.region_at.ensures.ok at c.gate_ensure_shut.ensures.images in
     let torn = tears.each image since in
     journal_kept torn.0 image c.args.mem c.args.region logged (g.met.D.Disk.leaves_bytes c.args.disk.now _ torn.0 torn.1) c.requires.region c.requires.least short torn.2 (given torn.0 torn.1)
 
 pub returns-clause-shut : goal.returns-clause-shut
-returns-clause-shut g c = λ f told settled.
-    let closed = rw c.region_at.ensures.ok at c.in_ok-gate_close.ensures.ok in
-    closed_shut _ _ f _ c.gate_close.ensures.time (closed f told) told settled
+returns-clause-shut g c = λ f exposed settled.
+    let closed = rw c.region_at.ensures.ok at c.in_ok-gate_ensure_shut.ensures.ok in
+    closed_shut _ _ f _ c.gate_ensure_shut.ensures.time (closed f exposed) exposed settled

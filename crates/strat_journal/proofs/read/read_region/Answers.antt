@@ -1,11 +1,11 @@
 use Rattle.std.proofs.Common.{refl, ◌∙◌, arith}
 use Rattle.std.proofs.lemmas.Result.{err_from_is_err_and}
-use Rattle.strat_journal.proofs.FrontLemmas.{looks_trans}
+use Rattle.strat_journal.proofs.RegionReaderLemmas.{looks_trans}
 use Rattle.strat_journal.proofs.ReadLemmas.{same_err, begun, one_more, ends_shut, ends_torn, ends_full}
 use Rattle.strat_journal.proofs.read.read_region.Goals as goal
 
 pub loop-i-init : goal.loop-i-init
-loop-i-init g c = (begun _ _ _ _ _ _ c.in_ok-front.ensures.ok c.in_ok-logged.ensures.items, refl)
+loop-i-init g c = (begun _ _ _ _ _ _ c.in_ok-reader.ensures.ok c.in_ok-logged.ensures.items, refl)
 
 pub returns-in_err-record-clause-damaged : goal.returns-in_err-record-clause-damaged
 returns-in_err-record-clause-damaged g c = λ b torn.
@@ -34,4 +34,4 @@ loop-i-preserved g c =
     )
 
 pub returns-clause-found : goal.returns-clause-found
-returns-clause-found g c = ends_full _ _ (g.D.Disk.view c.loop-i.disk) _ _ (g.D.Disk.reads c.loop-i.disk) _ _ _ _ _ c.loop-i.front _ c.loop-i.invariant.0 (omega arith)
+returns-clause-found g c = ends_full _ _ (g.D.Disk.view c.loop-i.disk) _ _ (g.D.Disk.reads c.loop-i.disk) _ _ _ _ _ c.loop-i.reader _ c.loop-i.invariant.0 (omega arith)

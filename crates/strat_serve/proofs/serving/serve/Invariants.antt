@@ -4,9 +4,9 @@ use Rattle.strat_serve.specs.World.{world}
 use Rattle.strat_serve.proofs.ProgressLemmas.{Progress}
 use Rattle.strat_serve.proofs.serving.serve.Given as goal
 
-abbrev pub invariant-loop-server : goal.invariant-loop-server
-invariant-loop-server g l = record {
-  progress : Progress l.initial.server.store l.server.store l.taken l.server.deframer.held
+abbrev pub invariant-loop-store : goal.invariant-loop-store
+invariant-loop-store g l = record {
+  progress : Progress l.initial.store l.store l.taken l.buffers.frames.held
       (world (g.S.Source.left l.fn.source) (g.S.Source.faults l.fn.source) (g.K.Sink.held l.fn.sink) (g.K.Sink.faults l.fn.sink) (g.D.Disk.view l.fn.disk) (g.D.Disk.faults l.fn.disk))
       (world (g.S.Source.left l.source) (g.S.Source.faults l.source) (g.K.Sink.held l.sink) (g.K.Sink.faults l.sink) (g.D.Disk.view l.disk) (g.D.Disk.faults l.disk));
   time : Passes (g.D.Disk.view l.fn.disk) (g.D.Disk.view l.disk);
@@ -16,5 +16,5 @@ invariant-loop-server g l = record {
   disk_same : g.D.Disk.faults l.disk ≡ g.D.Disk.faults l.fn.disk;
 }
 
-abbrev pub decreases-loop-server : goal.decreases-loop-server
-decreases-loop-server g l = 2 * (l.budget - l.taken) + length l.server.deframer.held
+abbrev pub decreases-loop-store : goal.decreases-loop-store
+decreases-loop-store g l = 2 * (l.budget - l.taken) + length l.buffers.frames.held

@@ -6,59 +6,59 @@ use Rattle.strat_store.specs.Format.{IsBlank}
 use Rattle.strat_store.proofs.ShutLemmas.{StaysBlank, Shuts, shuts, blank_first, blank_second, blank_behind, blank_then, all_shut}
 use Rattle.strat_store.proofs.formatting.shut_all.Given.{Over}
 use Rattle.strat_store.proofs.formatting.shut_all.Goals as goal
-use Rattle.strat_store.proofs.formatting.shut_all.Goals.{After-gate_close-2, After-gate_close-3, After-gate_close-4}
+use Rattle.strat_store.proofs.formatting.shut_all.Goals.{After-gate_ensure_shut-2, After-gate_ensure_shut-3, After-gate_ensure_shut-4}
 
-pub returns-in_err-gate_close-clause-blank : goal.returns-in_err-gate_close-clause-blank
-returns-in_err-gate_close-clause-blank g c = λ f told blank.
-    (blank_first _ _ f (g.met.D.Disk.leaves_content c.args.disk.now) told (c.gate_close.ensures.alone f told) blank).each
+pub returns-in_err-gate_ensure_shut-clause-images : goal.returns-in_err-gate_ensure_shut-clause-images
+returns-in_err-gate_ensure_shut-clause-images g c = λ f exposed blank.
+    (blank_first _ _ f (g.met.D.Disk.leaves_content c.args.disk.now) exposed (c.gate_ensure_shut.ensures.alone f exposed) blank).each
 
 -- up to the second gate
-second : (g : Over) (c : After-gate_close-2 g) (f : Image) → (g.D.Disk.view c.args.disk.now).content ≡ Some f → IsBlank (g.D.Disk.view c.args.disk.now)
-    → StaysBlank (g.D.Disk.view c.args.disk.now) (g.D.Disk.view c.gate_close-2.new.disk)
-second g c f told blank =
-    let first : Shuts f 0 (g.D.Disk.view c.gate_close.new.disk) = shuts f 0 _ _ (c.in_ok-gate_close.ensures.ok f told) in
-    blank_then _ _ _ c.gate_close.ensures.time c.gate_close-2.ensures.time
-    (blank_first _ _ f (g.met.D.Disk.leaves_content c.args.disk.now) told (c.gate_close.ensures.alone f told) blank)
-    (blank_second _ _ first.content (g.met.D.Disk.leaves_content c.gate_close.new.disk) first.told (c.gate_close-2.ensures.alone first.content first.told))
+second : (g : Over) (c : After-gate_ensure_shut-2 g) (f : Image) → (g.D.Disk.view c.args.disk.now).content ≡ Some f → IsBlank (g.D.Disk.view c.args.disk.now)
+    → StaysBlank (g.D.Disk.view c.args.disk.now) (g.D.Disk.view c.gate_ensure_shut-2.new.disk)
+second g c f exposed blank =
+    let first : Shuts f 0 (g.D.Disk.view c.gate_ensure_shut.new.disk) = shuts f 0 _ _ (c.in_ok-gate_ensure_shut.ensures.ok f exposed) in
+    blank_then _ _ _ c.gate_ensure_shut.ensures.time c.gate_ensure_shut-2.ensures.time
+    (blank_first _ _ f (g.met.D.Disk.leaves_content c.args.disk.now) exposed (c.gate_ensure_shut.ensures.alone f exposed) blank)
+    (blank_second _ _ first.content (g.met.D.Disk.leaves_content c.gate_ensure_shut.new.disk) first.exposed (c.gate_ensure_shut-2.ensures.alone first.content first.exposed))
 
-pub returns-in_err-gate_close-2-clause-blank : goal.returns-in_err-gate_close-2-clause-blank
-returns-in_err-gate_close-2-clause-blank g c = λ f told blank.
-    (second g (goal.at.returns-in_err-gate_close-2-clause-blank g c).After-gate_close-2 f told blank).each
+pub returns-in_err-gate_ensure_shut-2-clause-images : goal.returns-in_err-gate_ensure_shut-2-clause-images
+returns-in_err-gate_ensure_shut-2-clause-images g c = λ f exposed blank.
+    (second g (goal.at.returns-in_err-gate_ensure_shut-2-clause-images g c).After-gate_ensure_shut-2 f exposed blank).each
 
 -- up to the third gate, and to the fourth
-third : (g : Over) (c : After-gate_close-3 g) → StaysBlank (g.D.Disk.view c.args.disk.now) (g.D.Disk.view c.gate_close-2.new.disk)
-    → StaysBlank (g.D.Disk.view c.args.disk.now) (g.D.Disk.view c.gate_close-3.new.disk)
+third : (g : Over) (c : After-gate_ensure_shut-3 g) → StaysBlank (g.D.Disk.view c.args.disk.now) (g.D.Disk.view c.gate_ensure_shut-2.new.disk)
+    → StaysBlank (g.D.Disk.view c.args.disk.now) (g.D.Disk.view c.gate_ensure_shut-3.new.disk)
 third g c slots =
-    blank_then _ _ _ (passes_trans c.gate_close.ensures.time c.gate_close-2.ensures.time) c.gate_close-3.ensures.time slots
-    (λ mid. blank_behind _ _ c.region_at.result 1 (omega (arith, c.region_at.ensures.ok)) mid c.gate_close-3.ensures.images)
+    blank_then _ _ _ (passes_trans c.gate_ensure_shut.ensures.time c.gate_ensure_shut-2.ensures.time) c.gate_ensure_shut-3.ensures.time slots
+    (λ mid. blank_behind _ _ c.region_at.result 1 (omega (arith, c.region_at.ensures.ok)) mid c.gate_ensure_shut-3.ensures.images)
 
-fourth : (g : Over) (c : After-gate_close-4 g) → StaysBlank (g.D.Disk.view c.args.disk.now) (g.D.Disk.view c.gate_close-3.new.disk)
-    → StaysBlank (g.D.Disk.view c.args.disk.now) (g.D.Disk.view c.gate_close-4.new.disk)
+fourth : (g : Over) (c : After-gate_ensure_shut-4 g) → StaysBlank (g.D.Disk.view c.args.disk.now) (g.D.Disk.view c.gate_ensure_shut-3.new.disk)
+    → StaysBlank (g.D.Disk.view c.args.disk.now) (g.D.Disk.view c.gate_ensure_shut-4.new.disk)
 fourth g c before =
-    blank_then _ _ _ (passes_trans (passes_trans c.gate_close.ensures.time c.gate_close-2.ensures.time) c.gate_close-3.ensures.time) c.gate_close-4.ensures.time before
-    (λ mid. blank_behind _ _ c.region_at-2.result 1 (omega (arith, c.region_at-2.ensures.ok)) mid c.gate_close-4.ensures.images)
+    blank_then _ _ _ (passes_trans (passes_trans c.gate_ensure_shut.ensures.time c.gate_ensure_shut-2.ensures.time) c.gate_ensure_shut-3.ensures.time) c.gate_ensure_shut-4.ensures.time before
+    (λ mid. blank_behind _ _ c.region_at-2.result 1 (omega (arith, c.region_at-2.ensures.ok)) mid c.gate_ensure_shut-4.ensures.images)
 
-pub returns-in_err-gate_close-3-clause-blank : goal.returns-in_err-gate_close-3-clause-blank
-returns-in_err-gate_close-3-clause-blank g c = λ f told blank.
-    let at = goal.at.returns-in_err-gate_close-3-clause-blank g c in
-    (third g at.After-gate_close-3 (second g at.After-gate_close-2 f told blank)).each
+pub returns-in_err-gate_ensure_shut-3-clause-images : goal.returns-in_err-gate_ensure_shut-3-clause-images
+returns-in_err-gate_ensure_shut-3-clause-images g c = λ f exposed blank.
+    let at = goal.at.returns-in_err-gate_ensure_shut-3-clause-images g c in
+    (third g at.After-gate_ensure_shut-3 (second g at.After-gate_ensure_shut-2 f exposed blank)).each
 
-pub returns-in_err-gate_close-4-clause-blank : goal.returns-in_err-gate_close-4-clause-blank
-returns-in_err-gate_close-4-clause-blank g c = λ f told blank.
-    let at = goal.at.returns-in_err-gate_close-4-clause-blank g c in
-    (fourth g at.After-gate_close-4 (third g at.After-gate_close-3 (second g at.After-gate_close-2 f told blank))).each
+pub returns-in_err-gate_ensure_shut-4-clause-images : goal.returns-in_err-gate_ensure_shut-4-clause-images
+returns-in_err-gate_ensure_shut-4-clause-images g c = λ f exposed blank.
+    let at = goal.at.returns-in_err-gate_ensure_shut-4-clause-images g c in
+    (fourth g at.After-gate_ensure_shut-4 (third g at.After-gate_ensure_shut-3 (second g at.After-gate_ensure_shut-2 f exposed blank))).each
 
-pub returns-clause-blank : goal.returns-clause-blank
-returns-clause-blank g c = λ f told blank.
-    let at = goal.at.returns-clause-blank g c in
-    (fourth g at.After-gate_close-4 (third g at.After-gate_close-3 (second g at.After-gate_close-2 f told blank))).each
+pub returns-clause-images : goal.returns-clause-images
+returns-clause-images g c = λ f exposed blank.
+    let at = goal.at.returns-clause-images g c in
+    (fourth g at.After-gate_ensure_shut-4 (third g at.After-gate_ensure_shut-3 (second g at.After-gate_ensure_shut-2 f exposed blank))).each
 
 pub returns-clause-ok : goal.returns-clause-ok
-returns-clause-ok g c = λ f told.
-    let active_closes = rw c.region_at.ensures.ok at c.in_ok-gate_close-3.ensures.ok in
-    let other_closes = rw c.region_at-2.ensures.ok at c.in_ok-gate_close-4.ensures.ok in
-    let first : Shuts f 0 (g.D.Disk.view c.gate_close.new.disk) = shuts f 0 _ _ (c.in_ok-gate_close.ensures.ok f told) in
-    let second : Shuts first.content 4096 (g.D.Disk.view c.gate_close-2.new.disk) = shuts first.content 4096 _ _ (c.in_ok-gate_close-2.ensures.ok first.content first.told) in
-    let active : Shuts second.content (region_at c.args.mem 0) (g.D.Disk.view c.gate_close-3.new.disk) = shuts second.content (region_at c.args.mem 0) _ _ (active_closes second.content second.told) in
-    let other : Shuts active.content (region_at c.args.mem 1) (g.D.Disk.view c.gate_close-4.new.disk) = shuts active.content (region_at c.args.mem 1) _ _ (other_closes active.content active.told) in
+returns-clause-ok g c = λ f exposed.
+    let active_closes = rw c.region_at.ensures.ok at c.in_ok-gate_ensure_shut-3.ensures.ok in
+    let other_closes = rw c.region_at-2.ensures.ok at c.in_ok-gate_ensure_shut-4.ensures.ok in
+    let first : Shuts f 0 (g.D.Disk.view c.gate_ensure_shut.new.disk) = shuts f 0 _ _ (c.in_ok-gate_ensure_shut.ensures.ok f exposed) in
+    let second : Shuts first.content 4096 (g.D.Disk.view c.gate_ensure_shut-2.new.disk) = shuts first.content 4096 _ _ (c.in_ok-gate_ensure_shut-2.ensures.ok first.content first.exposed) in
+    let active : Shuts second.content (region_at c.args.mem 0) (g.D.Disk.view c.gate_ensure_shut-3.new.disk) = shuts second.content (region_at c.args.mem 0) _ _ (active_closes second.content second.exposed) in
+    let other : Shuts active.content (region_at c.args.mem 1) (g.D.Disk.view c.gate_ensure_shut-4.new.disk) = shuts active.content (region_at c.args.mem 1) _ _ (other_closes active.content active.exposed) in
     all_shut c.args.mem f _ _ _ _ first second active other

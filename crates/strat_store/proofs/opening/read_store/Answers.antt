@@ -1,4 +1,4 @@
-use Rattle.strat_journal.proofs.FrontLemmas.{looks_trans}
+use Rattle.strat_journal.proofs.RegionReaderLemmas.{looks_trans}
 use Rattle.strat_store.proofs.opening.read_store.Goals as goal
 
 pub returns-in_err-journal-clause-looks : goal.returns-in_err-journal-clause-looks

@@ -20,9 +20,9 @@ returns-clause-any_moment g c h holds follows =
 pub returns-clause-holds : goal.returns-clause-holds
 returns-clause-holds g c h holds follows =
     let done = c.in_ok-append.ensures in
-    let told = done.content holds.content holds.told in
+    let exposed = done.content holds.content holds.exposed in
     holds_more (g.D.Disk.view c.args.disk.now) (g.D.Disk.view c.append.new.disk) c.args.journal.now c.add.new.self h _ holds
     (adds_one (g.D.Disk.view c.args.disk.now) c.args.journal.now c.add.new.self h _ holds c.requires.empty c.add.ensures.ok) follows
     (omega (arith, c.requires.room, ap length holds.list, holds.mem)) c.append.ensures.images
-    c.append.new.self _ done.ok c.append.ensures.time done.kept told
-    (at_told _ (λ (f : Image). Images (g.D.Disk.view c.append.new.disk) f) _ told (g.met.D.Disk.leaves_content c.append.new.disk)) done.settled
+    c.append.new.self _ done.ok c.append.ensures.time done.kept exposed
+    (at_told _ (λ (f : Image). Images (g.D.Disk.view c.append.new.disk) f) _ exposed (g.met.D.Disk.leaves_content c.append.new.disk)) done.settled

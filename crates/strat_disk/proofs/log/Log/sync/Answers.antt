@@ -1,6 +1,6 @@
 use Rattle.std.proofs.Common.{length, refl, ap, arith}
 use Rattle.strat_disk.specs.Medium.{Medium}
-use Rattle.strat_disk.specs.History.{step}
+use Rattle.strat_disk.specs.History.{after_event}
 use Rattle.strat_disk.proofs.LogLemmas.{replays_more}
 use Rattle.strat_disk.proofs.log.Log.sync.Goals as goal
 
@@ -8,7 +8,7 @@ pub invariant_of-self-clause-same_len : goal.invariant_of-self-clause-same_len
 invariant_of-self-clause-same_len c = omega (arith, ap length c.sync.ensures.bytes, c.args.self.now.same_len)
 
 pub invariant_of-self-clause-replays : goal.invariant_of-self-clause-replays
-unfolding step
+unfolding after_event
 invariant_of-self-clause-replays c = replays_more _ _ _ _ _ _ _ refl c.note.ensures.items c.args.self.now.replays c.sync.ensures.settled
 
 pub invariant_of-self-clause-quiet : goal.invariant_of-self-clause-quiet

@@ -23,9 +23,9 @@ returns-in_err-raise_over-clause-any_moment g c =
     let s = c.self.inside in
     let some = rw (← c.self.view_is) at c.requires in
     rw (← c.self.view_is)
-    (λ f told. append.append_moment s.mem s.active s.stale _ _ s.bytes.items s.count s.staged s.end s.len c.self.invariant some _ _ (c.region_at.result + s.end) c.behind_gate.result.now
+    (λ f exposed. append.append_moment s.mem s.active s.stale _ _ s.bytes.items s.count s.staged s.end s.len c.self.invariant some _ _ (c.region_at.result + s.end) c.behind_gate.result.now
     (omega (arith, c.region_at.ensures.ok)) (rw c.deref.ensures.value at c.behind_gate.ensures.ok) c.raise_over.ensures.raises.any_moment
-    f told (at_told _ (λ (f : Image). Images (g.D.Disk.view c.args.disk.now) f) f told (g.met.D.Disk.leaves_content c.args.disk.now)) (λ d left. g.met.D.Disk.leaves_bytes c.args.disk.now _ d left))
+    f exposed (at_told _ (λ (f : Image). Images (g.D.Disk.view c.args.disk.now) f) f exposed (g.met.D.Disk.leaves_content c.args.disk.now)) (λ d left. g.met.D.Disk.leaves_bytes c.args.disk.now _ d left))
 
 pub returns-clause-images : goal.returns-clause-images
 returns-clause-images g c =
@@ -40,9 +40,9 @@ returns-clause-any_moment g c =
     let s = c.self.inside in
     let some = rw (← c.self.view_is) at c.requires in
     rw (← c.self.view_is)
-    (λ f told. append.append_moment s.mem s.active s.stale _ _ s.bytes.items s.count s.staged s.end s.len c.self.invariant some _ _ (c.region_at.result + s.end) c.behind_gate.result.now
+    (λ f exposed. append.append_moment s.mem s.active s.stale _ _ s.bytes.items s.count s.staged s.end s.len c.self.invariant some _ _ (c.region_at.result + s.end) c.behind_gate.result.now
     (omega (arith, c.region_at.ensures.ok)) (rw c.deref.ensures.value at c.behind_gate.ensures.ok) c.raise_over.ensures.raises.any_moment
-    f told (at_told _ (λ (f : Image). Images (g.D.Disk.view c.args.disk.now) f) f told (g.met.D.Disk.leaves_content c.args.disk.now)) (λ d left. g.met.D.Disk.leaves_bytes c.args.disk.now _ d left))
+    f exposed (at_told _ (λ (f : Image). Images (g.D.Disk.view c.args.disk.now) f) f exposed (g.met.D.Disk.leaves_content c.args.disk.now)) (λ d left. g.met.D.Disk.leaves_bytes c.args.disk.now _ d left))
 
 pub returns-clause-kept : goal.returns-clause-kept
 returns-clause-kept g c =
@@ -50,9 +50,9 @@ returns-clause-kept g c =
     let some = rw (← c.self.view_is) at c.requires in
     let done = c.in_ok-raise_over.ensures.raises in
     rw (c.join.ensures.ok, ← c.self.view_is)
-    (λ f told. append.append_stands s.mem s.active s.stale _ _ s.bytes.items s.count s.staged s.end s.len c.self.invariant some _ _ (c.region_at.result + s.end) c.behind_gate.result.now
+    (λ f exposed. append.append_stands s.mem s.active s.stale _ _ s.bytes.items s.count s.staged s.end s.len c.self.invariant some _ _ (c.region_at.result + s.end) c.behind_gate.result.now
     (omega (arith, c.region_at.ensures.ok)) (rw c.deref.ensures.value at c.behind_gate.ensures.ok) done.content done.settled
-    f told (at_told _ (λ (f : Image). Images (g.D.Disk.view c.args.disk.now) f) f told (g.met.D.Disk.leaves_content c.args.disk.now)) (λ d left. g.met.D.Disk.leaves_bytes c.args.disk.now _ d left))
+    f exposed (at_told _ (λ (f : Image). Images (g.D.Disk.view c.args.disk.now) f) f exposed (g.met.D.Disk.leaves_content c.args.disk.now)) (λ d left. g.met.D.Disk.leaves_bytes c.args.disk.now _ d left))
 
 pub returns-clause-content : goal.returns-clause-content
 returns-clause-content g c =

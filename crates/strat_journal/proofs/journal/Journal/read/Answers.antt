@@ -7,12 +7,12 @@ use Rattle.strat_journal.proofs.NowLemmas.{changes_now}
 use Rattle.strat_journal.proofs.journal.Journal.read.Goals as goal
 
 pub returns-clause-stale : goal.returns-clause-stale
-returns-clause-stale g c = λ f told.
+returns-clause-stale g c = λ f exposed.
     let read = c.in_ok-logged.ensures in
     let list = ap (λ (j : Log). length j.list) c.restore_all.ensures.ok in
     let none = ap (λ (j : Log). length j.list) c.in_ok-journal.ensures.ok in
     rw c.set_stale.ensures.ok
-    (stale_is _ _ c.args.sb.now.mem _ _ (read.others f told) read.few.0 read.few.1
+    (stale_is _ _ c.args.sb.now.mem _ _ (read.others f exposed) read.few.0 read.few.1
     (omega (
       arith,
       list,
@@ -23,7 +23,7 @@ returns-clause-stale g c = λ f told.
     )))
 
 pub returns-clause-given : goal.returns-clause-given
-returns-clause-given g c = λ f told.
-    changes_now f c.args.sb.now.mem c.args.sb.now.region c.in_ok-logged.logged.items c.set_stale.new.self.list (c.in_ok-logged.ensures.found f told)
+returns-clause-given g c = λ f exposed.
+    changes_now f c.args.sb.now.mem c.args.sb.now.region c.in_ok-logged.logged.items c.set_stale.new.self.list (c.in_ok-logged.ensures.found f exposed)
     (ap (λ (j : Log). j.list) c.set_stale.ensures.ok ∙ ap (λ (j : Log). j.list) c.restore_all.ensures.ok
     ∙ (λ i. (ap (λ (j : Log). j.list) c.in_ok-journal.ensures.ok) i ++ map (λ (l : Logged). l.change) (c.deref.ensures.value i)))

@@ -1,0 +1,8 @@
+-- A disk that tells nothing.
+use Rattle.std.proofs.Common.{ℕ}
+use Rattle.strat_crash.specs.Moments.{TearsOnly}
+use Rattle.strat_crash.proofs.ImageLemmas.{outside_refl}
+use Rattle.strat_disk.specs.Hidden.{hidden}
+
+pub tears_hidden : (at n : ℕ) → TearsOnly hidden hidden at n
+tears_hidden at n = record { each = λ c since. (c, since.left, outside_refl at n c) }

@@ -1,8 +1,0 @@
--- A disk that tells nothing.
-use Rattle.std.specs.Prelude.{None}
-use Rattle.strat_crash.specs.Image.{HoldsBytes}
-use Rattle.strat_crash.specs.Moments.{View}
-
--- it tells no content, and a crash may leave any bytes
-abbrev pub untold : View
-untold = record { content = None; moment = 0; images_at = λ t c. HoldsBytes c }

@@ -1,0 +1,97 @@
+//! The answer to one frame, and to one that is too long.
+
+ghost use Rattle.std.specs.Prelude.{◌≡◌, OnOk, OnErr, IfOk, [], false};
+ghost use Rattle.strat_crash.specs.Faults.{CountsFaults};
+ghost use Rattle.strat_crash.specs.Moments.{Passes};
+ghost use Rattle.strat_io.specs.Streams.{Appends};
+ghost use Rattle.strat_serve.specs.Refusals.{refusal_for};
+ghost use Rattle.strat_serve.specs.Session.{IsAnswered, SendsPrefix, too_long_bytes};
+ghost use Rattle.strat_store.specs.Store.{StandsOn, Moves, BreaksByFault};
+
+use std::alloc::Global;
+use strat_base::{Failed, NoMemory, PairBuf};
+use strat_disk::Disk;
+use strat_frame::{BodyFault, Deframer, OutBuf, parse_command, write_reply};
+use strat_io::{Sink, put_all};
+use strat_model::{Refusal, Reply};
+use strat_store::Store;
+
+/// What a serving run keeps beside its store: the bytes that came in, and room for an answer.
+#[derive(Drop)]
+pub struct Buffers {
+    pub frames: Deframer,
+    pub pairs: PairBuf,
+    pub out: OutBuf,
+}
+
+impl Buffers {
+    /// Empty buffers, with all the memory that frames, pairs and replies of a run need: about 350 KB.
+    pub fn new(alloc: Global) -> Result<Buffers, NoMemory>
+        ensures ok { IfOk result (λ b. b.frames.held ≡ []) }
+    {
+        let frames = Deframer::new(alloc)?;
+        let pairs = PairBuf::new(alloc)?;
+        let out = OutBuf::new(alloc)?;
+        Ok(Buffers { frames, pairs, out })
+    }
+}
+
+/// How a body that is no command is refused.
+fn refusal_of(fault: BodyFault) -> Refusal
+    ensures { result ≡ refusal_for fault }
+{
+    match fault {
+        BodyFault::Malformed => Refusal::Malformed,
+        BodyFault::KeySize => Refusal::KeySize,
+        BodyFault::ValueSize => Refusal::ValueSize,
+        BodyFault::ScanSize => Refusal::ScanSize,
+    }
+}
+
+/// Answers a body, in the buffer for replies. A change that is answered is durable: its cost is that of `Store::apply`.
+pub fn answer<D: Disk>(
+    store: &mut Store,
+    disk: &mut D,
+    body: &[u8],
+    pairs: &mut PairBuf,
+    out: &mut OutBuf,
+)
+    requires room { store.old.spent ≡ false }
+    ensures ok { IsAnswered store.old body.now store.new out.new }
+    ensures trail { StandsOn (D.view disk.old) store.old
+        → Moves (D.view disk.old) (D.view disk.new) store.old store.new }
+    ensures same { store.new.log.mem ≡ store.old.log.mem }
+    ensures time { Passes (D.view disk.old) (D.view disk.new) }
+    ensures cause { BreaksByFault (D.faults disk.old) (D.faults disk.new) store.new }
+{
+    out.clear();
+    match parse_command(body) {
+        Ok((tag, command)) => {
+            let reply = store.apply(disk, &command, pairs);
+            write_reply(tag, &reply, pairs, out);
+        }
+        Err((tag, fault)) => {
+            pairs.clear();
+            let reply = Reply::Refused(refusal_of(fault));
+            write_reply(tag, &reply, pairs, out);
+        }
+    }
+}
+
+/// Answers that a frame is too long, whatever its tag may be.
+pub fn refuse_long<K: Sink>(
+    sink: &mut K,
+    pairs: &mut PairBuf,
+    out: &mut OutBuf,
+) -> Result<(), Failed>
+    ensures ok { OnOk result (Appends (K.held sink.old) (K.held sink.new) too_long_bytes) }
+    ensures err { OnErr result (SendsPrefix (K.held sink.old) (K.held sink.new) too_long_bytes) }
+    ensures cause { CountsFaults (K.faults sink.old) (K.faults sink.new) result }
+{
+    out.clear();
+    pairs.clear();
+    let reply = Reply::Refused(Refusal::FrameTooLong);
+    write_reply(0, &reply, pairs, out);
+    put_all(sink, out.bytes())?;
+    Ok(())
+}
