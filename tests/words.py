@@ -130,8 +130,18 @@ def functions_of(code):
         yield Function(found[1], found.start(), clauses, re.match(r"\{\s*\}", code[end:end + 200]) is not None)
 
 
+def ghosts_of(code):
+    """The place of each ghost item, imports among them, and the place where it ends."""
+    for found in re.finditer(r"^[ \t]*(?:pub )?ghost [^{;]*(?=[{;])", code, re.M):
+        yield found.start(), after_braces(code, found.end())
+
+
 def line_at(text, place):
     return text.count("\n", 0, place) + 1
+
+
+def lines_between(text, at, end):
+    return range(line_at(text, at), line_at(text, end - 1) + 1)
 
 
 def is_comment(line):
@@ -227,7 +237,7 @@ def lines_of_contracts(tree, name):
     code, numbers = tree.code(name), set()
     for function in tree.functions(name):
         for clause in function.clauses:
-            numbers.update(range(line_at(code, clause.at), line_at(code, clause.end - 1) + 1))
+            numbers.update(lines_between(code, clause.at, clause.end))
     return sorted(numbers)
 
 
