@@ -1,15 +1,15 @@
 #!/usr/bin/env python3
 """Proves the crates below a program side by side, where `rt run` would prove them one after the other.
 
-It is called in the program's folder, by the launcher, at its first start. A crate begins when those that it stands on
-are proved, and gets the processors that no other waits for. What it prints is a log, with the lines
+The launcher calls it in the program's folder, where it has to build the program. A crate begins when those that it
+stands on are proved, and gets the processors that no other waits for. What it prints is a log, with the lines
 
     proving K crates
     proving NAME, N of K functions
     proved NAME, N of K crates
 
-Its status is 0 where all are proved. It decides nothing: `rt run` takes what is proved here as it takes its own
-kept work, and does the rest.
+Where fewer than two crates are left to prove, it does nothing. Its status is 0 where all are proved. It decides nothing:
+`rt run` takes what is proved here as it takes its own kept work, and does the rest.
 """
 
 import functools
@@ -55,8 +55,8 @@ class Lines:
 
 
 def prove(log, crate, given, jobs):
-    """Whether the crate, with those that it stands on, is proved. A crate that is proved already takes no time."""
-    if not all(given[below.name, "proof"] for below in crate.below()):
+    """Whether the crate, with those that it stands on, is proved now."""
+    if not all(given.get((below.name, "proof"), True) for below in crate.below()):
         return False
     crate.out = Lines(log, crate.name)
     if crate.build_rlib(["--jobs", str(jobs)], anew=False):
@@ -73,13 +73,15 @@ def main():
     rt.share_work(True)
     crates = [crate for crate in rt.rtlib.crates_below(os.getcwd()) if crate.makes_rlib()]
     held = rt.rtlib.lock(crates)
-    log = Log(len(crates))
-    log.say(f"proving {len(crates)} crates")
+    left = [crate for crate in crates if not crate.is_built()]
+    if len(left) < 2:
+        return 0
+    log = Log(len(left))
+    log.say(f"proving {len(left)} crates")
     tasks = {}
-    for crate in crates:
-        waits = [(below.name, "proof") for below in crate.below()]
-        work = functools.partial(prove, log, crate)
-        tasks[crate.name, "proof"] = waits, crate.count(rb"\n"), rt.need(crate), work
+    for crate in left:
+        waits = [(below.name, "proof") for below in crate.below() if below in left]
+        tasks[crate.name, "proof"] = waits, crate.count(rb"\n"), rt.need(crate), functools.partial(prove, log, crate)
     given = rt.in_lanes(tasks)
     for file in held:
         os.close(file)
