@@ -390,6 +390,49 @@ def the_launcher_passes_words_input_and_status_on(folder):
     expect("no words", (ran.stdout, ran.returncode, ran.stderr), (b"", 1, complaint(1)))
 
 
+def the_launcher_refuses_a_file_that_is_a_standard_stream(folder):
+    store = StoreFile(folder)
+    linked = os.path.join(folder, "linked")
+    os.symlink(store.path, linked)
+    for words, redirected, stream in (
+        (["serve", store.path], f"<{store.path}", "input"), (["serve", store.path], f">>{store.path}", "output"),
+        (["serve", linked], f"<>{store.path} >/dev/null", "input"),
+        (["format", store.path, "4", "100", "10"], f"1<>{linked}", "output"),
+        (["format", linked, "4", "100", "10"], f"<{store.path}", "input"),
+    ):
+        ran = subprocess.run(["/bin/sh", "-c", f'"$@" {redirected}', "sh", LAUNCHER, *words], input=PUT_A,
+                             capture_output=True, timeout=DEADLINE)
+        said = f"castle: the store's file is standard {stream} as well\n".encode()
+        expect(f"{words} {redirected}", (ran.stdout, ran.returncode, ran.stderr), (b"", 1, said))
+        store.expect_bytes(f"{words} {redirected}")
+    # another file may be the input, and a closed stream is none
+    other = StoreFile(folder)
+    how = {"capture_output": True, "timeout": DEADLINE}
+    ran = subprocess.run(["/bin/sh", "-c", f'"$0" serve "$1" <{other.path}', LAUNCHER, store.path], **how)
+    out, status = store.model.serve(bytes_of(other.path))
+    expect("another file as input", (ran.stdout, ran.returncode, ran.stderr), (out, status, complaint(status)))
+    ran = subprocess.run(["/bin/sh", "-c", '"$0" serve "$1" <&-', LAUNCHER, store.path], **how)
+    expect("a closed input", (ran.stdout, ran.returncode, ran.stderr), (b"", 6, complaint(6)))
+
+
+def the_launcher_has_a_file_at_its_largest_size_told(folder):
+    def limited(most):
+        """Has the system send a signal at a write behind so many bytes of a file, which ends most programs."""
+        resource.setrlimit(resource.RLIMIT_FSIZE, (most, most))
+
+    path = os.path.join(folder, "small.store")
+    how = {"capture_output": True, "timeout": DEADLINE}
+    ran = subprocess.run([LAUNCHER, "format", path, "4", "100", "10"], preexec_fn=lambda: limited(9000), **how)
+    expect("format", (ran.stdout, ran.returncode, ran.stderr), (b"", 5, complaint(5)))
+    # the record of the second put lies across the end of what may be written
+    store = StoreFile(folder)
+    puts = put(0, b"0", b"value") + put(1, b"1", b"value")
+    most = 2 * model.BLOCK + len(model.record(b"0", b"value")) + 5
+    ran = subprocess.run([LAUNCHER, "serve", store.path], input=puts, preexec_fn=lambda: limited(most), **how)
+    want = reply(0, model.DONE) + reply(1, model.DEVICE_FAULT)
+    expect("serve", (ran.stdout, ran.returncode, ran.stderr), (want, 5, complaint(5)))
+
+
 def the_examples_of_the_readme_are_as_shown(folder):
     text = (TOP / "README.md").read_text()
     blocks = re.findall(r"^```console\n(.*?)^```$", text, re.M | re.S)
@@ -622,6 +665,8 @@ CHECKS = [
     a_closed_stream_does_not_reach_the_store,
     a_program_that_may_open_no_file_touches_none,
     the_launcher_passes_words_input_and_status_on,
+    the_launcher_refuses_a_file_that_is_a_standard_stream,
+    the_launcher_has_a_file_at_its_largest_size_told,
     the_examples_of_the_readme_are_as_shown,
     the_examples_of_the_protocol_are_frames,
     formatting_writes_the_bytes_of_a_new_store,

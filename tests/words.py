@@ -1,0 +1,624 @@
+#!/usr/bin/env python3
+"""Holds the repository to its words: names of clauses and definitions, widths, and what the documents name.
+
+It reads files alone, and takes the crates as crates.txt and crates/ have them. Each fault is a line
+`FILE:LINE: what`; the last line counts the rules that passed and failed.
+
+  tests/words.py          every rule
+  tests/words.py --all    also prints the comment lines that are wide; these fail nothing
+  tests/words.py --self   tries each rule on a made-up tree with one fault
+"""
+
+import collections
+import contextlib
+import functools
+import pathlib
+import re
+import sys
+import tempfile
+
+TOP = pathlib.Path(__file__).resolve().parent.parent
+
+# What a clause may be called. A reader asks the same questions of every function.
+CLAUSES = {
+    "ok": "what a call that succeeded did or gives",
+    "err": "what a call that failed leaves or gives",
+    "cause": "when each error may come",
+    "same": "what stays as it was",
+    "kept": "which invariant holds afterwards",
+    "images": "what a crash may leave",
+    "trail": "through which tables the images go",
+    "faults": "how counts of failures move",
+    "found": "what was found",
+    "none": "when nothing is found",
+    "damaged": "when a block is damaged, and which",
+    "room": "that there is space for what is added",
+    "fits": "that a size or a number is within its limits",
+    "time": "what holds of the moments that passed",
+    "reads": "how often the disk is read",
+    "len": "how long a result is",
+    "end": "where a result or a position ends",
+}
+CLAUSES_MOST = 12  # of one function
+CONTRACT_WIDTH = 100
+COMMENT_WIDTH = 120
+
+# The crate that owns a name of the vocabulary, though it may come later. No other crate defines the name.
+OWNERS = {
+    "Run": "strat_merge",
+    "Merger": "strat_merge",
+    "Place": "strat_array",
+    "Seen": "strat_array",
+    "Scratch": "strat_array",
+    "Cache": "strat_array",
+    "Part": "strat_split",
+    "Plan": "strat_split",
+    "View": "strat_cursor",
+    "Cursors": "strat_cursor",
+    "Progress": "strat_promote",
+    "Promotion": "strat_promote",
+    "Verdict": "strat_report",
+    "Item": "strat_arena",
+    "Slot": "strat_arena",
+    "Zero": "strat_level",
+    "Level": "strat_level",
+    "Levels": "strat_level",
+    "Space": "strat_extent",
+    "Counts": "strat_live",
+}
+# Definitions that keep such a name in a file of specs/ of another crate, each with the reason.
+EXCEPTIONS = {
+    ("View", "Moments.antt"): "read together nowhere",
+    ("Level", "Level.antt"): "read together nowhere",
+    ("Slot", "SuperBlock.antt"): "read together nowhere",
+    ("Counts", "Faults.antt"): "read together nowhere",
+}
+
+README_LINES = (15, 60)
+README_HEADINGS = ("Proved", "Premises", "Only tested", "Limits")
+
+Clause = collections.namedtuple("Clause", "kind name at end")
+Function = collections.namedtuple("Function", "name at clauses is_law")
+Definition = collections.namedtuple("Definition", "name file line")
+
+
+# Reading Rattle
+
+TEXT_OR_COMMENT = re.compile(
+    r"""//[^\n]*|/\*.*?\*/|\br(\#*)".*?"\1|"(?:\\.|[^"\\])*"|'(?:\\[^'\n]+|[^'\\\n])'""", re.S)
+
+
+def blanked(text):
+    """The text with spaces for each comment, string and character, so that their braces don't count."""
+    return TEXT_OR_COMMENT.sub(lambda found: re.sub(r"[^\n]", " ", found[0]), text)
+
+
+def after_braces(text, at):
+    """The place after the brace that closes the one at this place."""
+    depth = 0
+    for place in range(at, len(text)):
+        depth += {"{": 1, "}": -1}.get(text[place], 0)
+        if depth == 0:
+            return place + 1
+    return len(text)
+
+
+CLAUSE = re.compile(r"(requires|ensures)\s*\*?\s*(\w*)\s*\*?\s*(?=\{)")
+
+
+def clauses_of(code, at):
+    """The clauses of the signature at this place, and the place where the signature ends."""
+    clauses, depth = [], 0
+    while at < len(code):
+        found = depth == 0 and CLAUSE.match(code, at)
+        if found and not re.match(r"\w", code[at - 1]):
+            end = after_braces(code, found.end())
+            clauses.append(Clause(found[1], found[2], at, end))
+            at = end
+            continue
+        depth += {"(": 1, "[": 1, ")": -1, "]": -1}.get(code[at], 0)
+        if depth == 0 and code[at] in "{;":
+            break
+        at += 1
+    return clauses, at
+
+
+def functions_of(code):
+    """Each function of a file whose comments are blanked, with its clauses."""
+    for found in re.finditer(r"\bfn\s+(\w+)", code):
+        clauses, end = clauses_of(code, found.end())
+        yield Function(found[1], found.start(), clauses, re.match(r"\{\s*\}", code[end:end + 200]) is not None)
+
+
+def ghosts_of(code):
+    """The place of each ghost item, imports among them, and the place where it ends."""
+    for found in re.finditer(r"^[ \t]*(?:pub )?ghost [^{;]*(?=[{;])", code, re.M):
+        yield found.start(), after_braces(code, found.end())
+
+
+def line_at(text, place):
+    return text.count("\n", 0, place) + 1
+
+
+def lines_between(text, at, end):
+    return range(line_at(text, at), line_at(text, end - 1) + 1)
+
+
+def is_comment(line):
+    return line.lstrip().startswith(("//", "--"))
+
+
+def is_import(line):
+    return re.match(r"\s*(pub )?(ghost )?use ", line) is not None
+
+
+# The repository
+
+class Tree:
+    """The files that the rules read, each once."""
+
+    def __init__(self, top, owners=None, exceptions=None):
+        self.top = pathlib.Path(top)
+        self.owners = OWNERS if owners is None else owners
+        self.exceptions = EXCEPTIONS if exceptions is None else exceptions
+        listed = re.findall(r"^([\w]+)[^\n:#]*:", self.text("crates.txt"), re.M)
+        self.crates = [name for name in listed if (self.top / "crates" / name).is_dir()]
+
+    @functools.lru_cache(maxsize=None)
+    def text(self, name):
+        try:
+            return (self.top / name).read_text(encoding="utf-8")
+        except FileNotFoundError:
+            return ""
+
+    @functools.lru_cache(maxsize=None)
+    def files(self, pattern):
+        return sorted(str(path.relative_to(self.top)) for path in self.top.glob(pattern) if path.is_file())
+
+    def sources(self):
+        return self.files("crates/*/src/**/*.rt")
+
+    def specs(self):
+        return self.files("crates/*/specs/**/*.antt")
+
+    @functools.lru_cache(maxsize=None)
+    def code(self, name):
+        return blanked(self.text(name))
+
+    @functools.lru_cache(maxsize=None)
+    def functions(self, name):
+        return list(functions_of(self.code(name)))
+
+    def definitions(self):
+        """Each definition of specs/, but not what a definition has within it."""
+        for name in self.specs():
+            for number, line in enumerate(self.text(name).split("\n"), 1):
+                found = DEFINITION.match(line)
+                if found:
+                    yield Definition(found[1], name, number)
+
+    def types(self):
+        """Each public type of Rattle's."""
+        for name in self.sources():
+            for found in re.finditer(r"^\s*pub (?:struct|enum|trait|union|type) (\w+)", self.code(name), re.M):
+                yield Definition(found[1], name, line_at(self.code(name), found.end()))
+
+
+KEYWORDS = "abbrev|record|data|unfoldable|let"
+DEFINITION = re.compile(rf"(?:(?:pub|{KEYWORDS})\s+)+(?!use\b|mod\b)([^\s:({{]+)")
+
+
+def crate_of(name):
+    return name.split("/")[1]
+
+
+# The rules. Each yields its faults as a file, a line and what is wrong there.
+
+def clauses_are_named_from_one_list(tree):
+    for name in tree.sources():
+        for function in tree.functions(name):
+            for clause in [] if function.is_law else function.clauses:
+                if clause.name and clause.name not in CLAUSES:
+                    yield name, line_at(tree.code(name), clause.at), f"{clause.kind} {clause.name} of {function.name}"
+
+
+def functions_have_few_clauses(tree):
+    for name in tree.sources():
+        for function in tree.functions(name):
+            if len(function.clauses) > CLAUSES_MOST and not function.is_law:
+                line = line_at(tree.code(name), function.at)
+                yield name, line, f"{function.name} has {len(function.clauses)} clauses, above {CLAUSES_MOST}"
+
+
+def lines_of_contracts(tree, name):
+    """The numbers of the lines that contracts stand on."""
+    if name.endswith(".antt"):
+        return range(1, tree.text(name).count("\n") + 2)
+    code, numbers = tree.code(name), set()
+    for function in tree.functions(name):
+        for clause in function.clauses:
+            numbers.update(lines_between(code, clause.at, clause.end))
+    return sorted(numbers)
+
+
+def contracts_are_narrow(tree):
+    for name in [*tree.sources(), *tree.specs()]:
+        lines = tree.text(name).split("\n")
+        for number in lines_of_contracts(tree, name):
+            line = lines[number - 1]
+            if len(line) > CONTRACT_WIDTH and not is_import(line) and not is_comment(line):
+                yield name, number, f"{len(line)} columns, above {CONTRACT_WIDTH}"
+
+
+def comments_are_narrow(tree):
+    for name in [*tree.sources(), *tree.specs()]:
+        for number, line in enumerate(tree.text(name).split("\n"), 1):
+            if len(line) > COMMENT_WIDTH and is_comment(line):
+                yield name, number, f"a comment of {len(line)} columns, above {COMMENT_WIDTH}"
+
+
+def a_definition_has_its_name_alone(tree):
+    first = {}
+    for it in tree.definitions():
+        if it.name in first:
+            other = first[it.name]
+            yield it.file, it.line, f"{it.name} is defined at {other.file}:{other.line} too"
+        else:
+            first[it.name] = it
+
+
+def later_names_are_left_to_their_crates(tree):
+    met = set()
+    for it in [*tree.definitions(), *tree.types()]:
+        owner, key = tree.owners.get(it.name), (it.name, it.file.rsplit("/", 1)[1])
+        if key in tree.exceptions:
+            met.add(key)
+        elif owner and crate_of(it.file) != owner:
+            yield it.file, it.line, f"{it.name} is a name of {owner}"
+    for key in tree.exceptions:
+        if key not in met:
+            yield "tests/words.py", 1, f"the exception {key[0]} in {key[1]} is of no use"
+
+
+ERRORS, PROTOCOL = "docs/ERRORS.md", "docs/PROTOCOL.md"
+
+
+def rows_of(tree, name, heading=None):
+    """The rows of a document's tables that begin with a number: the line, the number and the other cells."""
+    within = heading is None
+    for line, text in enumerate(tree.text(name).split("\n"), 1):
+        if heading and text.startswith("## "):
+            within = text == heading
+        found = re.match(r"\|\s*(\d+)\s*\|(.*)\|\s*$", text)
+        if within and found:
+            yield line, int(found[1]), [cell.strip() for cell in found[2].split("|")]
+
+
+def body_of(tree, function):
+    """The file of the function with this name, the line where it begins, and its body's text."""
+    for name in tree.sources():
+        for it in tree.functions(name):
+            if it.name == function:
+                code = tree.code(name)
+                start = clauses_of(code, code.index(function, it.at) + len(function))[1]
+                return name, line_at(code, it.at), tree.text(name)[start:after_braces(code, start)]
+    return None
+
+
+def variants_of(tree, enum):
+    """The file, the line and the name of each variant of a public enum."""
+    for name in tree.sources():
+        code = tree.code(name)
+        found = re.search(rf"\bpub enum {enum}\s*(?=\{{)", code)
+        if found:
+            inner = code[found.end() + 1:after_braces(code, found.end()) - 1]
+            flat = re.sub(r"\{[^{}]*\}|\([^()]*\)", lambda it: re.sub(r"[^\n]", " ", it[0]), inner)
+            for variant in re.finditer(r"(?:^|,)\s*(?:#\[[^\]]*\]\s*)*([A-Z]\w*)", flat):
+                yield name, line_at(code, found.end() + 1 + variant.start(1)), variant[1]
+
+
+def arms_to_numbers(tree, enum):
+    """The number that an arm of the code gives each variant, where one does."""
+    arms = {}
+    for name in tree.sources():
+        for variant, number in re.findall(rf"\b{enum}::(\w+)(?: \{{[^{{}}]*\}})? => (\d+),", tree.code(name)):
+            arms[variant] = int(number)
+    return arms
+
+
+def statuses_are_documented(tree):
+    found = body_of(tree, "status_text")
+    if not found:
+        yield ERRORS, 1, "no function status_text is in crates/*/src"
+        return
+    name, line, body = found
+    says = {int(number): text for number, text in re.findall(r'\b(\d+) => (?:\{\s*)?"([^"]*)"', body)}
+    if not says:
+        yield name, line, "status_text has no arm NUMBER => TEXT"
+    told = {number: (at, cells[0]) for at, number, cells in rows_of(tree, ERRORS, "## Exit statuses")}
+    for number, text in says.items():
+        if number not in told:
+            yield name, line, f"{ERRORS} has no exit status {number}, {text}"
+        elif f"`{text}`" not in told[number][1]:
+            yield ERRORS, told[number][0], f"status {number} is {text}, and not {told[number][1]}"
+    for number, (at, cell) in told.items():
+        if number not in says:
+            yield ERRORS, at, f"the program has no status {number}, {cell}"
+    numbers = arms_to_numbers(tree, "Ended")
+    for name, line, variant in variants_of(tree, "Ended"):
+        if variant not in numbers or numbers[variant] not in told:
+            yield name, line, f"{ERRORS} has no exit status for Ended::{variant}"
+
+
+def refusals_are_documented(tree):
+    numbers = arms_to_numbers(tree, "Refusal")
+    variants = list(variants_of(tree, "Refusal"))
+    if not variants:
+        yield PROTOCOL, 1, "no enum Refusal is in crates/*/src"
+    for document, heading in ((ERRORS, "## Refusals"), (PROTOCOL, "## Replies")):
+        told = {cells[0].split(",")[0]: (line, number) for line, number, cells in rows_of(tree, document, heading)}
+        for name, line, variant in variants:
+            if variant not in told:
+                yield name, line, f"{document} has no row for Refusal::{variant}"
+            elif numbers.get(variant) != told[variant][1]:
+                yield document, told[variant][0], f"{variant} is status {numbers.get(variant)} in the code"
+
+
+def has_code(tree, crate):
+    """Whether the crate has a function with a body, and isn't of definitions and laws alone."""
+    return any(not function.is_law for name in tree.files(f"crates/{crate}/src/**/*.rt")
+               for function in tree.functions(name))
+
+
+def crates_have_readmes(tree):
+    least, most = README_LINES
+    for crate in tree.crates:
+        name = f"crates/{crate}/README.md"
+        text = tree.text(name)
+        if not text:
+            yield name, 1, "it isn't there"
+            continue
+        lines = len(text.splitlines())
+        if lines > most:
+            yield name, lines, f"{lines} lines, above {most}"
+        if crate.endswith("_tests") or not has_code(tree, crate):
+            continue
+        if lines < least:
+            yield name, lines, f"{lines} lines, below {least}"
+        headings = re.findall(r"^#+ (.*?)\s*$", text, re.M)
+        for heading in README_HEADINGS:
+            if heading not in headings:
+                yield name, 1, f"no heading {heading}"
+
+
+def crates_are_in_the_architecture(tree):
+    document = "docs/ARCHITECTURE.md"
+    for crate in tree.crates:
+        if not re.search(rf"(?<!\w){crate}(?!\w)", tree.text(document)):
+            yield document, 1, f"it doesn't name {crate}"
+
+
+RULES = [
+    clauses_are_named_from_one_list,
+    functions_have_few_clauses,
+    contracts_are_narrow,
+    a_definition_has_its_name_alone,
+    later_names_are_left_to_their_crates,
+    statuses_are_documented,
+    refusals_are_documented,
+    crates_have_readmes,
+    crates_are_in_the_architecture,
+]
+
+
+def title(rule):
+    return rule.__name__.replace("_", " ")
+
+
+def run(tree, rules, out=print):
+    """Prints the faults of each rule, and how many rules passed and failed. The exit status."""
+    failed = 0
+    for rule in rules:
+        faults = list(rule(tree))
+        for name, line, what in faults:
+            out(f"{name}:{line}: {what}")
+        out(f"words: {f'FAILED: {title(rule)}: {len(faults)}' if faults else title(rule)}")
+        failed += bool(faults)
+    out(f"{len(rules) - failed} passed, {failed} failed")
+    return 1 if failed else 0
+
+
+# The rules themselves, on a tree that is right and on one fault at a time
+
+README = "# low\n\n" + "".join(f"## {heading}\n\nx\n\n" for heading in README_HEADINGS)
+RIGHT = {
+    "crates.txt": "# a comment: of no crate\nlow:\ncastle: low\nlow_tests: low\n",
+    "crates/low/README.md": README,
+    "crates/castle/README.md": README,
+    "crates/low_tests/README.md": "# low_tests\n",
+    "docs/ARCHITECTURE.md": "castle, low and `low_tests`\n",
+    "crates/low/src/lib.rt": '''//! Numbers. ensures bad { not a clause }
+ghost use Rattle.std.specs.Prelude.{◌≡◌, ◌≤◌};
+
+/// Half of it.
+pub fn half(n: [u8; 4], text: &str) -> Result<u8, ()>
+    requires fits { n ≤ 8 }
+    ensures ok* { IfOk result (λ r. r ≡ record {
+        half = n;
+    }) }
+    ensures { n ≡ n }
+{
+    let brace = "{ ensures bad { }";
+    fn inner() {}
+    match n { _ => '{' };
+    Ok(1)
+}
+
+/// A law.
+pub fn whole()
+    ensures greatest { 1 ≡ 1 }
+{}
+
+pub trait Half {
+    fn halved(&self) -> u8
+        ensures same { self.new ≡ self.old };
+}
+
+pub enum Refusal {
+    /// None.
+    Unknown,
+    Broken { block: u32, other: Option<u8> },
+}
+
+pub fn refusal_byte(r: &Refusal) -> u8 {
+    match r {
+        Refusal::Unknown => 16,
+        Refusal::Broken { .. } => 17,
+    }
+}
+''',
+    "crates/castle/src/main.rt": '''pub enum Ended { Done, Usage }
+
+impl Ended {
+    pub fn status(&self) -> u8 {
+        match self {
+            Ended::Done => 0,
+            Ended::Usage => 1,
+        }
+    }
+}
+
+pub fn status_text(status: u8) -> &'static str {
+    match status {
+        0 => "done",
+        1 => {
+            "usage"
+        }
+        _ => "unknown",
+    }
+}
+''',
+    "crates/low_tests/src/lib.rt": "pub fn a_test() { half(); }\n",
+    "crates/low/specs/Half.antt": '''-- Halves.
+use Rattle.std.specs.Prelude.{ℕ}
+pub mod Other
+
+-- a half
+abbrev pub half : ℕ → ℕ
+half n = n
+
+pub record IsHalf (n : ℕ) : Type 0 where
+  pub half : ℕ
+
+pub data Way : Type 0 where
+  Up : Way
+
+unfoldable pub twice : ℕ → ℕ
+pub thrice : ℕ
+pub record View : Type 0 where
+''',
+    "docs/ERRORS.md": '''## Exit statuses
+
+| Status | Text |
+|---|---|
+| 0 | none (`done`) |
+| 1 | `usage` |
+
+## Refusals
+
+| Status | Refusal | What |
+|---|---|---|
+| 16 | Unknown | x |
+| 17 | Broken | x |
+''',
+    "docs/PROTOCOL.md": '''## Replies
+
+| 0 | Done | x |
+| 16 | Unknown, *open* | x |
+| 17 | Broken | x |
+''',
+}
+LOW, HALF = "crates/low/src/lib.rt", "crates/low/specs/Half.antt"
+MANY = "".join("    requires fits { 1 ≤ 2 }\n" for _ in range(CLAUSES_MOST - 2))
+WIDE = "x" * CONTRACT_WIDTH
+# each is one replacement in one file, the line where the fault is told, and the rule that tells it alone
+FAULTS = [
+    (LOW, "ensures same", "ensures calm", 25, clauses_are_named_from_one_list),
+    (LOW, "requires fits", "requires fits_well", 6, clauses_are_named_from_one_list),
+    (LOW, "ensures ok*", "ensures* fine", 7, clauses_are_named_from_one_list),
+    (LOW, "    ensures { n ≡ n }\n", "    ensures { n ≡ n }\n" + MANY, 5, functions_have_few_clauses),
+    (LOW, "        half = n;", f"        half = {WIDE};", 8, contracts_are_narrow),
+    (HALF, "half n = n", f"half n = {WIDE}", 7, contracts_are_narrow),
+    (HALF, "pub thrice", "pub twice", 16, a_definition_has_its_name_alone),
+    (HALF, "unfoldable pub twice", "abbrev pub half", 15, a_definition_has_its_name_alone),
+    (HALF, "unfoldable pub twice", "pub data IsHalf", 15, a_definition_has_its_name_alone),
+    (HALF, "unfoldable pub twice", "let Way", 15, a_definition_has_its_name_alone),
+    (HALF, "pub data Way", "pub data Plan", 12, later_names_are_left_to_their_crates),
+    (LOW, "pub trait Half", "pub trait Plan", 23, later_names_are_left_to_their_crates),
+    (HALF, "pub record View", "pub record Viewed", 1, later_names_are_left_to_their_crates),
+    ("docs/ERRORS.md", "`usage`", "`words`", 6, statuses_are_documented),
+    ("docs/ERRORS.md", "| 1 | `usage` |\n", "| 1 | `usage` |\n| 2 | `more` |\n", 7, statuses_are_documented),
+    ("crates/castle/src/main.rt", "fn status_text", "fn texts", 1, statuses_are_documented),
+    ("crates/castle/src/main.rt", "Usage }", "Usage, Other }", 1, statuses_are_documented),
+    ("docs/ERRORS.md", "| 17 | Broken", "| 18 | Broken", 13, refusals_are_documented),
+    ("docs/PROTOCOL.md", "| 17 | Broken", "| 17 | Broke", 31, refusals_are_documented),
+    (LOW, "    Unknown,", "    Unknown,\n    Frozen,", 31, refusals_are_documented),
+    ("crates/low/README.md", "## Limits", "## Bounds", 1, crates_have_readmes),
+    ("crates/castle/README.md", README, "# castle\n", 1, crates_have_readmes),
+    ("crates/low_tests/README.md", "# low_tests\n", "x\n" * 61, 61, crates_have_readmes),
+    ("crates/low_tests/README.md", "# low_tests\n", "", 1, crates_have_readmes),
+    ("docs/ARCHITECTURE.md", "castle, low", "castle, lower", 1, crates_are_in_the_architecture),
+]
+
+
+def made(folder, files):
+    for name, text in files.items():
+        path = pathlib.Path(folder) / name
+        path.parent.mkdir(parents=True, exist_ok=True)
+        path.write_text(text, encoding="utf-8")
+    return Tree(folder, {"View": "strat_cursor", "Plan": "strat_split"}, {("View", "Half.antt"): "of the test"})
+
+
+def self_test():
+    passed = failed = 0
+    cases = [(None, "", "", None, None), *FAULTS]
+    for file, old, new, line, wanted in cases:
+        files = dict(RIGHT)
+        if file:
+            if files[file].count(old) != 1:
+                raise SystemExit(f"words: {old!r} stands {files[file].count(old)} times in {file}")
+            files[file] = files[file].replace(old, new)
+        with tempfile.TemporaryDirectory() as folder:
+            tree = made(folder, files)
+            got = {(rule, at) for rule in RULES for _, at, _ in rule(tree)}
+        told = {rule for rule, _ in got}
+        if (told, (wanted, line) in got) == (({wanted}, True) if wanted else (set(), False)):
+            passed += 1
+        else:
+            failed += 1
+            print(f"words: FAILED: {new.strip()[:60]!r} in {file}: told by "
+                  f"{sorted((title(rule), at) for rule, at in got)}, wanted at line {line} of {wanted and title(wanted)}")
+    tried = {wanted for *_, wanted in FAULTS}
+    for rule in RULES:
+        if rule not in tried:
+            failed += 1
+            print(f"words: FAILED: no fault tries the rule {title(rule)}")
+    print(f"{passed} passed, {failed} failed")
+    return 1 if failed else 0
+
+
+def main(words):
+    if words == ["--self"]:
+        return self_test()
+    if words not in ([], ["--all"]):
+        raise SystemExit(__doc__)
+    tree = Tree(TOP)
+    if words:
+        for name, line, what in comments_are_narrow(tree):
+            print(f"{name}:{line}: {what}")
+    return run(tree, RULES)
+
+
+if __name__ == "__main__":
+    with contextlib.suppress(BrokenPipeError):
+        sys.exit(main(sys.argv[1:]))
