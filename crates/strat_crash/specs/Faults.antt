@@ -1,4 +1,4 @@
--- How often a source, a sink or a disk has failed, and which answers a failure explains.
+-- Counts: how often a source, a sink or a disk has failed, which answers a failure explains, and how often a disk was read.
 use Rattle.std.specs.Prelude.{◌≡◌, ◌≢◌, ◌≤◌, ℕ, ◌+◌, ◌-◌, ◌^◌, min, Result, OnOk, OnErr, IsErrOf, IfErr}
 
 -- a count of one more; at the last value of its type a count stands still
@@ -21,3 +21,8 @@ pub record HasCause {T E : Type 0} (failure : E) (before now : ℕ) (result : Re
   pub ok : OnOk result (now ≡ before)
   pub device : IsErrOf result failure → Rose before now
   pub other : IfErr result (λ e. e ≢ failure → now ≡ before)
+
+-- a count of reads never falls, and rose by so many at most
+pub record ReadsAtMost (most before now : ℕ) : Type 0 where
+  pub later : before ≤ now
+  pub bound : now ≤ before + most

@@ -1,6 +1,6 @@
 //! A disk as a store sees it: its content, and what a crash at each moment may leave.
 ghost use Rattle.std.specs.Prelude.{◌≡◌, ◌≤◌, ℕ, ◌+◌, ◌^◌, length, IfSome, OnOk, OnErr};
-ghost use Rattle.strat_crash.specs.Faults.{CountsFaults};
+ghost use Rattle.strat_crash.specs.Faults.{CountsFaults, ReadsAtMost};
 ghost use Rattle.strat_crash.specs.Image.{Image, HoldsBytes};
 ghost use Rattle.strat_crash.specs.Moments.{DiskView, Images, ReadsBack, Writes, Garbles, Passes, TearsOnly, KeepsImages, MayTear, IsDurable, WritesThrough};
 
@@ -28,8 +28,7 @@ pub trait Disk {
         ensures images { KeepsImages (view self.old) (view self.new) }
         ensures time { Passes (view self.old) (view self.new) }
         ensures cause { CountsFaults (faults self.old) (faults self.new) result }
-        ensures fewest_reads { reads self.old ≤ reads self.new }
-        ensures most_reads { reads self.new ≤ reads self.old + 1 };
+        ensures reads { ReadsAtMost 1 (reads self.old) (reads self.new) };
 
     /// Writes these bytes from `at` on. Until a sync, and after an error, the range may hold anything.
     fn write_at(&mut self, at: u64, bytes: &[u8]) -> Result<(), Failed>

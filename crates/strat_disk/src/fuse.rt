@@ -1,6 +1,6 @@
 //! A disk that stops working after some calls, for tests.
 ghost use Rattle.std.specs.Prelude.{◌≡◌, ◌≤◌, ◌<◌, ℕ, ◌+◌, ◌-◌, ◌^◌, nat_lt, length, Some, IfSome, IsSomeAnd, OnOk, OnErr};
-ghost use Rattle.strat_crash.specs.Faults.{CountsFaults};
+ghost use Rattle.strat_crash.specs.Faults.{CountsFaults, ReadsAtMost};
 ghost use Rattle.strat_crash.specs.Moments.{ReadsBack, Writes, Garbles, Passes, TearsOnly, KeepsImages, MayTear, IsDurable};
 
 use crate::disk::Disk;
@@ -63,8 +63,7 @@ impl<D: Disk> Disk for FuseDisk<D> {
         ensures time { Passes (D.view (inner_of self.old)) (D.view (inner_of self.new)) }
         ensures cause { CountsFaults (all_faults D.faults self.old) (all_faults D.faults self.new)
             result }
-        ensures fewest_reads { D.reads (inner_of self.old) ≤ D.reads (inner_of self.new) }
-        ensures most_reads { D.reads (inner_of self.new) ≤ D.reads (inner_of self.old) + 1 }
+        ensures reads { ReadsAtMost 1 (D.reads (inner_of self.old)) (D.reads (inner_of self.new)) }
         ensures fuse { Fused D.faults self.old self.new result }
     {
         if !passes(&mut self.left) {

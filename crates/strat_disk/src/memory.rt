@@ -1,6 +1,6 @@
 //! A disk in memory, for tests: it can fail at chosen calls, and it can crash.
 ghost use Rattle.std.specs.Prelude.{◌≡◌, ◌≤◌, ◌<◌, ℕ, ◌+◌, ◌-◌, ◌^◌, [], true, length, slice_index, Some, IfOk, IfSome, IsSomeAnd, IsErr, IsTrue, OnOk, OnErr, is_err};
-ghost use Rattle.strat_crash.specs.Faults.{CountsFaults, one_more};
+ghost use Rattle.strat_crash.specs.Faults.{CountsFaults, one_more, ReadsAtMost};
 ghost use Rattle.strat_crash.specs.Moments.{Images, ReadsBack, Writes, Garbles, Passes, TearsOnly, KeepsImages, MayTear, IsDurable};
 ghost use Rattle.strat_disk.specs.Calls.{is_failing};
 ghost use Rattle.strat_disk.specs.Medium.{at_rest, written, settled, altered, crashed};
@@ -132,9 +132,8 @@ impl Disk for MemDisk {
         ensures images { KeepsImages (view_of self.old) (view_of self.new) }
         ensures time { Passes (view_of self.old) (view_of self.new) }
         ensures cause { CountsFaults (faults_of self.old) (faults_of self.new) result }
-        ensures fewest_reads { reads_of self.old ≤ reads_of self.new }
-        ensures most_reads { reads_of self.new ≤ reads_of self.old + 1 }
-        ensures reads { reads_of self.new ≡ one_more (reads_of self.old) }
+        ensures reads { ReadsAtMost 1 (reads_of self.old) (reads_of self.new) }
+        ensures counted { reads_of self.new ≡ one_more (reads_of self.old) }
         ensures medium { medium_of self.new ≡ medium_of self.old }
         ensures called { Called self.old self.new }
         ensures fails { is_err result ≡ is_failing (failing_of self.new) (calls_of self.new) }

@@ -1,6 +1,6 @@
 //! Gates: a record counts only while the byte before it reads 0xa7. A gate is written alone, with a sync on either side.
 ghost use Rattle.std.specs.Prelude.{◌≡◌, ◌≢◌, ◌≤◌, ◌<◌, ◌==◌, ℕ, ◌+◌, ◌^◌, [], ◌∷◌, Some, IfOk, OnOk};
-ghost use Rattle.strat_crash.specs.Faults.{CountsFaults};
+ghost use Rattle.strat_crash.specs.Faults.{CountsFaults, ReadsAtMost};
 ghost use Rattle.strat_crash.specs.Image.{Image};
 ghost use Rattle.strat_crash.specs.Moments.{Exposes, Passes, TearsOnly, KeepsImages, WritesThrough};
 ghost use Rattle.strat_gate.specs.Gates.{EndsShut};
@@ -39,8 +39,7 @@ pub fn gate_up<D: Disk>(disk: &mut D, at: u64) -> Result<bool, Failed>
     ensures images { KeepsImages (D.view disk.old) (D.view disk.new) }
     ensures time { Passes (D.view disk.old) (D.view disk.new) }
     ensures cause { CountsFaults (D.faults disk.old) (D.faults disk.new) result }
-    ensures fewest_reads { D.reads disk.old ≤ D.reads disk.new }
-    ensures most_reads { D.reads disk.new ≤ D.reads disk.old + 1 }
+    ensures reads { ReadsAtMost 1 (D.reads disk.old) (D.reads disk.new) }
 {
     let mut byte = [0];
     disk.read_at(at, &mut byte)?;

@@ -12,7 +12,7 @@ ghost use Rattle.strat_journal.specs.Log.{Restores, IsStale};
 ghost use Rattle.strat_format.specs.Records.{region_records};
 ghost use Rattle.strat_journal.specs.Records.{logged_of, journal_changes, alone_then, recover_journal_now};
 ghost use Rattle.strat_journal.specs.Records.{is_plain as plain_change};
-ghost use Rattle.strat_crash.specs.Faults.{HasCause};
+ghost use Rattle.strat_crash.specs.Faults.{HasCause, ReadsAtMost};
 ghost use Rattle.strat_format.specs.Layout.{is_open};
 
 use crate::journal::{Journal, Logged};
@@ -40,8 +40,7 @@ fn read_region<D: Disk>(
         → Exposes (D.view disk.old) f → region_records f mem region ≡ Err b }
     ensures looks { OnlyReads (D.view disk.old) (D.view disk.new) }
     ensures cause { HasCause Device (D.faults disk.old) (D.faults disk.new) result }
-    ensures fewest_reads { D.reads disk.old ≤ D.reads disk.new }
-    ensures most_reads { D.reads disk.new ≤ D.reads disk.old + places.region_blocks mem }
+    ensures reads { ReadsAtMost (places.region_blocks mem) (D.reads disk.old) (D.reads disk.new) }
 {
     let mut reader = RegionReader::new(alloc, mem, region)?;
     let mut logged = Vec::with_capacity(alloc, mem as usize)?;
@@ -120,8 +119,7 @@ fn read_records<D: Disk>(
         → Exposes (D.view disk.old) f → recover_journal_now f mem region ≡ Err b }
     ensures looks { OnlyReads (D.view disk.old) (D.view disk.new) }
     ensures cause { HasCause Device (D.faults disk.old) (D.faults disk.new) result }
-    ensures fewest_reads { D.reads disk.old ≤ D.reads disk.new }
-    ensures most_reads { D.reads disk.new ≤ D.reads disk.old + places.region_blocks mem + 1 }
+    ensures reads { ReadsAtMost (places.region_blocks mem + 1) (D.reads disk.old) (D.reads disk.new) }
 {
     let logged = read_region(alloc, disk, mem, region)?;
     let others = gate_up(disk, region_at(mem, 1 - region))?;
@@ -153,8 +151,7 @@ impl Journal {
         ensures images { KeepsImages (D.view disk.old) (D.view disk.new) }
         ensures time { Passes (D.view disk.old) (D.view disk.new) }
         ensures cause { HasCause Device (D.faults disk.old) (D.faults disk.new) result }
-        ensures fewest_reads { D.reads disk.old ≤ D.reads disk.new }
-        ensures most_reads { D.reads disk.new ≤ D.reads disk.old + places.region_blocks sb.now.mem + 1 }
+        ensures reads { ReadsAtMost (places.region_blocks sb.now.mem + 1) (D.reads disk.old) (D.reads disk.new) }
     {
         let mut journal = Journal::empty(alloc, sb.mem, sb.region)?;
         let (logged, others) = read_records(alloc, disk, sb.mem, sb.region)?;

@@ -10,4 +10,4 @@ returns-clause-ok g c =
     rw (← c.self.view_is)
     (block_read (g.D.Disk.view c.args.disk.now) (g.D.Disk.view c.read_at.new.self) _ _ s.first s.size _ s.bytes.items c.read_at.new.into _ tt _ _ c.self.invariant short
     (omega (arith, c.len.ensures, s.bytes.ok.0)) (omega arith) c.read_at.auto.into (rw c.unwrap.ensures at c.extend_from_slice.ensures.items) read.ok
-    (record { same = read.same; images = read.images; time = read.time }) read.fewest_reads read.most_reads)
+    (record { same = read.same; images = read.images; time = read.time }) read.reads.later read.reads.bound)
