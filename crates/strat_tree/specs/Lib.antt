@@ -1,0 +1,3 @@
+pub mod Ancestor
+pub mod TreeView
+pub mod Jumps
