@@ -9,7 +9,8 @@ use Rattle.strat_base.proofs.TreeLemmas.{option_cases, parent_older, root_is_zer
 use Rattle.std.proofs.lemmas.List.{get_or_read}
 use Rattle.strat_tree.specs.Ancestor.{up, ancestor_at}
 use Rattle.strat_tree.specs.TreeView.{TreeView}
-use Rattle.strat_tree.specs.Jumps.{IsIndex, IsKept, tree_of}
+use Rattle.strat_tree.specs.Jumps.{IsIndex}
+use Rattle.strat_tree.specs.TreeFields.{tree_of, IsIndexed}
 use Rattle.strat_tree.specs.declared.tree.Tree.TheInside.{Inside}
 
 pub up_root : (parents : Parents) (v : ℕ) → parent_of parents v ≡ None → up parents v ≡ 0
@@ -169,22 +170,22 @@ row_next parents p q i next some first second =
     second ∙ ap (ancestor_at parents (2 ^ (i - 1))) first ∙ sym (at_add parents (2 ^ (i - 1)) (2 ^ (i - 1) - 1) p) ∙ ap (λ (k : ℕ). ancestor_at parents k p) both
 
 -- what the fields of a tree say of the value that callers see
-pub record Keeps (t : TreeView) (a : Inside) : Type 0 where
+pub record IsSeenAs (a : Inside) (t : TreeView) : Type 0 where
   pub tree : IsTree t.parents
   pub few : length t.parents ≤ 16384
   pub index : IsIndex t.parents a.depths.items a.inner.items a.jumps.items
 
-pub keeps : (a : Inside) (t : TreeView) → tree_of a ≡ t → IsKept a → Keeps t a
-keeps a t same kept =
-    subst (λ (x : TreeView). Keeps x a) same (record {
-      tree = kept.tree;
-      few = omega (arith, kept.fits, kept.few);
-      index = kept.index;
+pub seen_as : (a : Inside) (t : TreeView) → tree_of a ≡ t → IsIndexed a → IsSeenAs a t
+seen_as a t same seen =
+    subst (λ (x : TreeView). IsSeenAs a x) same (record {
+      tree = seen.tree;
+      few = omega (arith, seen.fits, seen.few);
+      index = seen.index;
     })
 
 -- where a jump leads, as it is read
-pub jump_read : (t : TreeView) (a : Inside) → Keeps t a → (v i : ℕ) (row : List ℕ) → v < length t.parents → i < 14 → row ≡ get_or a.jumps.items v row
+pub jump_read : (a : Inside) (t : TreeView) → IsSeenAs a t → (v i : ℕ) (row : List ℕ) → v < length t.parents → i < 14 → row ≡ get_or a.jumps.items v row
     → get_or row i 0 ≡ ancestor_at t.parents (2 ^ i) v
-jump_read t a kept v i row known few read =
-    let within : v < length a.jumps.items = omega (arith, kept.index.jumps_len) in
-    ap (λ (xs : List ℕ). get_or xs i 0) (get_or_read a.jumps.items v row within read []) ∙ kept.index.jump v i known few
+jump_read a t seen v i row known few read =
+    let within : v < length a.jumps.items = omega (arith, seen.index.jumps_len) in
+    ap (λ (xs : List ℕ). get_or xs i 0) (get_or_read a.jumps.items v row within read []) ∙ seen.index.jump v i known few

@@ -1,9 +1,7 @@
--- What a tree keeps of its versions, so that walks along their paths are short.
-use Rattle.std.specs.Prelude.{◌≡◌, ◌<◌, ◌≤◌, ℕ, ◌-◌, ◌^◌, Bool, false, List, [], length, slice_index, slice_index_or, vec_capacity}
-use Rattle.strat_base.specs.Tree.{Parents, depth, has_child, IsTree}
+-- What a tree keeps of its versions, so that walks up their paths are short.
+use Rattle.std.specs.Prelude.{◌≡◌, ◌<◌, ℕ, ◌-◌, ◌^◌, Bool, false, List, [], length, slice_index, slice_index_or}
+use Rattle.strat_base.specs.Tree.{Parents, depth, has_child}
 use Rattle.strat_tree.specs.Ancestor.{ancestor_at}
-use Rattle.strat_tree.specs.TreeView.{TreeView}
-use Rattle.strat_tree.specs.declared.tree.Tree.TheInside.{Inside}
 
 -- these are the depths of all versions, whether they have children, and where their jumps lead
 pub record IsIndex (parents : Parents) (depths : List ℕ) (inner : List Bool) (jumps : List (List ℕ)) : Type 0 where
@@ -18,18 +16,3 @@ pub record IsIndex (parents : Parents) (depths : List ℕ) (inner : List Bool) (
 -- the jumps of a child of p: jump i leads 2 ^ i steps up, the first of them to p
 abbrev pub IsChildRow : Parents → ℕ → List ℕ → Type 0
 IsChildRow parents p row = (i : ℕ) → i < 14 → slice_index row i ≡ ancestor_at parents (2 ^ i - 1) p
-
--- the tree of these fields
-abbrev pub tree_of : Inside → TreeView
-tree_of a = record { parents = a.parents.items; versions_max = a.versions_max }
-
--- the fields are those of a tree, with room for every version that there may be
-pub record IsKept (a : Inside) : Type 0 where
-  pub tree : IsTree a.parents.items
-  pub fits : length a.parents.items ≤ a.versions_max
-  pub few : a.versions_max ≤ 16384
-  pub index : IsIndex a.parents.items a.depths.items a.inner.items a.jumps.items
-  pub parents_room : a.versions_max ≤ vec_capacity a.parents
-  pub depths_room : a.versions_max ≤ vec_capacity a.depths
-  pub inner_room : a.versions_max ≤ vec_capacity a.inner
-  pub jumps_room : a.versions_max ≤ vec_capacity a.jumps

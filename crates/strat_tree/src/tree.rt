@@ -1,18 +1,19 @@
-//! The tree of versions.
+//! The tree of a store's versions. Each version has, beside its parent, its depth, whether it has a
+//! child, and the ancestors at 1, 2, 4, .. 8,192 steps above it.
 
-ghost use Rattle.std.specs.Prelude.{◌≡◌, ◌<◌, ◌≤◌, ℕ, ◌^◌, ◌-◌, [], ◌∷◌, ◌++◌, length, None, Some, IfOk, slice_index};
+ghost use Rattle.std.specs.Prelude.{◌≡◌, ◌<◌, ◌≤◌, ◌+◌, [], ◌∷◌, length, None, IfOk};
 ghost use Rattle.strat_base.specs.Tree.{parent_of, depth, has_child, is_ancestor, below, with_child, IsTree};
-ghost use Rattle.strat_tree.specs.Ancestor.{ancestor_at};
+ghost use Rattle.strat_tree.specs.Jumps.{IsChildRow};
 
 use std::alloc::Global;
 use std::marker::Model;
 use strat_base::{NoMemory, Version};
 
-/// Jumps of a version: a path has fewer than 2^14 steps.
+/// Jumps of a version. The path of one of 2^14 versions has fewer than 2^14 steps.
 const JUMPS: usize = 14;
 
-/// The versions of a store, each with its parent. Jump `i` of a version leads `2^i` steps up its path,
-/// or to version 0 where the path is shorter.
+/// The versions of a store: version 0, and others that were each made as a child of an earlier one.
+/// Jump `i` of a version leads `2^i` steps up its path, and to version 0 where the path is shorter.
 #[derive(Drop)]
 pub struct Tree {
     versions_max: u32,
@@ -27,15 +28,16 @@ impl Model for Tree {
 
     ghost Value = { TreeView };
 
-    ghost use Rattle.strat_tree.specs.Jumps.{tree_of, IsKept};
+    ghost use Rattle.strat_tree.specs.TreeFields.{tree_of, IsIndexed};
 
     ghost view = { tree_of };
 
-    ghost invariant = { IsKept };
+    ghost invariant = { IsIndexed };
 }
 
 impl Tree {
-    /// A tree of version 0 alone. Takes the memory for all versions that there may be, 69 bytes each.
+    /// A tree of version 0 alone. Takes memory for all versions that there may be, about 70 bytes each, and
+    /// no other call takes any. Where memory is short, none stays taken.
     pub fn new(alloc: Global, versions_max: u32) -> Result<Tree, NoMemory>
         requires some { 1 ≤ versions_max }
         requires few { versions_max ≤ 16384 }
@@ -106,7 +108,7 @@ impl Tree {
         self.inner[v as usize]
     }
 
-    /// Whether u is v or an ancestor of v. O(log depth).
+    /// Whether u is v or an ancestor of v. O(log versions_max): up to 15 steps.
     pub fn is_ancestor(&self, u: Version, v: Version) -> bool
         requires first { u < length self.now.parents }
         requires second { v < length self.now.parents }
@@ -117,7 +119,9 @@ impl Tree {
         self.below(v, u + 1) == u
     }
 
-    /// The nearest of v and its ancestors that is numbered below h. O(log depth).
+    /// The nearest of v and its ancestors that is numbered below h. O(log versions_max): a parent is
+    /// older than its child, so each jump that stays at or above h is taken, the longest first, and one
+    /// step after them is below h.
     pub fn below(&self, v: Version, h: u32) -> Version
         requires known { v < length self.now.parents }
         requires some { 1 ≤ h }
@@ -142,8 +146,7 @@ impl Tree {
     /// The jumps of a child of p: each is two of the jump before it.
     fn child_row(&self, p: Version) -> [Version; JUMPS]
         requires { p < length self.now.parents }
-        ensures ok { (i : ℕ) → i < 14
-            → slice_index result i ≡ ancestor_at self.now.parents (2 ^ i - 1) p }
+        ensures ok { IsChildRow self.now.parents p result }
     {
         let mut row = [p; JUMPS];
         for i in 1..JUMPS {
@@ -152,12 +155,14 @@ impl Tree {
         row
     }
 
-    /// Adds a version, a child of p, and answers its number. Takes no memory. O(log versions).
+    /// Adds a version, a child of p, and answers its number. It takes no memory and cannot fail.
+    /// O(log versions_max): 14 jumps are filled.
     pub fn add_child(&mut self, p: Version) -> Version
         requires known { p < length self.old.parents }
         requires room { length self.old.parents < self.old.versions_max }
         ensures found { result ≡ length self.old.parents }
         ensures ok { self.new ≡ record self.old { parents = with_child self.old.parents p } }
+        ensures len { length self.new.parents ≡ length self.old.parents + 1 }
         ensures kept { IsTree self.new.parents }
     {
         let child = self.parents.len() as u32;
