@@ -1,11 +1,11 @@
 -- Steps up the paths of a tree, and the walk by jumps that finds the ancestor below a horizon.
-use Rattle.std.proofs.Common.{◌≡◌, ◌≢◌, ◌<◌, ◌≤◌, ℕ, zero, suc, ◌+◌, ◌-◌, ◌*◌, ◌^◌, Bool, true, false, eqb, get_or, inl, inr, List, [], ◌∷◌, length, Option, Some, None, refl, sym, ap, ◌∙◌, subst, arith, unwrap_or}
+use Rattle.std.proofs.Common.{◌≡◌, ◌<◌, ◌≤◌, ℕ, zero, suc, ◌+◌, ◌-◌, ◌^◌, true, eqb, get_or, inl, inr, List, [], length, Option, Some, None, refl, sym, ap, ◌∙◌, subst, arith, unwrap_or}
 use Rattle.std.proofs.Math.Nat.{pow-succ'}
 use Rattle.std.proofs.lemmas.Nat.{pow_pos}
-use Rattle.std.proofs.lemmas.Bool.{eqb-true, eq-eqb, ne_eqb, cases_eq, cases_lt, cases_Bool, true_from_ne_false}
-use Rattle.strat_base.specs.Tree.{Parents, parent_of, path, depth, is_ancestor, below, IsTree}
+use Rattle.std.proofs.lemmas.Bool.{eq-eqb, ne_eqb, cases_Bool}
+use Rattle.strat_base.specs.Tree.{Parents, parent_of, path, is_ancestor, below, IsTree}
 use Rattle.strat_base.proofs.ListFacts.{Among}
-use Rattle.strat_base.proofs.TreeLemmas.{option_cases, parent_older, root_is_zero, path_root, path_up, along_path, path_le, ancestor_among, among_ancestor, below_here, below_up, below_found, below_greatest}
+use Rattle.strat_base.proofs.TreeLemmas.{option_cases, parent_older, root_is_zero, path_root, path_up, along_path, ancestor_among, among_ancestor, below_here, below_up, below_found, below_greatest}
 use Rattle.std.proofs.lemmas.List.{get_or_read}
 use Rattle.strat_tree.specs.Ancestor.{up, ancestor_at}
 use Rattle.strat_tree.specs.TreeView.{TreeView}
@@ -93,7 +93,7 @@ module _ (parents : Parents) (tree : IsTree parents) where
         | inr no' ↦
             let found = below_found parents tree v (u + 1) known (omega arith) in
             let among : below parents v (u + 1) ≡ u → is_ancestor parents u v ≡ true
-                = λ (e : below parents v (u + 1) ≡ u). among_ancestor parents tree u v (subst (λ (x : ℕ). Among x (path parents v)) e found.0) in
+            = λ (e : below parents v (u + 1) ≡ u). among_ancestor parents tree u v (subst (λ (x : ℕ). Among x (path parents v)) e found.0) in
             ne_eqb (below parents v (u + 1)) u (λ e. let yes' = among e in absurd (cc)) ∙ sym no'
       ]
 
@@ -128,7 +128,7 @@ module _ (parents : Parents) (tree : IsTree parents) (v h : ℕ) (positive : 0 <
       let low : ancestor_at parents (2 ^ (i - 1)) at ≤ at - 2 ^ (i - 1) = at_le parents tree (2 ^ (i - 1)) at in
       let known : at < length parents = walk.known in
       let both : ancestor_at parents (2 ^ i) at ≡ ancestor_at parents (2 ^ (i - 1)) next
-          = ap (λ (k : ℕ). ancestor_at parents k at) (two_halves i some) ∙ at_add parents (2 ^ (i - 1)) (2 ^ (i - 1)) at ∙ ap (ancestor_at parents (2 ^ (i - 1))) (sym is) in
+      = ap (λ (k : ℕ). ancestor_at parents k at) (two_halves i some) ∙ at_add parents (2 ^ (i - 1)) (2 ^ (i - 1)) at ∙ ap (ancestor_at parents (2 ^ (i - 1))) (sym is) in
       let far : ancestor_at parents (2 ^ i) at < h = walk.far in
       record {
         known = omega arith;

@@ -1,15 +1,15 @@
 -- What a tree keeps of its versions, after one more was added.
-use Rattle.std.proofs.Common.{◌≡◌, ◌<◌, ◌≤◌, ℕ, zero, suc, ◌+◌, ◌-◌, ◌^◌, Bool, true, false, eqb, ◌||◌, get_or, set, replicate, inl, inr, List, [], ◌∷◌, ◌++◌, length, Option, Some, None, refl, sym, ap, ◌∙◌, subst, arith, unwrap_or, length-append}
-use Rattle.std.specs.List.{list_any, slice_get}
+use Rattle.std.proofs.Common.{◌≡◌, ◌<◌, ◌≤◌, ℕ, zero, suc, ◌+◌, ◌-◌, ◌^◌, Bool, true, false, eqb, ◌||◌, get_or, set, replicate, inl, inr, List, [], ◌∷◌, ◌++◌, length, Option, Some, None, refl, sym, ap, ◌∙◌, subst, arith, unwrap_or}
+use Rattle.std.specs.List.{slice_get}
 use Rattle.std.specs.Option.{option_map_or, option_and_then}
-use Rattle.std.proofs.lemmas.Bool.{eq-eqb, ne_eqb, cases_eq, cases_lt, or_right, or_left}
+use Rattle.std.proofs.lemmas.Bool.{eq-eqb, ne_eqb, cases_eq, cases_lt, or_right}
 use Rattle.std.proofs.lemmas.Nat.{pow_pos}
 use Rattle.std.proofs.lemmas.List.{length_push, get_or_append_left, get_or_push, get_or-set_same, get_or-set_other, get_or-replicate, length-set}
 use Rattle.std.proofs.lemmas.List.Folds.{list_any-append, list_any_none}
 use Rattle.std.proofs.lemmas.Option.{slice_get-get_or}
 use Rattle.strat_base.specs.Tree.{Parents, parent_of, climb, path, depth, has_child, with_child, IsOlder, IsTree}
 use Rattle.strat_base.proofs.ListFacts.{Among}
-use Rattle.strat_base.proofs.TreeLemmas.{tree_grown, parent_kept, path_kept, path_child, self_on_path}
+use Rattle.strat_base.proofs.TreeLemmas.{parent_kept, path_kept, path_child, self_on_path}
 use Rattle.strat_tree.specs.Ancestor.{up, ancestor_at}
 use Rattle.strat_tree.specs.Jumps.{IsIndex, IsChildRow}
 use Rattle.strat_tree.proofs.AncestorLemmas.{up_le, up_some, at_le, path_short, at_add, at_one}
@@ -75,9 +75,9 @@ module _ (parents : Parents) (tree : IsTree parents) (p : ℕ) (known : p < leng
   at_child : (n : ℕ) → 0 < n → ancestor_at (with_child parents p) n (length parents) ≡ ancestor_at parents (n - 1) p
   at_child n some =
       let parent : parent_of (with_child parents p) (length parents) ≡ Some p
-          = ap (λ (o : Option (Option ℕ)). option_and_then (λ parent. parent) o)
-          (slice_get-get_or (with_child parents p) (length parents) None (omega (arith, length_push parents (Some p)))
-          ∙ ap (λ (o : Option ℕ). Some o) (get_or_push parents (Some p) None (length parents) refl)) in
+      = ap (λ (o : Option (Option ℕ)). option_and_then (λ parent. parent) o)
+      (slice_get-get_or (with_child parents p) (length parents) None (omega (arith, length_push parents (Some p)))
+      ∙ ap (λ (o : Option ℕ). Some o) (get_or_push parents (Some p) None (length parents) refl)) in
       let first : ancestor_at (with_child parents p) 1 (length parents) ≡ p = at_one (with_child parents p) (length parents) ∙ up_some (with_child parents p) (length parents) p parent in
       let steps : n ≡ n - 1 + 1 = omega arith in
       ap (λ (k : ℕ). ancestor_at (with_child parents p) k (length parents)) steps

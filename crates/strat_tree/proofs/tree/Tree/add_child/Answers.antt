@@ -1,4 +1,4 @@
-use Rattle.std.proofs.Common.{arith, ap, ◌<◌, ◌∙◌, ◌≡◌, ◌+◌, length, Some, subst, sym}
+use Rattle.std.proofs.Common.{arith, ◌<◌, ◌≡◌, ◌+◌, length, Some, subst, sym}
 use Rattle.std.proofs.lemmas.List.{length_push, get_or_read}
 use Rattle.strat_base.specs.Tree.{depth}
 use Rattle.strat_base.proofs.TreeLemmas.{tree_grown}

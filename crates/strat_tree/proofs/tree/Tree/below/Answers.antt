@@ -1,4 +1,4 @@
-use Rattle.std.proofs.Common.{arith, sym, ap, ◌∙◌, ◌≡◌, ◌≤◌, ◌<◌, ◌-◌, length}
+use Rattle.std.proofs.Common.{arith, sym, ◌∙◌, ◌≡◌, ◌-◌}
 use Rattle.strat_base.proofs.TreeLemmas.{below_here}
 use Rattle.strat_tree.proofs.AncestorLemmas.{seen_as, jump_read, walk_begins, walk_jumps, walk_stays, walk_ends, at_one}
 use Rattle.strat_tree.proofs.tree.Tree.below.Goals as goal
@@ -40,5 +40,7 @@ returns c =
     let seen = seen_as c.self.inside c.args.self.now c.self.view_is c.self.invariant in
     let read = jump_read c.self.inside c.args.self.now seen c.loop-i.at 0 c.index-2.result.now c.loop-i.invariant.1.known (omega arith) c.index-2.ensures in
     let end : c.loop-i.i ≡ 0 = omega arith in
-    record { ok = read ∙ at_one c.args.self.now.parents c.loop-i.at
-      ∙ walk_ends c.args.self.now.parents seen.tree c.args.v c.args.h c.requires.some c.loop-i.at (rw end at c.loop-i.invariant.1) }
+    record {
+      ok = read ∙ at_one c.args.self.now.parents c.loop-i.at
+          ∙ walk_ends c.args.self.now.parents seen.tree c.args.v c.args.h c.requires.some c.loop-i.at (rw end at c.loop-i.invariant.1);
+    }

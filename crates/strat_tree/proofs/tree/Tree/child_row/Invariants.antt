@@ -1,5 +1,5 @@
 -- The jumps that are filled.
-use Rattle.std.proofs.Common.{◌≡◌, ◌≤◌, length}
+use Rattle.std.proofs.Common.{◌≡◌, length}
 use Rattle.strat_tree.proofs.AncestorLemmas.{IsRow}
 use Rattle.strat_tree.proofs.tree.Tree.child_row.Given as goal
 
