@@ -113,6 +113,7 @@ pub record IsWalk (parents : Parents) (v h at i : ℕ) : Type 0 where
   pub same : below parents at h ≡ below parents v h
   pub far : ancestor_at parents (2 ^ i) at < h
 
+-- a jump is twice the one before it
 two_halves : (i : ℕ) → 1 ≤ i → 2 ^ i ≡ 2 ^ (i - 1) + 2 ^ (i - 1)
 two_halves zero some = absurd (omega arith)
 two_halves (suc i) some = let less : suc i - 1 ≡ i = omega arith in rw less (omega (arith, pow-succ' 2 i))
@@ -123,6 +124,7 @@ module _ (parents : Parents) (tree : IsTree parents) (v h : ℕ) (positive : 0 <
       let low : ancestor_at parents 16384 v ≤ v - 16384 = at_le parents tree 16384 v in
       record { known = known; above = above; same = refl; far = omega arith }
 
+  -- a jump that stays at or above the horizon is taken
   pub walk_jumps : (at i next : ℕ) → 1 ≤ i → IsWalk parents v h at i → next ≡ ancestor_at parents (2 ^ (i - 1)) at → h ≤ next → IsWalk parents v h next (i - 1)
   walk_jumps at i next some walk is above =
       let low : ancestor_at parents (2 ^ (i - 1)) at ≤ at - 2 ^ (i - 1) = at_le parents tree (2 ^ (i - 1)) at in
@@ -137,10 +139,12 @@ module _ (parents : Parents) (tree : IsTree parents) (v h : ℕ) (positive : 0 <
         far = omega arith;
       }
 
+  -- a jump that goes below it is not
   pub walk_stays : (at i next : ℕ) → IsWalk parents v h at i → next ≡ ancestor_at parents (2 ^ (i - 1)) at → next < h → IsWalk parents v h at (i - 1)
   walk_stays at i next walk is below' =
       record { known = walk.known; above = walk.above; same = walk.same; far = omega (arith, is) }
 
+  -- after all jumps the parent is the version that was sought
   pub walk_ends : (at : ℕ) → IsWalk parents v h at 0 → up parents at ≡ below parents v h
   walk_ends at walk =
       let one : ancestor_at parents 1 at ≡ up parents at = at_one parents at in

@@ -18,6 +18,7 @@ or_false : (b : Bool) → (b || false) ≡ b
 or_false true = refl
 or_false false = refl
 
+-- a version with this parent is a child of v
 is_child : ℕ → Option ℕ → Bool
 is_child v parent = option_map_or (λ p. eqb p v) parent false
 
@@ -64,6 +65,7 @@ index_root = record {
 }
 
 module _ (parents : Parents) (tree : IsTree parents) (p : ℕ) (known : p < length parents) where
+  -- no ancestor of an older version changes
   at_kept : (n v : ℕ) → v < length parents → ancestor_at (with_child parents p) n v ≡ ancestor_at parents n v
   unfolding ancestor_at
   at_kept zero v older = refl
@@ -72,6 +74,7 @@ module _ (parents : Parents) (tree : IsTree parents) (p : ℕ) (known : p < leng
       let low : up parents v ≤ v - 1 = up_le parents tree v in
       ap (ancestor_at (with_child parents p) n) same ∙ at_kept n (up parents v) (omega arith)
 
+  -- the ancestors of the new version are its parent and the ancestors of that
   at_child : (n : ℕ) → 0 < n → ancestor_at (with_child parents p) n (length parents) ≡ ancestor_at parents (n - 1) p
   at_child n some =
       let parent : parent_of (with_child parents p) (length parents) ≡ Some p

@@ -4,7 +4,8 @@ use Rattle.strat_base.specs.Tree.{Parents, depth, has_child}
 use Rattle.strat_tree.specs.Ancestor.{ancestor_at}
 
 -- these are the depths of all versions, whether they have children, and where their jumps lead
-pub record IsIndex (parents : Parents) (depths : List ℕ) (inner : List Bool) (jumps : List (List ℕ)) : Type 0 where
+pub record IsIndex (parents : Parents) (depths : List ℕ) (inner : List Bool)
+    (jumps : List (List ℕ)) : Type 0 where
   pub depths_len : length depths ≡ length parents
   pub inner_len : length inner ≡ length parents
   pub jumps_len : length jumps ≡ length parents

@@ -36,8 +36,8 @@ impl Model for Tree {
 }
 
 impl Tree {
-    /// A tree of version 0 alone. Takes memory for all versions that there may be, about 70 bytes each, and
-    /// no other call takes any. Where memory is short, none stays taken.
+    /// A tree of version 0 alone. Takes memory for all versions that there may be, about 70 bytes
+    /// each, and no other call takes any. Where memory is short, none stays taken.
     pub fn new(alloc: Global, versions_max: u32) -> Result<Tree, NoMemory>
         requires some { 1 ≤ versions_max }
         requires few { versions_max ≤ 16384 }
@@ -119,9 +119,9 @@ impl Tree {
         self.below(v, u + 1) == u
     }
 
-    /// The nearest of v and its ancestors that is numbered below h. O(log versions_max): a parent is
-    /// older than its child, so each jump that stays at or above h is taken, the longest first, and one
-    /// step after them is below h.
+    /// The nearest of v and its ancestors that is numbered below h. O(log versions_max): a parent has
+    /// a smaller number than its child, so each jump that stays at or above h is taken, the longest
+    /// first, and one step after them is below h.
     pub fn below(&self, v: Version, h: u32) -> Version
         requires known { v < length self.now.parents }
         requires some { 1 ≤ h }
