@@ -1,0 +1,2 @@
+pub mod AncestorLemmas
+pub mod GrownLemmas

@@ -1,0 +1,25 @@
+use Rattle.std.proofs.Common.{rules}
+use Rattle.strat_tree.proofs.GrownLemmas.{tree_root, index_root}
+use Rattle.strat_tree.proofs.tree.Tree.new.Goals as goal
+
+pub invariant_of-result : goal.invariant_of-result
+invariant_of-result c =
+    record {
+      tree = rw (c.push_reserved.ensures.items, c.in_ok-parents.ensures.items) tree_root;
+      fits = rw (c.push_reserved.ensures.items, c.in_ok-parents.ensures.items) c.requires.some;
+      few = c.requires.few;
+      index = rw (
+        c.push_reserved.ensures.items,
+        c.push_reserved-2.ensures.items,
+        c.push_reserved-3.ensures.items,
+        c.push_reserved-4.ensures.items,
+        c.in_ok-parents.ensures.items,
+        c.in_ok-depths.ensures.items,
+        c.in_ok-inner.ensures.items,
+        c.in_ok-jumps.ensures.items,
+      ) index_root;
+      parents_room = search rules;
+      depths_room = search rules;
+      inner_room = search rules;
+      jumps_room = search rules;
+    }

@@ -1,0 +1,4 @@
+pub mod Ancestor
+pub mod TreeView
+pub mod Jumps
+pub mod TreeFields

@@ -1,0 +1,178 @@
+//! The tree of a store's versions. Each version has, beside its parent, its depth, whether it has a
+//! child, and the ancestors at 1, 2, 4, .. 8,192 steps above it.
+
+ghost use Rattle.std.specs.Prelude.{◌≡◌, ◌<◌, ◌≤◌, ◌+◌, [], ◌∷◌, length, None, IfOk};
+ghost use Rattle.strat_base.specs.Tree.{parent_of, depth, has_child, is_ancestor, below, with_child, IsTree};
+ghost use Rattle.strat_tree.specs.Jumps.{IsChildRow};
+
+use std::alloc::Global;
+use std::marker::Model;
+use strat_base::{NoMemory, Version};
+
+/// Jumps of a version. The path of one of 2^14 versions has fewer than 2^14 steps.
+const JUMPS: usize = 14;
+
+/// The versions of a store: version 0, and others that were each made as a child of an earlier one.
+/// Jump `i` of a version leads `2^i` steps up its path, and to version 0 where the path is shorter.
+#[derive(Drop)]
+pub struct Tree {
+    versions_max: u32,
+    parents: Vec<Option<Version>>,
+    depths: Vec<u32>,
+    inner: Vec<bool>,
+    jumps: Vec<[Version; JUMPS]>,
+}
+
+impl Model for Tree {
+    ghost use Rattle.strat_tree.specs.TreeView.{TreeView};
+
+    ghost Value = { TreeView };
+
+    ghost use Rattle.strat_tree.specs.TreeFields.{tree_of, IsIndexed};
+
+    ghost view = { tree_of };
+
+    ghost invariant = { IsIndexed };
+}
+
+impl Tree {
+    /// A tree of version 0 alone. Takes memory for all versions that there may be, about 70 bytes
+    /// each, and no other call takes any. Where memory is short, none stays taken.
+    pub fn new(alloc: Global, versions_max: u32) -> Result<Tree, NoMemory>
+        requires some { 1 ≤ versions_max }
+        requires few { versions_max ≤ 16384 }
+        ensures ok { IfOk result (λ t. t ≡ record {
+          parents = None ∷ [];
+          versions_max = versions_max;
+        }) }
+        ensures kept { IfOk result (λ t. IsTree t.parents) }
+    {
+        let room = versions_max as usize;
+        let mut parents = Vec::with_capacity(alloc, room)?;
+        let mut depths = Vec::with_capacity(alloc, room)?;
+        let mut inner = Vec::with_capacity(alloc, room)?;
+        let mut jumps = Vec::with_capacity(alloc, room)?;
+        parents.push_reserved(None);
+        depths.push_reserved(0);
+        inner.push_reserved(false);
+        jumps.push_reserved([0; JUMPS]);
+        Ok(Tree {
+            versions_max,
+            parents,
+            depths,
+            inner,
+            jumps,
+        })
+    }
+
+    /// How many versions there are. O(1).
+    pub fn count(&self) -> u32
+        ensures ok { result ≡ length self.now.parents }
+        ensures kept { IsTree self.now.parents }
+        ensures some { 1 ≤ result }
+        ensures room { result ≤ self.now.versions_max }
+        ensures fits { self.now.versions_max ≤ 16384 }
+    {
+        self.parents.len() as u32
+    }
+
+    /// The parent of each version, by its number. O(1).
+    pub fn parents(&self) -> &[Option<Version>]
+        ensures ok { result.now ≡ self.now.parents }
+        ensures kept { IsTree self.now.parents }
+    {
+        &self.parents
+    }
+
+    /// The parent of a version. O(1).
+    pub fn parent(&self, v: Version) -> Option<Version>
+        requires { v < length self.now.parents }
+        ensures ok { result ≡ parent_of self.now.parents v }
+    {
+        self.parents[v as usize]
+    }
+
+    /// How many ancestors a version has. O(1).
+    pub fn depth(&self, v: Version) -> u32
+        requires { v < length self.now.parents }
+        ensures ok { result ≡ depth self.now.parents v }
+    {
+        self.depths[v as usize]
+    }
+
+    /// Whether some version has this one as its parent. O(1).
+    pub fn has_child(&self, v: Version) -> bool
+        requires { v < length self.now.parents }
+        ensures ok { result ≡ has_child self.now.parents v }
+    {
+        self.inner[v as usize]
+    }
+
+    /// Whether u is v or an ancestor of v. O(log versions_max): up to 15 steps.
+    pub fn is_ancestor(&self, u: Version, v: Version) -> bool
+        requires first { u < length self.now.parents }
+        requires second { v < length self.now.parents }
+        ensures ok { result ≡ is_ancestor self.now.parents u v }
+    {
+        // What every tree keeps is known where a field is used.
+        let _ = &self.parents;
+        self.below(v, u + 1) == u
+    }
+
+    /// The nearest of v and its ancestors that is numbered below h. O(log versions_max): a parent has
+    /// a smaller number than its child, so each jump that stays at or above h is taken, the longest
+    /// first, and one step after them is below h.
+    pub fn below(&self, v: Version, h: u32) -> Version
+        requires known { v < length self.now.parents }
+        requires some { 1 ≤ h }
+        ensures ok { result ≡ below self.now.parents v h }
+    {
+        let jumps = &self.jumps;
+        if v < h {
+            return v;
+        }
+        let mut at = v;
+        let mut i = JUMPS;
+        while i > 0 {
+            i -= 1;
+            let next = jumps[at as usize][i];
+            if next >= h {
+                at = next;
+            }
+        }
+        jumps[at as usize][0]
+    }
+
+    /// The jumps of a child of p: each is two of the jump before it.
+    fn child_row(&self, p: Version) -> [Version; JUMPS]
+        requires { p < length self.now.parents }
+        ensures ok { IsChildRow self.now.parents p result }
+    {
+        let mut row = [p; JUMPS];
+        for i in 1..JUMPS {
+            row[i] = self.jumps[row[i - 1] as usize][i - 1];
+        }
+        row
+    }
+
+    /// Adds a version, a child of p, and answers its number. It takes no memory and cannot fail.
+    /// O(log versions_max): 14 jumps are filled.
+    pub fn add_child(&mut self, p: Version) -> Version
+        requires known { p < length self.old.parents }
+        requires room { length self.old.parents < self.old.versions_max }
+        ensures found { result ≡ length self.old.parents }
+        ensures ok { self.new ≡ record self.old { parents = with_child self.old.parents p } }
+        ensures len { length self.new.parents ≡ length self.old.parents + 1 }
+        ensures kept { IsTree self.new.parents }
+    {
+        let child = self.parents.len() as u32;
+        let depth = self.depths[p as usize] + 1;
+        let row = self.child_row(p);
+        self.parents.push_reserved(Some(p));
+        self.depths.push_reserved(depth);
+        self.inner[p as usize] = true;
+        self.inner.push_reserved(false);
+        self.jumps.push_reserved(row);
+        child
+    }
+}
