@@ -1,7 +1,7 @@
 //! An open store: its table in memory, and the journal that makes each change durable before it is
 //! answered.
 
-ghost use Rattle.std.specs.Prelude.{◌≡◌, ◌≤◌, ◌<◌, ◌⊎◌, ℕ, ◌+◌, ◌-◌, [], ◌∷◌, ◌++◌, length, Some, Ok, IfOk, OnOk, IsTrue, true, false};
+ghost use Rattle.std.specs.Prelude.{◌≡◌, ◌≤◌, ◌<◌, ◌⊎◌, ℕ, ◌+◌, ◌-◌, [], ◌∷◌, ◌++◌, length, Some, None, Ok, IfOk, OnOk, IsTrue, true, false};
 ghost use Rattle.strat_base.specs.Change.{is_lawful};
 ghost use Rattle.strat_base.specs.ChangeView.{change_of};
 ghost use Rattle.strat_crash.specs.Faults.{CountsFaults};
@@ -13,6 +13,7 @@ ghost use Rattle.strat_model.specs.Answer.{as_told, accepts};
 ghost use Rattle.strat_model.specs.Command.{request_of};
 ghost use Rattle.strat_recovery.specs.Head.{Head};
 ghost use Rattle.strat_model.specs.Spelling.{is_taken};
+ghost use Rattle.strat_model.specs.Step.{step};
 ghost use Rattle.strat_store.specs.Opened.{recover_now, head_with, MayFollow};
 ghost use Rattle.strat_store.specs.Store.{IsReady, Holds, StandsOn, IsApplied, Moves, BreaksByFault, change_asked};
 
@@ -138,6 +139,9 @@ impl Store {
         ensures trail { StandsOn (D.view disk.old) self.old
             → Moves (D.view disk.old) (D.view disk.new) self.old self.new }
         ensures same { self.new.log.mem ≡ self.old.log.mem }
+        ensures none { change_asked (request_of command.now) ≡ None → disk.new ≡ disk.old }
+        ensures err { accepts (step self.old.table (request_of command.now)).answer.reply ≡ false
+            → disk.new ≡ disk.old }
         ensures time { Passes (D.view disk.old) (D.view disk.new) }
         ensures cause { BreaksByFault (D.faults disk.old) (D.faults disk.new) self.new }
     {
