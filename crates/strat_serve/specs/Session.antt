@@ -1,6 +1,6 @@
 -- A serving run: what it took, what it answered, what it sent, what it left on the disk, and why it
 -- ended.
-use Rattle.std.specs.Prelude.{◌≡◌, ◌≢◌, ◌≤◌, ◌<◌, ◌⊎◌, ℕ, ◌==◌, ◌&&◌, Bool, true, false, if◌then◌else◌, List, [], ◌++◌, length, take, Option, Some, None, Ok, Err}
+use Rattle.std.specs.Prelude.{◌≡◌, ◌≢◌, ◌≤◌, ◌<◌, ◌⊎◌, ℕ, ◌==◌, ◌&&◌, Bool, true, false, if◌then◌else◌, List, [], ◌++◌, ◌-◌, length, take, map, Option, Some, None, Ok, Err}
 use Rattle.strat_crash.specs.Faults.{Rose}
 use Rattle.strat_crash.specs.Image.{Image}
 use Rattle.strat_crash.specs.Moments.{DiskView, Exposes}
@@ -12,7 +12,7 @@ use Rattle.strat_model.specs.declared.replies.Refusal.TheVariants as why
 use Rattle.strat_model.specs.Answer.{Answer, refusal}
 use Rattle.strat_model.specs.Spelling.{reply_body}
 use Rattle.strat_model.specs.Stream.{frame, Splits, Whole, Rest, Long, ending_of, is_too_long}
-use Rattle.strat_model.specs.Run.{Position, Response, response_bytes, Answers, AnswersFault, Interruption, Transcript, IsTranscript, bodies_of, responses_of, tables_of, sent_bytes}
+use Rattle.strat_model.specs.Run.{Position, Response, Exchange, response_bytes, Answers, AnswersFault, Interruption, Transcript, IsTranscript, bodies_of, responses_of, tables_of, sent_bytes}
 use Rattle.strat_store.specs.Opened.{recover_now, Shows, IsAtRest, Follows, IsUnchanged, FailsToOpen}
 use Rattle.strat_store.specs.Store.{Attached, position_of}
 use Rattle.strat_serve.specs.World.{World}
@@ -100,10 +100,27 @@ output s = sent_bytes (responses_of s.transcript)
     ++ last_output s.transcript.interruption
     (length s.transcript.exchanges == length s.bodies) (is_too_long s.rest)
 
--- what the sink took of what there was to say: all, but where the sink failed a prefix
-abbrev pub Sends : Ended → Option (List ℕ) → Option (List ℕ) → List ℕ → Type 0
-Sends ended.Sink before now all = SendsPrefix before now all
-Sends _ before now all = Appends before now all
+-- the answers before the last one
+abbrev pub before_last : Option Interruption → List Exchange → List Exchange
+before_last None exchanges = take (length exchanges - 1) exchanges
+before_last (Some interruption) exchanges = exchanges
+
+-- the replies to all bodies that were answered but the last
+abbrev pub earlier_bytes : Transcript → List ℕ
+earlier_bytes t =
+    sent_bytes (map (λ x. x.response) (before_last t.interruption t.exchanges))
+
+-- a sink that failed took a prefix of what a session sends, with all replies but the last whole:
+-- so at most one command was carried out that no reply tells of
+pub record SendsAllButLast (before now : Option (List ℕ)) (s : Session) : Type 0 where
+  pub cut : SendsPrefix before now (output s)
+  pub part : List ℕ
+  pub replied : cut.sent ≡ earlier_bytes s.transcript ++ part
+
+-- what the sink took of what a session sends: all of it, where it did not fail
+abbrev pub Sends : Ended → Option (List ℕ) → Option (List ℕ) → Session → Type 0
+Sends ended.Sink before now s = SendsAllButLast before now s
+Sends _ before now s = Appends before now (output s)
 
 -- the last answer is this fault
 abbrev pub EndsWithAnswer : Option Interruption → Answer → Type 0
@@ -137,7 +154,7 @@ pub record Served (budget : ℕ) (how : Ended) (before now : World) : Type 0 whe
   pub session : Session
   pub is : IsSession mem budget start session
   pub took : Took before.left now.left session.taken
-  pub sends : Sends how before.held now.held (output session)
+  pub sends : Sends how before.held now.held session
   pub ends : EndsFor how budget session now.left
   -- a command met a fault exactly where the disk failed
   pub faulted : session.transcript.interruption ≢ None → Rose before.disk_faults now.disk_faults
