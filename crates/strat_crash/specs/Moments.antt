@@ -60,6 +60,12 @@ pub record OnlyReads (old new : DiskView) : Type 0 where
 pub record MayTear (old new : DiskView) (at n : ℕ) : Type 0 where
   pub each : (d c : Image) → Images old d → Outside at n d c → HoldsBytes c → Images new c
 
+-- a write tears only its range, and where it succeeded a crash may leave any bytes there
+pub record TearsRange {T E : Type 0} (old new : DiskView) (at n : ℕ)
+    (result : Result T E) : Type 0 where
+  pub only : TearsOnly old new at n
+  pub may : OnOk result (MayTear old new at n)
+
 -- a crash leaves what a read gives
 abbrev pub IsDurable : DiskView → Type 0
 IsDurable v = IfSome v.content (λ f. (c : Image) → Images v c → c ≡ f)
