@@ -12,7 +12,8 @@ number k bytes = big_number k bytes
 
 -- the number in the k bytes at a place, where there are so many
 abbrev pub number_at : ℕ → List ℕ → ℕ → Option ℕ
-number_at k bytes at = if nat_le (at + k) (length bytes) then Some (number k (drop at bytes)) else None
+number_at k bytes at =
+    if nat_le (at + k) (length bytes) then Some (number k (drop at bytes)) else None
 
 -- these bytes written at a place, all others as they were
 abbrev pub placed : List ℕ → ℕ → List ℕ → List ℕ

@@ -1,5 +1,5 @@
-//! Entries and their bytes in a block: a key behind its length in one byte, the version in four, and 0 where
-//! the key is gone, or 1 and a value behind its length in two.
+//! Entries and their bytes in a block: a key after its length in one byte, the version in four, and 0 where
+//! the key is gone, or 1 and a value after its length in two.
 
 ghost use Rattle.std.specs.Prelude.{◌≡◌, ◌+◌, ◌≤◌, length, drop, IfSome, IsSome, IsTrue};
 ghost use Rattle.strat_base.specs.EntryBytes.{is_markable, fits_fields, mark_field, entry_bytes, mark_in, entry_of_key, entry_in, entry_at, BeginsWithEntry};
@@ -66,7 +66,7 @@ pub fn entry_size(e: &Entry<'_>) -> usize
     5 + e.key.len() + mark_size(&e.val)
 }
 
-/// The entry whose bytes stand at a place, and the place after them. OnlyReads at those bytes alone, copies none
+/// The entry whose bytes stand at a place, and the place after them. Reads those bytes alone, copies none
 /// and takes no memory.
 pub fn get_entry(bytes: &[u8], at: usize) -> Option<(Entry<'_>, usize)>
     ensures ok { Finds (λ r. (entry_of r.0, r.1)) result (entry_at bytes.now at) }
