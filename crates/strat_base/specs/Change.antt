@@ -4,7 +4,7 @@ use Rattle.strat_base.specs.Numbers.{be, number}
 use Rattle.strat_base.specs.Sizes.{is_key, is_value}
 use Rattle.strat_base.specs.Fields.{key_field, value_field, key_in, value_in}
 
--- a change of a store: a key gets a value at a version or is gone from it, or a version gets a child
+-- a change: a key gets a value at a version, or is gone from it, or a version gets a child
 pub data Change : Type 0 where
   Put : (version : ℕ) (key value : List ℕ) → Change
   Delete : (version : ℕ) (key : List ℕ) → Change
