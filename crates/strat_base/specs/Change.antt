@@ -39,7 +39,7 @@ change_in [] = None
 change_in (kind ∷ bytes) =
     if nat_le 4 (length bytes) then change_of_kind kind (number 4 bytes) (drop 4 bytes) else None
 
--- the change whose bytes stand at a place, and the place after them
+-- the change whose bytes stand at an offset, and the offset after them
 abbrev pub change_at : List ℕ → ℕ → Option (Change × ℕ)
 change_at bytes at = option_map (λ c. (c, at + length (change_bytes c))) (change_in (drop at bytes))
 

@@ -43,7 +43,7 @@ unfoldable pub entry_in : List ℕ → Option Entry
 entry_in bytes =
     option_and_then (λ key. entry_of_key key (drop (length (key_field key)) bytes)) (key_in bytes)
 
--- the entry whose bytes stand at a place, and the place after them
+-- the entry whose bytes stand at an offset, and the offset after them
 abbrev pub entry_at : List ℕ → ℕ → Option (Entry × ℕ)
 entry_at bytes at = option_map (λ e. (e, at + length (entry_bytes e))) (entry_in (drop at bytes))
 

@@ -66,7 +66,7 @@ pub fn entry_size(e: &Entry<'_>) -> usize
     5 + e.key.len() + mark_size(&e.val)
 }
 
-/// The entry whose bytes stand at a place, and the place after them. Reads those bytes alone, copies none
+/// The entry whose bytes stand at an offset, and the offset after them. Reads those bytes alone, copies none
 /// and takes no memory.
 pub fn get_entry(bytes: &[u8], at: usize) -> Option<(Entry<'_>, usize)>
     ensures ok { Finds (λ r. (entry_of r.0, r.1)) result (entry_at bytes.now at) }
@@ -81,7 +81,7 @@ pub fn get_entry(bytes: &[u8], at: usize) -> Option<(Entry<'_>, usize)>
     Some((entry, at + entry_size(&entry)))
 }
 
-/// Writes the mark and the value, and gives the place after them.
+/// Writes the mark and the value, and gives the offset after them.
 fn put_mark(into: &mut [u8], at: usize, val: &Val<'_>) -> usize
     requires fits { IsTrue (is_markable (val_of val.now)) }
     requires room { at + length (mark_field (val_of val.now)) ≤ length into.old }
@@ -97,7 +97,7 @@ fn put_mark(into: &mut [u8], at: usize, val: &Val<'_>) -> usize
     }
 }
 
-/// Writes the bytes of an entry from a place on, and gives the place after them. Copies key and value once and
+/// Writes the bytes of an entry from an offset on, and gives the offset after them. Copies key and value once and
 /// takes no memory.
 pub fn put_entry(e: &Entry<'_>, into: &mut [u8], at: usize) -> usize
     requires fits { IsTrue (fits_fields (entry_of e.now)) }

@@ -42,7 +42,7 @@ pub(crate) fn value_of(bytes: &[u8]) -> Option<&[u8]>
     Some(value)
 }
 
-/// Writes these bytes from a place on, and gives the place after them.
+/// Writes these bytes from an offset on, and gives the offset after them.
 pub(crate) fn put_bytes(into: &mut [u8], at: usize, bytes: &[u8]) -> usize
     requires { at + length bytes.now ≤ length into.old }
     ensures end { result ≡ at + length bytes.now }
@@ -52,7 +52,7 @@ pub(crate) fn put_bytes(into: &mut [u8], at: usize, bytes: &[u8]) -> usize
     at + bytes.len()
 }
 
-/// Writes a byte at a place, and gives the place after it.
+/// Writes a byte at an offset, and gives the offset after it.
 pub(crate) fn put_u8(into: &mut [u8], at: usize, n: u8) -> usize
     requires { at + 1 ≤ length into.old }
     ensures end { result ≡ at + 1 }
@@ -62,7 +62,7 @@ pub(crate) fn put_u8(into: &mut [u8], at: usize, n: u8) -> usize
     at + 1
 }
 
-/// Writes a key after its length, and gives the place after it.
+/// Writes a key after its length, and gives the offset after it.
 pub(crate) fn put_key(into: &mut [u8], at: usize, key: &[u8]) -> usize
     requires fits { IsTrue (is_key key.now) }
     requires room { at + length (key_field key.now) ≤ length into.old }
@@ -73,7 +73,7 @@ pub(crate) fn put_key(into: &mut [u8], at: usize, key: &[u8]) -> usize
     put_bytes(into, at, key)
 }
 
-/// Writes a value after its length, and gives the place after it.
+/// Writes a value after its length, and gives the offset after it.
 pub(crate) fn put_value(into: &mut [u8], at: usize, value: &[u8]) -> usize
     requires fits { IsTrue (is_value value.now) }
     requires room { at + length (value_field value.now) ≤ length into.old }

@@ -16,7 +16,7 @@ pub struct PairSpan {
     pub value_len: usize,
 }
 
-/// Up to 256 pairs of key and value. The memory for them, 327,424 bytes and their places, is taken by
+/// Up to 256 pairs of key and value. The memory for them, 327,424 bytes and 256 spans, is taken by
 /// `new`, and no other call takes memory.
 #[derive(Drop)]
 pub struct PairBuf {

@@ -17,7 +17,7 @@ abbrev pub may_follow : List ℕ → ℕ → Bool
 may_follow blocks b =
     nat_le 1 b && nat_lt b 4294967295 && not (list_any (λ other. other == b) blocks)
 
--- the blocks of a chain from b on, with n after it; or the first block whose link is wrong
+-- the blocks of a chain from b on, n after it and none of those before; or the first wrong link
 unfoldable pub chain_from : Image → List ℕ → ℕ → ℕ → Read (List ℕ)
 chain_from c before b zero = passed_or b (link_at c b == 0) (b ∷ [])
 chain_from c before b (suc n) =

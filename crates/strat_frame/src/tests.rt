@@ -15,7 +15,7 @@ use strat_base::limits::{KEY_MAX, PAIRS_MAX};
 use strat_base::{NoMemory, PairBuf, key_ok, value_ok};
 use strat_model::{Command, Refusal, Reply};
 
-/// The bytes that hexadecimal digits tell; whatever else stands between them is passed over.
+/// The bytes that hexadecimal digits spell; whatever else stands between them is passed over.
 fn hex(alloc: Global, digits: &str) -> Result<Vec<u8>, NoMemory> {
     let mut bytes = Vec::new(alloc);
     let mut high = None;

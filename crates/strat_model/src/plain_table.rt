@@ -141,11 +141,10 @@ impl PlainTable {
 
     fn count_update(&mut self) -> Reply
         requires room { self.old.changes < self.old.changes_max }
-        ensures end { result ≡ reply.Done }
-        ensures ok { self.new ≡ record self.old {
+        ensures ok { (result ≡ reply.Done) × (self.new ≡ record self.old {
           updates = self.old.updates + 1;
           changes = self.old.changes + 1;
-        } }
+        }) }
     {
         self.updates += 1;
         self.changes += 1;

@@ -77,7 +77,7 @@ chain_super = record {
   versions_max = 10;
 }
 
--- the front of the array's block: one entry, its place, and the entry
+-- the front of the array's block: one entry, its offset, and the entry
 abbrev pub array_block : List ℕ
 array_block = 0x00 ∷ 0x01 ∷ 0x00 ∷ 0x04 ∷ entry_bytes (says 97 1 49)
 

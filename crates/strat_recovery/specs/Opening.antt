@@ -40,7 +40,7 @@ has_own_versions level =
 abbrev pub is_filled : ArrayDesc → Bool
 is_filled a = nat_le a.entries (2 * a.leads) && nat_le (array_blocks a) a.entries
 
--- publications are at most as many as changes, with 16384 arrays and 2^25 entries for each at most
+-- for each change there are at most one publication, 16384 new arrays and 2^25 entries written
 abbrev pub has_few_publications : Super → Manifest → Bool
 has_few_publications sb m =
     nat_le sb.generation (m.changes + 1) && nat_le m.next_array (16384 * m.changes + 1)

@@ -1,4 +1,4 @@
--- How a key is read at a version: place by place, the newest first.
+-- How a key is read at a version: level by level, the newest entries first.
 use Rattle.std.specs.Prelude.{ℕ, List, [], ◌∷◌, find, Option, None, option_and_then}
 use Rattle.std.specs.Option.{option_or}
 use Rattle.strat_base.specs.Tree.{Parents, below}
