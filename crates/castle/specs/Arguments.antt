@@ -30,7 +30,8 @@ is_numeral word = nat_lt 0 (length word)
 -- the number that a word is, where it is a numeral within a range
 abbrev pub number_in : ℕ → ℕ → List ℕ → Option ℕ
 number_in least most word =
-    if is_numeral word && (nat_le least (digits_value 10 word) && nat_le (digits_value 10 word) most)
+    if is_numeral word
+    && (nat_le least (digits_value 10 word) && nat_le (digits_value 10 word) most)
     then Some (digits_value 10 word)
     else None
 

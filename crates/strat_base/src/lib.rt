@@ -4,8 +4,6 @@
 mod changes;
 mod entries;
 mod entry_fields;
-#[cfg(test)]
-mod entry_tests;
 mod failures;
 mod fields;
 pub mod laws;
@@ -20,6 +18,3 @@ pub use entry_fields::{entry_size, get_entry, put_entry};
 pub use failures::{Failed, Fault, NoMemory, Trouble};
 pub use numbers::{get_u8, get_u16, get_u32, get_u64, put_u16, put_u32, put_u64};
 pub use pairs::PairBuf;
-
-#[cfg(test)]
-mod tests;

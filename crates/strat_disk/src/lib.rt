@@ -15,6 +15,3 @@ pub use disk::{Disk, write_through};
 pub use file::FileDisk;
 pub use fuse::FuseDisk;
 pub use memory::MemDisk;
-
-#[cfg(test)]
-mod tests;

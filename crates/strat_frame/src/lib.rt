@@ -24,6 +24,3 @@ pub use buffer::OutBuf;
 pub use commands::{BodyFault, parse_command, write_command};
 pub use deframer::{Deframer, Next};
 pub use replies::{parse_reply, write_reply};
-
-#[cfg(test)]
-mod tests;

@@ -8,6 +8,3 @@ mod superblock;
 pub use gate::{gate_ensure_shut, gate_raise, gate_shut, gate_up};
 pub use slots::{lay, newest};
 pub use superblock::SuperBlock;
-
-#[cfg(test)]
-mod tests;

@@ -21,8 +21,6 @@ pub mod laws;
 mod raising;
 mod read;
 mod region_reader;
-#[cfg(test)]
-mod tests;
 mod text;
 
 pub use closing::close_region;

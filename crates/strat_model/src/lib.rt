@@ -13,6 +13,3 @@ pub use commands::Command;
 pub use ended::Ended;
 pub use plain_table::PlainTable;
 pub use replies::{Refusal, Reply};
-
-#[cfg(test)]
-mod tests;

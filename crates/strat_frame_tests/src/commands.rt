@@ -1,0 +1,224 @@
+//! Commands and their bytes.
+
+ghost use Rattle.std.specs.Prelude.{◌≡◌, true, IsTrue};
+ghost use Rattle.strat_model.specs.Command.{request_of};
+ghost use Rattle.strat_model.specs.Spelling.{is_bound, has_lawful_sizes, is_limit};
+
+use crate::hex::hex;
+use std::alloc::Global;
+use std::test::Fail;
+use strat_base::limits::{KEY_MAX, PAIRS_MAX};
+use strat_base::{NoMemory, key_ok, value_ok};
+use strat_frame::{BodyFault, OutBuf, parse_command, write_command};
+use strat_model::Command;
+
+const PUT: Command<'static> = Command::Put {
+    version: 0,
+    key: b"a",
+    value: b"1",
+};
+
+const PUT_NOTHING: Command<'static> = Command::Put {
+    version: 513,
+    key: b"ab",
+    value: b"",
+};
+
+const LARGEST: Command<'static> = Command::Put {
+    version: 0,
+    key: &[0x6b; 255],
+    value: &[0x76; 1024],
+};
+
+// Commands, and their frames under one tag.
+const FRAMES: [(Command<'static>, &str); 11] = [
+    (PUT, "0000000f 01020304 01 00000000 0001 61 0001 31"),
+    (PUT_NOTHING, "0000000f 01020304 01 00000201 0002 6162 0000"),
+    (
+        Command::Delete {
+            version: 2,
+            key: b"a",
+        },
+        "0000000c 01020304 02 00000002 0001 61",
+    ),
+    (
+        Command::Get {
+            version: 4294967295,
+            key: b"a",
+        },
+        "0000000c 01020304 03 ffffffff 0001 61",
+    ),
+    (
+        Command::Clone { version: 1 },
+        "00000009 01020304 04 00000001",
+    ),
+    (
+        Command::Scan {
+            version: 3,
+            lo: b"a",
+            hi: b"bc",
+            limit: 256,
+        },
+        "00000012 01020304 05 00000003 0001 61 0002 6263 0100",
+    ),
+    (
+        Command::Info { version: 7 },
+        "00000009 01020304 06 00000007",
+    ),
+    (
+        Command::OpenCursor {
+            version: 0,
+            lo: b"",
+            hi: b"z",
+        },
+        "0000000e 01020304 07 00000000 0000 0001 7a",
+    ),
+    (
+        Command::NextPairs {
+            cursor: 258,
+            limit: 2,
+        },
+        "0000000f 01020304 08 0000000000000102 0002",
+    ),
+    (
+        Command::CloseCursor { cursor: 1 },
+        "0000000d 01020304 09 0000000000000001",
+    ),
+    (Command::Stat, "00000005 01020304 0a"),
+];
+
+/// Whether these bytes may be a bound of a range.
+fn bound_ok(bound: &[u8]) -> bool
+    ensures { result ≡ is_bound bound.now }
+{
+    bound.len() <= KEY_MAX
+}
+
+/// Whether so many pairs may be asked for.
+fn limit_ok(limit: u16) -> bool
+    ensures { result ≡ is_limit limit }
+{
+    limit >= 1 && limit as usize <= PAIRS_MAX
+}
+
+/// Whether the sizes of a command are as they may be.
+fn sizes_ok(command: &Command<'_>) -> bool
+    ensures { IsTrue result → has_lawful_sizes (request_of command.now) ≡ true }
+{
+    match *command {
+        Command::Put { key, value, .. } => key_ok(key) && value_ok(value),
+        Command::Delete { key, .. } | Command::Get { key, .. } => key_ok(key),
+        Command::Scan { lo, hi, limit, .. } => bound_ok(lo) && bound_ok(hi) && limit_ok(limit),
+        Command::OpenCursor { lo, hi, .. } => bound_ok(lo) && bound_ok(hi),
+        Command::NextPairs { limit, .. } => limit_ok(limit),
+        Command::Clone { .. }
+        | Command::Info { .. }
+        | Command::CloseCursor { .. }
+        | Command::Stat => true,
+    }
+}
+
+/// Whether a command is written in these bytes.
+fn is_written(out: &mut OutBuf, tag: u32, command: &Command<'_>, want: &[u8]) -> bool {
+    if !sizes_ok(command) {
+        return false;
+    }
+    out.clear();
+    write_command(tag, command, out);
+    out.bytes() == want
+}
+
+#[test]
+fn commands_are_written_field_by_field(rt: HostRuntime) -> Result<(), Fail> {
+    let mut out = OutBuf::new(rt.alloc())?;
+    for (command, frame) in FRAMES {
+        assert!(rt; is_written(&mut out, 0x01020304, &command, &hex(rt.alloc(), frame)?));
+    }
+    Ok(())
+}
+
+#[test]
+fn bodies_are_read_as_commands(rt: HostRuntime) -> Result<(), Fail> {
+    let get = Command::Get {
+        version: 0,
+        key: b"a",
+    };
+    for (body, tag, command) in [
+        ("00000007 01 00000000 0001 61 0001 31", 7, PUT),
+        ("00000008 03 00000000 0001 61", 8, get),
+        (
+            "ffffffff 01 00000201 0002 6162 0000",
+            4294967295,
+            PUT_NOTHING,
+        ),
+    ] {
+        assert!(rt; parse_command(&hex(rt.alloc(), body)?) == Ok((tag, command)));
+    }
+    Ok(())
+}
+
+/// Whether a body is refused under this tag.
+fn is_malformed(body: &[u8], tag: u32) -> bool {
+    parse_command(body) == Err((tag, BodyFault::Malformed))
+}
+
+#[test]
+fn other_bodies_are_malformed(rt: HostRuntime) -> Result<(), Fail> {
+    for (body, tag) in [
+        ("", 0),
+        ("aabbcc", 0),
+        ("00000009", 9),
+        ("00000001 0a", 1),
+        ("00000001 00", 1),
+        ("00000001 ff", 1),
+        ("00000001 04 00000000", 1),
+        ("00000002 02 00000000 0001 61", 2),
+        ("00000003 03 00000000 0001", 3),
+        ("00000003 03 00000000 0001 61 00", 3),
+        ("00000003 03 00000000 0000", 3),
+        ("00000004 01 00000000 0001 61 0001 31 00", 4),
+        ("00000004 01 00000000 0001 61 0002 31", 4),
+        ("00000004 01 00000000 0000 0001 31", 4),
+    ] {
+        assert!(rt; is_malformed(&hex(rt.alloc(), body)?, tag));
+    }
+    Ok(())
+}
+
+/// These digits, a key of 255 bytes, and a value of so many bytes.
+fn large_put(alloc: Global, front: &str, value_len: u16) -> Result<Vec<u8>, NoMemory> {
+    let mut bytes = hex(alloc, front)?;
+    bytes.extend_from_slice(&[0x6b; 255])?;
+    bytes.extend_from_slice(&value_len.to_be_bytes())?;
+    for _ in 0..value_len {
+        bytes.push(0x76)?;
+    }
+    Ok(bytes)
+}
+
+/// Whether a body has as many bytes as the largest put, and is read as it.
+fn is_largest(body: &[u8]) -> bool {
+    body.len() == 1292 && parse_command(body) == Ok((7, LARGEST))
+}
+
+#[test]
+fn the_largest_put_is_read(rt: HostRuntime) -> Result<(), Fail> {
+    let body = large_put(rt.alloc(), "00000007 01 00000000 00ff", 1024)?;
+    assert!(rt; is_largest(&body));
+    Ok(())
+}
+
+#[test]
+fn the_largest_put_is_written(rt: HostRuntime) -> Result<(), Fail> {
+    let mut out = OutBuf::new(rt.alloc())?;
+    let frame = large_put(rt.alloc(), "0000050c 00000007 01 00000000 00ff", 1024)?;
+    assert!(rt; is_written(&mut out, 7, &LARGEST, &frame));
+    Ok(())
+}
+
+#[test]
+fn no_larger_put_is_read(rt: HostRuntime) -> Result<(), Fail> {
+    let body = large_put(rt.alloc(), "00000007 01 00000000 00ff", 1025)?;
+    assert!(rt; is_malformed(&body, 7));
+    Ok(())
+}
