@@ -10,13 +10,13 @@ ghost use Rattle.strat_crash.specs.Moments.{Exposes, Since, Passes, TearsOnly, I
 ghost use Rattle.strat_journal.specs.Log.{Stands, GivesAllOrNone, batch_joined, with_list, empty_log, gate_of};
 ghost use Rattle.strat_format.specs.Records.{records_bytes};
 
-use crate::raising::raise_over;
 use crate::text::{behind_gate, put_record};
 use std::alloc::Global;
 use std::marker::Model;
 use strat_base::{Change, Failed, NoMemory, OwnedChange};
 use strat_disk::Disk;
 use strat_format::{RECORD_MAX, region_at};
+use strat_gate::gate_commit;
 
 /// Most changes of a batch.
 pub const BATCH_MAX: usize = 16;
@@ -185,7 +185,7 @@ impl Journal {
         ensures reads { D.reads disk.new ≡ D.reads disk.old }
     {
         let gate = region_at(self.mem, self.active) + self.end as u64;
-        raise_over(disk, gate, behind_gate(&self.bytes, self.end, self.len))?;
+        gate_commit(disk, gate, behind_gate(&self.bytes, self.end, self.len))?;
         self.join();
         Ok(())
     }

@@ -18,7 +18,6 @@
 mod closing;
 mod journal;
 pub mod laws;
-mod raising;
 mod read;
 mod region_reader;
 #[cfg(test)]
