@@ -394,6 +394,8 @@ def crates_have_readmes(tree):
 def crates_are_in_the_architecture(tree):
     document = "docs/ARCHITECTURE.md"
     for crate in tree.crates:
+        if crate.endswith("_tests"):
+            continue
         if not re.search(rf"(?<!\w){crate}(?!\w)", tree.text(document)):
             yield document, 1, f"it doesn't name {crate}"
 
@@ -436,7 +438,7 @@ RIGHT = {
     "crates/low/README.md": README,
     "crates/castle/README.md": README,
     "crates/low_tests/README.md": "# low_tests\n",
-    "docs/ARCHITECTURE.md": "castle, low and `low_tests`\n",
+    "docs/ARCHITECTURE.md": "castle, low\n",
     "crates/low/src/lib.rt": '''//! Numbers. ensures bad { not a clause }
 ghost use Rattle.std.specs.Prelude.{◌≡◌, ◌≤◌};
 

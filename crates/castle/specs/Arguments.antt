@@ -6,14 +6,15 @@ use Rattle.strat_base.specs.declared.limits.TheConstants.{MEM_MIN, MEM_MAX, CHAN
 use Rattle.castle.specs.declared.arguments.Subcommand.{Subcommand as Borrowed}
 use Rattle.castle.specs.declared.arguments.Subcommand.TheVariants as borrowed
 
--- what the program is asked to do: to make a store of this size in a file, or to serve the store in a file
+-- what the program is asked to do: to make a store with these limits in a file, or to serve one
 pub data Subcommand : Type 0 where
   Format : (path : List ℕ) (mem changes_max versions_max : ℕ) → Subcommand
   Serve : (path : List ℕ) → Subcommand
 
 -- a job of the program, wherever its path lies
 abbrev pub subcommand_seen : Borrowed → Subcommand
-subcommand_seen (borrowed.Format path mem changes_max versions_max) = Format path.now mem changes_max versions_max
+subcommand_seen (borrowed.Format path mem changes_max versions_max) =
+    Format path.now mem changes_max versions_max
 subcommand_seen (borrowed.Serve path) = Serve path.now
 
 -- the file of a job
@@ -23,24 +24,30 @@ path_of_subcommand (Serve path) = path
 
 -- decimal digits, of which the first is 0 only where it is the only one
 abbrev pub is_numeral : List ℕ → Bool
-is_numeral word = nat_lt 0 (length word) && (all_ascii_digits word && (not (slice_index word 0 == 48) || (length word == 1)))
+is_numeral word = nat_lt 0 (length word)
+    && (all_ascii_digits word && (not (slice_index word 0 == 48) || (length word == 1)))
 
 -- the number that a word is, where it is a numeral within a range
 abbrev pub number_in : ℕ → ℕ → List ℕ → Option ℕ
 number_in least most word =
-    if is_numeral word && (nat_le least (digits_value 10 word) && nat_le (digits_value 10 word) most) then Some (digits_value 10 word) else None
+    if is_numeral word && (nat_le least (digits_value 10 word) && nat_le (digits_value 10 word) most)
+    then Some (digits_value 10 word)
+    else None
 
 -- the job of serving a store, where these words ask for it
 abbrev pub serve_in : List ℕ → List ℕ → Option Subcommand
-serve_in job path = if bytes_eq job (codes "serve") && not (length path == 0) then Some (Serve path) else None
+serve_in job path =
+    if bytes_eq job (codes "serve") && not (length path == 0) then Some (Serve path) else None
 
--- the job of making a store, where these words ask for it and the numbers among them are a store's limits
+-- the job of making a store, where these words ask for it and the numbers among them are a store's
+-- limits
 abbrev pub format_in : List ℕ → List ℕ → List ℕ → List ℕ → List ℕ → Option Subcommand
 format_in job path mem changes versions =
     if bytes_eq job (codes "format") && not (length path == 0) then
     option_and_then (λ m.
     option_and_then (λ c.
-    option_map (λ v. Format path m c v) (number_in 1 VERSIONS_MAX versions)) (number_in 1 CHANGES_MAX changes)) (number_in MEM_MIN MEM_MAX mem)
+    option_map (λ v. Format path m c v) (number_in 1 VERSIONS_MAX versions))
+    (number_in 1 CHANGES_MAX changes)) (number_in MEM_MIN MEM_MAX mem)
     else None
 
 -- the job that words name, where they name one

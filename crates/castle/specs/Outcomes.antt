@@ -1,5 +1,5 @@
 -- What the program does for its arguments.
-use Rattle.std.specs.Prelude.{◌≡◌, ◌≢◌, ◌⊎◌, ℕ, ◌==◌, if◌then◌else◌, List, [], ◌∷◌, Option, Some, None, Ok, Err, codes}
+use Rattle.std.specs.Prelude.{◌≡◌, ◌≢◌, ◌⊎◌, ℕ, ◌==◌, if◌then◌else◌, List, [], ◌∷◌, ◌++◌, Option, Some, None, Ok, Err, codes}
 use Rattle.strat_format.specs.Damage.{Read}
 use Rattle.strat_crash.specs.Image.{Image}
 use Rattle.strat_crash.specs.Moments.{Exposes, Since}
@@ -20,13 +20,15 @@ use Rattle.castle.specs.Arguments.{Subcommand, Serve, Format}
 abbrev pub EndsAsInput : ℕ → Type 0
 EndsAsInput status = (status ≡ 0) ⊎ (status ≡ 3) ⊎ (status ≡ 4) ⊎ (status ≡ 8) ⊎ (status ≡ 10)
 
--- where nothing failed, a serving run ends as what an opening finds says: as its input does, as no store, or as damaged; or for want of memory
+-- where nothing failed, a serving run ends as what an opening finds says: as its input does, as no
+-- store, or as damaged; or out of memory
 abbrev pub EndsAsFound : Read (Option Head) → ℕ → Type 0
 EndsAsFound (Ok (Some head)) status = EndsAsInput status
 EndsAsFound (Ok None) status = (status ≡ 2) ⊎ (status ≡ 8)
 EndsAsFound (Err block) status = (status ≡ 9) ⊎ (status ≡ 8)
 
--- a run that serves ended so: it served the store on the disk, or gave up before it read; where nothing failed it ended as the content says
+-- a run that serves ended so: it served the store on the disk, or gave up before it read; where
+-- nothing failed it ended as the content says
 pub record ServesFrames (budget : ℕ) (how : Ended) (before now : World) : Type 0 where
   pub outcome : RunOutcome budget how before now
   pub refuses : RefusesFor how before.disk
@@ -36,7 +38,8 @@ pub record ServesFrames (budget : ℕ) (how : Ended) (before now : World) : Type
 
 -- the line that formatting prints, with its line feed
 abbrev pub format_text : ℕ → ℕ → ℕ → List ℕ
-format_text mem changes_max versions_max = texts.text (texts.format_line mem changes_max versions_max ∷ [])
+format_text mem changes_max versions_max =
+    texts.text (texts.format_line mem changes_max versions_max ∷ [])
 
 -- what is sent by a run that formats and ends so
 abbrev pub SendsLine : Ended → Option (List ℕ) → Option (List ℕ) → List ℕ → Type 0
@@ -52,43 +55,57 @@ Formats ended.Done = Unit {0}
 Formats ended.Sink = Unit {0}
 Formats _ = ⊥
 
--- a run that formats ended so: it made a new store and said so, or found no memory, or the disk or the sink failed
-pub record FormatsDisk (mem changes_max versions_max : ℕ) (how : Ended) (before now : World) : Type 0 where
+-- a run that formats ended so: it made a new store and said so, or found no memory, or the disk or
+-- the sink failed
+pub record FormatsDisk (mem changes_max versions_max : ℕ) (how : Ended) (before now : World)
+    : Type 0 where
   pub sends : SendsLine how before.held now.held (format_text mem changes_max versions_max)
   pub left : Formats how → (f : Image) → Exposes before.disk f
       → IsNewDisk mem changes_max versions_max now.disk
   -- on the way a disk whose slots were shut is no store, or the whole new one
   pub moments : (f : Image) → Exposes before.disk f → IsBlank before.disk
-      → (c : Image) → Since now.disk before.disk.moment c → IsNoneOrNew mem changes_max versions_max c
+      → (c : Image) → Since now.disk before.disk.moment c
+      → IsNoneOrNew mem changes_max versions_max c
   pub cause : EndHasCause how before now
   pub calm : how ≢ ended.Device → now.disk_faults ≡ before.disk_faults
-  pub complete : ¬ Rose before.sink_faults now.sink_faults → ¬ Rose before.disk_faults now.disk_faults
+  pub complete : ¬ Rose before.sink_faults now.sink_faults
+      → ¬ Rose before.disk_faults now.disk_faults
       → (status_of how ≡ 0) ⊎ (status_of how ≡ 8)
 
--- the program ended with this status, having done what it was asked to do; arguments that name no subcommand are refused
+-- the program ended with this status, having done what it was asked to do; arguments that name no
+-- subcommand are refused
 abbrev pub Runs : Option Subcommand → ℕ → ℕ → World → World → Type 0
 Runs None budget status before now = status ≡ 1
 Runs (Some (Serve path)) budget status before now =
     (how : Ended) × (status ≡ status_of how) × ServesFrames budget how before now
 Runs (Some (Format path mem changes_max versions_max)) budget status before now =
-    (how : Ended) × (status ≡ status_of how) × FormatsDisk mem changes_max versions_max how before now
+    (how : Ended) × (status ≡ status_of how)
+    × FormatsDisk mem changes_max versions_max how before now
 
--- a run ended before it read or wrote anything but the disk: with no store, out of memory, or with a damaged block
+-- a run ended before it read or wrote anything but the disk: with no store, out of memory, or with
+-- a damaged block
 abbrev pub IsEarly : ℕ → Type 0
 IsEarly status = (status ≡ 2) ⊎ (status ≡ 8) ⊎ (status ≡ 9)
 
--- what a run leaves as it was, of a source, a sink and a disk: all of it where the arguments name no subcommand
+-- what a run leaves as it was, of a source, a sink and a disk: all of it where the arguments name
+-- no subcommand
 abbrev pub LeavesAlone : Option Subcommand → ℕ → Type 0 → Type 0 → Type 0 → Type 0
 LeavesAlone None status source sink disk = source × sink × disk
 LeavesAlone (Some (Serve path)) status source sink disk = IsEarly status → source × sink
 LeavesAlone (Some (Format path mem changes_max versions_max)) status source sink disk =
     source × (IsEarly status → sink) × (status ≡ 8 → disk)
 
+-- the forms of the program's arguments
+abbrev pub usage_text : List ℕ
+usage_text =
+    codes "usage: castle format FILE M C V, serve FILE, levels FILE, check FILE, "
+    ++ codes "workload FILE SEED COUNT"
+
 -- what a status means
 abbrev pub text_of : ℕ → List ℕ
 text_of status =
     if status == 0 then codes "done" else
-    if status == 1 then codes "usage: castle format FILE M C V, serve FILE, levels FILE, check FILE, workload FILE SEED COUNT" else
+    if status == 1 then usage_text else
     if status == 2 then codes "not a store" else
     if status == 3 then codes "frame too long" else
     if status == 4 then codes "truncated input" else

@@ -11,7 +11,8 @@ use strat_base::limits::{CHANGES_MAX, MEM_MAX, MEM_MIN, VERSIONS_MAX};
 /// What the program is asked to do.
 #[derive(Clone, Copy, Debug, PartialEq, Eq)]
 pub enum Subcommand<'a> {
-    /// To make a store in a file, with so many changes per journal region, changes and versions at most.
+    /// To make a store in a file, with so many changes per journal region, changes and versions at
+    /// most.
     Format {
         path: &'a str,
         mem: u32,
@@ -70,7 +71,8 @@ fn serve_of<'a>(job: &str, path: &'a str) -> Option<Subcommand<'a>>
     Some(Subcommand::Serve { path })
 }
 
-/// The job of making a store, where these words ask for it and the numbers among them are a store's limits.
+/// The job of making a store, where these words ask for it and the numbers among them are a store's
+/// limits.
 fn format_of<'a>(
     job: &str,
     path: &'a str,

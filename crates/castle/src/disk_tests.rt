@@ -1,4 +1,5 @@
-//! What the program finds and leaves on a disk, over disks in memory that fail, crash and are altered.
+//! What the program finds and leaves on a disk, over disks in memory that fail, crash and are
+//! altered.
 
 use crate::program::run;
 use crate::tests::{formatted, served, words};
@@ -81,7 +82,8 @@ fn found_after(alloc: Global, puts: usize) -> Result<Vec<u8>, Fail> {
     Ok(replies)
 }
 
-/// How many of the four puts a disk has, where it has a prefix of them and nothing else that is asked for.
+/// How many of the four puts a disk has, where it has a prefix of them and nothing else that is
+/// asked for.
 fn puts_on(alloc: Global, disk: &mut MemDisk) -> Result<Option<usize>, Fail> {
     let (status, replies) = answers(alloc, GETS, disk)?;
     for puts in 0..=4 {
@@ -293,7 +295,8 @@ fn a_failing_device_is_told_of(rt: HostRuntime) -> Result<(), Fail> {
     Ok(())
 }
 
-/// Serves a disk with some puts and one byte altered, and looks at how the run ends; it must change no other byte.
+/// Serves a disk with some puts and one byte altered, and looks at how the run ends; it must change
+/// no other byte.
 fn serve_altered(
     rt: &impl Abort,
     alloc: Global,
@@ -329,10 +332,12 @@ fn altered_bytes_are_named_and_left(rt: HostRuntime) -> Result<(), Fail> {
         ("", 22, 5, Ended::Damaged { block: 0 }),
         ("", 27, 2, Ended::Damaged { block: 0 }),
         ("", 38, 0xff, Ended::Damaged { block: 0 }),
-        // the other slot is open with no text, and a byte behind the slot's fields counts for nothing
+        // the other slot is open with no text, and a byte behind the slot's fields counts for
+        // nothing
         ("", 4096, 0xa7, Ended::Done),
         ("", 40, 9, Ended::Done),
-        // the generation and the length are not those of a new store, nor are bytes of the manifest's block
+        // the generation and the length are not those of a new store, nor are bytes of the
+        // manifest's block
         ("", 18, 2, Ended::Damaged { block: 6 }),
         ("", 26, 0x1e, Ended::Damaged { block: 6 }),
         ("", 24579, 1, Ended::Damaged { block: 6 }),

@@ -16,7 +16,8 @@ use strat_disk::FileDisk;
 use strat_io::{StdSink, StdSource};
 use strat_model::Ended;
 
-/// The program's arguments without its name, or how a run ends that cannot have them: one that is no text
+/// The program's arguments without its name, or how a run ends that cannot have them: one that is
+/// no text
 /// is no word of the program.
 fn program_arguments<R: Env + AllocGlobal>(rt: &R) -> Result<Vec<String>, Ended> {
     let args = match env::args(rt) {
@@ -60,7 +61,8 @@ fn start<R: Env + Input + Print + Files + AllocGlobal>(rt: &R) -> u8 {
         // `run` says that these words are no job, and opens no file.
         return run_over(rt, &words, "");
     };
-    // The system gives an opened file the lowest free number, which is a standard stream's where that is closed. These
+    // The system gives an opened file the lowest free number, which is a standard stream's where
+    // that is closed. These
     // three take such numbers before the store's file can, and keep them until the run has ended.
     let (Ok(_first), Ok(_second), Ok(_third)) = (open_folder(rt), open_folder(rt), open_folder(rt))
     else {

@@ -17,11 +17,14 @@ use strat_serve::serve;
 /// Bytes that one serving run reads at most: 2^40.
 const BUDGET: u64 = 1_099_511_627_776;
 
-/// Runs the subcommand that the program's arguments name, these without the program's own name, and answers its exit
+/// Runs the subcommand that the program's arguments name, these without the program's own name, and
+/// answers its exit
 /// status. Nothing is read or written where they name none.
 ///
-/// Serving takes the memory for frames, replies and the journal at its start, about 1 MB and 2.6 KB for each change that
-/// a journal region takes, and each put the memory of its pair. A get or a put looks through the pairs of the version, and
+/// Serving takes the memory for frames, replies and the journal at its start, about 1 MB and 2.6 KB
+/// for each change that
+/// a journal region takes, and each put the memory of its pair. A get or a put looks through the
+/// pairs of the version, and
 /// a put makes two writes and two syncs.
 pub fn run<S: Source, K: Sink, D: Disk>(
     alloc: Global,

@@ -99,7 +99,8 @@ fn streams_are_answered(rt: HostRuntime) -> Result<(), Fail> {
     let rows: [(&[u8], &[u8], u8); 10] = [
         (b"", b"", 0),
         (STREAM, REPLIES, 0),
-        // another opcode, a short body, and a body without fields are no commands, and the run goes on
+        // another opcode, a short body, and a body without fields are no commands, and the run goes
+        // on
         (
             b"\x00\x00\x00\x05\x00\x00\x00\x01\x0a",
             b"\x00\x00\x00\x05\x00\x00\x00\x01\x16",

@@ -1,9 +1,9 @@
 -- How a serving run ends.
-use Rattle.std.proofs.Common.{◌≡◌, ◌≢◌, ℕ, ◌+◌, ◌<◌, ◌≤◌, true, false, cond, eqb, List, [], ◌∷◌, ◌++◌, length, take, map, Option, Some, None, refl, sym, ap, subst, ◌∙◌, append_assoc, length-append, inl, inr, arith}
+use Rattle.std.proofs.Common.{◌≡◌, ◌≢◌, ℕ, ◌+◌, ◌<◌, ◌≤◌, ◌-◌, true, false, cond, eqb, List, [], ◌∷◌, ◌++◌, length, take, drop, map, Option, Some, None, refl, sym, ap, subst, ◌∙◌, append_assoc, length-append, inl, inr, arith}
 use Rattle.std.specs.Prelude.{if◌then◌else◌}
 use Rattle.std.specs.List.{flat_map, AllByRecursion}
 use Rattle.std.proofs.lemmas.Bool.{and_right, or_left, or_right, eq-eqb, ne_eqb, cases_eq}
-use Rattle.std.proofs.lemmas.List.{append-nil, length-map, take_at}
+use Rattle.std.proofs.lemmas.List.{append-nil, length-map, map-append, take-append-drop, take_at}
 use Rattle.std.proofs.lemmas.List.Concat.{flat_map-append}
 use Rattle.strat_crash.specs.Faults.{Rose}
 use Rattle.strat_crash.specs.Image.{Image}
@@ -18,7 +18,7 @@ use Rattle.strat_model.specs.Table.{Table, bare}
 use Rattle.strat_model.specs.Run.{Response, response_bytes, AnswersFault, Exchange, Interruption, Transcript, bodies_of, responses_of, tables_of, sent_bytes}
 use Rattle.strat_store.specs.Opened.{Shows, IsAtRest, Follows}
 use Rattle.strat_store.specs.Store.{Attached, position_of}
-use Rattle.strat_serve.specs.Session.{Took, IsAtEnd, SendsPrefix, too_long_bytes, ContinuesWith, StopsWith, IsAnswered, Session, IsSession, AnswersAll, output, last_output, Sends, EndsFor, Served}
+use Rattle.strat_serve.specs.Session.{Took, IsAtEnd, SendsPrefix, too_long_bytes, ContinuesWith, StopsWith, IsAnswered, Session, IsSession, AnswersAll, output, last_output, earlier_bytes, Sends, EndsFor, Served}
 use Rattle.strat_serve.specs.World.{World}
 use Rattle.strat_serve.proofs.ProgressLemmas.{Progress, Answered, tables_before, follows_more, text_more, answers}
 use Rattle.strat_serve.proofs.StreamLemmas.{partial_not_long, frames_of}
@@ -37,6 +37,21 @@ bodies_fit (x ∷ xs) each = (each.0, bodies_fit xs each.1)
 frames_same : (xs : List Exchange) → flat_map (λ (x : Exchange). frame x.body) xs ≡ flat_map frame (map (λ (x : Exchange). x.body) xs)
 frames_same [] = refl
 frames_same (x ∷ xs) = ap (λ (y : List ℕ). frame x.body ++ y) (frames_same xs)
+
+-- the replies to all bodies but the last are the first of those to all
+earlier_first : (xs : List Exchange) → (rest : List ℕ)
+    × (sent_bytes (map (λ (x : Exchange). x.response) xs) ≡ sent_bytes (map (λ (x : Exchange). x.response) (take (length xs - 1) xs)) ++ rest)
+earlier_first xs =
+    let n = length xs - 1 in (
+      sent_bytes (map (λ (x : Exchange). x.response) (drop n xs)),
+      ap (λ (ys : List Exchange). sent_bytes (map (λ (x : Exchange). x.response) ys)) (sym (take-append-drop n xs))
+      ∙ ap sent_bytes (map-append (λ (x : Exchange). x.response) (take n xs) (drop n xs))
+      ∙ flat_map-append response_bytes (map (λ (x : Exchange). x.response) (take n xs)) (map (λ (x : Exchange). x.response) (drop n xs)),
+    )
+
+-- all but the last of a list with one more
+all_but_last : (xs : List Exchange) (x : Exchange) → take (length (xs ++ x ∷ []) - 1) (xs ++ x ∷ []) ≡ xs
+all_but_last xs x = take_at xs (x ∷ []) (length (xs ++ x ∷ []) - 1) (omega (arith, length-append xs (x ∷ [])))
 
 -- a run that was not broken, over the bodies answered and others behind them
 module _ (start current : Attached) (count budget : ℕ) (held : List ℕ) (before now : World) (p : Progress start current count held before now) (within : count ≤ budget) where
@@ -84,7 +99,7 @@ module _ (start current : Attached) (count budget : ℕ) (held : List ℕ) (befo
 
   -- the run ended so, with these bytes sent
   served : (how : Ended) (others : List (List ℕ)) (rest : List ℕ) → Splits held others rest → (sent : Option (List ℕ)) (faults : ℕ)
-      → Sends how before.held sent (output (session others rest)) → EndsFor how budget (session others rest) now.left
+      → Sends how before.held sent (session others rest) → EndsFor how budget (session others rest) now.left
       → Served budget how before (record now { held = sent; sink_faults = faults })
   served how others rest splits sent faults sends ends = record {
     mem = start.log.mem;
@@ -102,18 +117,23 @@ module _ (start current : Attached) (count budget : ℕ) (held : List ℕ) (befo
   }
 
   -- the sink failed at the reply that went before
-  pub ends_cut : (sent : Option (List ℕ)) (faults : ℕ) → AreBytes held → SendsPrefix before.held sent (sent_bytes (map (λ (x : Exchange). x.response) p.exchanges))
+  pub ends_cut : (sent : Option (List ℕ)) (faults : ℕ) → AreBytes held → (front : SendsPrefix before.held sent (sent_bytes (map (λ (x : Exchange). x.response) p.exchanges)))
+      → ((part : List ℕ) × (front.sent ≡ sent_bytes (map (λ (x : Exchange). x.response) (take (length p.exchanges - 1) p.exchanges)) ++ part))
       → Served budget ended.Sink before (record now { held = sent; sink_faults = faults })
-  ends_cut sent faults fits front =
+  ends_cut sent faults fits front replied =
       let f = frames_of held fits in
       let last = last_output None (eqb (length p.exchanges) (length (session f.bodies f.rest).bodies)) (is_too_long f.rest) in
       served ended.Sink f.bodies f.rest f.splits sent faults
       (record {
-        sent = front.sent;
-        later = front.later ++ last;
-        parts = ap (λ (x : List ℕ). x ++ last) (ap sent_bytes tolds_all ∙ front.parts) ∙ append_assoc front.sent front.later last;
-        some = omega (arith, front.some, length-append front.later last);
-        appends = front.appends;
+        cut = record {
+          sent = front.sent;
+          later = front.later ++ last;
+          parts = ap (λ (x : List ℕ). x ++ last) (ap sent_bytes tolds_all ∙ front.parts) ∙ append_assoc front.sent front.later last;
+          some = omega (arith, front.some, length-append front.later last);
+          appends = front.appends;
+        };
+        part = replied.0;
+        replied = replied.1;
       })
       tt
 
@@ -134,13 +154,17 @@ module _ (start current : Attached) (count budget : ℕ) (held : List ℕ) (befo
     pub ends_long_cut : (sent : Option (List ℕ)) (faults : ℕ) → SendsPrefix now.held sent too_long_bytes → Served budget ended.Sink before (record now { held = sent; sink_faults = faults })
     ends_long_cut sent faults front =
         served ended.Sink [] held splits_long sent faults
-        (subst (λ (x : List ℕ). SendsPrefix before.held sent x) (sym said_long) (record {
-          sent = sent_bytes (responses_of transcript) ++ front.sent;
-          later = front.later;
-          parts = ap (λ (x : List ℕ). sent_bytes (responses_of transcript) ++ x) front.parts ∙ sym (append_assoc (sent_bytes (responses_of transcript)) front.sent front.later);
-          some = front.some;
-          appends = appends_then before.held now.held sent (sent_bytes (responses_of transcript)) front.sent sent_so_far front.appends;
-        }))
+        (let first = earlier_first p.exchanges in record {
+          cut = record {
+            sent = sent_bytes (responses_of transcript) ++ front.sent;
+            later = front.later;
+            parts = said_long ∙ ap (λ (x : List ℕ). sent_bytes (responses_of transcript) ++ x) front.parts ∙ sym (append_assoc (sent_bytes (responses_of transcript)) front.sent front.later);
+            some = front.some;
+            appends = appends_then before.held now.held sent (sent_bytes (responses_of transcript)) front.sent sent_so_far front.appends;
+          };
+          part = first.0 ++ front.sent;
+          replied = ap (λ (x : List ℕ). x ++ front.sent) (ap sent_bytes tolds_all ∙ first.1) ∙ append_assoc (earlier_bytes transcript) first.0 front.sent;
+        })
         tt
 
   -- behind the answers stands less than a frame
@@ -210,6 +234,8 @@ answers_cut start old new count budget held rest body response before mid now p 
       some = cut.some;
       appends = appends_then before.held mid.held now.held earlier cut.sent p.sent cut.appends;
     })
+    (cut.sent, ap (λ (xs : List Exchange). sent_bytes (map (λ (x : Exchange). x.response) xs) ++ cut.sent)
+        (sym (ap (λ (xs : List Exchange). take (length xs - 1) xs) q.1 ∙ all_but_last p.exchanges (record { body = body; response = response; at = position_of old }))))
 
 -- the next body met a fault
 module _ (start old new : Attached) (count budget : ℕ) (held rest body : List ℕ) (response : Response) (before mid now : World) (p : Progress start old count held before mid) (within : count ≤ budget)
@@ -265,7 +291,7 @@ module _ (start old new : Attached) (count budget : ℕ) (held rest body : List 
       (subst (λ (n : ℕ). Follows before.disk now.disk f start.log.mem (tables_before p.exchanges ++ bare old.table ∷ bare new.table ∷ []) n) same joined)
 
   -- the run ended so, with the device's fault told or not
-  halts : (how : Ended) → Sends how before.held now.held (output broken) → EndsFor how budget broken now.left → Served budget how before now
+  halts : (how : Ended) → Sends how before.held now.held broken → EndsFor how budget broken now.left → Served budget how before now
   halts how sends ends = record {
     mem = start.log.mem;
     start = position_of start;
@@ -292,14 +318,18 @@ module _ (start old new : Attached) (count budget : ℕ) (held rest body : List 
   pub ends_device_cut : SendsPrefix mid.held now.held (response_bytes response) → Served budget ended.Sink before now
   ends_device_cut cut =
       halts ended.Sink
-      (subst (λ (x : List ℕ). SendsPrefix before.held now.held x) (sym output_broken) (record {
+      (record {
+        cut = record {
         sent = sent_bytes (map (λ (x : Exchange). x.response) p.exchanges) ++ cut.sent;
         later = cut.later;
-        parts = ap (λ (x : List ℕ). sent_bytes (map (λ (y : Exchange). y.response) p.exchanges) ++ x) cut.parts
+        parts = output_broken ∙ ap (λ (x : List ℕ). sent_bytes (map (λ (y : Exchange). y.response) p.exchanges) ++ x) cut.parts
             ∙ sym (append_assoc (sent_bytes (map (λ (x : Exchange). x.response) p.exchanges)) cut.sent cut.later);
         some = cut.some;
         appends = appends_then before.held mid.held now.held (sent_bytes (map (λ (x : Exchange). x.response) p.exchanges)) cut.sent p.sent cut.appends;
-      }))
+        };
+        part = cut.sent;
+        replied = refl;
+      })
       tt
 
 -- the next body was answered

@@ -3,7 +3,8 @@ use Rattle.std.specs.Prelude.{ℕ, List, Option}
 use Rattle.strat_crash.specs.Faults.{Rose}
 use Rattle.strat_crash.specs.Moments.{DiskView}
 
--- the bytes left of a source and those held by a sink, where these tell them, a disk as it is seen, and how often each has failed
+-- the bytes left of a source and those held by a sink, where these tell them, a disk as it is seen,
+-- and how often each has failed
 pub record World : Type 1 where
   pub left : Option (List ℕ)
   pub source_faults : ℕ

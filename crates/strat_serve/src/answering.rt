@@ -25,7 +25,8 @@ pub struct Buffers {
 }
 
 impl Buffers {
-    /// Empty buffers, with all the memory that frames, pairs and replies of a run need: about 350 KB.
+    /// Empty buffers, with all the memory that frames, pairs and replies of a run need: about 350
+    /// KB.
     pub fn new(alloc: Global) -> Result<Buffers, NoMemory>
         ensures ok { IfOk result (λ b. b.frames.held ≡ []) }
     {
@@ -48,7 +49,8 @@ fn refusal_of(fault: BodyFault) -> Refusal
     }
 }
 
-/// Answers a body, in the buffer for replies. A change that is answered is durable: its cost is that of `Store::apply`.
+/// Answers a body, in the buffer for replies. A change that is answered is durable: its cost is
+/// that of `Store::apply`.
 pub fn answer<D: Disk>(
     store: &mut Store,
     disk: &mut D,
@@ -56,7 +58,7 @@ pub fn answer<D: Disk>(
     pairs: &mut PairBuf,
     out: &mut OutBuf,
 )
-    requires room { store.old.spent ≡ false }
+    requires kept { store.old.spent ≡ false }
     ensures ok { IsAnswered store.old body.now store.new out.new }
     ensures trail { StandsOn (D.view disk.old) store.old
         → Moves (D.view disk.old) (D.view disk.new) store.old store.new }

@@ -35,7 +35,8 @@ fn ended_for(fault: AttachFault) -> Ended
 fn read_piece<S: Source>(source: &mut S, piece: &mut [u8], most: usize) -> Result<usize, Failed>
     requires room { most ≤ length piece.old }
     ensures fits { IfOk result (λ n. n ≤ most) }
-    ensures ok { IfOk result (λ n. Took (S.left source.old) (S.left source.new) (take n piece.new)) }
+    ensures ok { IfOk result (λ n.
+        Took (S.left source.old) (S.left source.new) (take n piece.new)) }
     ensures end { IfOk result (λ n. n ≡ 0 → 0 < most → IsAtEnd (S.left source.new)) }
     ensures err { OnErr result (Took (S.left source.old) (S.left source.new) []) }
     ensures cause { CountsFaults (S.faults source.old) (S.faults source.new) result }
@@ -56,9 +57,12 @@ fn at_end(held: usize) -> Ended
     }
 }
 
-/// Opens the store on a disk and serves frames from a source to a sink, until the source ends or as many bytes were
-/// read as the budget has. It takes the memory for frames, pairs and replies before it touches the disk, and reads at
-/// most 4,096 bytes at a time. Each whole frame among them is answered before it reads on; a reply goes out when the
+/// Opens the store on a disk and serves frames from a source to a sink, until the source ends or as
+/// many bytes were
+/// read as the budget has. It takes the memory for frames, pairs and replies before it touches the
+/// disk, and reads at
+/// most 4,096 bytes at a time. Each whole frame among them is answered before it reads on; a reply
+/// goes out when the
 /// change that it answers is durable.
 #[tactic(auto, using(strat_crash::proofs::MomentLemmas::passes_trans))]
 pub fn serve<S: Source, K: Sink, D: Disk>(

@@ -27,7 +27,8 @@ abbrev pub head_for : ℕ → ℕ → ℕ → Head
 head_for mem changes_max versions_max =
     record { sb = super_for mem changes_max versions_max; manifest = new_manifest; journal = [] }
 
--- an image is a new store with these limits: an opening finds its head, it reads as the state of a new store, and the second superblock slot and the second journal region are shut
+-- an image is a new store with these limits: recovery finds its head, it reads as the state of a
+-- new store, and the second superblock slot and the second journal region are shut
 pub record IsNewStore (mem changes_max versions_max : ℕ) (c : Image) : Type 0 where
   pub found : recover_now c ≡ Ok (Some (head_for mem changes_max versions_max))
   pub reads : reads_as c ≡ Some (fresh_state mem changes_max versions_max)
@@ -44,7 +45,8 @@ pub record IsBlank (v : DiskView) : Type 0 where
   pub first : (c : Image) → Images v c → c 0 ≢ open_flag
   pub second : (c : Image) → Images v c → c 4096 ≢ open_flag
 
--- the disk tells its content, in which both slots and the first gates of both journal regions are shut
+-- the disk exposes its content, in which both slots and the first gates of both journal regions are
+-- shut
 pub record IsShut (mem : ℕ) (v : DiskView) : Type 0 where
   pub content : Image
   pub exposed : Exposes v content
@@ -55,4 +57,5 @@ pub record IsShut (mem : ℕ) (v : DiskView) : Type 0 where
 
 -- an image is no store, or the whole of a new one
 abbrev pub IsNoneOrNew : ℕ → ℕ → ℕ → Image → Type 0
-IsNoneOrNew mem changes_max versions_max c = (newest_in c ≡ Ok None) ⊎ IsNewStore mem changes_max versions_max c
+IsNoneOrNew mem changes_max versions_max c =
+    (newest_in c ≡ Ok None) ⊎ IsNewStore mem changes_max versions_max c

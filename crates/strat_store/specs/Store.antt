@@ -28,7 +28,8 @@ pub record Attached : Type 0 where
 abbrev pub position_of : Attached → Position
 position_of s = record { table = s.table; fill = length s.log.list }
 
--- between two commands of a store all changes are in the journal, which has room for as many as the table takes
+-- between two commands of a store all changes are in the journal, which has room for as many as the
+-- table takes
 pub record IsReady (s : Attached) : Type 0 where
   pub batch : s.log.batch ≡ []
   pub count : length s.log.list ≡ s.table.changes
@@ -44,7 +45,8 @@ pub record Holds (v : DiskView) (log : Log) (h : Head) : Type 0 where
   pub mem : log.mem ≡ h.sb.mem
   pub active : log.active ≡ h.sb.region
   pub list : log.list ≡ h.journal
-  pub shut : length h.journal < h.sb.mem → content (region_at h.sb.mem (other_region h.sb.region)) ≢ open_flag
+  pub shut : length h.journal < h.sb.mem
+      → content (region_at h.sb.mem (other_region h.sb.region)) ≢ open_flag
 
 -- a journal in memory is one of a superblock's region, with no batch
 pub record IsLogFor (sb : Super) (log : Log) : Type 0 where
@@ -64,7 +66,8 @@ pub record IsOpenedBy (f : Image) (sb : Super) (log : Log) : Type 0 where
   pub newest : newest_in f ≡ Ok (Some (slot, sb))
   pub read : IsRead f sb log
 
--- a store stands on a disk: the disk has a head for good, and the store has that head's journal and table
+-- a store stands on a disk: the disk has a head for good, and the store has that head's journal and
+-- table
 pub record StandsOn (v : DiskView) (s : Attached) : Type 0 where
   pub head : Head
   pub holds : Holds v s.log head
@@ -86,13 +89,15 @@ change_asked (Clone version) = Some (change.Clone version)
 change_asked _ = None
 
 -- a command was answered as the table says
-pub record IsCarriedOut (old : Attached) (request : Request) (answer : Answer) (new : Attached) : Type 0 where
+pub record IsCarriedOut (old : Attached) (request : Request) (answer : Answer) (new : Attached)
+    : Type 0 where
   pub answer_is : answer ≡ (step old.table request).answer
   pub place : position_of new ≡ position_after old.log.mem (position_of old) request
   pub going : new.spent ≡ false
 
 -- a command that the table accepts found no memory, and changed nothing
-pub record LacksMemory (old : Attached) (request : Request) (answer : Answer) (new : Attached) : Type 0 where
+pub record LacksMemory (old : Attached) (request : Request) (answer : Answer) (new : Attached)
+    : Type 0 where
   pub takes : takes_memory request ≡ true
   pub accepted : accepts (step old.table request).answer.reply ≡ true
   pub answer_is : answer ≡ refusal why.NoMemory
@@ -100,7 +105,8 @@ pub record LacksMemory (old : Attached) (request : Request) (answer : Answer) (n
   pub going : new.spent ≡ false
 
 -- a command that the table accepts met a fault of the device, and the store is not to be used again
-pub record IsBroken (old : Attached) (request : Request) (answer : Answer) (new : Attached) : Type 0 where
+pub record IsBroken (old : Attached) (request : Request) (answer : Answer) (new : Attached)
+    : Type 0 where
   pub reaches : reaches_disk request ≡ true
   pub accepted : accepts (step old.table request).answer.reply ≡ true
   pub answer_is : answer ≡ refusal why.DeviceFault
@@ -110,12 +116,16 @@ pub record IsBroken (old : Attached) (request : Request) (answer : Answer) (new 
 -- how a store may answer a command, and what it is then
 abbrev pub IsApplied : Attached → Request → Answer → Attached → Type 0
 IsApplied old request answer new =
-    IsCarriedOut old request answer new ⊎ (LacksMemory old request answer new ⊎ IsBroken old request answer new)
+    IsCarriedOut old request answer new
+    ⊎ (LacksMemory old request answer new ⊎ IsBroken old request answer new)
 
--- while a store goes from one table to another the images of its disk do so too, and nothing is torn but the journal; where it did not break it stands on the disk again
+-- while a store goes from one table to another the images of its disk do so too, and nothing is
+-- torn but the journal; where it did not break it stands on the disk again
 pub record Moves (before now : DiskView) (old new : Attached) : Type 0 where
-  pub trail : Trail Shows now before.moment (bare old.table ∷ bare new.table ∷ []) (if new.spent then 0 else 1)
-  pub journal : (c : Image) → Since now before.moment c → (d : Image) × Images before d × SameButJournal old.log.mem d c
+  pub trail : Trail Shows now before.moment (bare old.table ∷ bare new.table ∷ [])
+      (if new.spent then 0 else 1)
+  pub journal : (c : Image) → Since now before.moment c
+      → (d : Image) × Images before d × SameButJournal old.log.mem d c
   pub stands : new.spent ≡ false → StandsOn now new
 
 -- over a call a count of faults rises where the store broke in it, and stays where it did not
@@ -124,7 +134,8 @@ pub record BreaksByFault (before now : ℕ) (new : Attached) : Type 0 where
   pub rose : new.spent ≡ true → Rose before now
   pub same : new.spent ≡ false → now ≡ before
 
--- a store that was opened is the content's, stands on the disk, and from the opening's sync on a crash leaves its table
+-- a store that was opened is the content's, stands on the disk, and from the opening's sync on a
+-- crash leaves its table
 pub record IsAttached (before now : DiskView) (s : Attached) : Type 0 where
   pub going : s.spent ≡ false
   pub found : (f : Image) → Exposes before f → OpensFrom f s

@@ -1,4 +1,5 @@
-//! The manifest of a new store, which is the only one so far: nothing was changed or written, the first array will be
+//! The manifest of a new store, which is the only one so far: nothing was changed or written, the
+//! first array will be
 //! number 1, there is one version, and no level.
 
 ghost use Rattle.std.specs.Prelude.{◌≡◌, ◌≤◌, ◌*◌, ℕ, length, bytes_eq, Some, Ok, Err, OnOk, IsErrOf};
@@ -39,7 +40,7 @@ fn is_new(block: &[u8]) -> bool
 /// Writes the manifest of a new store into its block and syncs.
 pub fn write_manifest<D: Disk>(disk: &mut D, mem: u32) -> Result<(), Failed>
     requires { mem ≤ 4096 }
-    ensures through { WritesThrough (D.view disk.old) (D.view disk.new)
+    ensures ok { WritesThrough (D.view disk.old) (D.view disk.new)
         (4096 * first_free mem) new_block result }
     ensures cause { CountsFaults (D.faults disk.old) (D.faults disk.new) result }
 {
@@ -55,7 +56,7 @@ pub fn read_manifest<D: Disk>(disk: &mut D, sb: &SuperBlock) -> Result<(), Fault
         → recover_manifest_now f (super_of sb.now) ≡ Ok new_manifest) }
     ensures damaged { (block : ℕ) → IsErrOf result (Damaged block) → (f : Image)
         → Exposes (D.view disk.old) f → recover_manifest_now f (super_of sb.now) ≡ Err block }
-    ensures looks { OnlyReads (D.view disk.old) (D.view disk.new) }
+    ensures same { OnlyReads (D.view disk.old) (D.view disk.new) }
     ensures cause { HasCause Device (D.faults disk.old) (D.faults disk.new) result }
 {
     let mut block = [0; BLOCK];

@@ -115,12 +115,13 @@ fn command_for<'a>(change: &Change<'a>) -> Command<'a>
 /// Carries out the change of a record, or names its block where the table refuses it.
 fn redo(table: &mut PlainTable, pairs: &mut PairBuf, logged: &Logged) -> Result<(), Trouble>
     requires { table.old.next_cursor ≡ 1 }
-    ensures ok { OnOk result ((accepts (step table.old (request_for logged.now.change)).answer.reply ≡ true)
+    ensures ok { OnOk result
+        ((accepts (step table.old (request_for logged.now.change)).answer.reply ≡ true)
         × (table.new ≡ (step table.old (request_for logged.now.change)).table)) }
     ensures damaged { (block : ℕ) → IsErrOf result (Damaged block)
         → (accepts (step table.old (request_for logged.now.change)).answer.reply ≡ false)
         × (logged.now.block ≡ block) }
-    ensures device { IsErrOf result Device → ⊥ }
+    ensures err { IsErrOf result Device → ⊥ }
 {
     match table.step(&command_for(&logged.change.as_change()), pairs) {
         Reply::Refused(Refusal::NoMemory) => Err(Trouble::NoMemory),
@@ -131,18 +132,19 @@ fn redo(table: &mut PlainTable, pairs: &mut PairBuf, logged: &Logged) -> Result<
     }
 }
 
-/// The table after a journal's changes, each of which the table has to accept in its turn. It takes the memory of the
+/// The table after a journal's changes, each of which the table has to accept in its turn. It takes
+/// the memory of the
 /// pairs, and linear time for each change.
 fn replay(alloc: Global, sb: &SuperBlock, logged: &[Logged]) -> Result<PlainTable, Trouble>
-    requires lawful { IsLawful (super_of sb.now) }
-    requires few { length logged.now ≤ sb.now.mem }
+    requires fits { IsLawful (super_of sb.now) }
+    requires room { length logged.now ≤ sb.now.mem }
     ensures found { IfOk result (λ t. accepted_now (super_of sb.now) (map logged_of logged.now)
         ≡ Ok (map (λ l. l.change) logged.now)) }
-    ensures table { IfOk result (λ t. t
+    ensures ok { IfOk result (λ t. t
         ≡ table_now (head_from (super_of sb.now) (map (λ l. l.change) logged.now))) }
     ensures damaged { (block : ℕ) → IsErrOf result (Damaged block)
         → accepted_now (super_of sb.now) (map logged_of logged.now) ≡ Err block }
-    ensures device { IsErrOf result Device → ⊥ }
+    ensures err { IsErrOf result Device → ⊥ }
 {
     let mut table = PlainTable::new(alloc, sb.changes_max.min(sb.mem), sb.versions_max)?;
     let mut pairs = PairBuf::new(alloc)?;
@@ -158,15 +160,15 @@ fn read_store<D: Disk>(
     disk: &mut D,
     sb: &SuperBlock,
 ) -> Result<(Journal, PlainTable), AttachFault>
-    requires lawful { IsLawful (super_of sb.now) }
+    requires fits { IsLawful (super_of sb.now) }
     ensures found { IfOk result (λ r. (f : Image) → Exposes (D.view disk.old) f
         → IsRead f (super_of sb.now) r.0) }
-    ensures log { IfOk result (λ r. IsLogFor (super_of sb.now) r.0) }
-    ensures table { IfOk result (λ r. r.1 ≡ table_now (head_from (super_of sb.now) r.0.list)) }
+    ensures kept { IfOk result (λ r. IsLogFor (super_of sb.now) r.0) }
+    ensures ok { IfOk result (λ r. r.1 ≡ table_now (head_from (super_of sb.now) r.0.list)) }
     ensures damaged { (block : ℕ) → IsErrOf result (fault.Damaged block) → (f : Image)
         → Exposes (D.view disk.old) f → recover_head_now f (super_of sb.now) ≡ Err block }
     ensures none { IsErrOf result fault.NotAStore → ⊥ }
-    ensures looks { OnlyReads (D.view disk.old) (D.view disk.new) }
+    ensures same { OnlyReads (D.view disk.old) (D.view disk.new) }
     ensures cause { HasCause fault.Device (D.faults disk.old) (D.faults disk.new) result }
 {
     read_manifest(disk, sb)?;
@@ -187,15 +189,16 @@ fn sync_first<D: Disk>(disk: &mut D) -> Result<(), Failed>
     Ok(())
 }
 
-/// Shuts the first gate of the region that is not active, where it reads open and nothing leads behind it.
+/// Shuts the first gate of the region that is not active, where it reads open and nothing leads
+/// behind it.
 fn shut_other<D: Disk>(disk: &mut D, sb: &SuperBlock, journal: &Journal) -> Result<(), Failed>
-    requires lawful { IsLawful (super_of sb.now) }
-    requires log { IsLogFor (super_of sb.now) journal.now }
-    ensures any_moment { (f : Image) → Exposes (D.view disk.old) f → IsDurable (D.view disk.old)
+    requires fits { IsLawful (super_of sb.now) }
+    requires kept { IsLogFor (super_of sb.now) journal.now }
+    ensures trail { (f : Image) → Exposes (D.view disk.old) f → IsDurable (D.view disk.old)
         → IsOpenedBy f (super_of sb.now) journal.now
         → (c : Image) → Since (D.view disk.new) (D.view disk.old).moment c
         → recover_now c ≡ Ok (Some (head_from (super_of sb.now) journal.now.list)) }
-    ensures holds { OnOk result ((f : Image) → Exposes (D.view disk.old) f
+    ensures kept { OnOk result ((f : Image) → Exposes (D.view disk.old) f
         → IsDurable (D.view disk.old) → IsOpenedBy f (super_of sb.now) journal.now
         → Holds (D.view disk.new) journal.now (head_from (super_of sb.now) journal.now.list)) }
     ensures images { TearsOnly (D.view disk.old) (D.view disk.new)
@@ -210,9 +213,12 @@ fn shut_other<D: Disk>(disk: &mut D, sb: &SuperBlock, journal: &Journal) -> Resu
 }
 
 impl Store {
-    /// Opens the store on a disk. It syncs, reads the superblock, the manifest and the journal, and shuts the region that is
-    /// not active where a crash left it open. Until the sync succeeds a crash leaves only what it might have left before. It takes
-    /// the memory for the journal and for the pairs of its changes. It reads each block of the journal once; each change
+    /// Opens the store on a disk. It syncs, reads the superblock, the manifest and the journal, and
+    /// shuts the region that is
+    /// not active where a crash left it open. Until the sync succeeds a crash leaves only what it
+    /// might have left before. It takes
+    /// the memory for the journal and for the pairs of its changes. It reads each block of the
+    /// journal once; each change
     /// walks the pairs of its version.
     pub fn attach<D: Disk>(alloc: Global, disk: &mut D) -> Result<Store, AttachFault>
         ensures ok { IfOk result (λ s. IsAttached (D.view disk.old) (D.view disk.new) s) }

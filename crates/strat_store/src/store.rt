@@ -1,6 +1,7 @@
-//! An open store: its table in memory, and the journal that makes each change durable before it is answered.
+//! An open store: its table in memory, and the journal that makes each change durable before it is
+//! answered.
 
-ghost use Rattle.std.specs.Prelude.{◌≡◌, ◌≤◌, ◌<◌, ◌⊎◌, ℕ, ◌+◌, ◌-◌, [], ◌∷◌, ◌++◌, length, Some, Ok, IfOk, OnOk, IsTrue, true, false};
+ghost use Rattle.std.specs.Prelude.{◌≡◌, ◌≤◌, ◌<◌, ◌⊎◌, ℕ, ◌+◌, ◌-◌, [], ◌∷◌, ◌++◌, length, Some, None, Ok, IfOk, OnOk, IsTrue, true, false};
 ghost use Rattle.strat_base.specs.Change.{is_lawful};
 ghost use Rattle.strat_base.specs.ChangeView.{change_of};
 ghost use Rattle.strat_crash.specs.Faults.{CountsFaults};
@@ -12,6 +13,7 @@ ghost use Rattle.strat_model.specs.Answer.{as_told, accepts};
 ghost use Rattle.strat_model.specs.Command.{request_of};
 ghost use Rattle.strat_recovery.specs.Head.{Head};
 ghost use Rattle.strat_model.specs.Spelling.{is_taken};
+ghost use Rattle.strat_model.specs.Step.{step};
 ghost use Rattle.strat_store.specs.Opened.{recover_now, head_with, MayFollow};
 ghost use Rattle.strat_store.specs.Store.{IsReady, Holds, StandsOn, IsApplied, Moves, BreaksByFault, change_asked};
 
@@ -21,7 +23,8 @@ use strat_disk::Disk;
 use strat_journal::Journal;
 use strat_model::{Command, PlainTable, Refusal, Reply};
 
-/// An open store, seen as its table, its journal, and whether it is spent: after a fault of the device only another
+/// An open store, seen as its table, its journal, and whether it is spent: after a fault of the
+/// device only another
 /// opening can tell what the disk holds.
 #[derive(Drop)]
 pub struct Store {
@@ -75,17 +78,19 @@ fn log_change<D: Disk>(
     change: &Change<'_>,
 ) -> Result<(), Failed>
     requires fits { IsTrue (is_lawful (change_of change.now)) }
-    requires empty { journal.old.batch ≡ [] }
+    requires none { journal.old.batch ≡ [] }
     requires room { length journal.old.list < journal.old.mem }
-    ensures any_moment { (h : Head) → Holds (D.view disk.old) journal.old h
+    ensures trail { (h : Head) → Holds (D.view disk.old) journal.old h
         → MayFollow h (change_of change.now)
         → (c : Image) → Since (D.view disk.new) (D.view disk.old).moment c
-        → (recover_now c ≡ Ok (Some h)) ⊎ (recover_now c ≡ Ok (Some (head_with h (change_of change.now)))) }
-    ensures holds { OnOk result ((h : Head) → Holds (D.view disk.old) journal.old h
+        → (recover_now c ≡ Ok (Some h))
+        ⊎ (recover_now c ≡ Ok (Some (head_with h (change_of change.now)))) }
+    ensures kept { OnOk result ((h : Head) → Holds (D.view disk.old) journal.old h
         → MayFollow h (change_of change.now)
         → Holds (D.view disk.new) journal.new (head_with h (change_of change.now))) }
-    ensures ok { OnOk result (journal.new ≡ record journal.old { list = journal.old.list ++ change_of change.now ∷ [] }) }
-    ensures mem { journal.new.mem ≡ journal.old.mem }
+    ensures ok { OnOk result (journal.new
+        ≡ record journal.old { list = journal.old.list ++ change_of change.now ∷ [] }) }
+    ensures same { journal.new.mem ≡ journal.old.mem }
     ensures images { TearsOnly (D.view disk.old) (D.view disk.new)
         (region_at journal.old.mem journal.old.active) (region_size journal.old.mem) }
     ensures time { Passes (D.view disk.old) (D.view disk.new) }
@@ -116,21 +121,27 @@ impl Store {
         self.spent
     }
 
-    /// Carries out one command. The pairs of its answer are in `out`, from which all others are gone. A change is durable
-    /// before it is answered: two writes and two syncs, whatever the size of the store. A look-up and a change take linear
-    /// time in the pairs of the version. After the refusal `DeviceFault`, and no other, the store is spent.
+    /// Carries out one command. The pairs of its answer are in `out`, from which all others are
+    /// gone. A change is durable
+    /// before it is answered: two writes and two syncs, whatever the size of the store. A look-up
+    /// and a change take linear
+    /// time in the pairs of the version. After the refusal `DeviceFault`, and no other, the store
+    /// is spent.
     pub fn apply<D: Disk>(
         &mut self,
         disk: &mut D,
         command: &Command<'_>,
         out: &mut PairBuf,
     ) -> Reply
-        requires going { self.old.spent ≡ false }
-        requires taken { is_taken (request_of command.now) ≡ true }
+        requires kept { self.old.spent ≡ false }
+        requires fits { is_taken (request_of command.now) ≡ true }
         ensures ok { IsApplied self.old (request_of command.now) (as_told result out.new) self.new }
-        ensures moves { StandsOn (D.view disk.old) self.old
+        ensures trail { StandsOn (D.view disk.old) self.old
             → Moves (D.view disk.old) (D.view disk.new) self.old self.new }
-        ensures mem { self.new.log.mem ≡ self.old.log.mem }
+        ensures same { self.new.log.mem ≡ self.old.log.mem }
+        ensures none { change_asked (request_of command.now) ≡ None → disk.new ≡ disk.old }
+        ensures err { accepts (step self.old.table (request_of command.now)).answer.reply ≡ false
+            → disk.new ≡ disk.old }
         ensures time { Passes (D.view disk.old) (D.view disk.new) }
         ensures cause { BreaksByFault (D.faults disk.old) (D.faults disk.new) self.new }
     {

@@ -21,7 +21,7 @@ returns-in-Err-clause-ok g c =
     let faulty = c.in-Err.ensures.err in
     let pairs = c.clear-in-Err.new.self in
     let sent_bytes = c.write_reply-in-Err.ensures.ok ∙ ap (λ (r : Refusal). frame (reply_body c.in-Err.tag (as_told (reply.Refused r) pairs))) c.refusal_of.ensures in
-    told_faulty c.args.store.now c.args.body.now c.in-Err.tag c.in-Err.fault pairs c.write_reply-in-Err.new.out c.requires.room faulty c.clear-in-Err.ensures.ok sent_bytes
+    told_faulty c.args.store.now c.args.body.now c.in-Err.tag c.in-Err.fault pairs c.write_reply-in-Err.new.out c.requires.kept faulty c.clear-in-Err.ensures.ok sent_bytes
 
 pub returns-in-Err-clause-trail : goal.returns-in-Err-clause-trail
-returns-in-Err-clause-trail g c = stays (g.D.Disk.view c.args.disk.now) c.args.store.now c.args.store.now refl refl c.requires.room
+returns-in-Err-clause-trail g c = stays (g.D.Disk.view c.args.disk.now) c.args.store.now c.args.store.now refl refl c.requires.kept

@@ -19,9 +19,9 @@ returns-in_err-shut_all-clause-images g c = λ f exposed blank.
 manifest_blank : (g : Over) (c : After-write_manifest g) (f : Image) → (g.D.Disk.view c.args.disk.now).content ≡ Some f → IsBlank (g.D.Disk.view c.args.disk.now)
     → StaysBlank (g.D.Disk.view c.args.disk.now) (g.D.Disk.view c.write_manifest.new.disk)
 manifest_blank g c f exposed blank =
-    blank_then _ _ _ c.shut_all.ensures.time c.write_manifest.ensures.through.time
+    blank_then _ _ _ c.shut_all.ensures.time c.write_manifest.ensures.ok.time
     (record { each = c.shut_all.ensures.images f exposed blank })
-    (λ mid. blank_behind _ _ (4096 * first_free c.args.mem) _ (omega arith) mid c.write_manifest.ensures.through.images)
+    (λ mid. blank_behind _ _ (4096 * first_free c.args.mem) _ (omega arith) mid c.write_manifest.ensures.ok.images)
 
 pub returns-in_err-write_manifest-clause-images : goal.returns-in_err-write_manifest-clause-images
 returns-in_err-write_manifest-clause-images g c = λ f exposed blank.
@@ -33,7 +33,7 @@ ready : (g : Over) (c : After-lay g) (f : Image) → (g.D.Disk.view c.args.disk.
 ready g c f exposed =
     let v1 = g.D.Disk.view c.shut_all.new.disk in
     let shut : IsShut c.args.mem v1 = c.in_ok-shut_all.ensures.ok f exposed in
-    prepared c.args.mem v1 _ shut c.in_ok-write_manifest.ensures.through.content c.in_ok-write_manifest.ensures.through.settled
+    prepared c.args.mem v1 _ shut c.in_ok-write_manifest.ensures.ok.content c.in_ok-write_manifest.ensures.ok.settled
 
 -- until the superblock is laid, an image is no store or the new one
 until_laid : (g : Over) (c : After-lay g) (f : Image) → (g.D.Disk.view c.args.disk.now).content ≡ Some f → StaysBlank (g.D.Disk.view c.args.disk.now) (g.D.Disk.view c.write_manifest.new.disk)

@@ -16,7 +16,7 @@ use Rattle.strat_store.proofs.opening.replay.Goals as goal
 
 pub loop-record-init : goal.loop-record-init
 loop-record-init c =
-    let few : length (map logged_of c.args.logged.now) ≤ c.args.sb.now.mem = omega (arith, length-map c.args.logged.now logged_of, c.requires.few) in
+    let few : length (map logged_of c.args.logged.now) ≤ c.args.sb.now.mem = omega (arith, length-map c.args.logged.now logged_of, c.requires.room) in
     let new : fresh (min c.args.sb.now.changes_max c.args.sb.now.mem) c.args.sb.now.versions_max ≡ c.in_ok-table.table =
     ap (λ (n : ℕ). fresh n c.args.sb.now.versions_max) (sym c.min.ensures) ∙ sym c.in_ok-table.ensures.ok in
     subst (λ (t : Table). IsReplayed (super_of c.args.sb.now) (map logged_of c.args.logged.now) 0 t) new (replayed_none (super_of c.args.sb.now) (map logged_of c.args.logged.now) few)
@@ -26,7 +26,7 @@ redo-requires c = ap (λ (t : Table). t.next_cursor) c.loop-record.invariant.tab
 
 pub returns-in_err-redo-clause-damaged : goal.returns-in_err-redo-clause-damaged
 returns-in_err-redo-clause-damaged c = λ block damaged.
-    let few : length (map logged_of c.args.logged.now) ≤ c.args.sb.now.mem = omega (arith, length-map c.args.logged.now logged_of, c.requires.few) in
+    let few : length (map logged_of c.args.logged.now) ≤ c.args.sb.now.mem = omega (arith, length-map c.args.logged.now logged_of, c.requires.room) in
     let within : c.loop-record.record-index < length (map logged_of c.args.logged.now) = omega (arith, length-map c.args.logged.now logged_of, c.loop-record-test.true) in
     let at : get_or (map logged_of c.args.logged.now) c.loop-record.record-index (logged_of c.record-item.result) ≡ logged_of c.record-item.result =
     get_or-map logged_of c.args.logged.now c.loop-record.record-index c.record-item.result ∙ ap logged_of (sym c.record-item.is) in
@@ -37,7 +37,7 @@ returns-in_err-redo-clause-damaged c = λ block damaged.
 
 pub loop-record-preserved : goal.loop-record-preserved
 loop-record-preserved c =
-    let few : length (map logged_of c.args.logged.now) ≤ c.args.sb.now.mem = omega (arith, length-map c.args.logged.now logged_of, c.requires.few) in
+    let few : length (map logged_of c.args.logged.now) ≤ c.args.sb.now.mem = omega (arith, length-map c.args.logged.now logged_of, c.requires.room) in
     let within : c.loop-record.record-index < length (map logged_of c.args.logged.now) = omega (arith, length-map c.args.logged.now logged_of, c.loop-record-test.true) in
     let at : get_or (map logged_of c.args.logged.now) c.loop-record.record-index (logged_of c.record-item.result) ≡ logged_of c.record-item.result =
     get_or-map logged_of c.args.logged.now c.loop-record.record-index c.record-item.result ∙ ap logged_of (sym c.record-item.is) in
@@ -46,14 +46,14 @@ loop-record-preserved c =
 
 pub returns-clause-found : goal.returns-clause-found
 returns-clause-found c =
-    let few : length (map logged_of c.args.logged.now) ≤ c.args.sb.now.mem = omega (arith, length-map c.args.logged.now logged_of, c.requires.few) in
+    let few : length (map logged_of c.args.logged.now) ≤ c.args.sb.now.mem = omega (arith, length-map c.args.logged.now logged_of, c.requires.room) in
     let past : length (map logged_of c.args.logged.now) ≤ c.loop-record.record-index = omega (arith, length-map c.args.logged.now logged_of, c.loop-record-test.false) in
     let all = replayed_all (super_of c.args.sb.now) (map logged_of c.args.logged.now) few c.loop-record.record-index c.loop-record.table past c.loop-record.invariant in
     all.0 ∙ ap (λ (xs : List Change). Ok xs) (map-map (λ (l : Logged). l.change) logged_of c.args.logged.now)
 
-pub returns-clause-table : goal.returns-clause-table
-returns-clause-table c =
-    let few : length (map logged_of c.args.logged.now) ≤ c.args.sb.now.mem = omega (arith, length-map c.args.logged.now logged_of, c.requires.few) in
+pub returns-clause-ok : goal.returns-clause-ok
+returns-clause-ok c =
+    let few : length (map logged_of c.args.logged.now) ≤ c.args.sb.now.mem = omega (arith, length-map c.args.logged.now logged_of, c.requires.room) in
     let past : length (map logged_of c.args.logged.now) ≤ c.loop-record.record-index = omega (arith, length-map c.args.logged.now logged_of, c.loop-record-test.false) in
     let all = replayed_all (super_of c.args.sb.now) (map logged_of c.args.logged.now) few c.loop-record.record-index c.loop-record.table past c.loop-record.invariant in
     all.1 ∙ ap (λ (xs : List Change). table_now (head_from (super_of c.args.sb.now) xs)) (map-map (λ (l : Logged). l.change) logged_of c.args.logged.now)

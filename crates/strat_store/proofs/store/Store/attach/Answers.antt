@@ -27,7 +27,7 @@ sb_looks g c = looks_trans (synced g c) (record { same = c.newest.ensures.same; 
 
 -- and until the store is, from the sync on
 read_looks : (g : Over) (c : After-read_store g) → OnlyReads (g.D.Disk.view c.sync_first.new.disk) (g.D.Disk.view c.read_store.new.disk)
-read_looks g c = looks_trans (record { same = c.newest.ensures.same; images = c.newest.ensures.images; time = c.newest.ensures.time }) c.read_store.ensures.looks
+read_looks g c = looks_trans (record { same = c.newest.ensures.same; images = c.newest.ensures.images; time = c.newest.ensures.time }) c.read_store.ensures.same
 
 -- and from the start on
 store_looks : (g : Over) (c : After-read_store g) → OnlyReads (g.D.Disk.view c.args.disk.now) (g.D.Disk.view c.read_store.new.disk)
@@ -57,8 +57,8 @@ opens g c f exposed =
     opens_by _ (g.D.Disk.view c.sync_first.new.disk) (g.D.Disk.view c.read_store.new.disk) _ f (head_from (super_of c.in-Some.sb) c.in_ok-journal.journal.list) c.in_ok-journal.table exposed
     (synced g (goal.at.After-read_store g before).After-newest) c.in_ok-sync_first.ensures.ok
     (at_told _ (λ (d : Image). Images (g.D.Disk.view c.sync_first.new.disk) d) f (c.sync_first.ensures.same ∙ exposed) (g.met.D.Disk.leaves_content c.sync_first.new.disk)) (read_looks g before) c.shut_other.ensures.time
-    (found_now (g.D.Disk.view c.read_store.new.disk) f (super_of c.in-Some.sb) c.in_ok-journal.journal there settled opened) (sym c.in_ok-journal.ensures.table)
-    (c.shut_other.ensures.any_moment f there settled opened) c.shut_other.ensures.images
+    (found_now (g.D.Disk.view c.read_store.new.disk) f (super_of c.in-Some.sb) c.in_ok-journal.journal there settled opened) (sym c.in_ok-journal.ensures.ok)
+    (c.shut_other.ensures.trail f there settled opened) c.shut_other.ensures.images
 
 pub returns-in_err-sb-clause-err : goal.returns-in_err-sb-clause-err
 returns-in_err-sb-clause-err g c = λ failed f exposed.
@@ -107,8 +107,8 @@ stands g c f exposed =
     let opened = opened_by g (goal.at.After-new g c).In_ok-journal f exposed in
     subst (λ (s : Attached). StandsOn (g.D.Disk.view c.shut_other.new.disk) s) (sym c.new.ensures) (record {
       head = head_from (super_of c.in-Some.sb) c.in_ok-journal.journal.list;
-      holds = c.in_ok-shut_other.ensures.holds f ((store_looks g before).same ∙ exposed) (store_settled g before f exposed) opened;
-      table = sym c.in_ok-journal.ensures.table;
+      holds = c.in_ok-shut_other.ensures.kept f ((store_looks g before).same ∙ exposed) (store_settled g before f exposed) opened;
+      table = sym c.in_ok-journal.ensures.ok;
     })
 
 -- and is the content's
@@ -119,8 +119,8 @@ found g c f exposed =
     subst (λ (s : Attached). OpensFrom f s) (sym c.new.ensures) (record {
       head = head_from (super_of c.in-Some.sb) c.in_ok-journal.journal.list;
       found = found_now (g.D.Disk.view c.read_store.new.disk) f (super_of c.in-Some.sb) c.in_ok-journal.journal ((store_looks g before).same ∙ exposed) (store_settled g before f exposed) opened;
-      table = sym c.in_ok-journal.ensures.table;
-      mem = c.in_ok-journal.ensures.log.mem;
+      table = sym c.in_ok-journal.ensures.ok;
+      mem = c.in_ok-journal.ensures.kept.mem;
       list = λ i. c.in_ok-journal.journal.list;
     })
 
@@ -135,6 +135,6 @@ returns-clause-ok g c =
       stands = stands g last;
       opens = λ f exposed.
           subst (λ (s : Attached). Opens before now f s.log.mem (bare s.table)) (sym c.new.ensures)
-          (subst (λ (m : ℕ). Opens before now f m (bare c.in_ok-journal.table)) (sym c.in_ok-journal.ensures.log.mem)
+          (subst (λ (m : ℕ). Opens before now f m (bare c.in_ok-journal.table)) (sym c.in_ok-journal.ensures.kept.mem)
           (opens g (goal.at.After-new g last).After-shut_other f exposed));
     }
