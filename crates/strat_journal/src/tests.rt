@@ -12,12 +12,9 @@ use strat_gate::SuperBlock;
 
 // The superblock of an empty store with this journal.
 fn block(mem: u32, region: u8) -> SuperBlock
-    requires least { 4 ≤ mem }
-    requires most { mem ≤ 20 }
-    requires region { region ≤ 1 }
-    ensures lawful { IsLawful (super_of result) }
-    ensures mem { result.mem ≡ mem }
-    ensures region { result.region ≡ region }
+    requires fits { (4 ≤ mem) × (mem ≤ 20) × (region ≤ 1) }
+    ensures fits { IsLawful (super_of result) }
+    ensures ok { (result.mem ≡ mem) × (result.region ≡ region) }
 {
     SuperBlock {
         generation: 1,
@@ -32,10 +29,10 @@ fn block(mem: u32, region: u8) -> SuperBlock
 
 // Adds so many puts of one byte each.
 fn add_puts(journal: &mut Journal, n: u8)
-    requires few { n ≤ 16 }
-    requires empty { journal.old.batch ≡ [] }
+    requires fits { n ≤ 16 }
+    requires none { journal.old.batch ≡ [] }
     requires room { length journal.old.list + n ≤ journal.old.mem }
-    ensures batch { length journal.new.batch ≡ n }
+    ensures len { length journal.new.batch ≡ n }
 {
     for i in 0..n {
         journal.add(&Change::Put {

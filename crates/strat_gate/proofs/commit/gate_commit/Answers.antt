@@ -10,7 +10,7 @@ returns-in_err-write_after-clause-ok g c =
 pub returns-in_err-gate_raise-clause-ok : goal.returns-in_err-gate_raise-clause-ok
 returns-in_err-gate_raise-clause-ok g c =
     let w = c.in_ok-write_after.ensures.ok in
-    let r = c.gate_raise.ensures.through in
+    let r = c.gate_raise.ensures.ok in
     failed _ _ c.args.gate c.args.bytes.now _
     (both_tear _ _ c.args.gate c.args.bytes.now w.images w.time _ r.images r.time)
     (passes_trans w.time r.time)
@@ -20,7 +20,7 @@ returns-in_err-gate_raise-clause-ok g c =
 pub returns-clause-ok : goal.returns-clause-ok
 returns-clause-ok g c =
     let w = c.in_ok-write_after.ensures.ok in
-    let r = c.in_ok-gate_raise.ensures.through in
+    let r = c.in_ok-gate_raise.ensures.ok in
     record {
       images = both_tear _ _ c.args.gate c.args.bytes.now w.images w.time _ r.images r.time;
       time = passes_trans w.time r.time;
