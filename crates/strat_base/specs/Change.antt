@@ -4,7 +4,7 @@ use Rattle.strat_base.specs.Numbers.{be, number}
 use Rattle.strat_base.specs.Sizes.{is_key, is_value}
 use Rattle.strat_base.specs.Fields.{key_field, value_field, key_in, value_in}
 
--- a change of a store: a key has a value at a version, or is gone from it, or a version has a new child
+-- a change: a key gets a value at a version, or is gone from it, or a version gets a child
 pub data Change : Type 0 where
   Put : (version : ℕ) (key value : List ℕ) → Change
   Delete : (version : ℕ) (key : List ℕ) → Change
@@ -26,16 +26,20 @@ change_bytes (Clone version) = 3 ∷ be 4 version
 abbrev pub change_of_kind : ℕ → ℕ → List ℕ → Option Change
 change_of_kind kind version fields =
     if kind == 1 then
-    option_and_then (λ key. option_map (λ value. Put version key value) (value_in (drop (length (key_field key)) fields))) (key_in fields)
+    option_and_then
+    (λ key. option_map
+    (λ value. Put version key value) (value_in (drop (length (key_field key)) fields)))
+    (key_in fields)
     else if kind == 2 then option_map (λ key. Delete version key) (key_in fields)
     else if kind == 3 then Some (Clone version) else None
 
 -- the change whose bytes stand at the front of these
 unfoldable pub change_in : List ℕ → Option Change
 change_in [] = None
-change_in (kind ∷ bytes) = if nat_le 4 (length bytes) then change_of_kind kind (number 4 bytes) (drop 4 bytes) else None
+change_in (kind ∷ bytes) =
+    if nat_le 4 (length bytes) then change_of_kind kind (number 4 bytes) (drop 4 bytes) else None
 
--- the change whose bytes stand at a place, and the place after them
+-- the change whose bytes stand at an offset, and the offset after them
 abbrev pub change_at : List ℕ → ℕ → Option (Change × ℕ)
 change_at bytes at = option_map (λ c. (c, at + length (change_bytes c))) (change_in (drop at bytes))
 

@@ -35,7 +35,8 @@ holds_entry entries e = list_any (is_same e) entries
 
 -- the same entries, in whatever order
 abbrev pub are_same : List Entry → List Entry → Bool
-are_same entries others = list_all (holds_entry others) entries && list_all (holds_entry entries) others
+are_same entries others =
+    list_all (holds_entry others) entries && list_all (holds_entry entries) others
 
 -- no key has two entries at one version
 abbrev pub is_single : List Entry → Bool
@@ -53,9 +54,12 @@ lead_entries tag entries = filter (λ e. is_tagged tag e.version) entries
 -- entries ascend strictly: keys ascending, and of one key the greater version first
 abbrev pub is_ascending : List Entry → Bool
 is_ascending [] = true
-is_ascending (e ∷ entries) = list_all (λ later. is_lt (entry_cmp e.key e.version later.key later.version)) entries && is_ascending entries
+is_ascending (e ∷ entries) =
+    list_all (λ later. is_lt (entry_cmp e.key e.version later.key later.version)) entries
+    && is_ascending entries
 
 -- the last entry of each key and version
 abbrev pub latest : List Entry → List Entry
 latest [] = []
-latest (e ∷ entries) = if list_any (is_at e.key e.version) entries then latest entries else e ∷ latest entries
+latest (e ∷ entries) =
+    if list_any (is_at e.key e.version) entries then latest entries else e ∷ latest entries

@@ -26,20 +26,24 @@ entry_bytes e = key_field e.key ++ (be 4 e.version ++ mark_field e.value)
 -- the mark whose field stands at the front of these bytes
 abbrev pub mark_in : List ℕ → Option (Option (List ℕ))
 mark_in [] = None
-mark_in (mark ∷ bytes) = if mark == 0 then Some None else if mark == 1 then option_map (λ value. Some value) (value_in bytes) else None
+mark_in (mark ∷ bytes) =
+    if mark == 0 then Some None else
+    if mark == 1 then option_map (λ value. Some value) (value_in bytes) else None
 
 -- the entry of a key whose further fields stand at the front of these bytes
 abbrev pub entry_of_key : List ℕ → List ℕ → Option Entry
 entry_of_key key fields =
     if nat_le 4 (length fields) then
-    option_map (λ value. record { key = key; version = number 4 fields; value = value }) (mark_in (drop 4 fields))
+    option_map (λ value. record { key = key; version = number 4 fields; value = value })
+    (mark_in (drop 4 fields))
     else None
 
 -- the entry whose bytes stand at the front of these
 unfoldable pub entry_in : List ℕ → Option Entry
-entry_in bytes = option_and_then (λ key. entry_of_key key (drop (length (key_field key)) bytes)) (key_in bytes)
+entry_in bytes =
+    option_and_then (λ key. entry_of_key key (drop (length (key_field key)) bytes)) (key_in bytes)
 
--- the entry whose bytes stand at a place, and the place after them
+-- the entry whose bytes stand at an offset, and the offset after them
 abbrev pub entry_at : List ℕ → ℕ → Option (Entry × ℕ)
 entry_at bytes at = option_map (λ e. (e, at + length (entry_bytes e))) (entry_in (drop at bytes))
 

@@ -10,4 +10,5 @@ key_cmp a b = slice_cmp nat_cmp a b
 
 -- by key, and then the greater version first
 abbrev pub entry_cmp : List ℕ → ℕ → List ℕ → ℕ → Ordering
-entry_cmp key version other_key other_version = ordering_then (key_cmp key other_key) (nat_cmp other_version version)
+entry_cmp key version other_key other_version =
+    ordering_then (key_cmp key other_key) (nat_cmp other_version version)

@@ -69,7 +69,7 @@ impl Model for OwnedChange {
     ghost invariant = { λ c. IsTrue (is_lawful (owned_of c.kind)) };
 }
 
-/// The fields of a put behind its version.
+/// The fields of a put after its version.
 fn put_of(version: Version, fields: &[u8]) -> Option<Change<'_>>
     ensures { Finds change_of result (change_of_kind 1 version fields.now) }
 {
@@ -97,7 +97,7 @@ fn of_kind(kind: u8, version: Version, fields: &[u8]) -> Option<Change<'_>>
     }
 }
 
-/// How many bytes a change has in a journal behind its record's gate: at most 1,287.
+/// How many bytes a change has in a journal after its record's gate: at most 1,287.
 pub fn change_size(c: &Change<'_>) -> usize
     requires { IsTrue (is_lawful (change_of c.now)) }
     ensures ok { result ≡ length (change_bytes (change_of c.now)) }
@@ -124,7 +124,7 @@ fn change_from(bytes: &[u8]) -> Option<Change<'_>>
     of_kind(*kind, version, &rest[4..])
 }
 
-/// The change whose bytes stand at a place, and the place after them. OnlyReads at those bytes alone, copies
+/// The change whose bytes stand at an offset, and the offset after them. Reads those bytes alone, copies
 /// none and takes no memory.
 pub fn get_change(bytes: &[u8], at: usize) -> Option<(Change<'_>, usize)>
     ensures ok { Finds (λ r. (change_of r.0, r.1)) result (change_at bytes.now at) }
@@ -139,7 +139,7 @@ pub fn get_change(bytes: &[u8], at: usize) -> Option<(Change<'_>, usize)>
     Some((change, at + change_size(&change)))
 }
 
-/// Writes a kind and a version, and gives the place after them.
+/// Writes a kind and a version, and gives the offset after them.
 fn put_head(into: &mut [u8], at: usize, kind: u8, version: Version) -> usize
     requires room { at + 5 ≤ length into.old }
     ensures end { result ≡ at + 5 }
@@ -150,7 +150,7 @@ fn put_head(into: &mut [u8], at: usize, kind: u8, version: Version) -> usize
     at + 4
 }
 
-/// Writes the bytes of a change from a place on, and gives the place after them. Copies key and value
+/// Writes the bytes of a change from an offset on, and gives the offset after them. Copies key and value
 /// once and takes no memory.
 pub fn put_change(c: &Change<'_>, into: &mut [u8], at: usize) -> usize
     requires fits { IsTrue (is_lawful (change_of c.now)) }

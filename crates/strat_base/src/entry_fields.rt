@@ -1,5 +1,5 @@
-//! Entries and their bytes in a block: a key behind its length in one byte, the version in four, and 0 where
-//! the key is gone, or 1 and a value behind its length in two.
+//! Entries and their bytes in a block: a key after its length in one byte, the version in four, and 0 where
+//! the key is gone, or 1 and a value after its length in two.
 
 ghost use Rattle.std.specs.Prelude.{◌≡◌, ◌+◌, ◌≤◌, length, drop, IfSome, IsSome, IsTrue};
 ghost use Rattle.strat_base.specs.EntryBytes.{is_markable, fits_fields, mark_field, entry_bytes, mark_in, entry_of_key, entry_in, entry_at, BeginsWithEntry};
@@ -66,7 +66,7 @@ pub fn entry_size(e: &Entry<'_>) -> usize
     5 + e.key.len() + mark_size(&e.val)
 }
 
-/// The entry whose bytes stand at a place, and the place after them. OnlyReads at those bytes alone, copies none
+/// The entry whose bytes stand at an offset, and the offset after them. Reads those bytes alone, copies none
 /// and takes no memory.
 pub fn get_entry(bytes: &[u8], at: usize) -> Option<(Entry<'_>, usize)>
     ensures ok { Finds (λ r. (entry_of r.0, r.1)) result (entry_at bytes.now at) }
@@ -81,7 +81,7 @@ pub fn get_entry(bytes: &[u8], at: usize) -> Option<(Entry<'_>, usize)>
     Some((entry, at + entry_size(&entry)))
 }
 
-/// Writes the mark and the value, and gives the place after them.
+/// Writes the mark and the value, and gives the offset after them.
 fn put_mark(into: &mut [u8], at: usize, val: &Val<'_>) -> usize
     requires fits { IsTrue (is_markable (val_of val.now)) }
     requires room { at + length (mark_field (val_of val.now)) ≤ length into.old }
@@ -97,7 +97,7 @@ fn put_mark(into: &mut [u8], at: usize, val: &Val<'_>) -> usize
     }
 }
 
-/// Writes the bytes of an entry from a place on, and gives the place after them. Copies key and value once and
+/// Writes the bytes of an entry from an offset on, and gives the offset after them. Copies key and value once and
 /// takes no memory.
 pub fn put_entry(e: &Entry<'_>, into: &mut [u8], at: usize) -> usize
     requires fits { IsTrue (fits_fields (entry_of e.now)) }

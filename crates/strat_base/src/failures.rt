@@ -1,4 +1,4 @@
-//! Why a call gave up. A want of memory, a failed device and a damaged block are told apart everywhere.
+//! Why a call gave up. Exhausted memory, a failed device and a damaged block are kept apart everywhere.
 
 use std::alloc::{AllocError, AllocFailed};
 use thiserror::Error;

@@ -12,7 +12,7 @@ use crate::numbers::{get_u16, put_u16};
 /// The key whose field stands at the front of these bytes.
 pub(crate) fn key_of(bytes: &[u8]) -> Option<&[u8]>
     ensures found { Finds (λ key. key.now) result (key_in bytes.now) }
-    ensures within { IfSome result (λ key. 1 + length key.now ≤ length bytes.now) }
+    ensures fits { IfSome result (λ key. 1 + length key.now ≤ length bytes.now) }
 {
     let (first, rest) = bytes.split_first()?;
     let len = *first as usize;
@@ -29,7 +29,7 @@ pub(crate) fn key_of(bytes: &[u8]) -> Option<&[u8]>
 /// The value whose field stands at the front of these bytes.
 pub(crate) fn value_of(bytes: &[u8]) -> Option<&[u8]>
     ensures found { Finds (λ value. value.now) result (value_in bytes.now) }
-    ensures within { IfSome result (λ value. 2 + length value.now ≤ length bytes.now) }
+    ensures fits { IfSome result (λ value. 2 + length value.now ≤ length bytes.now) }
 {
     let len = get_u16(bytes, 0)? as usize;
     if len > bytes.len() - 2 {
@@ -42,7 +42,7 @@ pub(crate) fn value_of(bytes: &[u8]) -> Option<&[u8]>
     Some(value)
 }
 
-/// Writes these bytes from a place on, and gives the place after them.
+/// Writes these bytes from an offset on, and gives the offset after them.
 pub(crate) fn put_bytes(into: &mut [u8], at: usize, bytes: &[u8]) -> usize
     requires { at + length bytes.now ≤ length into.old }
     ensures end { result ≡ at + length bytes.now }
@@ -52,7 +52,7 @@ pub(crate) fn put_bytes(into: &mut [u8], at: usize, bytes: &[u8]) -> usize
     at + bytes.len()
 }
 
-/// Writes a byte at a place, and gives the place after it.
+/// Writes a byte at an offset, and gives the offset after it.
 pub(crate) fn put_u8(into: &mut [u8], at: usize, n: u8) -> usize
     requires { at + 1 ≤ length into.old }
     ensures end { result ≡ at + 1 }
@@ -62,7 +62,7 @@ pub(crate) fn put_u8(into: &mut [u8], at: usize, n: u8) -> usize
     at + 1
 }
 
-/// Writes a key behind its length, and gives the place after it.
+/// Writes a key after its length, and gives the offset after it.
 pub(crate) fn put_key(into: &mut [u8], at: usize, key: &[u8]) -> usize
     requires fits { IsTrue (is_key key.now) }
     requires room { at + length (key_field key.now) ≤ length into.old }
@@ -73,7 +73,7 @@ pub(crate) fn put_key(into: &mut [u8], at: usize, key: &[u8]) -> usize
     put_bytes(into, at, key)
 }
 
-/// Writes a value behind its length, and gives the place after it.
+/// Writes a value after its length, and gives the offset after it.
 pub(crate) fn put_value(into: &mut [u8], at: usize, value: &[u8]) -> usize
     requires fits { IsTrue (is_value value.now) }
     requires room { at + length (value_field value.now) ≤ length into.old }

@@ -8,7 +8,7 @@ use crate::limits::{KEY_MAX, PAIRS_MAX, VALUE_MAX};
 use std::alloc::Global;
 use std::marker::Model;
 
-/// Where a pair lies in a buffer: the key's bytes begin at `at`, and the value's behind them.
+/// Where a pair lies in a buffer: the key's bytes begin at `at`, and the value's after them.
 #[derive(Clone, Copy, Debug)]
 pub struct PairSpan {
     pub at: usize,
@@ -16,7 +16,7 @@ pub struct PairSpan {
     pub value_len: usize,
 }
 
-/// Up to 256 pairs of key and value. The room for them, 327,424 bytes and their places, is taken by
+/// Up to 256 pairs of key and value. The memory for them, 327,424 bytes and 256 spans, is taken by
 /// `new`, and no other call takes memory.
 #[derive(Drop)]
 pub struct PairBuf {
@@ -89,7 +89,7 @@ impl PairBuf {
     pub fn key(&self, i: usize) -> &[u8]
         requires { i < length self.now }
         ensures ok { result.now ≡ (slice_index_or self.now i ([], [])).0 }
-        ensures some { 1 ≤ length result.now }
+        ensures len { 1 ≤ length result.now }
         ensures fits { length result.now ≤ KEY_MAX }
     {
         let place = self.places[i];

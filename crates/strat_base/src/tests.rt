@@ -23,7 +23,7 @@ fn add(rt: &impl Abort, pairs: &mut PairBuf, key: &[u8], value: &[u8]) {
     pairs.push(key, value);
 }
 
-/// OnlyReads at one pair.
+/// Looks at one pair.
 fn look(rt: &impl Abort, pairs: &PairBuf, i: usize, key: &[u8], value: &[u8]) {
     assert!(rt; i < pairs.len());
     assert_eq!(rt; pairs.key(i), key, "key {i}");
@@ -188,7 +188,7 @@ fn sizes_ok(change: Change<'_>) -> bool
     }
 }
 
-/// Writes a change behind a byte, keeps a copy of it, and reads both back.
+/// Writes a change after a byte, keeps a copy of it, and reads both back.
 fn look_at_change(
     rt: &impl Abort,
     alloc: Global,

@@ -1,9 +1,9 @@
 -- How the calls on a disk compose: what holds of every image since the first of them.
-use Rattle.std.proofs.Common.{◌≡◌, ◌≤◌, ℕ, ◌+◌, inl, inr, ◌⊎◌, List, length, Option, Some, IfSome, Result, IsErr, subst, arith}
+use Rattle.std.proofs.Common.{◌≡◌, ◌≤◌, ℕ, ◌+◌, inl, inr, ◌⊎◌, List, length, Option, Some, None, IfSome, Result, IsErr, sym, subst, arith}
 use Rattle.std.proofs.lemmas.Result.{IfOk-from_err}
 use Rattle.std.proofs.lemmas.Bool.{cases_lt}
 use Rattle.strat_crash.specs.Image.{Image, Outside, patch}
-use Rattle.strat_crash.specs.Moments.{DiskView, Images, Since, Passes, TearsOnly, KeepsImages, IsDurable, WritesThrough}
+use Rattle.strat_crash.specs.Moments.{DiskView, Images, Since, Passes, TearsOnly, KeepsImages, OnlyReads, IsDurable, WritesThrough}
 use Rattle.strat_crash.proofs.ImageLemmas.{outside_refl, outside_trans, outside_wider}
 
 -- an image of now is one since now
@@ -84,9 +84,19 @@ leaves_then_tears old mid new at n first second a b = tears_trans old mid new at
 pub at_told : {A : Type 0} (o : Option A) (P : A → Type 0) (x : A) → o ≡ Some x → IfSome o P → P x
 at_told o P x exposed clause = subst (λ (w : Option _). IfSome w P) exposed clause
 
--- after a sync each image is the content
+-- each image of a durable disk is the content
 pub settled_at : (v : DiskView) (f : Image) → v.content ≡ Some f → IsDurable v → (c : Image) → Images v c → c ≡ f
 settled_at v f exposed settled = at_told v.content (λ (f : Image). (c : Image) → Images v c → c ≡ f) f exposed settled
+
+-- a disk that was only read is durable if it was before
+pub reads_keep_durable : (old new : DiskView) → OnlyReads old new → IsDurable old → IsDurable new
+reads_keep_durable old new reads durable =
+    let each : IfSome old.content (λ f. (c : Image) → Images new c → c ≡ f) = each_content old.content durable in
+    subst (λ (o : Option Image). IfSome o (λ f. (c : Image) → Images new c → c ≡ f)) (sym reads.same) each
+  where
+    each_content : (o : Option Image) → IfSome o (λ f. (c : Image) → Images old c → c ≡ f) → IfSome o (λ f. (c : Image) → Images new c → c ≡ f)
+    each_content None is = tt
+    each_content (Some f) is = λ c left. is c (reads.images.each c (now_since_start old new c reads.time left))
 
 -- a write and a sync of which one failed
 pub through_err : {T E : Type 0} (old new : DiskView) (at : ℕ) (bytes : List ℕ) (r : Result T E) → TearsOnly old new at (length bytes) → Passes old new → IsErr r → WritesThrough old new at bytes r

@@ -4,7 +4,7 @@ use Rattle.std.proofs.lemmas.Bool.{cases_lt}
 use Rattle.std.proofs.lemmas.List.{length-map}
 use Rattle.std.proofs.lemmas.Bool.Decides.{nat_tests}
 use Rattle.strat_crash.specs.Image.{Image}
-use Rattle.strat_crash.specs.Moments.{DiskView, Images, Since, Passes}
+use Rattle.strat_crash.specs.Moments.{DiskView, Images, Since, Passes, OnlyReads}
 use Rattle.strat_crash.specs.Trail.{At, Trail}
 
 pub at_left : {T : Type 0} (xs ys : List T) (i : ℕ) (P : T → Type 0) → At xs i P → At (xs ++ ys) i P
@@ -116,7 +116,7 @@ trail_fewer shows v start tables n less le t = record {
   each = λ k m c low. t.each k m c (omega arith);
 }
 
--- more tables behind the last
+-- more tables after the last
 pub trail_more : {T : Type 0} (shows : Image → T → Type 0) (v : DiskView) (start : ℕ) (tables more : List T) (n : ℕ)
     → Trail shows v start tables n → Trail shows v start (tables ++ more) n
 trail_more shows v start tables more n t = record {
@@ -237,6 +237,27 @@ module _ {T : Type 0} (shows : Image → T → Type 0) (mid new : DiskView) (sta
     place = omega (arith, b.place, length-append xs (x ∷ ys));
     each = shown;
   }
+
+-- the one element of a list
+at_only : {T : Type 0} (x : T) (i : ℕ) (P : T → Type 0) → At (x ∷ []) i P → P x
+at_only x zero P h = h
+at_only x (suc i) P h = absurd h
+
+-- a trail with as many marks as tables outlasts a read
+pub trail_read : {T : Type 0} (shows : Image → T → Type 0) (old new : DiskView) (start : ℕ) (xs : List T) (x : T) → OnlyReads old new
+    → Trail shows old start (xs ++ x ∷ []) (length xs) → Trail shows new start (xs ++ x ∷ []) (length xs)
+trail_read {T} shows old new start xs x reads t =
+    let e : length xs + 0 ≡ length xs = omega arith in
+    subst (λ (n : ℕ). Trail shows new start (xs ++ x ∷ []) n) e (trail_join shows old new start xs [] x 0 reads.time t
+    (trail_of_one shows new old.moment x [] reads.time.later (λ c since. shows_last c (reads.images.each c since))))
+  where
+    shows_last : (c : Image) → Images old c → shows c x
+    shows_last c left =
+        let p = t.each (length xs) old.moment c (omega arith) t.last (omega arith) left in
+        elim (at_either xs (x ∷ []) p.0 (shows c) p.2) [
+          | inl early ↦ absurd (omega (arith, p.1, at_below xs p.0 (shows c) early))
+          | inr late ↦ at_only x late.0 (shows c) late.2
+        ]
 
 -- tables put in between two parts of a trail's list, of which the first holds no more than its number
 module _ {T : Type 0} (shows : Image → T → Type 0) (v : DiskView) (start : ℕ) (xs ys zs : List T) (n : ℕ) (low : length xs ≤ n) (t : Trail shows v start (xs ++ zs) n) where

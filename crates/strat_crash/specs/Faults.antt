@@ -1,4 +1,4 @@
--- Counts: how often a source, a sink or a disk has failed, which answers a failure explains, and how often a disk was read.
+-- Counts: how often a source, a sink or a disk failed, which errors a failure explains, and how often a disk was read.
 use Rattle.std.specs.Prelude.{◌≡◌, ◌≢◌, ◌≤◌, ℕ, ◌+◌, ◌-◌, ◌^◌, min, Result, OnOk, OnErr, IsErrOf, IfErr}
 
 -- a count of one more; at the last value of its type a count stands still
@@ -16,7 +16,8 @@ pub record CountsFaults {T E : Type 0} (before now : ℕ) (result : Result T E) 
   pub err : OnErr result (Rose before now)
 
 -- the error that stands for the device comes only where a fault was counted, and any other only where none was
-pub record HasCause {T E : Type 0} (failure : E) (before now : ℕ) (result : Result T E) : Type 0 where
+pub record HasCause {T E : Type 0} (failure : E) (before now : ℕ)
+    (result : Result T E) : Type 0 where
   pub later : before ≤ now
   pub ok : OnOk result (now ≡ before)
   pub device : IsErrOf result failure → Rose before now

@@ -1,2 +1,4 @@
-//! What a crash may leave of a disk at each moment, which tables that shows, and counts of faults, as definitions.
+//! What a crash may leave of a disk at each moment, which tables that shows, and counts of faults: definitions and laws.
 #![tactic(auto)]
+
+pub mod laws;

@@ -1,4 +1,4 @@
--- A disk that tells nothing.
+-- A disk that exposes nothing.
 use Rattle.std.proofs.Common.{ℕ}
 use Rattle.strat_crash.specs.Moments.{TearsOnly}
 use Rattle.strat_crash.proofs.ImageLemmas.{outside_refl}

@@ -21,13 +21,18 @@ abbrev pub at_moment : Medium → List Event → ℕ → Medium
 at_moment first events n = replay first (take n events)
 
 -- at most one event more, and the moments before it as they were
-pub record Continues (old_first : Medium) (old : List Event) (new_first : Medium) (new : List Event) : Type 0 where
+pub record Continues (old_first : Medium) (old : List Event) (new_first : Medium)
+    (new : List Event) : Type 0 where
   pub later : length old ≤ length new
   pub one : length new ≤ length old + 1
   pub past : (n : ℕ) → n ≤ length old → at_moment new_first new n ≡ at_moment old_first old n
 
 -- what a whole disk reads as may be left by a crash
-pub content_left : (first : Medium) (events : List Event) (now : Medium) → replay first events ≡ now → IsWhole now → Leaves (at_moment first events (length events)) now.content
+pub content_left : (first : Medium) (events : List Event) (now : Medium) → replay first events ≡ now
+    → IsWhole now → Leaves (at_moment first events (length events)) now.content
 content_left first events now replays whole =
-    let e : at_moment first events (length events) ≡ now = ap (λ (l : List Event). replay first l) (take_all (length events) events (omega arith)) ∙ replays in
-    subst (λ (m : Medium). Leaves m now.content) (sym e) (record { bytes = whole.content; durable = whole.same })
+    let all = take_all (length events) events (omega arith) in
+    let e : at_moment first events (length events) ≡ now =
+    ap (λ (l : List Event). replay first l) all ∙ replays in
+    subst (λ (m : Medium). Leaves m now.content) (sym e)
+    (record { bytes = whole.content; durable = whole.same })

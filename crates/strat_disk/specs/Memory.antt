@@ -1,5 +1,5 @@
 -- What shows of a disk in memory.
-use Rattle.std.specs.Prelude.{◌≡◌, ℕ, List, length, Some}
+use Rattle.std.specs.Prelude.{◌≡◌, ℕ, List, length, Some, Result, OnOk, OnErr}
 use Rattle.strat_crash.specs.Moments.{DiskView}
 use Rattle.strat_disk.specs.Medium.{Medium, Leaves}
 use Rattle.strat_disk.specs.PlaneView.{plane_of}
@@ -32,7 +32,7 @@ reads_of d = d.reads
 abbrev pub faults_of : MemDisk → ℕ
 faults_of d = d.faults
 
--- its content, and what a crash at each moment might have left
+-- its content, and what a crash at each moment might leave
 abbrev pub log_view : Log → DiskView
 log_view l = record {
   content = Some (plane_of l.present).content;
@@ -44,7 +44,26 @@ log_view l = record {
 abbrev pub view_of : MemDisk → DiskView
 view_of d = log_view d.log
 
--- one more call was made, and the same calls are to fail
-pub record Called (old new : MemDisk) : Type 0 where
-  pub calls : calls_of new ≡ one_more (calls_of old)
+-- no call was made yet, and those of this list are to fail
+pub record IsUncalled (d : MemDisk) (list : List ℕ) : Type 0 where
+  pub calls : calls_of d ≡ 0
+  pub reads : reads_of d ≡ 0
+  pub faults : faults_of d ≡ 0
+  pub failing : failing_of d ≡ list
+
+-- no call was made, and the same calls are to fail
+pub record KeepsCalls (old new : MemDisk) : Type 0 where
+  pub calls : calls_of new ≡ calls_of old
+  pub reads : reads_of new ≡ reads_of old
+  pub faults : faults_of new ≡ faults_of old
   pub failing : failing_of new ≡ failing_of old
+
+-- one more call left this medium, or failed: then the old one and one fault more; so many reads were made so far
+pub record Called {T E : Type 0} (old new : MemDisk) (medium : Medium) (count : ℕ)
+    (result : Result T E) : Type 0 where
+  pub calls : calls_of new ≡ one_more (calls_of old)
+  pub reads : reads_of new ≡ count
+  pub failing : failing_of new ≡ failing_of old
+  pub ok : OnOk result (medium_of new ≡ medium)
+  pub err : OnErr result (medium_of new ≡ medium_of old)
+  pub faults : OnErr result (faults_of new ≡ one_more (faults_of old))

@@ -2,16 +2,16 @@
 ghost use Rattle.std.specs.Prelude.{◌≡◌, ◌≤◌, ℕ, ◌+◌, ◌^◌, length, IfSome, OnOk, OnErr};
 ghost use Rattle.strat_crash.specs.Faults.{CountsFaults, ReadsAtMost};
 ghost use Rattle.strat_crash.specs.Image.{Image, HoldsBytes};
-ghost use Rattle.strat_crash.specs.Moments.{DiskView, Images, ReadsBack, Writes, Garbles, Passes, TearsOnly, KeepsImages, MayTear, IsDurable, WritesThrough};
+ghost use Rattle.strat_crash.specs.Moments.{DiskView, Images, ReadsBack, Writes, Garbles, Passes, TearsRange, KeepsImages, IsDurable, WritesThrough};
 
 use strat_base::Failed;
 
-/// A disk of bytes, with no end: places behind the last byte written read as 0.
+/// A disk of bytes, with no end: offsets after the last byte written read as 0.
 ///
 /// Between two syncs a crash may leave any bytes in each range that was written, and leaves all others alone;
-/// after a sync that succeeds it leaves what a read gives. Places are counted in bytes, up to `2^44`.
+/// after a sync that succeeds it leaves what a read gives. Offsets are in bytes, up to `2^44`.
 pub trait Disk {
-    /// Its content, where it tells it, and the images that a crash at each moment so far might have left.
+    /// Its content, if it exposes it, and the images that a crash at each moment so far might leave.
     ghost view: { Self → DiskView };
 
     /// How often it failed.
@@ -35,13 +35,12 @@ pub trait Disk {
         requires { at + length bytes.now ≤ 2 ^ 44 }
         ensures ok { OnOk result (Writes (view self.old) (view self.new) at bytes.now) }
         ensures err { OnErr result (Garbles (view self.old) (view self.new) at (length bytes.now)) }
-        ensures images { TearsOnly (view self.old) (view self.new) at (length bytes.now) }
-        ensures torn { OnOk result (MayTear (view self.old) (view self.new) at (length bytes.now)) }
+        ensures images { TearsRange (view self.old) (view self.new) at (length bytes.now) result }
         ensures time { Passes (view self.old) (view self.new) }
         ensures cause { CountsFaults (faults self.old) (faults self.new) result }
         ensures reads { reads self.new ≡ reads self.old };
 
-    /// Waits until all that was written is there for good.
+    /// Waits until all that was written is durable. After an error the disk reads as before, and may be durable or not.
     fn sync(&mut self) -> Result<(), Failed>
         ensures ok { OnOk result (IsDurable (view self.new)) }
         ensures same { (view self.new).content ≡ (view self.old).content }
@@ -60,7 +59,7 @@ pub trait Disk {
 /// Writes these bytes from `at` on and syncs: one write and one sync.
 pub fn write_through<D: Disk>(disk: &mut D, at: u64, bytes: &[u8]) -> Result<(), Failed>
     requires { at + length bytes.now ≤ 2 ^ 44 }
-    ensures through { WritesThrough (D.view disk.old) (D.view disk.new) at bytes.now result }
+    ensures ok { WritesThrough (D.view disk.old) (D.view disk.new) at bytes.now result }
     ensures cause { CountsFaults (D.faults disk.old) (D.faults disk.new) result }
     ensures reads { D.reads disk.new ≡ D.reads disk.old }
 {

@@ -1,13 +1,13 @@
 //! A disk that stops working after some calls, for tests.
 ghost use Rattle.std.specs.Prelude.{◌≡◌, ◌≤◌, ◌<◌, ℕ, ◌+◌, ◌-◌, ◌^◌, nat_lt, length, Some, IfSome, IsSomeAnd, OnOk, OnErr};
 ghost use Rattle.strat_crash.specs.Faults.{CountsFaults, ReadsAtMost};
-ghost use Rattle.strat_crash.specs.Moments.{ReadsBack, Writes, Garbles, Passes, TearsOnly, KeepsImages, MayTear, IsDurable};
+ghost use Rattle.strat_crash.specs.Moments.{ReadsBack, Writes, Garbles, Passes, TearsRange, KeepsImages, IsDurable};
 
 use crate::disk::Disk;
 use crate::faults::fault;
 use strat_base::Failed;
 
-/// A disk behind a fuse: so many calls reach it, and each one after them fails and reaches nothing.
+/// A disk behind a fuse: so many calls reach it, each as one call, and every later one fails and reaches nothing.
 #[derive(Drop)]
 pub struct FuseDisk<D> {
     inner: D,
@@ -20,8 +20,7 @@ impl<D: Disk> FuseDisk<D> {
 
     /// Passes so many calls to `inner`.
     pub fn new(inner: D, calls: u64) -> FuseDisk<D>
-        ensures inner { inner_of result ≡ inner }
-        ensures left { left_of result ≡ calls }
+        ensures ok { (inner_of result ≡ inner) × (left_of result ≡ calls) }
         ensures faults { all_faults D.faults result ≡ D.faults inner }
     {
         FuseDisk {
@@ -64,7 +63,7 @@ impl<D: Disk> Disk for FuseDisk<D> {
         ensures cause { CountsFaults (all_faults D.faults self.old) (all_faults D.faults self.new)
             result }
         ensures reads { ReadsAtMost 1 (D.reads (inner_of self.old)) (D.reads (inner_of self.new)) }
-        ensures fuse { Fused D.faults self.old self.new result }
+        ensures faults { Fused D.faults self.old self.new result }
     {
         if !passes(&mut self.left) {
             return Err(fault(&mut self.faults));
@@ -78,15 +77,13 @@ impl<D: Disk> Disk for FuseDisk<D> {
             (D.view (inner_of self.new)) at bytes.now) }
         ensures err { OnErr result (Garbles (D.view (inner_of self.old))
             (D.view (inner_of self.new)) at (length bytes.now)) }
-        ensures images { TearsOnly (D.view (inner_of self.old)) (D.view (inner_of self.new))
-            at (length bytes.now) }
-        ensures torn { OnOk result (MayTear (D.view (inner_of self.old))
-            (D.view (inner_of self.new)) at (length bytes.now)) }
+        ensures images { TearsRange (D.view (inner_of self.old)) (D.view (inner_of self.new))
+            at (length bytes.now) result }
         ensures time { Passes (D.view (inner_of self.old)) (D.view (inner_of self.new)) }
         ensures cause { CountsFaults (all_faults D.faults self.old) (all_faults D.faults self.new)
             result }
         ensures reads { D.reads (inner_of self.new) ≡ D.reads (inner_of self.old) }
-        ensures fuse { Fused D.faults self.old self.new result }
+        ensures faults { Fused D.faults self.old self.new result }
     {
         if !passes(&mut self.left) {
             return Err(fault(&mut self.faults));
@@ -103,7 +100,7 @@ impl<D: Disk> Disk for FuseDisk<D> {
         ensures cause { CountsFaults (all_faults D.faults self.old) (all_faults D.faults self.new)
             result }
         ensures reads { D.reads (inner_of self.new) ≡ D.reads (inner_of self.old) }
-        ensures fuse { Fused D.faults self.old self.new result }
+        ensures faults { Fused D.faults self.old self.new result }
     {
         if !passes(&mut self.left) {
             return Err(fault(&mut self.faults));
@@ -118,8 +115,8 @@ impl<D: Disk> Disk for FuseDisk<D> {
 
 /// Uses up a call, and says whether one was left.
 fn passes(left: &mut u64) -> bool
-    ensures left { left.new ≡ left.old - 1 }
-    ensures value { result ≡ nat_lt 0 left.old }
+    ensures ok { left.new ≡ left.old - 1 }
+    ensures found { result ≡ nat_lt 0 left.old }
 {
     let passed = *left > 0;
     *left = left.saturating_sub(1);

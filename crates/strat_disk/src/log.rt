@@ -23,10 +23,10 @@ pub struct Log {
 }
 
 impl Log {
-    /// A disk with these bytes, all of them there for good.
+    /// A disk with these bytes, all of them durable.
     pub fn at_rest(alloc: Global, bytes: Vec<u8>) -> Result<Log, AllocError>
         ensures len { IfOk result (λ l. l.present.bytes.items ≡ bytes.items) }
-        ensures rest { IfOk result (λ l. plane_of l.present
+        ensures ok { IfOk result (λ l. plane_of l.present
             ≡ at_rest (slice_index bytes.items)) }
     {
         let first = Plane::at_rest(alloc, Vec::from_slice(alloc, &bytes)?)?;
@@ -39,7 +39,7 @@ impl Log {
         })
     }
 
-    /// Writes these bytes. Where memory is short nothing is written.
+    /// Writes these bytes. Out of memory nothing is written.
     pub fn write(&mut self, alloc: Global, at: usize, bytes: &[u8]) -> Result<(), AllocError>
         requires { at + length bytes.now < 2 ^ 64 }
         ensures ok { OnOk result (plane_of self.new.present
@@ -61,8 +61,8 @@ impl Log {
 
     /// Makes all that is pending durable.
     pub fn sync(&mut self)
-        ensures settled { plane_of self.new.present ≡ settled (plane_of self.old.present) }
-        ensures bytes { self.new.present.bytes.items ≡ self.old.present.bytes.items }
+        ensures ok { plane_of self.new.present ≡ settled (plane_of self.old.present) }
+        ensures same { self.new.present.bytes.items ≡ self.old.present.bytes.items }
         ensures time { Continues (plane_of self.old.first) self.old.events.items
             (plane_of self.new.first) self.new.events.items }
     {
@@ -76,7 +76,7 @@ impl Log {
     /// Sets one byte, as if it had always been there. The moments so far are forgotten.
     pub fn alter(&mut self, at: usize, byte: u8)
         requires { at < length self.old.present.bytes.items }
-        ensures altered { plane_of self.new.present ≡ altered at byte (plane_of self.old.present) }
+        ensures ok { plane_of self.new.present ≡ altered at byte (plane_of self.old.present) }
         ensures len { length self.new.present.bytes.items ≡ length self.old.present.bytes.items }
     {
         self.present.alter(at, byte);
@@ -84,12 +84,12 @@ impl Log {
         self.events.clear();
     }
 
-    /// Takes the memory for a write up to this place, and for the sync after it.
+    /// Takes the memory for a write up to this offset, and for the sync after it.
     fn reserve(&mut self, len: usize) -> Result<(), AllocError>
-        ensures first { SameWith self.old.first self.new.first len result }
-        ensures present { SameWith self.old.present self.new.present len result }
-        ensures events { self.new.events.items ≡ self.old.events.items }
-        ensures two { OnOk result (vec_len self.new.events + 2 ≤ vec_capacity self.new.events) }
+        ensures same { (self.new.events.items ≡ self.old.events.items)
+            × SameWith self.old.first self.new.first len result
+            × SameWith self.old.present self.new.present len result }
+        ensures room { OnOk result (vec_len self.new.events + 2 ≤ vec_capacity self.new.events) }
     {
         make_room(&mut self.first, &mut self.present, &mut self.events, len)
     }
@@ -101,12 +101,11 @@ fn make_room(
     events: &mut Vec<Event>,
     len: usize,
 ) -> Result<(), AllocError>
-    ensures first { SameWith first.old first.new len result }
-    ensures present { SameWith present.old present.new len result }
-    ensures events { events.new.items ≡ events.old.items }
-    ensures count { vec_len events.new ≡ vec_len events.old }
-    ensures spare { vec_capacity events.old ≤ vec_capacity events.new }
-    ensures two { OnOk result (vec_len events.new + 2 ≤ vec_capacity events.new) }
+    ensures same { (events.new.items ≡ events.old.items)
+        × SameWith first.old first.new len result × SameWith present.old present.new len result }
+    ensures len { vec_len events.new ≡ vec_len events.old }
+    ensures fits { vec_capacity events.old ≤ vec_capacity events.new }
+    ensures room { OnOk result (vec_len events.new + 2 ≤ vec_capacity events.new) }
 {
     first.reserve(len)?;
     present.reserve(len)?;
@@ -116,9 +115,9 @@ fn make_room(
 
 fn note(events: &mut Vec<Event>, event: Event)
     requires { vec_len events.old < vec_capacity events.old }
-    ensures items { events.new.items ≡ events.old.items ++ event ∷ [] }
+    ensures ok { events.new.items ≡ events.old.items ++ event ∷ [] }
     ensures len { vec_len events.new ≡ vec_len events.old + 1 }
-    ensures capacity { vec_capacity events.old ≤ vec_capacity events.new }
+    ensures fits { vec_capacity events.old ≤ vec_capacity events.new }
 {
     events.push(event).unwrap();
 }

@@ -1,7 +1,7 @@
 //! A disk in memory, for tests: it can fail at chosen calls, and it can crash.
 ghost use Rattle.std.specs.Prelude.{◌≡◌, ◌≤◌, ◌<◌, ℕ, ◌+◌, ◌-◌, ◌^◌, [], true, length, slice_index, Some, IfOk, IfSome, IsSomeAnd, IsErr, IsTrue, OnOk, OnErr, is_err};
 ghost use Rattle.strat_crash.specs.Faults.{CountsFaults, one_more, ReadsAtMost};
-ghost use Rattle.strat_crash.specs.Moments.{Images, ReadsBack, Writes, Garbles, Passes, TearsOnly, KeepsImages, MayTear, IsDurable};
+ghost use Rattle.strat_crash.specs.Moments.{Images, ReadsBack, Writes, Garbles, Passes, TearsRange, KeepsImages, IsDurable};
 ghost use Rattle.strat_disk.specs.Calls.{is_failing};
 ghost use Rattle.strat_disk.specs.Medium.{at_rest, written, settled, altered, crashed};
 
@@ -23,16 +23,13 @@ pub struct MemDisk {
 }
 
 impl MemDisk {
-    ghost use Rattle.strat_disk.specs.Memory.{bytes_of, medium_of, failing_of, calls_of, reads_of, faults_of, view_of, Called};
+    ghost use Rattle.strat_disk.specs.Memory.{bytes_of, medium_of, calls_of, reads_of, view_of, IsUncalled, KeepsCalls};
 
     /// An empty disk. The calls numbered in `failing`, from 1, will fail.
     pub fn new(alloc: Global, failing: &[u64]) -> Result<MemDisk, NoMemory>
-        ensures bytes { IfOk result (λ d. bytes_of d ≡ []) }
-        ensures medium { IfOk result (λ d. medium_of d ≡ at_rest (λ _. 0)) }
-        ensures failing { IfOk result (λ d. failing_of d ≡ failing.now) }
-        ensures calls { IfOk result (λ d. calls_of d ≡ 0) }
-        ensures reads { IfOk result (λ d. reads_of d ≡ 0) }
-        ensures faults { IfOk result (λ d. faults_of d ≡ 0) }
+        ensures ok { IfOk result (λ d. medium_of d ≡ at_rest (λ _. 0)) }
+        ensures len { IfOk result (λ d. bytes_of d ≡ []) }
+        ensures faults { IfOk result (λ d. IsUncalled d failing.now) }
     {
         let log = Log::at_rest(alloc, Vec::new(alloc))?;
         let failing = Vec::from_slice(alloc, failing)?;
@@ -67,15 +64,12 @@ impl MemDisk {
         self.reads
     }
 
-    /// Sets one byte behind the back of its user, as if it had always been there. The moments so far are forgotten.
+    /// Sets one byte, unseen by its user, as if it had always been there. The moments so far are forgotten.
     pub fn alter(&mut self, at: u64, byte: u8)
         requires { at < length (bytes_of self.old) }
-        ensures medium { medium_of self.new ≡ altered at byte (medium_of self.old) }
+        ensures ok { medium_of self.new ≡ altered at byte (medium_of self.old) }
         ensures len { length (bytes_of self.new) ≡ length (bytes_of self.old) }
-        ensures failing { failing_of self.new ≡ failing_of self.old }
-        ensures calls { calls_of self.new ≡ calls_of self.old }
-        ensures reads { reads_of self.new ≡ reads_of self.old }
-        ensures faults { faults_of self.new ≡ faults_of self.old }
+        ensures same { KeepsCalls self.old self.new }
     {
         self.log.alter(at as usize, byte);
     }
@@ -83,14 +77,11 @@ impl MemDisk {
     /// The disk after a crash now, with no calls that fail. Where a write was pending there are the bytes of the
     /// last sync for choice 0, the bytes written for choice 1, and 0xa7 for any other. Linear in its length.
     pub fn crash(&self, choice: u8) -> Result<MemDisk, NoMemory>
-        ensures left { IfOk result (λ d. medium_of d
+        ensures ok { IfOk result (λ d. medium_of d
             ≡ at_rest (crashed choice (medium_of self.now))) }
-        ensures image { IfOk result (λ d. Images (view_of self.now) (slice_index (bytes_of d))) }
+        ensures images { IfOk result (λ d. Images (view_of self.now) (slice_index (bytes_of d))) }
         ensures len { IfOk result (λ d. length (bytes_of d) ≡ length (bytes_of self.now)) }
-        ensures failing { IfOk result (λ d. failing_of d ≡ []) }
-        ensures calls { IfOk result (λ d. calls_of d ≡ 0) }
-        ensures reads { IfOk result (λ d. reads_of d ≡ 0) }
-        ensures faults { IfOk result (λ d. faults_of d ≡ 0) }
+        ensures faults { IfOk result (λ d. IsUncalled d []) }
     {
         let bytes = self.log.present.crash(self.alloc, choice)?;
         let log = Log::at_rest(self.alloc, bytes)?;
@@ -105,17 +96,17 @@ impl MemDisk {
     }
 }
 
-/// CountsFaults a call, and says whether it is to fail.
+/// Counts a call, and says whether it is to fail.
 fn fails(calls: &mut u64, failing: &Vec<u64>) -> bool
-    ensures calls { calls.new ≡ one_more calls.old }
-    ensures value { result ≡ is_failing failing.now.items calls.new }
+    ensures ok { calls.new ≡ one_more calls.old }
+    ensures found { result ≡ is_failing failing.now.items calls.new }
 {
     *calls = calls.saturating_add(1);
     failing.contains(calls)
 }
 
 impl Disk for MemDisk {
-    ghost use Rattle.strat_disk.specs.Memory.{bytes_of, medium_of, failing_of, calls_of, reads_of, faults_of, view_of, Called};
+    ghost use Rattle.strat_disk.specs.Memory.{medium_of, failing_of, calls_of, reads_of, faults_of, view_of, Called};
     ghost use Rattle.strat_disk.specs.History.{content_left};
     ghost use Rattle.strat_disk.specs.PlaneView.{plane_of};
 
@@ -133,10 +124,9 @@ impl Disk for MemDisk {
         ensures time { Passes (view_of self.old) (view_of self.new) }
         ensures cause { CountsFaults (faults_of self.old) (faults_of self.new) result }
         ensures reads { ReadsAtMost 1 (reads_of self.old) (reads_of self.new) }
-        ensures counted { reads_of self.new ≡ one_more (reads_of self.old) }
-        ensures medium { medium_of self.new ≡ medium_of self.old }
-        ensures called { Called self.old self.new }
-        ensures fails { is_err result ≡ is_failing (failing_of self.new) (calls_of self.new) }
+        ensures kept { Called self.old self.new (medium_of self.old) (one_more (reads_of self.old))
+            result }
+        ensures faults { is_err result ≡ is_failing (failing_of self.new) (calls_of self.new) }
     {
         self.reads = self.reads.saturating_add(1);
         if fails(&mut self.calls, &self.failing) {
@@ -146,22 +136,21 @@ impl Disk for MemDisk {
         Ok(())
     }
 
+    /// Fails at each listed call, and besides only out of memory. So `faults` says one direction alone.
     fn write_at(&mut self, at: u64, bytes: &[u8]) -> Result<(), Failed>
         requires { at + length bytes.now ≤ 2 ^ 44 }
         ensures ok { OnOk result (Writes (view_of self.old) (view_of self.new) at bytes.now) }
         ensures err { OnErr result (Garbles (view_of self.old) (view_of self.new)
             at (length bytes.now)) }
-        ensures images { TearsOnly (view_of self.old) (view_of self.new) at (length bytes.now) }
-        ensures torn { OnOk result (MayTear (view_of self.old) (view_of self.new)
-            at (length bytes.now)) }
+        ensures images { TearsRange (view_of self.old) (view_of self.new) at (length bytes.now)
+            result }
         ensures time { Passes (view_of self.old) (view_of self.new) }
         ensures cause { CountsFaults (faults_of self.old) (faults_of self.new) result }
         ensures reads { reads_of self.new ≡ reads_of self.old }
-        ensures written { OnOk result (medium_of self.new
-            ≡ written at bytes.now (medium_of self.old)) }
-        ensures unwritten { OnErr result (medium_of self.new ≡ medium_of self.old) }
-        ensures called { Called self.old self.new }
-        ensures fails { is_failing (failing_of self.new) (calls_of self.new) ≡ true → IsErr result }
+        ensures kept { Called self.old self.new (written at bytes.now (medium_of self.old))
+            (reads_of self.old) result }
+        ensures faults { is_failing (failing_of self.new) (calls_of self.new) ≡ true
+            → IsErr result }
     {
         if fails(&mut self.calls, &self.failing) {
             return Err(fault(&mut self.faults));
@@ -179,10 +168,9 @@ impl Disk for MemDisk {
         ensures time { Passes (view_of self.old) (view_of self.new) }
         ensures cause { CountsFaults (faults_of self.old) (faults_of self.new) result }
         ensures reads { reads_of self.new ≡ reads_of self.old }
-        ensures settled { OnOk result (medium_of self.new ≡ settled (medium_of self.old)) }
-        ensures unsettled { OnErr result (medium_of self.new ≡ medium_of self.old) }
-        ensures called { Called self.old self.new }
-        ensures fails { is_err result ≡ is_failing (failing_of self.new) (calls_of self.new) }
+        ensures kept { Called self.old self.new (settled (medium_of self.old)) (reads_of self.old)
+            result }
+        ensures faults { is_err result ≡ is_failing (failing_of self.new) (calls_of self.new) }
     {
         if fails(&mut self.calls, &self.failing) {
             return Err(fault(&mut self.faults));

@@ -28,7 +28,7 @@ impl<'a, R: Files> OneFile<'a, R> {
         }
     }
 
-    /// Fills `into` from this place on, and what lies behind the file's end with zeros.
+    /// Fills `into` from this offset on, and what lies after the file's end with zeros.
     pub fn read(&mut self, at: u64, into: &mut [u8]) -> io::Result<()> {
         self.open()?;
         match &mut self.file {

@@ -23,7 +23,7 @@ impl Plane {
     /// No bytes.
     pub fn new(alloc: Global) -> Plane
         ensures len { result.bytes.items ≡ [] }
-        ensures rest { plane_of result ≡ at_rest (λ _. 0) }
+        ensures ok { plane_of result ≡ at_rest (λ _. 0) }
     {
         Plane {
             bytes: Vec::new(alloc),
@@ -32,10 +32,10 @@ impl Plane {
         }
     }
 
-    /// These bytes, all of them there for good.
+    /// These bytes, all of them durable.
     pub fn at_rest(alloc: Global, bytes: Vec<u8>) -> Result<Plane, AllocError>
         ensures len { IfOk result (λ p. p.bytes.items ≡ bytes.items) }
-        ensures rest { IfOk result (λ p. plane_of p ≡ at_rest (slice_index bytes.items)) }
+        ensures ok { IfOk result (λ p. plane_of p ≡ at_rest (slice_index bytes.items)) }
     {
         let durable = bytes.to_vec(alloc)?;
         let pending = vec![in alloc; false; bytes.len()]?;
@@ -46,7 +46,7 @@ impl Plane {
         })
     }
 
-    /// Fills `into` with the bytes from `at` on, and with zeros behind the last of them.
+    /// Fills `into` with the bytes from `at` on, and with zeros after the last of them.
     pub fn read(&self, at: usize, into: &mut [u8])
         requires { at + length into.old < 2 ^ 64 }
         ensures { into.new ≡ window (plane_of self.now).content at (length into.old) }
@@ -57,7 +57,7 @@ impl Plane {
     /// What a crash leaves: the pending bytes are the old ones, the new ones, or 0xa7.
     pub fn crash(&self, alloc: Global, choice: u8) -> Result<Vec<u8>, AllocError>
         ensures len { IfOk result (λ v. length v.items ≡ length self.now.bytes.items) }
-        ensures bytes { IfOk result (λ v. slice_index v.items
+        ensures ok { IfOk result (λ v. slice_index v.items
             ≡ crashed choice (plane_of self.now)) }
     {
         let mut left = Vec::with_capacity(alloc, self.bytes.len())?;
@@ -97,7 +97,7 @@ impl Plane {
     /// Writes these bytes, which are pending from then on.
     pub fn write(&mut self, at: usize, bytes: &[u8])
         requires { at + length bytes.now ≤ length self.old.bytes.items }
-        ensures written { plane_of self.new ≡ written at bytes.now (plane_of self.old) }
+        ensures ok { plane_of self.new ≡ written at bytes.now (plane_of self.old) }
         ensures len { length self.new.bytes.items ≡ length self.old.bytes.items }
     {
         overwrite(&mut self.bytes, at, bytes);
@@ -106,8 +106,8 @@ impl Plane {
 
     /// Nothing is pending from then on.
     pub fn sync(&mut self)
-        ensures settled { plane_of self.new ≡ settled (plane_of self.old) }
-        ensures bytes { self.new.bytes.items ≡ self.old.bytes.items }
+        ensures ok { plane_of self.new ≡ settled (plane_of self.old) }
+        ensures same { self.new.bytes.items ≡ self.old.bytes.items }
     {
         copy(&mut self.durable, &self.bytes);
         unmark(&mut self.pending);
@@ -116,7 +116,7 @@ impl Plane {
     /// Sets one byte, and leaves no trace of the one before it.
     pub fn alter(&mut self, at: usize, byte: u8)
         requires { at < length self.old.bytes.items }
-        ensures altered { plane_of self.new ≡ altered at byte (plane_of self.old) }
+        ensures ok { plane_of self.new ≡ altered at byte (plane_of self.old) }
         ensures len { length self.new.bytes.items ≡ length self.old.bytes.items }
     {
         self.bytes[at] = byte;
@@ -158,9 +158,9 @@ fn fill(bytes: &Vec<u8>, at: usize, into: &mut [u8])
 }
 
 fn lengthen(into: &mut Vec<u8>, len: usize)
-    requires fits { len ≤ vec_capacity into.old }
-    requires longer { vec_len into.old ≤ len }
-    ensures items { into.new.items
+    requires room { len ≤ vec_capacity into.old }
+    requires fits { vec_len into.old ≤ len }
+    ensures ok { into.new.items
         ≡ take len into.old.items ++ replicate (len - vec_len into.old) 0 }
     ensures len { vec_len into.new ≡ len }
 {
@@ -168,9 +168,9 @@ fn lengthen(into: &mut Vec<u8>, len: usize)
 }
 
 fn lengthen_marks(into: &mut Vec<bool>, len: usize)
-    requires fits { len ≤ vec_capacity into.old }
-    requires longer { vec_len into.old ≤ len }
-    ensures items { into.new.items
+    requires room { len ≤ vec_capacity into.old }
+    requires fits { vec_len into.old ≤ len }
+    ensures ok { into.new.items
         ≡ take len into.old.items ++ replicate (len - vec_len into.old) false }
     ensures len { vec_len into.new ≡ len }
 {

@@ -5,7 +5,7 @@ use std::fs;
 use std::test::Fail;
 use strat_base::Failed;
 
-// Writes, reads behind the end and syncs, through the trait alone.
+// Writes, reads past the end and syncs, through the trait alone.
 fn store<D: Disk>(disk: &mut D, at: u64, bytes: &[u8; 3], into: &mut [u8; 5]) -> Result<(), Failed>
     requires { at ≤ 100 }
 {

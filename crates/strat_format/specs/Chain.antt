@@ -5,7 +5,7 @@ use Rattle.strat_base.specs.declared.limits.TheConstants.{BLOCK}
 use Rattle.strat_base.specs.Numbers.{be}
 use Rattle.strat_crash.specs.Image.{Image, window}
 
--- the block that follows, or 0 behind the last
+-- the block that follows, or 0 after the last
 abbrev pub next_block : List ℕ → ℕ
 next_block [] = 0
 next_block (b ∷ blocks) = b
@@ -18,13 +18,14 @@ link_bytes after bytes = be 4 after ++ (bytes ++ replicate (BLOCK - 4 - length b
 abbrev pub chain_length : ℕ → ℕ
 chain_length n = (n + (BLOCK - 5)) / (BLOCK - 4)
 
--- these blocks of an image hold these bytes, one behind the other
+-- these blocks of an image hold these bytes, one after the other
 unfoldable pub HoldsChain : Image → List ℕ → List ℕ → Type 0
 HoldsChain c [] bytes = bytes ≡ []
 HoldsChain c (b ∷ blocks) bytes =
-    (window c (BLOCK * b) BLOCK ≡ link_bytes (next_block blocks) (take (BLOCK - 4) bytes)) × HoldsChain c blocks (drop (BLOCK - 4) bytes)
+    (window c (BLOCK * b) BLOCK ≡ link_bytes (next_block blocks) (take (BLOCK - 4) bytes))
+    × HoldsChain c blocks (drop (BLOCK - 4) bytes)
 
--- the chain of a manifest's bytes: as many blocks as they need, each a block that may be named, and none twice
+-- the chain of a manifest's bytes: as many blocks as they need, each a valid number, none twice
 pub record IsChain (c : Image) (blocks bytes : List ℕ) : Type 0 where
   pub holds : HoldsChain c blocks bytes
   pub count : length blocks ≡ chain_length (length bytes)

@@ -5,7 +5,7 @@ use Rattle.std.specs.Prelude.{ℕ, Bool, if◌then◌else◌, List, ◌∷◌, O
 abbrev pub Read : Type 0 → Type 0
 Read A = Result A ℕ
 
--- what is read behind something else
+-- what is read after something else
 abbrev pub and_then : {A B : Type 0} → Read A → (A → Read B) → Read B
 and_then (Ok x) behind = behind x
 and_then (Err block) behind = Err block

@@ -1,5 +1,5 @@
--- Where the parts of a store lie in its file: two superblock slots, two journal regions, and free blocks after them.
-use Rattle.std.specs.Prelude.{ℕ, ◌+◌, ◌-◌, ◌*◌, ◌/◌, ◌==◌, Bool}
+-- Where a store's parts lie in its file: two superblock slots, two journal regions, free blocks.
+use Rattle.std.specs.Prelude.{◌≤◌, ℕ, ◌+◌, ◌-◌, ◌*◌, ◌/◌, ◌==◌, Bool}
 
 -- what an open gate holds; any other byte is a closed one
 abbrev pub open_flag : ℕ
@@ -17,9 +17,14 @@ record_max = 1288
 abbrev pub manifest_min : ℕ
 manifest_min = 29
 
--- the blocks of a journal region for so many changes: room for the largest records and a closed gate
+-- the blocks of a journal region for so many changes: the largest records and a closed gate fit
 abbrev pub region_blocks : ℕ → ℕ
 region_blocks mem = (record_max * mem + 4096) / 4096
+
+-- region 0 or 1 of a store whose regions take so many changes
+pub record IsRegion (mem region : ℕ) : Type 0 where
+  pub mem_most : mem ≤ 4096
+  pub region_most : region ≤ 1
 
 -- the first block of a region
 abbrev pub region_first : ℕ → ℕ → ℕ

@@ -9,7 +9,8 @@ pub record Extent : Type 0 where
   pub start : ℕ
   pub len : ℕ
 
--- the descriptor of an array: its number, the numbers of its entries, leads and least live ones, where it lies, and its tag
+-- the descriptor of an array: its number, how many entries, leads and least live ones it has, where
+-- it lies, and its tag
 pub record ArrayDesc : Type 0 where
   pub id : ℕ
   pub entries : ℕ
@@ -66,9 +67,11 @@ all_pass (test ∷ tests) = test && all_pass tests
 abbrev pub is_lawful_array : ℕ → ArrayDesc → Bool
 is_lawful_array next_array a = all_pass (
     nat_le 1 a.id ∷ nat_lt a.id next_array
-    ∷ nat_le 1 a.entries ∷ nat_lt a.entries (2 ^ 32) ∷ nat_le a.leads a.entries ∷ nat_le a.least a.entries
+    ∷ nat_le 1 a.entries ∷ nat_lt a.entries (2 ^ 32) ∷ nat_le a.leads a.entries
+    ∷ nat_le a.least a.entries
     ∷ is_counted a.extents ∷ list_all is_lawful_extent a.extents ∷ are_apart a.extents
-    ∷ is_counted a.versions ∷ list_all (λ v. nat_lt v (2 ^ 32)) a.versions ∷ is_rising a.versions ∷ [])
+    ∷ is_counted a.versions ∷ list_all (λ v. nat_lt v (2 ^ 32)) a.versions ∷ is_rising a.versions
+    ∷ [])
 
 -- the first version of a tag
 abbrev pub first_version : ArrayDesc → ℕ
@@ -77,7 +80,8 @@ first_version a = slice_index a.versions 0
 -- the descriptor of a level in a store of so many versions
 abbrev pub is_lawful_level : ℕ → ℕ → LevelDesc → Bool
 is_lawful_level versions next_array level = all_pass (
-    nat_le 1 level.number ∷ nat_le level.number LEVELS ∷ nat_le 1 level.horizon ∷ nat_le level.horizon versions
+    nat_le 1 level.number ∷ nat_le level.number LEVELS ∷ nat_le 1 level.horizon
+    ∷ nat_le level.horizon versions
     ∷ is_counted level.arrays ∷ list_all (is_lawful_array next_array) level.arrays
     ∷ is_rising (map first_version level.arrays) ∷ [])
 
@@ -92,10 +96,11 @@ is_lawful_manifest m = all_pass (
     nat_lt m.changes (2 ^ 32) ∷ nat_le m.updates m.changes ∷ nat_lt m.written (2 ^ 64)
     ∷ nat_le 1 m.next_array ∷ nat_lt m.next_array (2 ^ 64)
     ∷ nat_le (versions_in m) VERSIONS_MAX ∷ are_older 1 m.parents
-    ∷ nat_le (length m.levels) LEVELS ∷ list_all (is_lawful_level (versions_in m) m.next_array) m.levels
+    ∷ nat_le (length m.levels) LEVELS
+    ∷ list_all (is_lawful_level (versions_in m) m.next_array) m.levels
     ∷ is_rising (map (λ level. level.number) m.levels) ∷ [])
 
--- a list behind its length in four bytes
+-- a list after its length in four bytes
 abbrev pub list_bytes : {A : Type 0} → (A → List ℕ) → List A → List ℕ
 list_bytes item_bytes xs = be 4 (length xs) ++ flat_map item_bytes xs
 
@@ -106,32 +111,35 @@ extent_bytes x = be 4 x.start ++ be 4 x.len
 -- the bytes of an array's descriptor
 abbrev pub array_bytes : ArrayDesc → List ℕ
 array_bytes a =
-    be 8 a.id ++ (be 4 a.entries ++ (be 4 a.leads ++ (be 4 a.least ++ (list_bytes extent_bytes a.extents ++ list_bytes (be 4) a.versions))))
+    be 8 a.id ++ (be 4 a.entries ++ (be 4 a.leads ++ (be 4 a.least
+    ++ (list_bytes extent_bytes a.extents ++ list_bytes (be 4) a.versions))))
 
 -- the bytes of a level's descriptor
 abbrev pub level_bytes : LevelDesc → List ℕ
 level_bytes level = be 1 level.number ++ (be 4 level.horizon ++ list_bytes array_bytes level.arrays)
 
--- the manifest of a new store: nothing was changed or written, the first array will be number 1, and there is one version
+-- the manifest of a new store: no change, nothing written, array 1 the next, and one version
 abbrev pub new_manifest : Manifest
-new_manifest = record { changes = 0; updates = 0; written = 0; next_array = 1; parents = []; levels = [] }
+new_manifest =
+    record { changes = 0; updates = 0; written = 0; next_array = 1; parents = []; levels = [] }
 
 -- the bytes of a manifest
 unfoldable pub manifest_bytes : Manifest → List ℕ
 manifest_bytes m =
     be 4 m.changes ++ (be 4 m.updates ++ (be 8 m.written ++ (be 8 m.next_array
-    ++ (be 4 (versions_in m) ++ (flat_map (be 4) m.parents ++ (be 1 (length m.levels) ++ flat_map level_bytes m.levels))))))
+    ++ (be 4 (versions_in m) ++ (flat_map (be 4) m.parents
+    ++ (be 1 (length m.levels) ++ flat_map level_bytes m.levels))))))
 
 -- these bytes are the spelling of a manifest
 pub record SpellsManifest (bytes : List ℕ) (m : Manifest) : Type 0 where
   pub lawful : IsTrue (is_lawful_manifest m)
   pub text : bytes ≡ manifest_bytes m
 
--- a value read from the front of bytes, and the bytes behind it
+-- a value read from the front of bytes, and the bytes after it
 abbrev pub Parsed : Type 0 → Type 0
 Parsed A = Option (A × List ℕ)
 
--- what is read behind another value
+-- what is read after another value
 abbrev pub next : {A B : Type 0} → Parsed A → (A → List ℕ → Parsed B) → Parsed B
 next None behind = None
 next (Some read) behind = behind read.0 read.1
@@ -140,10 +148,11 @@ next (Some read) behind = behind read.0 read.1
 unfoldable pub read_number : ℕ → List ℕ → Parsed ℕ
 read_number k bytes = if nat_le k (length bytes) then Some (number k bytes, drop k bytes) else None
 
--- n items, one behind the other
+-- n items, one after the other
 unfoldable pub read_items : {A : Type 0} → (List ℕ → Parsed A) → ℕ → List ℕ → Parsed (List A)
 read_items read zero bytes = Some ([], bytes)
-read_items read (suc n) bytes = next (read bytes) (λ x rest. next (read_items read n rest) (λ xs end. Some (x ∷ xs, end)))
+read_items read (suc n) bytes =
+    next (read bytes) (λ x rest. next (read_items read n rest) (λ xs end. Some (x ∷ xs, end)))
 
 -- as many items as four bytes in front of them say
 abbrev pub read_list : {A : Type 0} → (List ℕ → Parsed A) → List ℕ → Parsed (List A)
@@ -152,30 +161,65 @@ read_list read bytes = next (read_number 4 bytes) (λ n rest. read_items read n 
 -- an extent, read from the front of bytes
 unfoldable pub read_extent : List ℕ → Parsed Extent
 read_extent bytes =
-    next (read_number 4 bytes) (λ start b. next (read_number 4 b) (λ len c. Some (record { start = start; len = len }, c)))
+    next (read_number 4 bytes) (λ start b.
+    next (read_number 4 b) (λ len c.
+    Some (record { start = start; len = len }, c)))
 
 -- an array's descriptor, read from the front of bytes
 unfoldable pub read_array : List ℕ → Parsed ArrayDesc
 read_array bytes =
-    next (read_number 8 bytes) (λ id b. next (read_number 4 b) (λ entries c. next (read_number 4 c) (λ leads d.
-    next (read_number 4 d) (λ least e. next (read_list read_extent e) (λ extents f. next (read_list (read_number 4) f) (λ versions g.
-    Some (record { id = id; entries = entries; leads = leads; least = least; extents = extents; versions = versions }, g)))))))
+    next (read_number 8 bytes) (λ id b.
+    next (read_number 4 b) (λ entries c.
+    next (read_number 4 c) (λ leads d.
+    next (read_number 4 d) (λ least e.
+    next (read_list read_extent e) (λ extents f.
+    next (read_list (read_number 4) f) (λ versions g.
+    Some (
+      record {
+        id = id;
+        entries = entries;
+        leads = leads;
+        least = least;
+        extents = extents;
+        versions = versions;
+      },
+      g,
+    )))))))
 
 -- a level's descriptor, read from the front of bytes
 unfoldable pub read_level : List ℕ → Parsed LevelDesc
 read_level bytes =
-    next (read_number 1 bytes) (λ number b. next (read_number 4 b) (λ horizon c. next (read_list read_array c) (λ arrays d.
+    next (read_number 1 bytes) (λ number b.
+    next (read_number 4 b) (λ horizon c.
+    next (read_list read_array c) (λ arrays d.
     Some (record { number = number; horizon = horizon; arrays = arrays }, d))))
 
 -- the fields of a manifest, read from the front of bytes
 unfoldable pub read_manifest : List ℕ → Parsed Manifest
 read_manifest bytes =
-    next (read_number 4 bytes) (λ changes b. next (read_number 4 b) (λ updates c. next (read_number 8 c) (λ written d.
-    next (read_number 8 d) (λ next_array e. next (read_number 4 e) (λ versions f. next (read_items (read_number 4) (versions - 1) f) (λ parents g.
-    next (read_number 1 g) (λ count h. next (read_items read_level count h) (λ levels i.
-    Some (record { changes = changes; updates = updates; written = written; next_array = next_array; parents = parents; levels = levels }, i)))))))))
+    next (read_number 4 bytes) (λ changes b.
+    next (read_number 4 b) (λ updates c.
+    next (read_number 8 c) (λ written d.
+    next (read_number 8 d) (λ next_array e.
+    next (read_number 4 e) (λ versions f.
+    next (read_items (read_number 4) (versions - 1) f) (λ parents g.
+    next (read_number 1 g) (λ count h.
+    next (read_items read_level count h) (λ levels i.
+    Some (
+      record {
+        changes = changes;
+        updates = updates;
+        written = written;
+        next_array = next_array;
+        parents = parents;
+        levels = levels;
+      },
+      i,
+    )))))))))
 
 -- the manifest of which these bytes are the spelling
 unfoldable pub manifest_in : List ℕ → Option Manifest
 manifest_in bytes =
-    option_and_then (λ read. if is_lawful_manifest read.0 && bytes_eq bytes (manifest_bytes read.0) then Some read.0 else None) (read_manifest bytes)
+    option_and_then
+    (λ read. if is_lawful_manifest read.0 && bytes_eq bytes (manifest_bytes read.0)
+    then Some read.0 else None) (read_manifest bytes)

@@ -1,4 +1,4 @@
--- Records of a journal on a disk: each an open gate and a change, one behind the other from a region's first byte.
+-- Records of a journal on a disk: from a region's first byte on, each an open gate and a change.
 use Rattle.std.specs.Prelude.{ℕ, zero, suc, ◌+◌, ◌-◌, ◌/◌, ◌==◌, ◌&&◌, not, Bool, if◌then◌else◌, List, [], ◌∷◌, ◌++◌, length, Option, Some, None, Ok, Err}
 use Rattle.strat_base.specs.declared.limits.TheConstants.{BLOCK}
 use Rattle.strat_crash.specs.Image.{Image, window}
@@ -20,35 +20,47 @@ records_bytes (change ∷ changes) = open_flag ∷ (change_bytes change ++ recor
 abbrev pub block_of : ℕ → ℕ
 block_of at = at / BLOCK
 
--- the record at a place and those that follow it, where a change stands behind its gate; else its gate's block
+-- the record at an offset and those after it, where its gate has a change; else its gate's block
 abbrev pub record_then : ℕ → (ℕ → Read (List Logged)) → Option Change → Read (List Logged)
 record_then at later None = Err (block_of at)
-record_then at later (Some change) = put_first (record { change = change; block = block_of at }) (later (at + 1 + length (change_bytes change)))
+record_then at later (Some change) =
+    put_first (record { change = change; block = block_of at })
+    (later (at + 1 + length (change_bytes change)))
 
--- the records from a place on, of which the last ends within the region: at most n, and up to the first closed gate
+-- the records from an offset on, within the region: at most n, up to the first closed gate
 unfoldable pub records : Image → ℕ → ℕ → ℕ → Read (List Logged)
 records c end zero at = Ok []
 records c end (suc n) at =
-    if is_open (c at) then record_then at (λ next. records c end n next) (change_in (window c (at + 1) (end - (at + 1)))) else Ok []
+    if is_open (c at) then
+    record_then at (λ next. records c end n next) (change_in (window c (at + 1) (end - (at + 1))))
+    else Ok []
 
 -- the records of a region
 abbrev pub region_records : Image → ℕ → ℕ → Read (List Logged)
-region_records c mem region = records c (region_at mem region + region_size mem) mem (region_at mem region)
+region_records c mem region =
+    records c (region_at mem region + region_size mem) mem (region_at mem region)
 
--- a list, and where it has n items another behind it
+-- a list, and where it has n items another after it
 abbrev pub full_then : ℕ → Read (List Logged) → List Logged → Read (List Logged)
-full_then n others logged = if length logged == n then and_then others (λ later. Ok (logged ++ later)) else Ok logged
+full_then n others logged =
+    if length logged == n then and_then others (λ later. Ok (logged ++ later)) else Ok logged
 
--- the journal of these bytes: the records of the active region, and where they are as many as it takes those of the other behind them
+-- the journal: the records of the active region and, where these fill it, those of the other
 abbrev pub journal_of : Image → ℕ → ℕ → Read (List Logged)
-journal_of c mem active = and_then (region_records c mem active) (full_then mem (region_records c mem (other_region active)))
+journal_of c mem active =
+    and_then (region_records c mem active)
+    (full_then mem (region_records c mem (other_region active)))
 
 -- an open gate at the head of the region that is not active
 abbrev pub is_other_open : Image → ℕ → ℕ → Bool
 is_other_open c mem active = is_open (c (region_at mem (other_region active)))
 
--- the journal as long as one region holds it: where the active one is full, the first gate of the other is closed, or its block is damaged
+-- the journal in one region: where the active one is full, an open gate at the head of the other is
+-- damage
 abbrev pub journal_in_one : Image → ℕ → ℕ → Read (List Logged)
 journal_in_one c mem active =
     and_then (region_records c mem active)
-    (λ logged. passed_or (region_first mem (other_region active)) (not ((length logged == mem) && is_other_open c mem active)) logged)
+    (λ logged. passed_or
+    (region_first mem (other_region active))
+    (not ((length logged == mem) && is_other_open c mem active))
+    logged)

@@ -4,7 +4,8 @@ use Rattle.strat_crash.specs.Image.{Image, window}
 use Rattle.strat_base.specs.Numbers.{be, number}
 use Rattle.strat_format.specs.Layout.{open_flag, manifest_min, first_free}
 
--- what a superblock says: its generation, the manifest's first block and length in bytes, the active journal region, and the limits of the store
+-- a superblock: its generation, the manifest's first block and length in bytes, the active journal
+-- region, and the limits of the store
 pub record Super : Type 0 where
   pub generation : ℕ
   pub manifest : ℕ
@@ -68,12 +69,13 @@ abbrev pub spelled : List (ℕ × ℕ) → List ℕ
 spelled [] = []
 spelled (field ∷ fields) = be field.0 field.1 ++ spelled fields
 
--- the fields of a superblock behind its gate, each with its number of bytes
+-- the fields of a superblock after its gate, each with its number of bytes
 abbrev pub fields : Super → List (ℕ × ℕ)
-fields sb = (8, magic) ∷ (2, 1) ∷ (8, sb.generation) ∷ (4, sb.manifest) ∷ (4, sb.length) ∷ (1, sb.region)
+fields sb =
+    (8, magic) ∷ (2, 1) ∷ (8, sb.generation) ∷ (4, sb.manifest) ∷ (4, sb.length) ∷ (1, sb.region)
     ∷ (4, sb.mem) ∷ (4, sb.changes_max) ∷ (4, sb.versions_max) ∷ []
 
--- the bytes of a slot behind its gate: the fields, and zeros to the block's end
+-- the bytes of a slot after its gate: the fields, and zeros to the block's end
 abbrev pub body : Super → List ℕ
 body sb = spelled (fields sb) ++ zeros 4056
 
@@ -103,9 +105,10 @@ abbrev pub newer : Option Slot → Option Slot → Option (ℕ × Slot)
 newer None None = None
 newer None (Some t) = Some (1, t)
 newer (Some s) None = Some (0, s)
-newer (Some s) (Some t) = if nat_lt s.sb.generation t.sb.generation then Some (1, t) else Some (0, s)
+newer (Some s) (Some t) =
+    if nat_lt s.sb.generation t.sb.generation then Some (1, t) else Some (0, s)
 
--- the slot that an opening chooses
+-- the slot that recovery chooses
 abbrev pub chosen_in : Image → Option (ℕ × Slot)
 chosen_in c = newer (slot_in c 0) (slot_in c 4096)
 
@@ -114,6 +117,7 @@ abbrev pub verdict : Option (ℕ × Slot) → Result (Option (ℕ × Super)) ℕ
 verdict None = Ok None
 verdict (Some (n, s)) = if in_range s then Ok (Some (n, s.sb)) else Err n
 
--- the newest superblock with its slot, nothing where no slot is open with the magic, or the block that is damaged
+-- the newest superblock with its slot, nothing where no slot is open with the magic, or the damaged
+-- block
 abbrev pub newest_in : Image → Result (Option (ℕ × Super)) ℕ
 newest_in c = verdict (chosen_in c)

@@ -2,6 +2,7 @@
 
 ghost use Rattle.std.specs.Prelude.{◌≡◌, ◌≤◌, ◌+◌, ◌^◌, ◌<◌};
 ghost use Rattle.strat_format.specs.Layout as places;
+ghost use Rattle.strat_format.specs.Layout.{IsRegion};
 
 use strat_base::limits::BLOCK;
 
@@ -14,31 +15,29 @@ pub const MANIFEST_MIN: u32 = 29;
 /// Bytes of the largest record: its gate, and a put of the longest key and the longest value.
 pub const RECORD_MAX: u32 = 1288;
 
-/// The blocks of a region for this many changes: room for so many of the largest records and a closed gate.
+/// The blocks of a region for this many changes: so many of the largest records and a closed gate fit.
 pub fn region_blocks(mem: u32) -> u32
     requires { mem ≤ 4096 }
     ensures ok { result ≡ places.region_blocks mem }
-    ensures few { result ≤ 1289 }
+    ensures fits { result ≤ 1289 }
 {
     (RECORD_MAX * mem + BLOCK as u32) / BLOCK as u32
 }
 
 /// The first block of a region.
 pub fn region_first(mem: u32, region: u8) -> u32
-    requires mem { mem ≤ 4096 }
-    requires region { region ≤ 1 }
+    requires { IsRegion mem region }
     ensures ok { result ≡ places.region_first mem region }
-    ensures few { result ≤ 1291 }
+    ensures fits { result ≤ 1291 }
 {
     2 + u32::from(region) * region_blocks(mem)
 }
 
 /// The first byte of a region, where the gate of its first record stands.
 pub fn region_at(mem: u32, region: u8) -> u64
-    requires mem { mem ≤ 4096 }
-    requires region { region ≤ 1 }
+    requires { IsRegion mem region }
     ensures ok { result ≡ places.region_at mem region }
-    ensures few { result < 2 ^ 23 }
+    ensures fits { result < 2 ^ 23 }
 {
     BLOCK as u64 * u64::from(region_first(mem, region))
 }
@@ -47,14 +46,16 @@ pub fn region_at(mem: u32, region: u8) -> u64
 pub fn first_free(mem: u32) -> u32
     requires { mem ≤ 4096 }
     ensures ok { result ≡ places.first_free mem }
-    ensures few { result ≤ 2580 }
+    ensures fits { result ≤ 2580 }
 {
     region_first(mem, 1) + region_blocks(mem)
 }
 
 /// The numbers of the format, on which other programs rely.
 pub fn the_layout_in_numbers()
-    ensures ok { (places.open_flag ≡ 167) × (places.record_max ≡ 1288) × (places.manifest_min ≡ 29) }
+    ensures ok { (places.open_flag ≡ 167) × (places.record_max ≡ 1288)
+        × (places.manifest_min ≡ 29) }
     ensures first { (places.region_blocks 4 ≡ 2) × (places.region_blocks 4096 ≡ 1289) }
-    ensures same { (places.region_at 4 0 ≡ 8192) × (places.region_at 4 1 ≡ 16384) × (places.first_free 4 ≡ 6) }
+    ensures same { (places.region_at 4 0 ≡ 8192) × (places.region_at 4 1 ≡ 16384)
+        × (places.first_free 4 ≡ 6) }
 {}

@@ -24,7 +24,8 @@ pub fn bytes_of_a_block()
 
 /// A manifest is read exactly where its spelling is.
 pub fn manifests_are_read_as_written()
-    ensures { (bytes : List ℕ) (m : Manifest) → (manifest_in bytes ≡ Some m) ↔ SpellsManifest bytes m }
+    ensures { (bytes : List ℕ) (m : Manifest)
+        → (manifest_in bytes ≡ Some m) ↔ SpellsManifest bytes m }
 {}
 
 /// The manifest of an empty store has 29 bytes.

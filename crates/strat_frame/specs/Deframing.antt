@@ -23,7 +23,8 @@ TakesFrame (next.TooLong length) old new =
 -- what bytes begin with
 abbrev pub BeginsWith : Front → List ℕ → Type 0
 BeginsWith (front.Whole n) held =
-    (held ≡ frame (take n (drop 4 held)) ++ drop (4 + n) held) × (n ≤ BODY_MAX) × (4 + n ≤ length held)
+    (held ≡ frame (take n (drop 4 held)) ++ drop (4 + n) held) × (n ≤ BODY_MAX)
+    × (4 + n ≤ length held)
 BeginsWith front.Part held = is_partial held ≡ true
 BeginsWith (front.TooLong n) held = (is_too_long held ≡ true) × (n ≡ number 4 held)
 

@@ -22,7 +22,8 @@ counted_then bytes = option_and_then
 
 -- a command, where it is taken and nothing follows its fields
 unfoldable pub whole : Request → List ℕ → Option Request
-whole request rest = if length rest == 0 then (if is_taken request then Some request else None) else None
+whole request rest =
+    if length rest == 0 then (if is_taken request then Some request else None) else None
 
 -- the fields of a put
 unfoldable pub put_in : List ℕ → Option Request
@@ -39,7 +40,7 @@ get_in fields =
     option_and_then (λ key. whole (Get version.0 key.0) key.1)
     (counted_then version.1)) (number_then 4 fields)
 
--- the fields behind an opcode
+-- the fields after an opcode
 unfoldable pub request_in : ℕ → List ℕ → Option Request
 request_in opcode fields =
     if opcode == 1 then put_in fields else
@@ -67,14 +68,16 @@ simple_reply status =
 -- the value of a reply to a look-up, all of the fields
 unfoldable pub reply_value_in : List ℕ → Option (List ℕ)
 reply_value_in fields = option_and_then
-    (λ value. if length value.1 == 0 then (if is_value value.0 then Some value.0 else None) else None)
+    (λ value. if length value.1 == 0
+    then (if is_value value.0 then Some value.0 else None) else None)
     (counted_then fields)
 
 -- a status byte and its fields, all of the bytes
 unfoldable pub answer_in : ℕ → List ℕ → Option Answer
 answer_in status fields =
     if status == 1 then
-    option_map (λ value. record { reply = reply.Found; pairs = (63 ∷ [], value) ∷ [] }) (reply_value_in fields)
+    option_map (λ value. record { reply = reply.Found; pairs = (63 ∷ [], value) ∷ [] })
+    (reply_value_in fields)
     else if length fields == 0 then option_map plain (simple_reply status) else None
 
 -- a tag and a reply, all of the bytes

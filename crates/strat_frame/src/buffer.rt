@@ -12,7 +12,7 @@ use strat_base::{NoMemory, put_u16, put_u32, put_u64};
 /// Bytes of the largest reply's frame.
 pub const REPLY_MAX: usize = 328_460;
 
-/// The bytes of one frame, with room for any reply. Its memory is taken by `new`.
+/// The bytes of one frame, of any reply's size. Its memory is taken by `new`.
 #[derive(Drop)]
 pub struct OutBuf {
     bytes: Vec<u8>,
@@ -105,7 +105,7 @@ impl OutBuf {
 
     /// Adds a length in two bytes and so many bytes.
     pub(crate) fn put_counted(&mut self, bytes: &[u8])
-        requires short { length bytes.now < 2 ^ 16 }
+        requires fits { length bytes.now < 2 ^ 16 }
         requires room { length self.old + 2 + length bytes.now ≤ REPLY_MAX }
         ensures ok { self.new ≡ self.old ++ counted bytes.now }
         ensures len { length self.new ≡ length self.old + 2 + length bytes.now }
@@ -126,7 +126,7 @@ impl OutBuf {
 
     /// Ends a frame: writes the length of what follows the first four bytes into these.
     pub(crate) fn end(&mut self)
-        requires some { 4 ≤ length self.old }
+        requires fits { 4 ≤ length self.old }
         requires room { length self.old ≤ REPLY_MAX }
         ensures { self.new ≡ frame (drop 4 self.old) }
     {

@@ -58,7 +58,7 @@ fn get_of(fields: &[u8]) -> Option<Command<'_>>
     Some(Command::Get { version, key })
 }
 
-/// The fields behind an opcode.
+/// The fields after an opcode.
 #[tactic(auto, unfolding(crate::specs::Fields::request_in))]
 fn request_for(opcode: u8, fields: &[u8]) -> Option<Command<'_>>
     ensures { Finds request_of result (request_in opcode fields.now) }
@@ -116,7 +116,7 @@ fn put_cursor(opcode: u8, cursor: u64, out: &mut OutBuf)
 
 /// An opcode, a version and a key or a bound.
 fn put_key(opcode: u8, version: u32, key: &[u8], out: &mut OutBuf)
-    requires short { length key.now < 2 ^ 16 }
+    requires fits { length key.now < 2 ^ 16 }
     requires room { length out.old + 7 + length key.now ≤ REPLY_MAX }
     ensures ok { out.new ≡ out.old ++ (opcode ∷ be 4 version ++ counted key.now) }
     ensures len { length out.new ≡ length out.old + 7 + length key.now }
@@ -127,8 +127,7 @@ fn put_key(opcode: u8, version: u32, key: &[u8], out: &mut OutBuf)
 
 /// An opcode, a version and two fields of bytes.
 fn put_two(opcode: u8, version: u32, first: &[u8], second: &[u8], out: &mut OutBuf)
-    requires first { length first.now < 2 ^ 16 }
-    requires second { length second.now < 2 ^ 16 }
+    requires fits { (length first.now < 2 ^ 16) × (length second.now < 2 ^ 16) }
     requires room { length out.old + 9 + length first.now + length second.now ≤ REPLY_MAX }
     ensures ok { out.new ≡ out.old ++ (opcode ∷ be 4 version ++ counted first.now
         ++ counted second.now) }
@@ -174,9 +173,9 @@ fn put_command(command: &Command<'_>, out: &mut OutBuf)
     }
 }
 
-/// Writes a command's frame: the spelling of these and no others. TakesFrame no memory.
+/// Writes a command's frame: the spelling of these and no others. Takes no memory.
 pub fn write_command(tag: u32, command: &Command<'_>, out: &mut OutBuf)
-    requires empty { out.old ≡ [] }
+    requires none { out.old ≡ [] }
     requires fits { has_lawful_sizes (request_of command.now) ≡ true }
     ensures ok { out.new ≡ frame (command_body tag (request_of command.now)) }
 {

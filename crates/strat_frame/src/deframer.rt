@@ -9,7 +9,7 @@ use std::marker::Model;
 use strat_base::limits::BODY_MAX;
 use strat_base::{NoMemory, get_u32};
 
-/// Bytes that a deframer has room for: a frame of the largest size, and a piece behind it.
+/// Bytes that a deframer holds at most: a frame of the largest size, and a piece after it.
 pub const ROOM: usize = 6148;
 
 /// What a look at the bytes held found.
@@ -19,7 +19,7 @@ pub enum Next {
     Frame,
     /// No frame is whole yet.
     NotYet,
-    /// The next frame says that it is longer than a frame may be. Nothing behind it is read.
+    /// The next frame says that it is longer than a frame may be. Nothing after it is read.
     TooLong { length: u32 },
 }
 
@@ -61,7 +61,7 @@ enum Front {
 /// What these bytes begin with.
 fn look_at(held: &[u8]) -> Front
     ensures ok { BeginsWith result held.now }
-    ensures bytes { AreBytes held.now }
+    ensures fits { AreBytes held.now }
 {
     let Some(length) = get_u32(held, 0) else {
         return Front::Part;
@@ -79,8 +79,7 @@ fn look_at(held: &[u8]) -> Front
 impl Deframer {
     /// Nothing held, and an empty body.
     pub fn new(alloc: Global) -> Result<Deframer, NoMemory>
-        ensures held { IfOk result (λ d. d.held ≡ []) }
-        ensures body { IfOk result (λ d. d.body ≡ []) }
+        ensures ok { IfOk result (λ d. d ≡ record { held = []; body = [] }) }
     {
         Ok(Deframer {
             bytes: Vec::with_capacity(alloc, ROOM)?,
@@ -98,14 +97,14 @@ impl Deframer {
         self.bytes.len() - self.start
     }
 
-    /// How many bytes there is room for.
+    /// How many more bytes may be held.
     pub fn room(&self) -> usize
         ensures { length self.now.held + result ≡ ROOM }
     {
         ROOM - self.held()
     }
 
-    /// Holds a piece of the stream behind what is held. What was held moves to the front, and the piece
+    /// Holds a piece of the stream after what is held. What was held moves to the front, and the piece
     /// is copied once. Nothing is said of the last body afterwards.
     pub fn feed(&mut self, piece: &[u8])
         requires { length self.old.held + length piece.now ≤ ROOM }
@@ -120,10 +119,10 @@ impl Deframer {
         self.body_len = 0;
     }
 
-    /// TakesFrame the next frame, if one is whole. A frame that is too long stays, and is found again.
+    /// Takes the next frame, if one is whole. A frame that is too long stays, and is found again.
     pub fn next(&mut self) -> Next
         ensures ok { TakesFrame result self.old self.new }
-        ensures bytes { AreBytes self.new.held }
+        ensures fits { AreBytes self.new.held }
     {
         match look_at(&self.bytes[self.start..]) {
             Front::Whole(body_len) => {

@@ -127,9 +127,9 @@ fn put_fields(reply: Reply, pairs: &PairBuf, out: &mut OutBuf)
     }
 }
 
-/// Writes a reply's frame: the spelling of these and no others. TakesFrame no memory, and copies each pair once.
+/// Writes a reply's frame: the spelling of these and no others. Takes no memory, and copies each pair once.
 pub fn write_reply(tag: u32, reply: &Reply, pairs: &PairBuf, out: &mut OutBuf)
-    requires empty { out.old ≡ [] }
+    requires none { out.old ≡ [] }
     requires found { reply.now ≡ Reply.Found → length pairs.now ≡ 1 }
     ensures ok { out.new ≡ frame (reply_body tag (as_told reply.now pairs.now)) }
 {
@@ -172,7 +172,7 @@ fn value_of(fields: &[u8]) -> Option<&[u8]>
 /// A status byte and its fields, all of the bytes.
 #[tactic(auto, unfolding(crate::specs::Fields::answer_in))]
 fn answer_of(status: u8, fields: &[u8], pairs: &mut PairBuf) -> Option<Reply>
-    requires empty { pairs.old ≡ [] }
+    requires none { pairs.old ≡ [] }
     ensures ok { Finds (λ r. as_told r pairs.new) result (answer_in status fields.now) }
 {
     if status == 1 {
@@ -189,7 +189,7 @@ fn answer_of(status: u8, fields: &[u8], pairs: &mut PairBuf) -> Option<Reply>
 /// A tag and a reply, all of the bytes.
 #[tactic(auto, unfolding(crate::specs::Fields::reply_in))]
 fn reply_of(body: &[u8], pairs: &mut PairBuf) -> Option<(u32, Reply)>
-    requires empty { pairs.old ≡ [] }
+    requires none { pairs.old ≡ [] }
     ensures ok { Finds (λ r. (r.0, as_told r.1 pairs.new)) result (reply_in body.now) }
 {
     let (tag, rest) = u32_then(body)?;
@@ -199,7 +199,7 @@ fn reply_of(body: &[u8], pairs: &mut PairBuf) -> Option<(u32, Reply)>
 }
 
 /// The tag and the reply of a body, of those that are given so far; the value of `Found` stands in `pairs`
-/// under the key `?`. Nothing is said of the pairs where no reply has this body. TakesFrame no memory.
+/// under the key `?`. Nothing is said of the pairs where no reply has this body. Takes no memory.
 pub fn parse_reply(body: &[u8], pairs: &mut PairBuf) -> Option<(u32, Reply)>
     ensures found { IfSome result (λ r. SpellsReply body.now r.0 (as_told r.1 pairs.new)) }
     ensures none { IfNone result ((tag : ℕ) (a : Answer) → SpellsReply body.now tag a → ⊥) }

@@ -15,7 +15,7 @@ use strat_base::limits::{KEY_MAX, PAIRS_MAX};
 use strat_base::{NoMemory, PairBuf, key_ok, value_ok};
 use strat_model::{Command, Refusal, Reply};
 
-/// The bytes that hexadecimal digits tell; whatever else stands between them is passed over.
+/// The bytes that hexadecimal digits spell; whatever else stands between them is passed over.
 fn hex(alloc: Global, digits: &str) -> Result<Vec<u8>, NoMemory> {
     let mut bytes = Vec::new(alloc);
     let mut high = None;
@@ -36,7 +36,7 @@ fn hex(alloc: Global, digits: &str) -> Result<Vec<u8>, NoMemory> {
     Ok(bytes)
 }
 
-/// A stream, the bodies that its frames have, and what is found behind them.
+/// A stream, the bodies that its frames have, and what is found after them.
 #[derive(Drop)]
 struct Stream {
     bytes: &'static str,
@@ -123,7 +123,7 @@ fn hear(rt: &impl Abort, deframer: &mut Deframer, piece: &[u8], bodies: &[Vec<u8
     bodies.len()
 }
 
-/// OnlyReads at what is found behind the last frame, and finds it again.
+/// Looks at what is found after the last frame, and finds it again.
 fn ends(rt: &impl Abort, deframer: &mut Deframer, stream: &Stream) {
     assert_eq!(rt; deframer.next(), stream.end, "{}", stream.bytes);
     assert_eq!(rt; deframer.held(), stream.held, "{}", stream.bytes);

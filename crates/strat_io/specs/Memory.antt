@@ -1,5 +1,5 @@
--- Sources and sinks in memory, which fail at the calls that they are told to fail at.
-use Rattle.std.specs.Prelude.{ℕ, ◌+◌, ◌-◌, ◌^◌, min, List}
+-- Sources and sinks in memory, which fail at listed calls.
+use Rattle.std.specs.Prelude.{ℕ, List}
 
 -- a source: its bytes still to give, the most a call gives, the calls that fail, and counts of calls and faults
 pub record Playback : Type 0 where

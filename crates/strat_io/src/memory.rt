@@ -1,4 +1,4 @@
-//! A source and a sink in memory, for tests. They fail at the calls that they are told to fail at.
+//! A source and a sink in memory, for tests. They fail at listed calls.
 
 ghost use Rattle.std.specs.Prelude.{◌≡◌, ◌≤◌, ◌<◌, ◌+◌, ◌↔◌, ℕ, List, [], length, take, min, Option, IsErr, IfOk, OnErr, IsTrue, Contains, if◌then◌else◌};
 ghost use Rattle.strat_crash.specs.Faults.{CountsFaults, one_more};
@@ -20,8 +20,7 @@ struct Calls {
 
 impl Calls {
     fn new(alloc: Global, failing: &[u64]) -> Result<Calls, NoMemory>
-        ensures list { IfOk result (λ c. c.failing.items ≡ failing.now) }
-        ensures made { IfOk result (λ c. c.made ≡ 0) }
+        ensures ok { IfOk result (λ c. (c.failing.items ≡ failing.now) × (c.made ≡ 0)) }
         ensures faults { IfOk result (λ c. c.faults ≡ 0) }
     {
         Ok(Calls {
@@ -31,7 +30,7 @@ impl Calls {
         })
     }
 
-    /// CountsFaults one more call, and tells whether it is to fail.
+    /// Counts one more call, and says whether it is to fail.
     fn next_fails(&mut self) -> bool
         ensures found { IsTrue result ↔ Contains self.old.failing.items self.new.made }
         ensures same { self.new ≡ record self.old { made = one_more self.old.made } }
@@ -40,18 +39,18 @@ impl Calls {
         self.failing.contains(&self.made)
     }
 
-    /// CountsFaults one more failure.
+    /// Counts one more failure.
     fn fail(&mut self) -> Failed
         ensures same { self.new ≡ record self.old { faults = one_more self.old.faults } }
-        ensures later { self.old.faults ≤ self.new.faults }
+        ensures faults { self.old.faults ≤ self.new.faults }
     {
         self.faults = self.faults.saturating_add(1);
         Failed
     }
 }
 
-/// A source that gives bytes of memory, at most so many a call, and fails at the calls whose numbers it
-/// is given, counted from 1. It is seen as a `Playback`.
+/// A source that gives bytes of memory, at most so many a call, and fails at the calls that are listed by
+/// number, from 1. It is seen as a `Playback`.
 #[derive(Drop)]
 pub struct MemSource {
     bytes: Vec<u8>,
@@ -107,7 +106,7 @@ impl MemSource {
 /// Copies the first `n` bytes of `from` to the front of `into`.
 fn copy_front(into: &mut [u8], from: &[u8], n: usize)
     requires room { n ≤ length into.old }
-    requires there { n ≤ length from.now }
+    requires fits { n ≤ length from.now }
     ensures { take n into.new ≡ take n from.now }
 {
     into[..n].copy_from_slice(&from[..n]);
@@ -125,12 +124,16 @@ impl Source for MemSource {
         ensures ok { IfOk result (λ n. Gives (Some self.old.left) (Some self.new.left) into.new n) }
         ensures err { OnErr result (self.new.left ≡ self.old.left) }
         ensures cause { CountsFaults self.old.faults self.new.faults result }
-        // It fails exactly at the calls that it was told to fail at.
-        ensures which { IsErr result ↔ Contains self.old.failing self.new.calls }
-        ensures calls { self.new.calls ≡ one_more self.old.calls }
-        ensures room { IfOk result
+        ensures len { IfOk result
             (λ n. n ≡ min (min self.old.piece (length into.old)) (length self.old.left)) }
-        ensures same { (self.new.failing ≡ self.old.failing) × (self.new.piece ≡ self.old.piece) }
+        // It fails exactly at the listed calls, and each failure is one more fault.
+        ensures faults { (IsErr result ↔ Contains self.old.failing self.new.calls)
+            × OnErr result (self.new.faults ≡ one_more self.old.faults) }
+        ensures same { self.new ≡ record self.old {
+          left = self.new.left;
+          calls = one_more self.old.calls;
+          faults = self.new.faults;
+        } }
     {
         if self.calls.next_fails() {
             return Err(self.calls.fail());
@@ -143,8 +146,8 @@ impl Source for MemSource {
     }
 }
 
-/// A sink that keeps what it is given in memory, takes at most so many bytes a call, and fails at the
-/// calls whose numbers it is given, counted from 1, and where it finds no memory. It is seen as a `Recording`.
+/// A sink that keeps what it is given in memory, and takes at most so many bytes a call. It fails at the
+/// calls that are listed by number, from 1, and out of memory. It is seen as a `Recording`.
 #[derive(Drop)]
 pub struct MemSink {
     bytes: Vec<u8>,
@@ -205,16 +208,20 @@ impl Sink for MemSink {
 
     fn write(&mut self, piece: &[u8]) -> Result<usize, Failed>
         ensures fits { IfOk result (λ n. n ≤ length piece.now) }
-        ensures some { IfOk result (λ n. 0 < length piece.now → 0 < n) }
+        ensures none { IfOk result (λ n. 0 < length piece.now → 0 < n) }
         ensures ok { IfOk result
             (λ n. Appends (Some self.old.held) (Some self.new.held) (take n piece.now)) }
         ensures err { OnErr result (self.new.held ≡ self.old.held) }
         ensures cause { CountsFaults self.old.faults self.new.faults result }
-        // Beside the calls that it was told to fail at, it fails where it finds no memory.
-        ensures which { Contains self.old.failing self.new.calls → IsErr result }
-        ensures calls { self.new.calls ≡ one_more self.old.calls }
-        ensures room { IfOk result (λ n. n ≡ min self.old.most (length piece.now)) }
-        ensures same { (self.new.failing ≡ self.old.failing) × (self.new.most ≡ self.old.most) }
+        ensures len { IfOk result (λ n. n ≡ min self.old.most (length piece.now)) }
+        // It fails at the listed calls and out of memory, and each failure is one more fault.
+        ensures faults { (Contains self.old.failing self.new.calls → IsErr result)
+            × OnErr result (self.new.faults ≡ one_more self.old.faults) }
+        ensures same { self.new ≡ record self.old {
+          held = self.new.held;
+          calls = one_more self.old.calls;
+          faults = self.new.faults;
+        } }
     {
         if self.calls.next_fails() {
             return Err(self.calls.fail());

@@ -8,7 +8,7 @@ use strat_base::Failed;
 
 /// An output that is written piece by piece, and may fail.
 pub trait Sink {
-    /// The bytes that it holds, where it tells them.
+    /// The bytes that it holds, if it exposes them.
     ghost held: { Self → Option (List ℕ) };
 
     /// How often it has failed.
@@ -18,7 +18,7 @@ pub trait Sink {
     /// has some is a failure.
     fn write(&mut self, piece: &[u8]) -> Result<usize, Failed>
         ensures fits { IfOk result (λ n. n ≤ length piece.now) }
-        ensures some { IfOk result (λ n. 0 < length piece.now → 0 < n) }
+        ensures none { IfOk result (λ n. 0 < length piece.now → 0 < n) }
         ensures ok { IfOk result (λ n. Appends (held self.old) (held self.new) (take n piece.now)) }
         ensures err { OnErr result (held self.new ≡ held self.old) }
         ensures cause { CountsFaults (faults self.old) (faults self.new) result };

@@ -8,7 +8,7 @@ use strat_base::Failed;
 
 /// An input that is read piece by piece, and may fail.
 pub trait Source {
-    /// The bytes that it has still to give, where it tells them.
+    /// The bytes that it has still to give, if it exposes them.
     ghost left: { Self → Option (List ℕ) };
 
     /// How often it has failed.

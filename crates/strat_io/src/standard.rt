@@ -13,7 +13,7 @@ use strat_base::Failed;
 /// How often a call that a signal interrupted is tried before it counts as failed.
 const TRIES: u32 = 16;
 
-/// Standard input. It is a trusted edge: it tells nothing of its bytes, and is seen as its count of
+/// Standard input. It is a trusted edge: it exposes none of its bytes, and is seen as its count of
 /// faults. It reads no further ahead than it is asked to, so what it has not given is left to others.
 #[derive(Drop)]
 pub struct StdSource<'a, R: Input> {
@@ -63,7 +63,7 @@ impl<R: Input> Source for StdSource<'_, R> {
     }
 }
 
-/// Standard output. It is a trusted edge: it tells nothing of its bytes, and is seen as its count of
+/// Standard output. It is a trusted edge: it exposes none of its bytes, and is seen as its count of
 /// faults. Nothing is buffered: each call hands its piece to the system before it returns.
 #[derive(Drop)]
 pub struct StdSink<'a, R: Print> {

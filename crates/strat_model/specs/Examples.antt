@@ -32,14 +32,16 @@ abc = (codes "a", codes "1") ∷ (codes "b", codes "2") ∷ (codes "c", codes "3
 -- a put at a version, a clone of it, and puts at both
 abbrev pub branching : List Request
 branching =
-    Put 0 (codes "a") (codes "1") ∷ Get 0 (codes "a") ∷ Get 0 (codes "b") ∷ Clone 0 ∷ Put 0 (codes "b") (codes "1")
+    Put 0 (codes "a") (codes "1") ∷ Get 0 (codes "a") ∷ Get 0 (codes "b") ∷ Clone 0
+    ∷ Put 0 (codes "b") (codes "1")
     ∷ Put 1 (codes "a") (codes "2") ∷ Get 0 (codes "a") ∷ Get 1 (codes "a") ∷ Get 5 (codes "a") ∷ []
 
 -- the clone has a map of its own, and its parent takes no more updates
 abbrev pub branched : List Answer
 branched =
-    done ∷ has (codes "a", codes "1") ∷ plain reply.Absent ∷ plain (reply.Made 1) ∷ refusal why.Frozen
-    ∷ done ∷ has (codes "a", codes "1") ∷ has (codes "a", codes "2") ∷ refusal why.UnknownVersion ∷ []
+    done ∷ has (codes "a", codes "1") ∷ plain reply.Absent ∷ plain (reply.Made 1)
+    ∷ refusal why.Frozen ∷ done ∷ has (codes "a", codes "1") ∷ has (codes "a", codes "2")
+    ∷ refusal why.UnknownVersion ∷ []
 
 -- three puts in another order than that of their keys, and scans
 abbrev pub scanning : List Request
@@ -47,7 +49,7 @@ scanning =
     Put 0 (codes "b") (codes "2") ∷ Put 0 (codes "c") (codes "3") ∷ Put 0 (codes "a") (codes "1")
     ∷ Scan 0 [] [] 2 ∷ Scan 0 [] [] 3 ∷ Scan 0 (codes "b") (codes "c") 1 ∷ []
 
--- pairs come in the order of their keys, an upper bound is left out, and it is said whether others follow
+-- pairs come in the order of their keys, without the upper bound, and `more` says if others follow
 abbrev pub scanned : List Answer
 scanned =
     done ∷ done ∷ done ∷ exposed true ((codes "a", codes "1") ∷ (codes "b", codes "2") ∷ [])
@@ -61,16 +63,20 @@ growing = Info 0 ∷ Stat ∷ Clone 0 ∷ Info 0 ∷ Info 1 ∷ Stat ∷ []
 abbrev pub grown : List Answer
 grown =
     plain (reply.Info None 0 false) ∷ plain (reply.Stat 1 0 0 0) ∷ plain (reply.Made 1)
-    ∷ plain (reply.Info None 0 true) ∷ plain (reply.Info (Some 0) 1 false) ∷ plain (reply.Stat 2 0 1 0) ∷ []
+    ∷ plain (reply.Info None 0 true) ∷ plain (reply.Info (Some 0) 1 false)
+    ∷ plain (reply.Stat 2 0 1 0) ∷ []
 
 -- commands at a table for two changes and two versions
 abbrev pub filling : List Request
 filling =
-    Put 0 (codes "a") (codes "1") ∷ Clone 0 ∷ Put 1 (codes "a") (codes "2") ∷ Clone 1 ∷ Put 0 (codes "a") (codes "2") ∷ []
+    Put 0 (codes "a") (codes "1") ∷ Clone 0 ∷ Put 1 (codes "a") (codes "2") ∷ Clone 1
+    ∷ Put 0 (codes "a") (codes "2") ∷ []
 
--- of several reasons the first is said: a frozen version and too many versions come before too many changes
+-- the first of several reasons is given: a frozen version, then too many versions, then changes
 abbrev pub filled : List Answer
-filled = done ∷ plain (reply.Made 1) ∷ refusal why.ChangeLimit ∷ refusal why.VersionLimit ∷ refusal why.Frozen ∷ []
+filled =
+    done ∷ plain (reply.Made 1) ∷ refusal why.ChangeLimit ∷ refusal why.VersionLimit
+    ∷ refusal why.Frozen ∷ []
 
 -- a cursor is opened, and then the version is changed
 abbrev pub paging : List Request
@@ -83,13 +89,15 @@ paging =
 abbrev pub paged : List Answer
 paged =
     done ∷ done ∷ plain (reply.Opened 1) ∷ done ∷ done ∷ done
-    ∷ exposed true ((codes "a", codes "1") ∷ []) ∷ exposed false ((codes "b", codes "2") ∷ []) ∷ exposed false []
+    ∷ exposed true ((codes "a", codes "1") ∷ []) ∷ exposed false ((codes "b", codes "2") ∷ [])
+    ∷ exposed false []
     ∷ done ∷ refusal why.UnknownCursor ∷ []
 
 -- settings, two clones of them, and a change in each
 abbrev pub staging : List Request
 staging =
-    Put 0 (codes "user/1/name") (codes "Ann") ∷ Put 0 (codes "user/2/name") (codes "Bob") ∷ Clone 0 ∷ Clone 0
+    Put 0 (codes "user/1/name") (codes "Ann") ∷ Put 0 (codes "user/2/name") (codes "Bob")
+    ∷ Clone 0 ∷ Clone 0
     ∷ Put 1 (codes "user/2/name") (codes "Rob") ∷ Delete 2 (codes "user/1/name")
     ∷ Scan 1 (codes "user/") (codes "user0") 100 ∷ Scan 2 (codes "user/") (codes "user0") 100
     ∷ Scan 0 (codes "user/") (codes "user0") 100 ∷ Stat ∷ []

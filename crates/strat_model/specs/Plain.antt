@@ -1,4 +1,4 @@
--- What a table that finds memory for each change as it comes says of a command.
+-- What a table that takes memory for each change as it comes answers to a command.
 use Rattle.std.specs.Prelude.{◌≡◌, ℕ, ◌==◌, Bool, true, false, not, if◌then◌else◌, length, Option, Some, None, ◌⊎◌}
 use Rattle.strat_base.specs.declared.limits.TheConstants.{CURSORS_MAX}
 use Rattle.strat_model.specs.declared.replies.Reply.{Reply}
@@ -19,18 +19,20 @@ grows (OpenCursor version lo hi) = true
 grows _ = false
 
 -- a command was answered, and the table changed, as its step says
-pub record IsStep (before : Table) (request : Request) (reply : Reply) (pairs : Pairs) (after : Table) : Type 0 where
+pub record IsStep (before : Table) (request : Request) (reply : Reply) (pairs : Pairs)
+    (after : Table) : Type 0 where
   pub answer : record { reply = reply; pairs = pairs } ≡ (step before request).answer
   pub table : after ≡ (step before request).table
 
--- a command that the step accepts found no memory, and changed nothing
-pub record IsShort (before : Table) (request : Request) (reply : Reply) (pairs : Pairs) (after : Table) : Type 0 where
+-- memory ran out for a command that the step accepts, and nothing changed
+pub record IsShort (before : Table) (request : Request) (reply : Reply) (pairs : Pairs)
+    (after : Table) : Type 0 where
   pub takes : takes_memory request ≡ true
   pub accepted : accepts (step before request).answer.reply ≡ true
   pub answer : record { reply = reply; pairs = pairs } ≡ refusal why.NoMemory
   pub same : after ≡ before
 
--- a command went as its step says, or found no memory
+-- a command went as its step says, or memory ran out
 abbrev pub IsStepOrShort : Table → Request → Reply → Pairs → Table → Type 0
 IsStepOrShort before request reply pairs after =
     IsStep before request reply pairs after ⊎ IsShort before request reply pairs after

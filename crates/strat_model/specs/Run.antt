@@ -16,7 +16,7 @@ is_change (Delete version key) = true
 is_change (Clone version) = true
 is_change _ = false
 
--- a command that may find no memory
+-- a command for which memory may run out
 abbrev pub takes_memory : Request → Bool
 takes_memory (OpenCursor version lo hi) = true
 takes_memory request = is_change request
@@ -32,44 +32,50 @@ reaches_disk request = is_change request
 abbrev pub fill_after : ℕ → ℕ → ℕ
 fill_after mem fill = if nat_lt fill mem then fill + 1 else 1
 
--- where a run stands: its table and its fill
+-- a position of a run: its table and its fill
 pub record Position : Type 0 where
   pub table : Table
   pub fill : ℕ
 
--- a reply as it is sent: the tag of the body that it answers, and the answer
+-- a response: the tag of the body that it answers, and the answer
 pub record Response : Type 0 where
   pub tag : ℕ
   pub answer : Answer
 
--- the bytes that are sent
+-- the bytes that are sent for a response
 abbrev pub response_bytes : Response → List ℕ
 response_bytes response = frame (reply_body response.tag response.answer)
 
--- the place after a command was carried out
+-- the position after a command was carried out
 abbrev pub position_after : ℕ → Position → Request → Position
 position_after mem at request =
     let outcome = step at.table request in
     record {
       table = outcome.table;
-      fill = if accepts outcome.answer.reply then (if is_change request then fill_after mem at.fill else at.fill) else at.fill;
+      fill =
+          if accepts outcome.answer.reply
+          then (if is_change request then fill_after mem at.fill else at.fill)
+          else at.fill;
     }
 
--- a body that is no command is told so, and changes nothing
-pub record AnswersMalformed (at : Position) (body : List ℕ) (response : Response) (after : Position) : Type 0 where
+-- a body that is no command is refused as malformed, and changes nothing
+pub record AnswersMalformed (at : Position) (body : List ℕ) (response : Response)
+    (after : Position) : Type 0 where
   pub malformed : IsMalformed body response.tag
   pub answer : response.answer ≡ refusal why.Malformed
   pub same : after ≡ at
 
--- a command is carried out as the table says
-pub record AnswersByTable (mem : ℕ) (at : Position) (body : List ℕ) (response : Response) (after : Position) : Type 0 where
+-- a command is carried out as the step of the table says
+pub record AnswersByTable (mem : ℕ) (at : Position) (body : List ℕ) (response : Response)
+    (after : Position) : Type 0 where
   pub request : Request
   pub spelled : Spells body response.tag request
   pub answer : response.answer ≡ (step at.table request).answer
   pub place : after ≡ position_after mem at request
 
--- a command that the table accepts is refused for want of memory, and changes nothing
-pub record AnswersNoMemory (at : Position) (body : List ℕ) (response : Response) (after : Position) : Type 0 where
+-- a command that the table accepts is refused because memory ran out, and changes nothing
+pub record AnswersNoMemory (at : Position) (body : List ℕ) (response : Response)
+    (after : Position) : Type 0 where
   pub request : Request
   pub spelled : Spells body response.tag request
   pub takes : takes_memory request ≡ true
@@ -77,27 +83,32 @@ pub record AnswersNoMemory (at : Position) (body : List ℕ) (response : Respons
   pub answer : response.answer ≡ refusal why.NoMemory
   pub same : after ≡ at
 
--- how one body may be answered, and where the run stands then
+-- how one body may be answered, and the position after it
 abbrev pub Answers : ℕ → Position → List ℕ → Response → Position → Type 0
-Answers mem at body response after = AnswersMalformed at body response after ⊎ AnswersByTable mem at body response after ⊎ AnswersNoMemory at body response after
+Answers mem at body response after =
+    AnswersMalformed at body response after ⊎ AnswersByTable mem at body response after
+    ⊎ AnswersNoMemory at body response after
 
--- a body with its answer, and the place at which it was answered
+-- a body with its response, and the position at which it was answered
 pub record Exchange : Type 0 where
   pub body : List ℕ
   pub response : Response
   pub at : Position
 
--- a run that answers so, each body at its place, and then stands at another
+-- a run from one position to another, each body answered at the position after those before it
 abbrev pub IsRun : ℕ → Position → List Exchange → Position → Type 0
 IsRun mem at [] after = after ≡ at
-IsRun mem at (x ∷ xs) after = (x.at ≡ at) × ((mid : Position) × Answers mem at x.body x.response mid × IsRun mem mid xs after)
+IsRun mem at (x ∷ xs) after =
+    (x.at ≡ at) × ((mid : Position) × Answers mem at x.body x.response mid × IsRun mem mid xs after)
 
--- an answer tells that the device failed, or that a block is damaged
+-- an answer says that the device failed, or that a block is damaged
 abbrev pub IsFault : Answer → Type 0
-IsFault answer = (answer ≡ refusal why.DeviceFault) ⊎ ((block : ℕ) × (answer ≡ refusal (why.Damaged block)))
+IsFault answer =
+    (answer ≡ refusal why.DeviceFault) ⊎ ((block : ℕ) × (answer ≡ refusal (why.Damaged block)))
 
--- a command that the table accepts met a fault: whether it was carried out is open, and this is the place if it was
-pub record AnswersFault (mem : ℕ) (at : Position) (body : List ℕ) (response : Response) (done : Position) : Type 0 where
+-- a command that the table accepts met a fault, and this is the position if it was carried out
+pub record AnswersFault (mem : ℕ) (at : Position) (body : List ℕ) (response : Response)
+    (done : Position) : Type 0 where
   pub request : Request
   pub spelled : Spells body response.tag request
   pub reaches : reaches_disk request ≡ true
@@ -105,40 +116,49 @@ pub record AnswersFault (mem : ℕ) (at : Position) (body : List ℕ) (response 
   pub answer : IsFault response.answer
   pub place : done ≡ position_after mem at request
 
--- a body that met a fault, its answer, and the place after it if it was carried out
+-- an interruption: a body that met a fault, its response, and the position if it was carried out
 pub record Interruption : Type 0 where
   pub body : List ℕ
   pub response : Response
   pub done : Position
 
--- what was said to bodies in their order: the answers, the place after them, and the fault that the next body met, if it met one
+-- a transcript: bodies with their responses in order, the position after them, and the interruption
+-- by the next body, if it met a fault
 pub record Transcript : Type 0 where
   pub exchanges : List Exchange
   pub after : Position
   pub interruption : Option Interruption
 
--- the bodies were answered as a run from this place may answer them, and no body after one that met a fault
+-- a transcript is that of a run from this position, and no body after an interruption was answered
 pub record IsTranscript (mem : ℕ) (at : Position) (transcript : Transcript) : Type 0 where
   pub run : IsRun mem at transcript.exchanges transcript.after
-  pub interrupted : IfSome transcript.interruption (λ h. AnswersFault mem transcript.after h.body h.response h.done)
+  pub interrupted : IfSome transcript.interruption
+      (λ h. AnswersFault mem transcript.after h.body h.response h.done)
 
--- what is made of a body that met a fault, if one did
+-- what is made of an interruption, if there is one
 abbrev pub of_interruption : {A : Type 0} → (Interruption → A) → Option Interruption → List A
 of_interruption f None = []
 of_interruption f (Some interruption) = f interruption ∷ []
 
--- the bodies that were answered
+-- the bodies of a transcript, that of its interruption the last
 abbrev pub bodies_of : Transcript → List (List ℕ)
-bodies_of transcript = map (λ x. x.body) transcript.exchanges ++ of_interruption (λ h. h.body) transcript.interruption
+bodies_of transcript =
+    map (λ x. x.body) transcript.exchanges ++ of_interruption (λ h. h.body) transcript.interruption
 
--- the answers
+-- the responses of a transcript, that of its interruption the last
 abbrev pub responses_of : Transcript → List Response
-responses_of transcript = map (λ x. x.response) transcript.exchanges ++ of_interruption (λ h. h.response) transcript.interruption
+responses_of transcript =
+    map (λ x. x.response) transcript.exchanges
+    ++ of_interruption (λ h. h.response) transcript.interruption
 
--- the tables after no body, after one, after two and so on, without cursors; one that met a fault counts as carried out
+-- the tables of a transcript without cursors, before the first body and after each; an interruption
+-- counts as carried out
 abbrev pub tables_of : Transcript → List Table
-tables_of transcript = map (λ x. bare x.at.table) transcript.exchanges ++ (bare transcript.after.table ∷ of_interruption (λ h. bare h.done.table) transcript.interruption)
+tables_of transcript =
+    map (λ x. bare x.at.table) transcript.exchanges
+    ++ (bare transcript.after.table
+    ∷ of_interruption (λ h. bare h.done.table) transcript.interruption)
 
--- the bytes of all replies
+-- the bytes of all responses
 abbrev pub sent_bytes : List Response → List ℕ
 sent_bytes responses = flat_map response_bytes responses

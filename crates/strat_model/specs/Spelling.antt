@@ -21,7 +21,8 @@ command_bytes (Put version key value) = 1 ∷ be 4 version ++ counted key ++ cou
 command_bytes (Delete version key) = 2 ∷ be 4 version ++ counted key
 command_bytes (Get version key) = 3 ∷ be 4 version ++ counted key
 command_bytes (Clone version) = 4 ∷ be 4 version
-command_bytes (Scan version lo hi limit) = 5 ∷ be 4 version ++ counted lo ++ counted hi ++ be 2 limit
+command_bytes (Scan version lo hi limit) =
+    5 ∷ be 4 version ++ counted lo ++ counted hi ++ be 2 limit
 command_bytes (Info version) = 6 ∷ be 4 version
 command_bytes (OpenCursor version lo hi) = 7 ∷ be 4 version ++ counted lo ++ counted hi
 command_bytes (NextPairs cursor limit) = 8 ∷ be 8 cursor ++ be 2 limit
@@ -136,7 +137,8 @@ abbrev pub reply_fields : Reply → Pairs → List ℕ
 reply_fields reply.Found pairs = found_bytes pairs
 reply_fields (reply.Pairs more) pairs = flag more ∷ be 2 (length pairs) ++ pair_bytes pairs
 reply_fields (reply.Made version) pairs = be 4 version
-reply_fields (reply.Info parent depth frozen) pairs = parent_bytes parent ++ be 4 depth ++ flag frozen ∷ []
+reply_fields (reply.Info parent depth frozen) pairs =
+    parent_bytes parent ++ be 4 depth ++ flag frozen ∷ []
 reply_fields (reply.Opened cursor) pairs = be 8 cursor
 reply_fields (reply.Stat versions updates changes cursors) pairs =
     be 4 versions ++ be 4 updates ++ be 4 changes ++ be 4 cursors
@@ -159,9 +161,10 @@ is_given (reply.Refused why.FrameTooLong) = true
 is_given (reply.Refused why.NoMemory) = true
 is_given _ = false
 
--- the pairs beside a reply as a client reads it, who knows the key that was asked for and sees a question mark for it
+-- the pairs of a reply as a client reads it, with a question mark for the key that was asked for
 abbrev pub FitsReply : Reply → Pairs → Type 0
-FitsReply reply.Found pairs = (value : List ℕ) × (pairs ≡ (63 ∷ [], value) ∷ []) × (is_value value ≡ true)
+FitsReply reply.Found pairs =
+    (value : List ℕ) × (pairs ≡ (63 ∷ [], value) ∷ []) × (is_value value ≡ true)
 FitsReply _ pairs = pairs ≡ []
 
 -- a body is a reply that is given

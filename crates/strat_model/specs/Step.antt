@@ -43,7 +43,8 @@ pairs_at t v = (slice_index_or t.rows v no_row).pairs
 
 -- the rows with another map at a version
 abbrev pub with_pairs : List Row → ℕ → Pairs → List Row
-with_pairs rows v pairs = slice_set rows v (record { parent = (slice_index_or rows v no_row).parent; pairs = pairs })
+with_pairs rows v pairs =
+    slice_set rows v (record { parent = (slice_index_or rows v no_row).parent; pairs = pairs })
 
 -- an update of one version's map
 abbrev pub update : Table → ℕ → Pairs → Outcome
@@ -53,7 +54,11 @@ update t v pairs =
     if t.changes == t.changes_max then refuses t why.ChangeLimit else
     record {
       answer = plain reply.Done;
-      table = record t { rows = with_pairs t.rows v pairs; updates = t.updates + 1; changes = t.changes + 1 };
+      table = record t {
+        rows = with_pairs t.rows v pairs;
+        updates = t.updates + 1;
+        changes = t.changes + 1;
+      };
     }
 
 -- the answer to a look-up
@@ -63,7 +68,8 @@ found key (Some value) = record { reply = reply.Found; pairs = (key, value) ∷ 
 
 -- the first pairs of a list, and whether others follow
 abbrev pub page : Pairs → ℕ → Answer
-page pairs limit = record { reply = reply.Pairs (nat_lt limit (length pairs)); pairs = take limit pairs }
+page pairs limit =
+    record { reply = reply.Pairs (nat_lt limit (length pairs)); pairs = take limit pairs }
 
 -- a child of a version, with that version's map
 abbrev pub clone : Table → ℕ → Outcome
@@ -73,7 +79,10 @@ clone t v =
     if t.changes == t.changes_max then refuses t why.ChangeLimit else
     record {
       answer = plain (reply.Made (length t.rows));
-      table = record t { rows = t.rows ++ record { parent = Some v; pairs = pairs_at t v } ∷ []; changes = t.changes + 1 };
+      table = record t {
+        rows = t.rows ++ record { parent = Some v; pairs = pairs_at t v } ∷ [];
+        changes = t.changes + 1;
+      };
     }
 
 -- a cursor over a range as it is now
@@ -84,19 +93,26 @@ start_cursor t v lo hi =
     record {
       answer = plain (reply.Opened t.next_cursor);
       table = record t {
-        cursors = t.cursors ++ record { number = t.next_cursor; left = range (pairs_at t v) lo hi } ∷ [];
+        cursors =
+            t.cursors ++ record { number = t.next_cursor; left = range (pairs_at t v) lo hi } ∷ [];
         next_cursor = t.next_cursor + 1;
       };
     }
 
 -- the cursors with the next pairs of one of them taken
 abbrev pub advanced : List Cursor → ℕ → ℕ → List Cursor
-advanced cursors n limit = map {A = Cursor} (λ c. if c.number == n then record c { left = drop limit c.left } else c) cursors
+advanced cursors n limit =
+    map {A = Cursor}
+    (λ c. if c.number == n then record c { left = drop limit c.left } else c)
+    cursors
 
 -- the next pairs of a cursor
 abbrev pub next_pairs : Table → ℕ → ℕ → Outcome
 next_pairs t n limit = option_map_or
-    (λ c. record { answer = page c.left limit; table = record t { cursors = advanced t.cursors n limit } })
+    (λ c. record {
+      answer = page c.left limit;
+      table = record t { cursors = advanced t.cursors n limit };
+    })
     (find (λ c. c.number == n) t.cursors)
     (refuses t why.UnknownCursor)
 
@@ -105,18 +121,25 @@ abbrev pub step : Table → Request → Outcome
 step t (Put v key value) = update t v (set key value (pairs_at t v))
 step t (Delete v key) = update t v (unset key (pairs_at t v))
 step t (Get v key) =
-    if has_row t v then replies_with t (found key (value_of (pairs_at t v) key)) else refuses t why.UnknownVersion
+    if has_row t v then replies_with t (found key (value_of (pairs_at t v) key))
+    else refuses t why.UnknownVersion
 step t (Clone v) = clone t v
 step t (Scan v lo hi limit) =
-    if has_row t v then replies_with t (page (range (pairs_at t v) lo hi) limit) else refuses t why.UnknownVersion
+    if has_row t v then replies_with t (page (range (pairs_at t v) lo hi) limit)
+    else refuses t why.UnknownVersion
 step t (Info v) =
     if has_row t v then
-    replies_with t (plain (reply.Info (parent_of (parents_of t) v) (depth (parents_of t) v) (is_frozen t v)))
+    replies_with t
+    (plain (reply.Info (parent_of (parents_of t) v) (depth (parents_of t) v) (is_frozen t v)))
     else refuses t why.UnknownVersion
 step t (OpenCursor v lo hi) = start_cursor t v lo hi
 step t (NextPairs n limit) = next_pairs t n limit
 step t (CloseCursor n) =
     if list_any (λ c. c.number == n) t.cursors then
-    record { answer = plain reply.Done; table = record t { cursors = filter (λ c. not (c.number == n)) t.cursors } }
+    record {
+      answer = plain reply.Done;
+      table = record t { cursors = filter (λ c. not (c.number == n)) t.cursors };
+    }
     else refuses t why.UnknownCursor
-step t Stat = replies_with t (plain (reply.Stat (length t.rows) t.updates t.changes (length t.cursors)))
+step t Stat =
+    replies_with t (plain (reply.Stat (length t.rows) t.updates t.changes (length t.cursors)))

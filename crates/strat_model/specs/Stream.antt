@@ -4,7 +4,7 @@ use Rattle.std.specs.List.{flat_map, AllByRecursion}
 use Rattle.strat_base.specs.Numbers.{be, number}
 use Rattle.strat_base.specs.declared.limits.TheConstants.{BODY_MAX}
 
--- a body behind its length
+-- a body after its length
 abbrev pub frame : List ℕ → List ℕ
 frame body = be 4 (length body) ++ body
 
@@ -22,7 +22,7 @@ is_partial bytes =
     if nat_lt (length bytes) 4 then true else
     if nat_lt BODY_MAX (number 4 bytes) then false else nat_lt (length bytes) (4 + number 4 bytes)
 
--- the stream is the frames of these bodies, and behind them a rest in which no further frame is whole
+-- the stream is the frames of these bodies, and then a rest in which no further frame is whole
 pub record Splits (stream : List ℕ) (bodies : List (List ℕ)) (rest : List ℕ) : Type 0 where
   pub whole : stream ≡ flat_map frame bodies ++ rest
   pub each : AllByRecursion IsBody bodies

@@ -8,7 +8,7 @@ ghost use Rattle.std.specs.Prelude.{◌≡◌};
 pub enum Ended {
     /// All there was to do is done.
     Done,
-    /// The words are no job of the program.
+    /// The arguments are no subcommand of the program.
     Usage,
     /// The file holds no store.
     NotAStore,

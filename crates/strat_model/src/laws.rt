@@ -28,7 +28,7 @@ pub fn trees_are_told()
     ensures ok { answers (fresh 100 10) growing ≡ grown }
 {}
 
-/// A frozen version and too many versions are told before too many changes.
+/// A frozen version and too many versions are refused before too many changes.
 pub fn limits_are_told_in_order()
     ensures ok { answers (fresh 2 2) filling ≡ filled }
 {}

@@ -206,12 +206,12 @@ impl PlainPairs {
         Ok(PlainPairs { pairs })
     }
 
-    /// Tells the first pairs of a range, and whether others follow.
+    /// Adds the first pairs of a range to an empty buffer, and answers whether others follow.
     pub(crate) fn tell_range(&self, lo: &[u8], hi: &[u8], limit: usize, out: &mut PairBuf) -> bool
-        requires empty { out.old ≡ [] }
+        requires none { out.old ≡ [] }
         requires fits { limit ≤ PAIRS_MAX }
         ensures ok { out.new ≡ take limit (range self.now lo.now hi.now) }
-        ensures more { result ≡ nat_lt limit (length (range self.now lo.now hi.now)) }
+        ensures found { result ≡ nat_lt limit (length (range self.now lo.now hi.now)) }
     {
         for pair in &self.pairs {
             if is_between(lo, hi, pair.key()) {
@@ -224,13 +224,13 @@ impl PlainPairs {
         false
     }
 
-    /// Tells the pairs from a place on, at most `limit` of them, and answers the place behind them.
+    /// Adds the pairs from an index on to an empty buffer, at most `limit`, and answers the index after them.
     pub(crate) fn tell_from(&self, at: usize, limit: usize, out: &mut PairBuf) -> usize
-        requires empty { out.old ≡ [] }
+        requires none { out.old ≡ [] }
         requires fits { limit ≤ PAIRS_MAX }
-        requires within { at ≤ length self.now }
+        requires room { at ≤ length self.now }
         ensures ok { out.new ≡ take limit (drop at self.now) }
-        ensures next { result ≡ min (at + limit) (length self.now) }
+        ensures end { result ≡ min (at + limit) (length self.now) }
     {
         let end = at + limit.min(self.pairs.len() - at);
         for pair in &self.pairs[at..end] {

@@ -128,12 +128,12 @@ impl PlainCursor {
         self.number
     }
 
-    /// Tells the next pairs, and whether others follow.
+    /// Adds the next pairs to an empty buffer, and answers whether others follow.
     pub(crate) fn tell(&self, limit: usize, out: &mut PairBuf) -> bool
-        requires empty { out.old ≡ [] }
+        requires none { out.old ≡ [] }
         requires fits { limit ≤ PAIRS_MAX }
         ensures ok { out.new ≡ take limit self.now.left }
-        ensures more { result ≡ nat_lt limit (length self.now.left) }
+        ensures found { result ≡ nat_lt limit (length self.now.left) }
     {
         self.pairs.tell_from(self.taken, limit, out) < self.pairs.len()
     }
@@ -165,7 +165,7 @@ pub(crate) fn has_cursor(cursors: &[PlainCursor], number: u64) -> bool
     cursors.iter().any(|cursor| cursor.number() == number)
 }
 
-/// Lets the cursor with this number go.
+/// Removes the cursor with this number.
 pub(crate) fn close(cursors: &mut Vec<PlainCursor>, number: u64)
     ensures ok { cursors.new.items ≡ filter (λ c. not (c.number == number)) cursors.old.items }
     ensures room { length cursors.new.items ≤ length cursors.old.items }

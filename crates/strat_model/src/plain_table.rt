@@ -21,7 +21,7 @@ use std::marker::Model;
 use strat_base::limits::CURSORS_MAX;
 use strat_base::{NoMemory, PairBuf, Version};
 
-/// A table in memory, which finds memory for each change as it comes. It computes each answer in the
+/// A table in memory, which takes memory for each change as it comes. It computes each answer in the
 /// way in which it is defined: an update is linear in the pairs of its version and in the versions, a
 /// clone copies every pair.
 #[derive(Drop)]
@@ -51,9 +51,8 @@ impl Model for PlainTable {
 impl PlainTable {
     /// A new table, which takes up to `changes_max` changes and has up to `versions_max` versions.
     pub fn new(alloc: Global, changes_max: u32, versions_max: u32) -> Result<PlainTable, NoMemory>
-        requires changes { changes_max ≤ CHANGES_MAX }
-        requires some { 1 ≤ versions_max }
-        requires versions { versions_max ≤ VERSIONS_MAX }
+        requires { (changes_max ≤ CHANGES_MAX) × (1 ≤ versions_max)
+            × (versions_max ≤ VERSIONS_MAX) }
         ensures ok { IfOk result (λ t. t ≡ fresh changes_max versions_max) }
     {
         let mut rows = Vec::new(alloc);
@@ -76,8 +75,8 @@ impl PlainTable {
         requires fits { has_lawful_sizes (request_of command.now) ≡ true }
         requires room { self.old.next_cursor < 2 ^ 63 }
         ensures ok { IsStepOrShort self.old (request_of command.now) result out.new self.new }
-        ensures next { self.new.next_cursor ≤ self.old.next_cursor + 1 }
-        ensures within { self.old.changes ≤ self.old.changes_max }
+        ensures fits { self.new.next_cursor ≤ self.old.next_cursor + 1 }
+        ensures kept { self.old.changes ≤ self.old.changes_max }
         ensures none { grows (request_of command.now) ≡ false
             → IsStep self.old (request_of command.now) result out.new self.new }
     {
@@ -142,11 +141,10 @@ impl PlainTable {
 
     fn count_update(&mut self) -> Reply
         requires room { self.old.changes < self.old.changes_max }
-        ensures done { result ≡ reply.Done }
-        ensures ok { self.new ≡ record self.old {
+        ensures ok { (result ≡ reply.Done) × (self.new ≡ record self.old {
           updates = self.old.updates + 1;
           changes = self.old.changes + 1;
-        } }
+        }) }
     {
         self.updates += 1;
         self.changes += 1;
@@ -178,7 +176,7 @@ impl PlainTable {
 
     fn get(&self, version: Version, key: &[u8], out: &mut PairBuf) -> Reply
         requires fits { has_lawful_sizes (Get version key.now) ≡ true }
-        requires empty { out.old ≡ [] }
+        requires none { out.old ≡ [] }
         ensures ok { IsStep self.now (Get version key.now) result out.new self.now }
     {
         if !self.has_row(version) {
@@ -226,7 +224,7 @@ impl PlainTable {
 
     fn scan(&self, version: Version, lo: &[u8], hi: &[u8], limit: u16, out: &mut PairBuf) -> Reply
         requires fits { has_lawful_sizes (Scan version lo.now hi.now limit) ≡ true }
-        requires empty { out.old ≡ [] }
+        requires none { out.old ≡ [] }
         ensures ok { IsStep self.now (Scan version lo.now hi.now limit) result out.new self.now }
     {
         if !self.has_row(version) {
@@ -315,7 +313,7 @@ impl PlainTable {
 
     fn next_pairs(&mut self, number: u64, limit: u16, out: &mut PairBuf) -> Reply
         requires fits { has_lawful_sizes (NextPairs number limit) ≡ true }
-        requires empty { out.old ≡ [] }
+        requires none { out.old ≡ [] }
         ensures ok { IsStep self.old (NextPairs number limit) result out.new self.new }
     {
         let Some(cursor) = self.cursor(number) else {

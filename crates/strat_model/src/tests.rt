@@ -107,9 +107,7 @@ fn follow(
     versions_max: u32,
     lines: &[Line],
 ) -> Result<(), NoMemory>
-    requires changes { changes_max ≤ 100000 }
-    requires some { 1 ≤ versions_max }
-    requires versions { versions_max ≤ 100 }
+    requires { (changes_max ≤ 100000) × (1 ≤ versions_max) × (versions_max ≤ 100) }
 {
     let mut table = PlainTable::new(alloc, changes_max, versions_max)?;
     let mut out = PairBuf::new(alloc)?;

@@ -26,10 +26,12 @@ begins_after None entries = true
 begins_after (Some last) [] = true
 begins_after (Some last) (e ∷ entries) = is_lt (entry_cmp last.key last.version e.key e.version)
 
--- the entries of a block fit behind those of an array's earlier blocks: they go on after them, their versions are there, and all leads so far are no more than the descriptor says
+-- entries fit after those of an array's earlier blocks: in order, of versions that are there, and
+-- with no more leads in all than the descriptor says
 abbrev pub fits_behind : ℕ → ArrayDesc → List Entry → List Entry → Bool
 fits_behind versions a before entries =
-    begins_after (slice_get before (length before - 1)) entries && list_all (λ e. nat_lt e.version versions) entries
+    begins_after (slice_get before (length before - 1)) entries
+    && list_all (λ e. nat_lt e.version versions) entries
     && nat_le (length (lead_entries a.versions (before ++ entries))) a.leads
 
 -- a block of an array holds entries that do not fit their place in it
@@ -43,8 +45,10 @@ pub record IsMisplaced (c : Image) (versions : ℕ) (a : ArrayDesc) (b : ℕ) : 
   pub here : block_on c b ≡ Some entries
   pub misfit : fits_behind versions a before entries ≡ false
 
--- a block is bad: an opening refuses it; or it is of an array that is named, and is no block of entries; or it is of an array whose entries are merged into another, and does not fit its place
+-- a block is bad: recovery refuses it; or it is no block of entries and of an array that is named;
+-- or it does not fit its place in an array that is merged
 pub data IsBad (c : Image) (versions : ℕ) (named merged : List ArrayDesc) (b : ℕ) : Type 0 where
   refused : recover c ≡ Err b → IsBad c versions named merged b
   unread : (a : ArrayDesc) → Contains named a → IsUnread c a b → IsBad c versions named merged b
-  misplaced : (a : ArrayDesc) → Contains merged a → IsMisplaced c versions a b → IsBad c versions named merged b
+  misplaced : (a : ArrayDesc) → Contains merged a → IsMisplaced c versions a b
+      → IsBad c versions named merged b

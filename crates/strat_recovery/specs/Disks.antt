@@ -9,14 +9,16 @@ use Rattle.strat_format.specs.SuperBlock.{Super, spelled, fields}
 use Rattle.strat_base.specs.Samples.{says}
 use Rattle.strat_recovery.specs.Head.{Head}
 
--- the first 40 bytes of a superblock: an open gate, the magic, format 1, generation 1, the manifest's block 6 and its 29 bytes, region 0 and the limits
+-- the first 40 bytes of a superblock: open gate, magic, format 1, generation 1, a manifest of
+-- 29 bytes in block 6, region 0, the limits
 abbrev pub first_block : List ℕ
 first_block =
     0xa7 ∷ 0x53 ∷ 0x54 ∷ 0x52 ∷ 0x41 ∷ 0x54 ∷ 0x42 ∷ 0x54 ∷ 0x31 ∷ 0x00 ∷ 0x01
-    ∷ 0x00 ∷ 0x00 ∷ 0x00 ∷ 0x00 ∷ 0x00 ∷ 0x00 ∷ 0x00 ∷ 0x01 ∷ 0x00 ∷ 0x00 ∷ 0x00 ∷ 0x06 ∷ 0x00 ∷ 0x00 ∷ 0x00 ∷ 0x1d
+    ∷ 0x00 ∷ 0x00 ∷ 0x00 ∷ 0x00 ∷ 0x00 ∷ 0x00 ∷ 0x00 ∷ 0x01
+    ∷ 0x00 ∷ 0x00 ∷ 0x00 ∷ 0x06 ∷ 0x00 ∷ 0x00 ∷ 0x00 ∷ 0x1d
     ∷ 0x00 ∷ 0x00 ∷ 0x00 ∷ 0x00 ∷ 0x04 ∷ 0x00 ∷ 0x00 ∷ 0x00 ∷ 0x64 ∷ 0x00 ∷ 0x00 ∷ 0x00 ∷ 0x0a ∷ []
 
--- the manifest's block: it is the last, and behind zeros the next array is 1, there is one version, and no level
+-- the manifest's block, the only one: no change yet, array 1 the next, one version and no level
 abbrev pub manifest_block : List ℕ
 manifest_block = replicate 27 0 ++ 0x01 ∷ 0x00 ∷ 0x00 ∷ 0x00 ∷ 0x01 ∷ 0x00 ∷ []
 
@@ -26,13 +28,22 @@ formatted = patch (patch (λ i. 0) 0 first_block) 24576 manifest_block
 
 -- the superblock of a new store
 abbrev pub new_super : Super
-new_super = record { generation = 1; manifest = 6; length = 29; region = 0; mem = 4; changes_max = 100; versions_max = 10 }
+new_super = record {
+  generation = 1;
+  manifest = 6;
+  length = 29;
+  region = 0;
+  mem = 4;
+  changes_max = 100;
+  versions_max = 10;
+}
 
 -- the head of a new store
 abbrev pub new_head : Head
 new_head = record { sb = new_super; manifest = new_manifest; journal = [] }
 
--- the manifest after the first publication of a chain of clones, whose second version has a key: array 1 is in block 7
+-- the manifest after a chain of clones was published, with a key at the second version: array 1 is
+-- in block 7
 abbrev pub chain_manifest : Manifest
 chain_manifest = record {
   changes = 4;
@@ -43,19 +54,35 @@ chain_manifest = record {
   levels = record {
     number = 1;
     horizon = 4;
-    arrays = record { id = 1; entries = 1; leads = 1; least = 1; extents = record { start = 7; len = 1 } ∷ []; versions = 1 ∷ 2 ∷ 3 ∷ [] } ∷ [];
+    arrays = record {
+      id = 1;
+      entries = 1;
+      leads = 1;
+      least = 1;
+      extents = record { start = 7; len = 1 } ∷ [];
+      versions = 1 ∷ 2 ∷ 3 ∷ [];
+    } ∷ [];
   } ∷ [];
 }
 
 -- its superblock: the second generation, with the manifest in block 8 and the other region active
 abbrev pub chain_super : Super
-chain_super = record { generation = 2; manifest = 8; length = 98; region = 1; mem = 4; changes_max = 100; versions_max = 10 }
+chain_super = record {
+  generation = 2;
+  manifest = 8;
+  length = 98;
+  region = 1;
+  mem = 4;
+  changes_max = 100;
+  versions_max = 10;
+}
 
--- the front of the array's block: one entry, its place, and the entry
+-- the front of the array's block: one entry, its offset, and the entry
 abbrev pub array_block : List ℕ
 array_block = 0x00 ∷ 0x01 ∷ 0x00 ∷ 0x04 ∷ entry_bytes (says 97 1 49)
 
--- the formatted disk with the array, a manifest in block 8, a superblock in slot 1, and a change in the second region
+-- the formatted disk with the array, a manifest in block 8, a superblock in slot 1, and a change in
+-- region 1
 abbrev pub published_by : Super → Manifest → Image
 published_by sb m =
     patch (patch (patch (patch formatted 28672 array_block) 32768 (be 4 0 ++ manifest_bytes m))
@@ -69,7 +96,7 @@ published = published_by chain_super chain_manifest
 abbrev pub with_horizon : ℕ → LevelDesc → LevelDesc
 with_horizon horizon level = record level { horizon = horizon }
 
--- the formatted disk with four changes in the first region, which are as many as it takes, and an open gate in the other
+-- the formatted disk with region 0 full, by four changes, and an open gate at the head of region 1
 abbrev pub doubly_open : Image
 doubly_open =
     let change = 0xa7 ∷ change_bytes (Put 0 (97 ∷ []) (49 ∷ [])) in

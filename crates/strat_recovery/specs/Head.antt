@@ -1,4 +1,4 @@
--- What an opening finds of a store beside the blocks of its arrays.
+-- What recovery finds of a store beside the blocks of its arrays.
 use Rattle.std.specs.Prelude.{ℕ, ◌+◌, List, [], length, map, flat_map, filter_map, fold, sum_by}
 use Rattle.strat_base.specs.Tree.{Parents}
 use Rattle.strat_base.specs.Change.{Change}
@@ -34,17 +34,25 @@ head_updates h = h.manifest.updates + journal_count h
 abbrev pub descriptors : Manifest → List ArrayDesc
 descriptors m = flat_map (λ level. level.arrays) m.levels
 
--- how many entries are stored: those of all arrays, as their descriptors say, and the journal's updates
+-- how many entries are stored: those that all descriptors give, and the journal's updates
 abbrev pub head_stored : Head → ℕ
 head_stored h = sum_by (λ a. a.entries) (descriptors h.manifest) + journal_count h
 
 -- what the descriptor of an array says of it, without where it lies
 abbrev pub described : TaggedArray → ArrayDesc
-described a = record { id = a.id; entries = a.entries; leads = a.leads; least = a.least; extents = []; versions = a.tag }
+described a = record {
+  id = a.id;
+  entries = a.entries;
+  leads = a.leads;
+  least = a.least;
+  extents = [];
+  versions = a.tag;
+}
 
 -- what the descriptor of a level says of it, without where its arrays lie
 abbrev pub level_described : Level → LevelDesc
-level_described level = record { number = level.number; horizon = level.horizon; arrays = map described level.arrays }
+level_described level =
+    record { number = level.number; horizon = level.horizon; arrays = map described level.arrays }
 
 -- the numbers of a tree's parents, from version 1 on
 abbrev pub parent_numbers : Parents → List ℕ

@@ -19,12 +19,21 @@ blocks_of extents = flat_map (λ x. range_with_len x.start x.len) extents
 unfoldable pub entries_on : Image → List ℕ → Option (List Entry)
 entries_on c [] = Some []
 entries_on c (b ∷ blocks) =
-    option_and_then (λ entries. option_map (λ rest. entries ++ rest) (entries_on c blocks)) (block_in (window c (BLOCK * b) BLOCK))
+    option_and_then (λ entries. option_map (λ rest. entries ++ rest) (entries_on c blocks))
+    (block_in (window c (BLOCK * b) BLOCK))
 
 -- the array that a descriptor and an image give
 abbrev pub array_on : Image → ArrayDesc → Option TaggedArray
 array_on c a =
-    option_map (λ entries. record { id = a.id; tag = a.versions; content = entries; entries = a.entries; leads = a.leads; least = a.least })
+    option_map
+    (λ entries. record {
+      id = a.id;
+      tag = a.versions;
+      content = entries;
+      entries = a.entries;
+      leads = a.leads;
+      least = a.least;
+    })
     (entries_on c (blocks_of a.extents))
 
 -- what is made of each item, where something is made of each
@@ -35,7 +44,9 @@ all_some f (x ∷ xs) = option_and_then (λ y. option_map (λ ys. y ∷ ys) (all
 -- the level that a descriptor and an image give
 abbrev pub level_on : Image → LevelDesc → Option Level
 level_on c level =
-    option_map (λ arrays. record { number = level.number; horizon = level.horizon; arrays = arrays }) (all_some (array_on c) level.arrays)
+    option_map
+    (λ arrays. record { number = level.number; horizon = level.horizon; arrays = arrays })
+    (all_some (array_on c) level.arrays)
 
 -- the parents of a manifest's versions
 abbrev pub parents_in : Manifest → Parents

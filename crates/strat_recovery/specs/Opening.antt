@@ -1,4 +1,4 @@
--- What an opening finds in the bytes of a disk, and the state that they read as.
+-- What recovery finds in the bytes of a disk, and the state that they read as.
 use Rattle.std.specs.Prelude.{ℕ, suc, ◌+◌, ◌*◌, nat_lt, nat_le, ◌&&◌, Bool, if◌then◌else◌, List, [], ◌∷◌, ◌++◌, map, flat_map, sum_by, Option, Some, None, Ok, Err, option_and_then}
 use Rattle.std.specs.List.{list_all}
 use Rattle.strat_crash.specs.Image.{Image}
@@ -20,7 +20,7 @@ use Rattle.strat_format.specs.Layout.{first_free}
 abbrev pub array_blocks : ArrayDesc → ℕ
 array_blocks a = sum_by (λ x. x.len) a.extents
 
--- the blocks of the arrays and of the manifest lie behind the journal, and none of them stands twice
+-- the blocks of the arrays and of the manifest lie after the journal, and none has two uses
 abbrev pub has_own_blocks : Super → List ℕ → Manifest → Bool
 has_own_blocks sb chain m =
     let blocks = chain ++ flat_map (λ a. blocks_of a.extents) (descriptors m) in
@@ -40,10 +40,11 @@ has_own_versions level =
 abbrev pub is_filled : ArrayDesc → Bool
 is_filled a = nat_le a.entries (2 * a.leads) && nat_le (array_blocks a) a.entries
 
--- each publication is of a change, makes no more arrays than there may be versions, and writes 2^25 entries at most
+-- for each change there are at most one publication, 16384 new arrays and 2^25 entries written
 abbrev pub has_few_publications : Super → Manifest → Bool
 has_few_publications sb m =
-    nat_le sb.generation (m.changes + 1) && nat_le m.next_array (16384 * m.changes + 1) && nat_le m.written (33554432 * m.changes)
+    nat_le sb.generation (m.changes + 1) && nat_le m.next_array (16384 * m.changes + 1)
+    && nat_le m.written (33554432 * m.changes)
 
 -- a manifest in a chain of blocks is one that a store with this superblock may have
 abbrev pub belongs : Super → Chained → Bool
@@ -60,32 +61,38 @@ belongs sb found = all_pass (
 
 -- the manifest of a superblock, or the block that is damaged
 abbrev pub recover_manifest : Image → Super → Read Manifest
-recover_manifest c sb = and_then (manifest_at c sb.manifest sb.length) (λ found. passed_or sb.manifest (belongs sb found) found.manifest)
+recover_manifest c sb =
+    and_then (manifest_at c sb.manifest sb.length)
+    (λ found. passed_or sb.manifest (belongs sb found) found.manifest)
 
 -- the changes of these records, each accepted in its turn, or the block of the first that is not
 abbrev pub accepted_in : ℕ → ℕ → Parents → ℕ → List Logged → Read (List Change)
 accepted_in changes_max versions_max parents changes [] = Ok []
 accepted_in changes_max versions_max parents changes (l ∷ logged) =
     if is_accepted changes_max versions_max parents changes l.change
-    then put_first l.change (accepted_in changes_max versions_max (tree_after parents l.change) (suc changes) logged)
+    then put_first l.change
+    (accepted_in changes_max versions_max (tree_after parents l.change) (suc changes) logged)
     else Err l.block
 
 -- the journal of a superblock and a manifest, or the block that is damaged
 abbrev pub recover_journal : Image → Super → Manifest → Read (List Change)
 recover_journal c sb m =
-    and_then (journal_in_one c sb.mem sb.region) (accepted_in sb.changes_max sb.versions_max (parents_in m) m.changes)
+    and_then (journal_in_one c sb.mem sb.region)
+    (accepted_in sb.changes_max sb.versions_max (parents_in m) m.changes)
 
 -- the head of a store with this superblock, or the block that is damaged
 abbrev pub recover_head : Image → Super → Read Head
 recover_head c sb =
-    and_then (recover_manifest c sb) (λ m. and_then (recover_journal c sb m) (λ journal. Ok (record { sb = sb; manifest = m; journal = journal })))
+    and_then (recover_manifest c sb)
+    (λ m. and_then (recover_journal c sb m)
+    (λ journal. Ok (record { sb = sb; manifest = m; journal = journal })))
 
 -- the head of a store, where there is one
 abbrev pub recover_slot : Image → Option (ℕ × Super) → Read (Option Head)
 recover_slot c None = Ok None
 recover_slot c (Some slot) = and_then (recover_head c slot.1) (λ h. Ok (Some h))
 
--- what an opening finds: nothing where the disk is no store, the store's head, or the block that is damaged
+-- what recovery finds: nothing where the disk is no store, the store's head, or the damaged block
 abbrev pub recover : Image → Read (Option Head)
 recover c = and_then (newest_in c) (recover_slot c)
 

@@ -7,6 +7,7 @@ use Rattle.strat_state.specs.State.{State, fresh_state}
 abbrev pub settings : State
 settings = record (fresh_state 64 100000 100) {
   journal =
-      Put 0 (codes "user/1/name") (codes "Ann") ∷ Put 0 (codes "user/2/name") (codes "Bob") ∷ Clone 0 ∷ Clone 0
+      Put 0 (codes "user/1/name") (codes "Ann") ∷ Put 0 (codes "user/2/name") (codes "Bob")
+      ∷ Clone 0 ∷ Clone 0
       ∷ Put 1 (codes "user/2/name") (codes "Rob") ∷ Delete 2 (codes "user/1/name") ∷ [];
 }

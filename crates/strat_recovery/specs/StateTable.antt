@@ -12,7 +12,8 @@ use Rattle.strat_model.specs.Answer.{Answer, plain}
 -- a row for each of these versions, which are numbered from v on
 abbrev pub rows_from : State → ℕ → Parents → List Row
 rows_from s v [] = []
-rows_from s v (parent ∷ parents) = record { parent = parent; pairs = map_at s v } ∷ rows_from s (suc v) parents
+rows_from s v (parent ∷ parents) =
+    record { parent = parent; pairs = map_at s v } ∷ rows_from s (suc v) parents
 
 -- the table of a state: its versions with their maps, what was accepted, and no cursors
 abbrev pub table_of : State → Table

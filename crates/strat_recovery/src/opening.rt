@@ -1,5 +1,4 @@
-//! What an opening finds in bytes, and laws that it has. Each is a call that does nothing, and its
-//! clauses are what it says.
+//! Laws of what recovery finds in bytes. Each is the contract of a function that does nothing.
 
 ghost use Rattle.std.specs.Prelude.{◌≡◌, ℕ, [], ◌∷◌, ◌++◌, length, map, take, Some, None, Ok, Err};
 ghost use Rattle.strat_base.specs.Change.{Put};
@@ -39,9 +38,9 @@ pub fn published_disks_open()
     ensures other { reads_as (patch published 8192 (0xa7 ∷ [])) ≡ Some chain }
 {}
 
-/// What an opening refuses: a superblock out of its ranges, a chain that goes on behind its last
-/// block or back to its first, bytes behind the manifest that are no zeros, an open gate with no change
-/// behind it, a change that the table refuses, and an open gate in the other region where the active one is
+/// What recovery refuses: a superblock out of its ranges, a chain that goes on after its last
+/// block or back to its first, bytes after the manifest that are no zeros, an open gate with no change
+/// after it, a change that the table refuses, and an open gate in the other region where the active one is
 /// full. A disk of zeros is no store.
 pub fn damage_is_named()
     ensures none { recover (λ i. 0) ≡ Ok None }
@@ -61,9 +60,12 @@ pub fn damage_is_named()
 pub fn strange_manifests_are_refused()
     ensures horizon { recover (published_by chain_super
         (record chain_manifest { levels = map (with_horizon 3) chain_manifest.levels })) ≡ Err 8 }
-    ensures versions { recover (published_by (record chain_super { versions_max = 3 }) chain_manifest) ≡ Err 8 }
-    ensures updates { recover (published_by chain_super (record chain_manifest { updates = 0 })) ≡ Err 8 }
-    ensures generation { recover (published_by (record chain_super { generation = 6 }) chain_manifest) ≡ Err 8 }
+    ensures versions { recover (published_by
+        (record chain_super { versions_max = 3 }) chain_manifest) ≡ Err 8 }
+    ensures updates { recover (published_by
+        chain_super (record chain_manifest { updates = 0 })) ≡ Err 8 }
+    ensures generation { recover (published_by
+        (record chain_super { generation = 6 }) chain_manifest) ≡ Err 8 }
 {}
 
 /// What the bytes of a disk read as is a well formed state.
@@ -83,7 +85,7 @@ pub fn texts_speak_of_states()
         × (head_changes h ≡ changes_of s) }
 {}
 
-/// A disk that reads as a sound state has no bad block: no opening refuses it, and each block of
+/// A disk that reads as a sound state has no bad block: recovery refuses none, and each block of
 /// its arrays holds entries that fit their place.
 pub fn sound_disks_have_no_bad_block()
     ensures { (c : Image) (h : Head) (s : State) (b : ℕ) → recover c ≡ Ok (Some h)

@@ -37,7 +37,7 @@ pub fn changes_in_the_journal_are_steps()
         → (step t (request_for c)).answer ≡ answer_for s c }
 {}
 
-/// Reading a sound state place by place finds what its table has.
+/// Reading a sound state level by level finds what its table has.
 pub fn reading_finds_the_tables_value()
     ensures ok { (s : State) (v : ℕ) (key : List ℕ) → IsSound s → v < length (versions_of s)
         → value_of (pairs_at (table_of s) v) key

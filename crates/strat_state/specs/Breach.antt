@@ -4,7 +4,7 @@ use Rattle.strat_state.specs.Level.{TaggedArray, Level, has_disjoint_tags, has_l
 use Rattle.strat_state.specs.State.{State, versions_of}
 use Rattle.strat_state.specs.Sound.{has_room, has_old_horizon, is_above_frozen, is_described, has_few_leads, has_ascending_entries, IsWellFormed, IsSound}
 
--- a rule's letter, and the level and the array that break it, or 0 where it is not one of them alone
+-- a rule's letter, with the level and the array that break it, or 0 where it is no single one
 pub record Breach : Type 0 where
   pub rule : ℕ
   pub level : ℕ
@@ -21,12 +21,16 @@ breach_unless false x = x ∷ []
 
 -- the breaches of a rule of levels
 abbrev pub level_breaches : State → ℕ → (Level → Bool) → List Breach
-level_breaches s rule test = flat_map (λ level. breach_unless (test level) (breach rule level.number 0)) s.levels
+level_breaches s rule test =
+    flat_map (λ level. breach_unless (test level) (breach rule level.number 0)) s.levels
 
 -- the breaches of a rule of arrays
 abbrev pub array_breaches : State → ℕ → (Level → TaggedArray → Bool) → List Breach
 array_breaches s rule test =
-    flat_map (λ level. flat_map (λ a. breach_unless (test level a) (breach rule level.number a.id)) level.arrays) s.levels
+    flat_map
+    (λ level. flat_map
+    (λ a. breach_unless (test level a) (breach rule level.number a.id)) level.arrays)
+    s.levels
 
 -- what a state breaks: m first, then a to l, the shallowest levels first
 abbrev pub breaches : State → List Breach
@@ -45,7 +49,7 @@ breaches s =
     ++ array_breaches s 107 (λ level a. is_described s a)
     ++ breach_unless (has_few_leads s) (breach 108 0 0)
 
--- a state is well formed, and is not sound for these rules alone, each with the level and the array that break it
+-- a state is well formed but not sound, and its breaches are exactly these
 pub record Breaks (s : State) (found : List Breach) : Type 0 where
   pub formed : IsWellFormed s
   pub unsound : IsSound s → ⊥

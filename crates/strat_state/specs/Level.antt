@@ -57,20 +57,26 @@ is_distinct (v ∷ vs) = not (is_tagged vs v) && is_distinct vs
 
 -- a: the tags are disjoint and hold versions below the horizon
 abbrev pub has_disjoint_tags : Level → Bool
-has_disjoint_tags level = is_distinct (tagged_versions level) && list_all (λ v. nat_lt v level.horizon) (tagged_versions level)
+has_disjoint_tags level =
+    is_distinct (tagged_versions level)
+    && list_all (λ v. nat_lt v level.horizon) (tagged_versions level)
 
 -- b: each version below the horizon at which a lead of the level is live is in a tag
 abbrev pub has_live_tagged : Parents → Level → Bool
 has_live_tagged parents level =
-    list_all (λ v. is_tagged (tagged_versions level) v || (length (live parents (level_leads level) v) == 0)) (range_with_len 0 level.horizon)
+    list_all
+    (λ v. is_tagged (tagged_versions level) v || (length (live parents (level_leads level) v) == 0))
+    (range_with_len 0 level.horizon)
 
 -- c: at each version of its tag the entries live in an array are those live among the level's leads
 abbrev pub agrees : Parents → Level → TaggedArray → Bool
-agrees parents level a = list_all (λ v. are_same (live parents a.content v) (live parents (level_leads level) v)) a.tag
+agrees parents level a =
+    list_all (λ v. are_same (live parents a.content v) (live parents (level_leads level) v)) a.tag
 
 -- d: at each version of its tag at least a third of an array is live
 abbrev pub is_dense : Parents → TaggedArray → Bool
-is_dense parents a = list_all (λ v. nat_le (length a.content) (3 * length (live parents a.content v))) a.tag
+is_dense parents a =
+    list_all (λ v. nat_le (length a.content) (3 * length (live parents a.content v))) a.tag
 
 -- e: at least half of an array's entries are leads
 abbrev pub is_led : TaggedArray → Bool

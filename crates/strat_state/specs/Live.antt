@@ -7,11 +7,13 @@ use Rattle.strat_base.specs.Entries.{Entry, is_of, is_at}
 
 -- an entry of the same key stands further down the path to v, where numbers are greater
 abbrev pub is_hidden_by : Parents → ℕ → Entry → Entry → Bool
-is_hidden_by parents v e other = is_of e.key other && nat_lt e.version other.version && is_ancestor parents other.version v
+is_hidden_by parents v e other =
+    is_of e.key other && nat_lt e.version other.version && is_ancestor parents other.version v
 
--- an entry is live at v where its version is v or an ancestor, and no entry of its key stands between
+-- an entry is live at v where its version is v or an ancestor, and no entry of its key lies between
 abbrev pub is_live : Parents → List Entry → ℕ → Entry → Bool
-is_live parents entries v e = is_ancestor parents e.version v && not (list_any (is_hidden_by parents v e) entries)
+is_live parents entries v e =
+    is_ancestor parents e.version v && not (list_any (is_hidden_by parents v e) entries)
 
 -- the entries of a set that are live at v
 abbrev pub live : Parents → List Entry → ℕ → List Entry

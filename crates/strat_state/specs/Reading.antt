@@ -1,4 +1,4 @@
--- How a key is read at a version: place by place, the newest first.
+-- How a key is read at a version: level by level, the newest entries first.
 use Rattle.std.specs.Prelude.{ℕ, List, [], ◌∷◌, find, Option, None, option_and_then}
 use Rattle.std.specs.Option.{option_or}
 use Rattle.strat_base.specs.Tree.{Parents, below}
@@ -15,19 +15,24 @@ live_of parents entries v key = find (is_of key) (live parents entries v)
 abbrev pub level_zero : State → List Entry
 level_zero s = latest (journal_updates s)
 
--- the array of a level that is for a version: the one whose tag holds the version as it was below the horizon
+-- the array of a level for a version: its tag holds the version, or else its nearest ancestor,
+-- below the horizon
 abbrev pub array_for : Parents → Level → ℕ → Option TaggedArray
 array_for parents level v = find (λ a. is_tagged a.tag (below parents v level.horizon)) level.arrays
 
 -- what a level says of a key at a version
 abbrev pub found_in : Parents → Level → ℕ → List ℕ → Option Entry
-found_in parents level v key = option_and_then (λ a. live_of parents a.content v key) (array_for parents level v)
+found_in parents level v key =
+    option_and_then (λ a. live_of parents a.content v key) (array_for parents level v)
 
 -- what the first of these levels that says something says
 abbrev pub found_first : Parents → List Level → ℕ → List ℕ → Option Entry
 found_first parents [] v key = None
-found_first parents (level ∷ levels) v key = option_or (found_in parents level v key) (found_first parents levels v key)
+found_first parents (level ∷ levels) v key =
+    option_or (found_in parents level v key) (found_first parents levels v key)
 
 -- the entry that is read: level 0's, or else that of the first level with one
 abbrev pub read_at : State → ℕ → List ℕ → Option Entry
-read_at s v key = option_or (live_of (versions_of s) (level_zero s) v key) (found_first (versions_of s) s.levels v key)
+read_at s v key =
+    option_or (live_of (versions_of s) (level_zero s) v key)
+    (found_first (versions_of s) s.levels v key)

@@ -23,12 +23,15 @@ is_tree parents = nat_lt 0 (length parents) && is_tree_from 0 parents
 abbrev pub is_numbered_from : ℕ → List Level → Bool
 is_numbered_from least [] = true
 is_numbered_from least (level ∷ levels) =
-    nat_le least level.number && nat_le level.number LEVELS && nat_lt 0 (length level.arrays) && is_numbered_from (suc level.number) levels
+    nat_le least level.number && nat_le level.number LEVELS && nat_lt 0 (length level.arrays)
+    && is_numbered_from (suc level.number) levels
 
 -- a child of a version, living and numbered below h
 abbrev pub has_child_below : State → ℕ → ℕ → Bool
 has_child_below s h v =
-    list_any (λ c. option_map_or (λ p. p == v) (parent_of (versions_of s) c) false && is_living s c) (range_with_len 0 h)
+    list_any
+    (λ c. option_map_or (λ p. p == v) (parent_of (versions_of s) c) false && is_living s c)
+    (range_with_len 0 h)
 
 -- the levels above one
 abbrev pub shallower : State → Level → List Level
@@ -41,17 +44,20 @@ has_room s level = nat_le (length (level_leads level)) (s.mem * 2 ^ level.number
 -- i: a horizon is at most the number of versions, and no greater than that of a shallower level
 abbrev pub has_old_horizon : State → Level → Bool
 has_old_horizon s level =
-    nat_le level.horizon (length s.parents) && list_all (λ other. nat_le level.horizon other.horizon) (shallower s level)
+    nat_le level.horizon (length s.parents)
+    && list_all (λ other. nat_le level.horizon other.horizon) (shallower s level)
 
--- j: a version with a child below the horizon has no lead in a shallower level and no update in the journal
+-- j: a version with a child below the horizon has no lead in a shallower level or in the journal
 abbrev pub is_above_frozen : State → Level → Bool
 is_above_frozen s level =
-    list_all (λ e. not (has_child_below s level.horizon e.version)) (journal_updates s ++ flat_map level_leads (shallower s level))
+    list_all (λ e. not (has_child_below s level.horizon e.version))
+    (journal_updates s ++ flat_map level_leads (shallower s level))
 
 -- k: the numbers in a descriptor are those of its array
 abbrev pub is_described : State → TaggedArray → Bool
 is_described s a =
-    (a.entries == length a.content) && (a.leads == length (own_leads a)) && (a.least == least_live (versions_of s) a)
+    (a.entries == length a.content) && (a.leads == length (own_leads a))
+    && (a.least == least_live (versions_of s) a)
 
 -- l: the leads of all levels together are at most the manifest's updates
 abbrev pub has_few_leads : State → Bool
@@ -61,7 +67,7 @@ has_few_leads s = nat_le (sum_by (λ level. length (level_leads level)) s.levels
 abbrev pub has_ascending_entries : TaggedArray → Bool
 has_ascending_entries a = is_ascending a.content
 
--- a tree and a number of changes accept a change, where there may be so many changes and versions at most
+-- a tree and a number of changes accept a change, within these most changes and versions
 abbrev pub is_accepted : ℕ → ℕ → Parents → ℕ → Change → Bool
 is_accepted changes_max versions_max parents changes (Put version key value) =
     is_known parents version && not (has_child parents version) && not (changes == changes_max)
@@ -79,9 +85,10 @@ are_accepted changes_max versions_max parents changes (change ∷ journal) =
 
 -- a state accepts one more change
 abbrev pub accepts_change : State → Change → Bool
-accepts_change s change = is_accepted s.changes_max s.versions_max (versions_of s) (changes_of s) change
+accepts_change s change =
+    is_accepted s.changes_max s.versions_max (versions_of s) (changes_of s) change
 
--- a state is well formed: it has a tree, levels in order, and a journal whose changes were accepted in turn and have room
+-- a state is well formed: a tree, levels in order, and a journal that was accepted in turn and fits
 pub record IsWellFormed (s : State) : Type 0 where
   pub tree : IsTrue (is_tree s.parents)
   pub numbered : IsTrue (is_numbered_from 1 s.levels)
@@ -97,7 +104,8 @@ pub record IsSound (s : State) : Type 0 where
   pub settled : IsTrue (list_all (is_above_frozen s) s.levels)  -- j
   pub described : IsTrue (list_all (λ level. list_all (is_described s) level.arrays) s.levels)  -- k
   pub few : IsTrue (has_few_leads s)  -- l
-  pub ascending : IsTrue (list_all (λ level. list_all has_ascending_entries level.arrays) s.levels)  -- m
+  pub ascending : IsTrue
+      (list_all (λ level. list_all has_ascending_entries level.arrays) s.levels)  -- m
 
 -- a sound state accepts a change, and has room for it in its journal
 pub record Takes (s : State) (change : Change) : Type 0 where

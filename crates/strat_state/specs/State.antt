@@ -55,7 +55,8 @@ is_living s v = true
 
 -- the entry that a change writes
 abbrev pub update_of : Change → Option Entry
-update_of (Put version key value) = Some (record { key = key; version = version; value = Some value })
+update_of (Put version key value) =
+    Some (record { key = key; version = version; value = Some value })
 update_of (Delete version key) = Some (record { key = key; version = version; value = None })
 update_of (Clone version) = None
 
@@ -63,17 +64,18 @@ update_of (Clone version) = None
 abbrev pub journal_updates : State → List Entry
 journal_updates s = filter_map update_of s.journal
 
--- all that a state says of keys: the journal's updates, the latest first, then the levels' leads, the shallowest first
+-- all that a state says of keys: the journal's updates, the latest first, then the leads by level
 abbrev pub sources : State → List Entry
 sources s = reverse (journal_updates s) ++ flat_map level_leads s.levels
 
--- the value of a key at a version: of the entries of the nearest version on its path with one, the first decides
+-- the value of a key at a version: the first entry of the nearest version on its path with one
 abbrev pub value_at : State → ℕ → List ℕ → Option (List ℕ)
 value_at s v key = option_and_then (λ e. e.value) (deciding (versions_of s) (sources s) key v)
 
 -- a map with the value that a state gives a key at a version, if it gives one
 abbrev pub with_value : State → ℕ → List (List ℕ × List ℕ) → List ℕ → List (List ℕ × List ℕ)
-with_value s v pairs key = option_map_or (λ value. insert_entry key_cmp pairs key value) (value_at s v key) pairs
+with_value s v pairs key =
+    option_map_or (λ value. insert_entry key_cmp pairs key value) (value_at s v key) pairs
 
 -- the map of a version: each key that a state speaks of, with its value there
 abbrev pub map_at : State → ℕ → List (List ℕ × List ℕ)
@@ -93,7 +95,9 @@ appended s change = record s { journal = s.journal ++ change ∷ [] }
 
 -- how many entries a state stores
 abbrev pub stored : State → ℕ
-stored s = sum_by (λ level. sum_by (λ a. length a.content) level.arrays) s.levels + length (journal_updates s)
+stored s =
+    sum_by (λ level. sum_by (λ a. length a.content) level.arrays) s.levels
+    + length (journal_updates s)
 
 -- the densities of all arrays, the shallowest level first
 abbrev pub densities : State → List (ℕ × ℕ)
@@ -107,11 +111,16 @@ lead_fractions s = flat_map (λ level. map lead_fraction level.arrays) s.levels
 unfoldable pub deep : ℕ → ℕ → ℕ
 deep mem n = unwrap_or (find (λ d. nat_le n (mem * 2 ^ d)) (range_with_len 1 n)) 1
 
--- what the leads of a state may still be written for, until they reach a level: each once for every level up to it
+-- how many writes the leads of a state have ahead of them: one each for each level down to level d
 abbrev pub promised : State → ℕ → ℕ
 promised s d = sum_by (λ level. length (level_leads level) * (d - level.number)) s.levels
 
--- no level is deeper than its changes ask for, and what was written is within four times their number per level
+-- no level is deeper than its changes ask for, and what was written is within four times their
+-- number for each level
 pub record IsPaid (s : State) : Type 0 where
-  pub shallow : IsTrue (list_all (λ level. (length (level_leads level) == 0) || nat_le level.number (deep s.mem s.changes)) s.levels)
-  pub bounded : IsTrue (nat_le (s.written + 4 * promised s (deep s.mem s.changes)) (4 * deep s.mem s.changes * s.changes))
+  pub shallow : IsTrue (list_all
+      (λ level. (length (level_leads level) == 0) || nat_le level.number (deep s.mem s.changes))
+      s.levels)
+  pub bounded : IsTrue (nat_le
+      (s.written + 4 * promised s (deep s.mem s.changes))
+      (4 * deep s.mem s.changes * s.changes))

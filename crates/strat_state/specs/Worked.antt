@@ -9,13 +9,20 @@ use Rattle.strat_state.specs.State.{State}
 -- an array with these numbers in its descriptor
 abbrev pub array_of : ℕ → List ℕ → List Entry → ℕ → ℕ → ℕ → TaggedArray
 array_of id tag content entries leads least =
-    record { id = id; tag = tag; content = content; entries = entries; leads = leads; least = least }
+    record {
+      id = id;
+      tag = tag;
+      content = content;
+      entries = entries;
+      leads = leads;
+      least = least;
+    }
 
 -- one level, level 1
 abbrev pub first_level : ℕ → List TaggedArray → List Level
 first_level horizon arrays = record { number = 1; horizon = horizon; arrays = arrays } ∷ []
 
--- four changes at most in a journal: clone 0, put a at 1, clone 1 and clone 2, published; then put b at 3
+-- four changes at most: clone 0, put a at 1, clone 1 and clone 2, published; then put b at 3
 abbrev pub chain : State
 chain = record {
   mem = 4;
@@ -30,7 +37,8 @@ chain = record {
   journal = Put 3 (98 ∷ []) (49 ∷ []) ∷ [];
 }
 
--- eight changes at most: put a and b at 0, clone 0 three times, put c at 1, 2 and 3, published; then put d at 1
+-- eight changes at most: put a and b at 0, clone 0 three times and put c at each child, published;
+-- then put d at 1
 abbrev pub fan : State
 fan = record {
   mem = 8;
@@ -43,7 +51,8 @@ fan = record {
   next_array = 3;
   levels = first_level 4 (
       array_of 1 (0 ∷ 1 ∷ []) (says 97 0 49 ∷ says 98 0 49 ∷ says 99 1 49 ∷ []) 3 3 2
-      ∷ array_of 2 (2 ∷ 3 ∷ []) (says 97 0 49 ∷ says 98 0 49 ∷ says 99 3 51 ∷ says 99 2 50 ∷ []) 4 2 3
+      ∷ array_of 2 (2 ∷ 3 ∷ [])
+      (says 97 0 49 ∷ says 98 0 49 ∷ says 99 3 51 ∷ says 99 2 50 ∷ []) 4 2 3
       ∷ []);
   journal = Put 1 (100 ∷ []) (49 ∷ []) ∷ [];
 }

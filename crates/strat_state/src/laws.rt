@@ -35,9 +35,9 @@ pub fn live_keys_stay_live()
         → IsTrue (list_any (is_of key) (live parents entries child)) }
 {}
 
-/// In a sound state the first place that has an entry of a key live at a version decides the key
-/// there. The places are the journal, and then of each level, the shallowest first, the one array
-/// that is for the version.
+/// In a sound state the first level that has an entry of a key live at a version decides the key
+/// there. Level 0 is the journal; each further level, the shallowest first, has one array for the
+/// version.
 pub fn the_first_place_decides()
     ensures entry { (s : State) (v : ℕ) (key : List ℕ) → IsSound s → v < length (versions_of s)
         → read_at s v key ≡ deciding (versions_of s) (sources s) key v }

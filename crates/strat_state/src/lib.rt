@@ -1,4 +1,5 @@
-//! What a store holds, as definitions: levels of sorted arrays, sound states, what reading them finds, with their laws.
+//! What a store holds, as definitions with their laws: levels of sorted arrays, sound states, and what
+//! reading them finds.
 #![tactic(auto)]
 
 pub mod broken;

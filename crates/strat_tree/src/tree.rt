@@ -39,8 +39,7 @@ impl Tree {
     /// A tree of version 0 alone. Takes memory for all versions that there may be, about 70 bytes
     /// each, and no other call takes any. Where memory is short, none stays taken.
     pub fn new(alloc: Global, versions_max: u32) -> Result<Tree, NoMemory>
-        requires some { 1 ≤ versions_max }
-        requires few { versions_max ≤ 16384 }
+        requires { (1 ≤ versions_max) × (versions_max ≤ 16384) }
         ensures ok { IfOk result (λ t. t ≡ record {
           parents = None ∷ [];
           versions_max = versions_max;
@@ -69,7 +68,7 @@ impl Tree {
     pub fn count(&self) -> u32
         ensures ok { result ≡ length self.now.parents }
         ensures kept { IsTree self.now.parents }
-        ensures some { 1 ≤ result }
+        ensures len { 1 ≤ result }
         ensures room { result ≤ self.now.versions_max }
         ensures fits { self.now.versions_max ≤ 16384 }
     {
@@ -110,8 +109,7 @@ impl Tree {
 
     /// Whether u is v or an ancestor of v. O(log versions_max): up to 15 steps.
     pub fn is_ancestor(&self, u: Version, v: Version) -> bool
-        requires first { u < length self.now.parents }
-        requires second { v < length self.now.parents }
+        requires { (u < length self.now.parents) × (v < length self.now.parents) }
         ensures ok { result ≡ is_ancestor self.now.parents u v }
     {
         // What every tree keeps is known where a field is used.
@@ -123,8 +121,7 @@ impl Tree {
     /// a smaller number than its child, so each jump that stays at or above h is taken, the longest
     /// first, and one step after them is below h.
     pub fn below(&self, v: Version, h: u32) -> Version
-        requires known { v < length self.now.parents }
-        requires some { 1 ≤ h }
+        requires { (v < length self.now.parents) × (1 ≤ h) }
         ensures ok { result ≡ below self.now.parents v h }
     {
         let jumps = &self.jumps;
@@ -158,7 +155,7 @@ impl Tree {
     /// Adds a version, a child of p, and answers its number. It takes no memory and cannot fail.
     /// O(log versions_max): 14 jumps are filled.
     pub fn add_child(&mut self, p: Version) -> Version
-        requires known { p < length self.old.parents }
+        requires fits { p < length self.old.parents }
         requires room { length self.old.parents < self.old.versions_max }
         ensures found { result ≡ length self.old.parents }
         ensures ok { self.new ≡ record self.old { parents = with_child self.old.parents p } }

@@ -42,8 +42,7 @@ fn parent_in(shape: Shape, v: Version) -> Version
 
 /// A tree of this shape with so many versions.
 fn grown(alloc: Global, shape: Shape, versions: u32) -> Result<Tree, NoMemory>
-    requires some { 1 ≤ versions }
-    requires few { versions ≤ 16384 }
+    requires { (1 ≤ versions) × (versions ≤ 16384) }
     ensures len { IfOk result (λ t. length t.parents ≡ versions) }
 {
     let mut tree = Tree::new(alloc, versions)?;

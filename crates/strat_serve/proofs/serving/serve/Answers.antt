@@ -58,7 +58,7 @@ returns-in_default-put_all-clause-ok g c =
     let part = c.in_default-put_all.ensures.err in
     inr (ends_unsent c.in-Ok-attach.store s.store c.answer.new.store s.taken c.args.budget s.buffers.frames.held c.next.new.self.held c.next.new.self.body c.answer.new.out
     (shown g c.args.source.now c.args.sink.now c.args.disk.now) (shown g s.source s.sink s.disk) (shown g s.source c.put_all.new.sink c.answer.new.disk)
-    s.invariant.progress s.invariant.within (body_answered g sent) (answered g sent) c.in-Frame.ensures.ok.0 c.in-Frame.ensures.ok.1 c.in-Frame.ensures.bytes
+    s.invariant.progress s.invariant.within (body_answered g sent) (answered g sent) c.in-Frame.ensures.ok.0 c.in-Frame.ensures.ok.1 c.in-Frame.ensures.fits
     (sends_prefix part.0 c.bytes.result.now c.answer.new.out (g.K.Sink.held s.sink) (g.K.Sink.held c.put_all.new.sink) c.bytes.ensures part.1 part.2))
 
 pub returns-then-is_spent-clause-ok : goal.returns-then-is_spent-clause-ok
@@ -67,7 +67,7 @@ returns-then-is_spent-clause-ok g c =
     let sent = (goal.at.returns-then-is_spent-clause-ok g c).After-put_all in
     inr (ends_broken c.in-Ok-attach.store s.store c.answer.new.store s.taken c.args.budget s.buffers.frames.held c.next.new.self.held c.next.new.self.body c.answer.new.out
     (shown g c.args.source.now c.args.sink.now c.args.disk.now) (shown g s.source s.sink s.disk) (shown g s.source c.put_all.new.sink c.answer.new.disk)
-    s.invariant.progress s.invariant.within (body_answered g sent) (answered g sent) c.in-Frame.ensures.ok.0 c.in-Frame.ensures.ok.1 c.in-Frame.ensures.bytes
+    s.invariant.progress s.invariant.within (body_answered g sent) (answered g sent) c.in-Frame.ensures.ok.0 c.in-Frame.ensures.ok.1 c.in-Frame.ensures.fits
     (sym c.is_spent.ensures ∙ c.if-is_spent.true) (subst (λ (x : List ℕ). Appends (g.K.Sink.held s.sink) (g.K.Sink.held c.put_all.new.sink) x) c.bytes.ensures c.in-Ok-put_all.ensures.ok))
 
 pub loop-store-smaller-else-is_spent : goal.loop-store-smaller-else-is_spent
@@ -84,7 +84,7 @@ loop-store-preserved-else-is_spent g c =
     record {
       progress = goes_on c.in-Ok-attach.store s.store c.answer.new.store s.taken c.args.budget s.buffers.frames.held c.next.new.self.held c.next.new.self.body c.answer.new.out
           (shown g c.args.source.now c.args.sink.now c.args.disk.now) (shown g s.source s.sink s.disk) (shown g s.source c.put_all.new.sink c.answer.new.disk)
-          s.invariant.progress s.invariant.within (body_answered g sent) (answered g sent) c.in-Frame.ensures.ok.0 c.in-Frame.ensures.ok.1 c.in-Frame.ensures.bytes
+          s.invariant.progress s.invariant.within (body_answered g sent) (answered g sent) c.in-Frame.ensures.ok.0 c.in-Frame.ensures.ok.1 c.in-Frame.ensures.fits
           going (subst (λ (x : List ℕ). Appends (g.K.Sink.held s.sink) (g.K.Sink.held c.put_all.new.sink) x) c.bytes.ensures c.in-Ok-put_all.ensures.ok);
       time = passes_trans s.invariant.time c.answer.ensures.time;
       within = s.invariant.within;

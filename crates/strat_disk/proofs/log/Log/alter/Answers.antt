@@ -12,4 +12,4 @@ invariant_of-self-clause-replays c = replays_none _ _ _ c.clear.ensures.items c.
 
 pub invariant_of-self-clause-quiet : goal.invariant_of-self-clause-quiet
 invariant_of-self-clause-quiet c = λ none i.
-    ap (λ (m : Medium). m.pending i) c.alter.ensures.altered ∙ over_both c.args.at 1 (λ _. false) _ false (λ _. refl) (λ k. c.args.self.now.quiet none k) i
+    ap (λ (m : Medium). m.pending i) c.alter.ensures.ok ∙ over_both c.args.at 1 (λ _. false) _ false (λ _. refl) (λ k. c.args.self.now.quiet none k) i

@@ -13,7 +13,7 @@ invariant_of-result-clause-same_len c = ap length (c.in_ok-first.ensures.len ∙
 pub invariant_of-result-clause-replays : goal.invariant_of-result-clause-replays
 invariant_of-result-clause-replays c =
     replays_none _ _ _ c.new.ensures.items
-    (c.in_ok-first.ensures.rest ∙ ap (λ (l : List ℕ). at_rest (slice_index l)) (copied c) ∙ sym c.in_ok-present.ensures.rest)
+    (c.in_ok-first.ensures.ok ∙ ap (λ (l : List ℕ). at_rest (slice_index l)) (copied c) ∙ sym c.in_ok-present.ensures.ok)
 
 pub invariant_of-result-clause-quiet : goal.invariant_of-result-clause-quiet
-invariant_of-result-clause-quiet c = λ _ i. ap (λ (m : Medium). m.pending i) c.in_ok-present.ensures.rest
+invariant_of-result-clause-quiet c = λ _ i. ap (λ (m : Medium). m.pending i) c.in_ok-present.ensures.ok

@@ -8,13 +8,16 @@ use Rattle.strat_disk.proofs.MemoryLemmas.{tears, may_tear, leaves_same}
 use Rattle.strat_disk.proofs.memory.MemDiskDisk.write_at.Goals as goal
 
 pub returns-in-Ok-clause-images : goal.returns-in-Ok-clause-images
-returns-in-Ok-clause-images c = tears c.args.self.now.log c.write.new.self c.write.ensures.time c.args.at c.args.bytes.now c.in-Ok.ensures.ok
-
-pub returns-in-Ok-clause-torn : goal.returns-in-Ok-clause-torn
-returns-in-Ok-clause-torn c = may_tear c.args.self.now.log c.write.new.self c.write.ensures.time c.args.at c.args.bytes.now c.in-Ok.ensures.ok
+returns-in-Ok-clause-images c = record {
+  only = tears c.args.self.now.log c.write.new.self c.write.ensures.time c.args.at c.args.bytes.now c.in-Ok.ensures.ok;
+  may = may_tear c.args.self.now.log c.write.new.self c.write.ensures.time c.args.at c.args.bytes.now c.in-Ok.ensures.ok;
+}
 
 pub returns-in-Err-clause-images : goal.returns-in-Err-clause-images
-returns-in-Err-clause-images c = leaves_tears _ _ _ _ (leaves_same c.args.self.now.log c.write.new.self c.write.ensures.time c.in-Err.ensures.err)
+returns-in-Err-clause-images c = record {
+  only = leaves_tears _ _ _ _ (leaves_same c.args.self.now.log c.write.new.self c.write.ensures.time c.in-Err.ensures.err);
+  may = tt;
+}
 
 pub returns-in-Err-clause-err : goal.returns-in-Err-clause-err
 returns-in-Err-clause-err c =

@@ -18,5 +18,5 @@ invariant_of-self-clause-whole c =
     let self = c.args.self.now in
     subst IsWhole (sym (is_written c)) (whole_written c.args.at c.args.bytes.now (shown self.bytes.items self.durable.items self.pending.items) self.whole (λ i. omega (arith, c.type_inv.bytes i)))
 
-pub returns-clause-written : goal.returns-clause-written
-returns-clause-written c = is_written (goal.at.returns-clause-written c).After-mark
+pub returns-clause-ok : goal.returns-clause-ok
+returns-clause-ok c = is_written (goal.at.returns-clause-ok c).After-mark

@@ -30,7 +30,7 @@ returns-in_default-log_change-clause-trail g c =
     let is = step_of s.table _ _ _ _ c.step-reply.ensures.ok (sym c.if-not-accepts.ensures) in
     let accepted = step_accepts s.table _ _ _ _ true is (sym c.if-not-accepts.ensures) in
     rw (← c.self.view_is)
-    (breaks s.table s.journal s.spent _ _ c.requires.fits c.in-Some.ensures accepted (c.self.invariant going) c.step-reply.ensures.within
+    (breaks s.table s.journal s.spent _ _ c.requires.fits c.in-Some.ensures accepted (c.self.invariant going) c.step-reply.ensures.kept
     (g.D.Disk.view c.args.disk.now) (g.D.Disk.view c.log_change.new.disk) c.log_change.ensures.time c.log_change.ensures.trail c.log_change.ensures.images c.step-reply.new.self c.log_change.new.journal is.table)
 
 pub invariant_of-self-2 : goal.invariant_of-self-2
@@ -39,7 +39,7 @@ invariant_of-self-2 g c _ =
     let going = rw (← c.self.view_is) at c.requires.kept in
     let is = step_of s.table _ _ _ _ c.step-reply.ensures.ok (sym c.if-not-accepts.ensures) in
     let accepted = step_accepts s.table _ _ _ _ true is (sym c.if-not-accepts.ensures) in
-    ready_after s.table s.journal s.spent _ _ c.requires.fits c.in-Some.ensures accepted (c.self.invariant going) c.step-reply.ensures.within
+    ready_after s.table s.journal s.spent _ _ c.requires.fits c.in-Some.ensures accepted (c.self.invariant going) c.step-reply.ensures.kept
     c.step-reply.new.self c.log_change.new.journal is.table c.in-Ok.ensures.ok
 
 pub returns-clause-trail : goal.returns-clause-trail
@@ -49,6 +49,6 @@ returns-clause-trail g c =
     let is = step_of s.table _ _ _ _ c.step-reply.ensures.ok (sym c.if-not-accepts.ensures) in
     let accepted = step_accepts s.table _ _ _ _ true is (sym c.if-not-accepts.ensures) in
     rw (← c.self.view_is)
-    (λ stands. moves s.table s.journal s.spent _ _ c.requires.fits c.in-Some.ensures accepted (c.self.invariant going) c.step-reply.ensures.within
+    (λ stands. moves s.table s.journal s.spent _ _ c.requires.fits c.in-Some.ensures accepted (c.self.invariant going) c.step-reply.ensures.kept
     (g.D.Disk.view c.args.disk.now) (g.D.Disk.view c.log_change.new.disk) c.log_change.ensures.time c.log_change.ensures.trail c.log_change.ensures.images c.step-reply.new.self c.log_change.new.journal is.table stands
     c.in-Ok.ensures.kept)

@@ -11,7 +11,7 @@ pub overflow_add-depth : goal.overflow_add-depth
 overflow_add-depth c =
     let kept = c.self.invariant in
     let a = c.self.inside in
-    let known : c.args.p < length a.parents.items = rw (← c.self.view_is) at c.requires.known in
+    let known : c.args.p < length a.parents.items = rw (← c.self.view_is) at c.requires.fits in
     let read = get_or_read a.depths.items c.args.p c.index.result.now (omega (arith, kept.index.depths_len)) c.index.ensures 0 in
     omega (arith, read, kept.index.deep c.args.p known, depth_fits a.parents.items kept.tree (omega (arith, kept.fits, kept.few)) c.args.p known)
 
@@ -19,7 +19,7 @@ pub invariant_of-self : goal.invariant_of-self
 invariant_of-self c =
     let kept = c.self.invariant in
     let a = c.self.inside in
-    let known : c.args.p < length a.parents.items = rw (← c.self.view_is) at c.requires.known in
+    let known : c.args.p < length a.parents.items = rw (← c.self.view_is) at c.requires.fits in
     let room : length a.parents.items < a.versions_max = rw (← c.self.view_is) at c.requires.room in
     let read = get_or_read a.depths.items c.args.p c.index.result.now (omega (arith, kept.index.depths_len)) c.index.ensures 0 in
     let deeper : c.index.result.now + 1 ≡ depth a.parents.items c.args.p + 1 = omega (arith, read, kept.index.deep c.args.p known) in
@@ -38,5 +38,5 @@ invariant_of-self c =
 
 pub returns-clause-kept : goal.returns-clause-kept
 returns-clause-kept c =
-    let known : c.args.p < length c.self.inside.parents.items = rw (← c.self.view_is) at c.requires.known in
+    let known : c.args.p < length c.self.inside.parents.items = rw (← c.self.view_is) at c.requires.fits in
     rw c.push_reserved.ensures.items (tree_grown c.self.inside.parents.items c.self.invariant.tree c.args.p known)

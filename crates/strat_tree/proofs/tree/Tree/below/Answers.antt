@@ -11,7 +11,7 @@ returns-then-v-h c =
 pub loop-i-init : goal.loop-i-init
 loop-i-init c =
     let seen = seen_as c.self.inside c.args.self.now c.self.view_is c.self.invariant in
-    (omega arith, walk_begins c.args.self.now.parents seen.tree c.args.v c.args.h c.requires.some c.requires.known seen.few c.if-v-h.false)
+    (omega arith, walk_begins c.args.self.now.parents seen.tree c.args.v c.args.h c.requires.1 c.requires.0 seen.few c.if-v-h.false)
 
 pub index-requires : goal.index-requires
 index-requires c =
@@ -27,13 +27,13 @@ pub loop-i-preserved-then-next-h : goal.loop-i-preserved-then-next-h
 loop-i-preserved-then-next-h c =
     let seen = seen_as c.self.inside c.args.self.now c.self.view_is c.self.invariant in
     let read = jump_read c.self.inside c.args.self.now seen c.loop-i.at (c.loop-i.i - 1) c.index.result.now c.loop-i.invariant.1.known (omega (arith, c.loop-i.invariant.0)) c.index.ensures in
-    (omega (arith, c.loop-i.invariant.0), walk_jumps c.args.self.now.parents seen.tree c.args.v c.args.h c.requires.some c.loop-i.at c.loop-i.i _ (omega arith) c.loop-i.invariant.1 read c.if-next-h.true)
+    (omega (arith, c.loop-i.invariant.0), walk_jumps c.args.self.now.parents seen.tree c.args.v c.args.h c.requires.1 c.loop-i.at c.loop-i.i _ (omega arith) c.loop-i.invariant.1 read c.if-next-h.true)
 
 pub loop-i-preserved : goal.loop-i-preserved
 loop-i-preserved c =
     let seen = seen_as c.self.inside c.args.self.now c.self.view_is c.self.invariant in
     let read = jump_read c.self.inside c.args.self.now seen c.loop-i.at (c.loop-i.i - 1) c.index.result.now c.loop-i.invariant.1.known (omega (arith, c.loop-i.invariant.0)) c.index.ensures in
-    (omega (arith, c.loop-i.invariant.0), walk_stays c.args.self.now.parents seen.tree c.args.v c.args.h c.requires.some c.loop-i.at c.loop-i.i _ c.loop-i.invariant.1 read c.if-next-h.false)
+    (omega (arith, c.loop-i.invariant.0), walk_stays c.args.self.now.parents seen.tree c.args.v c.args.h c.requires.1 c.loop-i.at c.loop-i.i _ c.loop-i.invariant.1 read c.if-next-h.false)
 
 pub returns : goal.returns
 returns c =
@@ -42,5 +42,5 @@ returns c =
     let end : c.loop-i.i ≡ 0 = omega arith in
     record {
       ok = read ∙ at_one c.args.self.now.parents c.loop-i.at
-          ∙ walk_ends c.args.self.now.parents seen.tree c.args.v c.args.h c.requires.some c.loop-i.at (rw end at c.loop-i.invariant.1);
+          ∙ walk_ends c.args.self.now.parents seen.tree c.args.v c.args.h c.requires.1 c.loop-i.at (rw end at c.loop-i.invariant.1);
     }

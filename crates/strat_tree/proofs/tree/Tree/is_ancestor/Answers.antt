@@ -10,4 +10,4 @@ overflow_add-u c =
 pub returns : goal.returns
 returns c =
     let seen = seen_as c.self.inside c.args.self.now c.self.view_is c.self.invariant in
-    record { ok = ap (λ w. eqb w c.args.u) c.below.ensures.ok ∙ ancestor_by_below c.args.self.now.parents seen.tree c.args.u c.args.v c.requires.second }
+    record { ok = ap (λ w. eqb w c.args.u) c.below.ensures.ok ∙ ancestor_by_below c.args.self.now.parents seen.tree c.args.u c.args.v c.requires.1 }

@@ -6,8 +6,8 @@ pub invariant_of-result : goal.invariant_of-result
 invariant_of-result c =
     record {
       tree = rw (c.push_reserved.ensures.items, c.in_ok-parents.ensures.items) tree_root;
-      fits = rw (c.push_reserved.ensures.items, c.in_ok-parents.ensures.items) c.requires.some;
-      few = c.requires.few;
+      fits = rw (c.push_reserved.ensures.items, c.in_ok-parents.ensures.items) c.requires.0;
+      few = c.requires.1;
       index = rw (
         c.push_reserved.ensures.items,
         c.push_reserved-2.ensures.items,
