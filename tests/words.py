@@ -34,6 +34,7 @@ CLAUSES = {
     "damaged": "when a block is damaged, and which",
     "room": "that there is space for what is added",
     "fits": "that a size or a number is within its limits",
+    "durable": "that a crash leaves what was written",
     "time": "what holds of the moments that passed",
     "reads": "how often the disk is read",
     "len": "how long a result is",

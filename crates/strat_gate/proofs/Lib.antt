@@ -1,1 +1,3 @@
 pub mod LayingLemmas
+pub mod RaisingLemmas
+pub mod ReadingLemmas

@@ -1,9 +1,11 @@
--- Gates: one byte that says whether what stands behind it counts.
+-- Gates: one byte that says whether what stands after it counts.
 use Rattle.std.specs.Prelude.{◌≡◌, ◌≢◌, ◌⊎◌, ℕ, [], ◌∷◌, Some}
 use Rattle.strat_crash.specs.Image.{Image, patch}
 use Rattle.strat_crash.specs.Moments.{DiskView, Exposes, KeepsImages, IsDurable}
 use Rattle.strat_format.specs.Layout.{open_flag}
 
--- after a gate was closed: it read closed and nothing happened, or a zero byte was written over it and is there for good
+-- after a gate was closed: it read closed and nothing happened, or a zero byte is durable in its place
 abbrev pub EndsShut : Image → ℕ → DiskView → DiskView → Type 0
-EndsShut f at old new = ((f at ≢ open_flag) × (Exposes new f) × KeepsImages old new) ⊎ ((new.content ≡ Some (patch f at (0 ∷ []))) × IsDurable new)
+EndsShut f at old new =
+    ((f at ≢ open_flag) × (Exposes new f) × KeepsImages old new)
+    ⊎ ((new.content ≡ Some (patch f at (0 ∷ []))) × IsDurable new)

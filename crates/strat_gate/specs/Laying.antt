@@ -4,7 +4,8 @@ use Rattle.strat_crash.specs.Image.{Image, SameIn}
 use Rattle.strat_crash.specs.Moments.{DiskView, Exposes, Images}
 use Rattle.strat_format.specs.SuperBlock.{Super, chosen_in, newest_in}
 
--- the content is told, both slots are the same in every image, and the newest is in the other slot and of a smaller generation
+-- both slots are the same in the content and in every image, and the newest is in the other slot and of a
+-- smaller generation
 pub record LaysOver (v : DiskView) (f : Image) (slot : ℕ) (sb : Super) : Type 0 where
   pub content : Exposes v f
   pub same : (c : Image) → Images v c → SameIn 0 8192 f c

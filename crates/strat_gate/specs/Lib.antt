@@ -1,3 +1,4 @@
 pub mod Gates
 pub mod Laying
+pub mod Raising
 pub mod SuperView

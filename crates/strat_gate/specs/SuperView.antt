@@ -15,7 +15,7 @@ super_of sb = record {
   versions_max = sb.versions_max;
 }
 
--- a format with the fields behind it
+-- a format with the fields after it
 abbrev pub slot_seen : Option (ℕ × SuperBlock) → Option Slot
 slot_seen None = None
 slot_seen (Some found) = Some (record { format = found.0; sb = super_of found.1 })

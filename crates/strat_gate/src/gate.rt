@@ -2,7 +2,7 @@
 ghost use Rattle.std.specs.Prelude.{◌≡◌, ◌≢◌, ◌≤◌, ◌<◌, ◌==◌, ℕ, ◌+◌, ◌^◌, [], ◌∷◌, Some, IfOk, OnOk};
 ghost use Rattle.strat_crash.specs.Faults.{CountsFaults, ReadsAtMost};
 ghost use Rattle.strat_crash.specs.Image.{Image};
-ghost use Rattle.strat_crash.specs.Moments.{Exposes, Passes, TearsOnly, KeepsImages, WritesThrough};
+ghost use Rattle.strat_crash.specs.Moments.{Exposes, Passes, TearsOnly, KeepsImages, OnlyReads, WritesThrough};
 ghost use Rattle.strat_gate.specs.Gates.{EndsShut};
 ghost use Rattle.strat_format.specs.Layout.{open_flag};
 
@@ -13,17 +13,17 @@ use strat_format::OPEN;
 /// Closes the gate at this byte: one write and one sync.
 pub fn gate_shut<D: Disk>(disk: &mut D, at: u64) -> Result<(), Failed>
     requires { at < 2 ^ 44 }
-    ensures through { WritesThrough (D.view disk.old) (D.view disk.new) at (0 ∷ []) result }
+    ensures ok { WritesThrough (D.view disk.old) (D.view disk.new) at (0 ∷ []) result }
     ensures cause { CountsFaults (D.faults disk.old) (D.faults disk.new) result }
     ensures reads { D.reads disk.new ≡ D.reads disk.old }
 {
     write_through(disk, at, &[0])
 }
 
-/// Opens the gate at this byte: one write and one sync. What stands behind it must be there for good before.
+/// Opens the gate at this byte: one write and one sync. What stands after it must be durable before.
 pub fn gate_raise<D: Disk>(disk: &mut D, at: u64) -> Result<(), Failed>
     requires { at < 2 ^ 44 }
-    ensures through { WritesThrough (D.view disk.old) (D.view disk.new) at (open_flag ∷ []) result }
+    ensures ok { WritesThrough (D.view disk.old) (D.view disk.new) at (open_flag ∷ []) result }
     ensures cause { CountsFaults (D.faults disk.old) (D.faults disk.new) result }
     ensures reads { D.reads disk.new ≡ D.reads disk.old }
 {
@@ -35,9 +35,7 @@ pub fn gate_up<D: Disk>(disk: &mut D, at: u64) -> Result<bool, Failed>
     requires { at < 2 ^ 44 }
     ensures ok { IfOk result (λ up. (f : Image) → Exposes (D.view disk.old) f
         → up ≡ (f at == open_flag)) }
-    ensures same { (D.view disk.new).content ≡ (D.view disk.old).content }
-    ensures images { KeepsImages (D.view disk.old) (D.view disk.new) }
-    ensures time { Passes (D.view disk.old) (D.view disk.new) }
+    ensures same { OnlyReads (D.view disk.old) (D.view disk.new) }
     ensures cause { CountsFaults (D.faults disk.old) (D.faults disk.new) result }
     ensures reads { ReadsAtMost 1 (D.reads disk.old) (D.reads disk.new) }
 {
@@ -52,7 +50,7 @@ pub fn gate_ensure_shut<D: Disk>(disk: &mut D, at: u64) -> Result<(), Failed>
     requires { at < 2 ^ 44 }
     ensures ok { OnOk result ((f : Image) → Exposes (D.view disk.old) f
         → EndsShut f at (D.view disk.old) (D.view disk.new)) }
-    ensures alone { (f : Image) → Exposes (D.view disk.old) f → f at ≢ open_flag
+    ensures same { (f : Image) → Exposes (D.view disk.old) f → f at ≢ open_flag
         → KeepsImages (D.view disk.old) (D.view disk.new) }
     ensures images { TearsOnly (D.view disk.old) (D.view disk.new) at 1 }
     ensures time { Passes (D.view disk.old) (D.view disk.new) }

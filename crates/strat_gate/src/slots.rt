@@ -2,7 +2,7 @@
 ghost use Rattle.std.specs.Prelude.{◌≡◌, ◌≤◌, ◌<◌, ◌*◌, ◌+◌, ◌^◌, ◌∷◌, ℕ, Some, IfSome, IfOk, IfErr, OnOk, length};
 ghost use Rattle.strat_crash.specs.Faults.{CountsFaults, HasCause};
 ghost use Rattle.strat_crash.specs.Image.{Image, patch};
-ghost use Rattle.strat_crash.specs.Moments.{Exposes, Images, Since, Passes, TearsOnly, KeepsImages, IsDurable, WritesThrough};
+ghost use Rattle.strat_crash.specs.Moments.{Exposes, Images, Since, Passes, TearsOnly, OnlyReads, IsDurable, WritesThrough};
 ghost use Rattle.strat_format.specs.SuperBlock.{IsLawful, body, slot_in, newer, verdict, newest_in};
 ghost use Rattle.strat_base.specs.declared.failures.Fault.TheVariants.{Damaged, Device};
 ghost use Rattle.strat_gate.specs.SuperView.{super_of, seen, slot_seen};
@@ -18,15 +18,13 @@ use strat_disk::{Disk, write_through};
 /// Of two open slots the one of greater generation counts, at a tie the first; where its fields are out of range, its
 /// block is damaged.
 pub fn newest<D: Disk>(disk: &mut D) -> Result<Option<(u8, SuperBlock)>, Fault>
-    ensures lawful { IfOk result (λ r. IfSome r (λ x. (x.0 < 2) × IsLawful (super_of x.1))) }
+    ensures fits { IfOk result (λ r. IfSome r (λ x. (x.0 < 2) × IsLawful (super_of x.1))) }
     ensures found { IfOk result (λ r. (f : Image) → Exposes (D.view disk.old) f
         → newest_in f ≡ Ok (seen r)) }
     ensures damaged { IfErr result (λ e. (block : ℕ) → e ≡ Damaged block
         → (f : Image) → Exposes (D.view disk.old) f → newest_in f ≡ Err block) }
     ensures cause { HasCause Device (D.faults disk.old) (D.faults disk.new) result }
-    ensures same { (D.view disk.new).content ≡ (D.view disk.old).content }
-    ensures images { KeepsImages (D.view disk.old) (D.view disk.new) }
-    ensures time { Passes (D.view disk.old) (D.view disk.new) }
+    ensures same { OnlyReads (D.view disk.old) (D.view disk.new) }
 {
     let Ok(first) = read_slot(disk, 0) else {
         return Err(Fault::Device);
@@ -41,9 +39,7 @@ fn read_slot<D: Disk>(disk: &mut D, at: u64) -> Result<Option<(u16, SuperBlock)>
     requires { at ≤ 4096 }
     ensures ok { IfOk result (λ r. (f : Image) → Exposes (D.view disk.old) f
         → slot_in f at ≡ slot_seen r) }
-    ensures same { (D.view disk.new).content ≡ (D.view disk.old).content }
-    ensures images { KeepsImages (D.view disk.old) (D.view disk.new) }
-    ensures time { Passes (D.view disk.old) (D.view disk.new) }
+    ensures same { OnlyReads (D.view disk.old) (D.view disk.new) }
     ensures cause { CountsFaults (D.faults disk.old) (D.faults disk.new) result }
 {
     let mut bytes = [0; 40];
@@ -55,7 +51,7 @@ fn choose(
     first: Option<(u16, SuperBlock)>,
     second: Option<(u16, SuperBlock)>,
 ) -> Result<Option<(u8, SuperBlock)>, Fault>
-    ensures lawful { IfOk result (λ r. IfSome r (λ x. (x.0 < 2) × IsLawful (super_of x.1))) }
+    ensures fits { IfOk result (λ r. IfSome r (λ x. (x.0 < 2) × IsLawful (super_of x.1))) }
     ensures found { IfOk result (λ r. verdict (newer (slot_seen first) (slot_seen second))
         ≡ Ok (seen r)) }
     ensures damaged { IfErr result (λ e. (block : ℕ) × (e ≡ Damaged block)
@@ -81,18 +77,17 @@ fn choose(
 /// Lays a superblock into a slot: three writes and three syncs at most. The slot should not be that of the newest, and
 /// the generation should be greater than the newest's: then a crash at any moment leaves the newest as it was or this one.
 pub fn lay<D: Disk>(disk: &mut D, slot: u8, sb: &SuperBlock) -> Result<(), Failed>
-    requires slot { slot < 2 }
-    requires lawful { IsLawful (super_of sb.now) }
-    ensures any_moment { (f : Image) → LaysOver (D.view disk.old) f slot (super_of sb.now)
+    requires fits { (slot < 2) × IsLawful (super_of sb.now) }
+    ensures trail { (f : Image) → LaysOver (D.view disk.old) f slot (super_of sb.now)
         → (c : Image) → Since (D.view disk.new) (D.view disk.old).moment c
         → OldOrNew f slot (super_of sb.now) c }
-    ensures laid { (f : Image) → LaysOver (D.view disk.old) f slot (super_of sb.now)
+    ensures found { (f : Image) → LaysOver (D.view disk.old) f slot (super_of sb.now)
         → OnOk result ((c : Image) → Images (D.view disk.new) c
         → newest_in c ≡ Ok (Some (slot, super_of sb.now))) }
     ensures ok { OnOk result ((f : Image) → Exposes (D.view disk.old) f
         → (D.view disk.new).content
         ≡ Some (patch f (4096 * slot) (open_flag ∷ body (super_of sb.now)))) }
-    ensures settled { OnOk result (IsDurable (D.view disk.new)) }
+    ensures durable { OnOk result (IsDurable (D.view disk.new)) }
     ensures images { TearsOnly (D.view disk.old) (D.view disk.new) (4096 * slot) 4096 }
     ensures time { Passes (D.view disk.old) (D.view disk.new) }
     ensures cause { CountsFaults (D.faults disk.old) (D.faults disk.new) result }
@@ -106,7 +101,7 @@ pub fn lay<D: Disk>(disk: &mut D, slot: u8, sb: &SuperBlock) -> Result<(), Faile
 
 fn write_body<D: Disk>(disk: &mut D, at: u64, sb: &SuperBlock) -> Result<(), Failed>
     requires { at ≤ 4097 }
-    ensures through { WritesThrough (D.view disk.old) (D.view disk.new)
+    ensures ok { WritesThrough (D.view disk.old) (D.view disk.new)
         at (body (super_of sb.now)) result }
     ensures cause { CountsFaults (D.faults disk.old) (D.faults disk.new) result }
 {

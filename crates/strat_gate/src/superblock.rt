@@ -1,4 +1,4 @@
-//! Superblocks and their bytes. Behind the gate of a slot's block stand, the highest byte of each number first:
+//! Superblocks and their bytes. After the gate of a slot's block stand, the highest byte of each number first:
 //!
 //! | Offset | Bytes | Field |
 //! |---|---|---|
@@ -12,7 +12,7 @@
 //! | 32 | 4 | most changes of the store |
 //! | 36 | 4 | most versions of the store |
 //!
-//! The bytes from 40 on are written as zeros and not looked at. Generation 1 with the manifest of 29 bytes in block 6,
+//! The bytes from 40 on are written as zeros and not read. Generation 1 with the manifest of 29 bytes in block 6,
 //! and the limits 4, 100 and 10, is `a7 5354524154425431 0001 0000000000000001 00000006 0000001d 00 00000004 00000064 0000000a`.
 
 ghost use Rattle.std.specs.Prelude.{IsTrue, ◌≡◌, ◌≤◌, ◌<◌, ◌==◌, ℕ, ◌+◌, length, drop};
@@ -50,10 +50,10 @@ const FORMAT: u16 = 1;
 /// The block 2^32 - 1 is never used.
 const BLOCKS_END: u32 = 0xffff_ffff;
 
-/// Spells the fields into the bytes behind a gate, which are zeros.
+/// Encodes the fields into the bytes after a gate, which are zeros.
 pub(crate) fn spell(sb: &SuperBlock, into: &mut [u8])
     requires len { length into.old ≡ 4095 }
-    requires blank { into.old ≡ zeros 4095 }
+    requires none { into.old ≡ zeros 4095 }
     ensures { into.new ≡ body (super_of sb.now) }
 {
     put_u64(into, 0, MAGIC);
@@ -67,7 +67,7 @@ pub(crate) fn spell(sb: &SuperBlock, into: &mut [u8])
     put_u32(into, 35, sb.versions_max);
 }
 
-/// The format and the fields in the first 40 bytes of a block, where the gate is open and the magic stands behind it.
+/// The format and the fields in the first 40 bytes of a block, where the gate is open and the magic stands after it.
 #[tactic(auto, unfolding(strat_format::specs::SuperBlock::slot_of))]
 pub(crate) fn parse(bytes: &[u8]) -> Option<(u16, SuperBlock)>
     requires { length bytes.now ≡ 40 }
@@ -93,7 +93,7 @@ pub(crate) fn parse(bytes: &[u8]) -> Option<(u16, SuperBlock)>
 /// Whether the format is known and each field is in its range.
 pub(crate) fn is_in_range(format: u16, sb: &SuperBlock) -> bool
     ensures ok { result ≡ in_range (record { format = format; sb = super_of sb.now }) }
-    ensures lawful { IsTrue result → IsLawful (super_of sb.now) }
+    ensures fits { IsTrue result → IsLawful (super_of sb.now) }
 {
     format == FORMAT
         && 1 <= sb.generation

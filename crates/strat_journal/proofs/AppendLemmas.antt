@@ -10,9 +10,9 @@ use Rattle.strat_crash.proofs.ImageLemmas.{window_same, window_patch, outside_pa
 use Rattle.strat_crash.proofs.MomentLemmas.{settled_at, tears_wider}
 use Rattle.strat_format.specs.Records.{records_bytes}
 use Rattle.strat_journal.specs.Records.{journal_changes}
-use Rattle.strat_journal.specs.Raising.{BehindOrRaised}
+use Rattle.strat_gate.specs.Raising.{BehindOrRaised}
 use Rattle.strat_journal.proofs.KeepLemmas.{behind_split}
-use Rattle.strat_journal.proofs.RaisingLemmas.{patched_first, patched_twice}
+use Rattle.strat_gate.proofs.RaisingLemmas.{patched_first, patched_twice}
 use Rattle.strat_journal.specs.Log.{Log, Keeps, Stands, GivesAllOrNone, batch_joined, gate_of}
 use Rattle.strat_journal.proofs.RecordLemmas.{window_front, window_rest, window_both}
 use Rattle.strat_journal.proofs.LaidLemmas.{LaidIn, records_bytes-append, all_lawful-append, length-records_bytes, region_takes, laid_given, given_laid}

@@ -4,7 +4,7 @@ use Rattle.strat_crash.specs.Image.{Image, patch}
 use Rattle.strat_crash.specs.Moments.{DiskView, Images, Passes, IsDurable}
 use Rattle.strat_crash.proofs.MomentLemmas.{settled_at, now_since, since_earlier}
 use Rattle.strat_gate.specs.Gates.{EndsShut}
-use Rattle.strat_journal.proofs.RaisingLemmas.{patched_first}
+use Rattle.strat_gate.proofs.RaisingLemmas.{patched_first}
 
 -- a gate that was closed on a settled disk is closed in every image
 pub closed_shut : (old new : DiskView) (f : Image) (at : ℕ) → Passes old new → EndsShut f at old new → old.content ≡ Some f → IsDurable old → (c : Image) → Images new c → c at ≢ 0xa7

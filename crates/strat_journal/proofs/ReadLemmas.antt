@@ -13,7 +13,7 @@ use Rattle.strat_journal.specs.Records.{logged_of}
 use Rattle.strat_journal.proofs.LaidLemmas.{joined}
 use Rattle.strat_journal.specs.RegionReader.{ReadSoFar, MatchesImage, ReadsOn, Stored, StoredNone}
 use Rattle.strat_journal.proofs.RecordLemmas.{open_gate, shut_gate}
-use Rattle.strat_journal.proofs.RegionReaderLemmas.{looks_refl, looks_trans}
+use Rattle.strat_gate.proofs.ReadingLemmas.{reads_refl, reads_trans}
 
 -- the records from a place on that are still to be read
 abbrev pub left : Image → ℕ → ℕ → ℕ → ℕ → Result (List Logged) ℕ
@@ -99,7 +99,7 @@ begun v reads mem region part items part_is none =
       far = omega arith;
       within = omega arith;
       count = refl;
-      looks = looks_refl v;
+      looks = reads_refl v;
       shows = λ f exposed. nothing_shown f (region_at mem region);
       found = λ f exposed.
           let all : mem ≡ mem - 0 = omega arith in
@@ -129,7 +129,7 @@ module _ (old mid new : DiskView) (before between reads : ℕ) (mem region n at 
     far = omega (arith, sofar.far, near.0);
     within = on.within;
     count = omega (arith, ap length all_is, length-append items (l ∷ []), sofar.count);
-    looks = looks_trans sofar.looks on.looks;
+    looks = reads_trans sofar.looks on.looks;
     shows = λ f exposed. on.shows f (sofar.looks.same ∙ exposed) (sofar.shows f exposed);
     found = λ f exposed.
         found_left few f exposed

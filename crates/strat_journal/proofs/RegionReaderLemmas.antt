@@ -9,22 +9,13 @@ use Rattle.strat_crash.specs.Moments.{DiskView, OnlyReads}
 use Rattle.strat_base.specs.Numbers.{AreBytes}
 use Rattle.strat_base.specs.Change.{Change, change_bytes, change_in, BeginsWithChange}
 use Rattle.strat_crash.proofs.ImageLemmas.{length-window, window_at, window_split}
-use Rattle.strat_crash.proofs.MomentLemmas.{passes_trans, passes_refl, leaves_trans, leaves_refl, at_told}
+use Rattle.strat_crash.proofs.MomentLemmas.{at_told}
+use Rattle.strat_gate.proofs.ReadingLemmas.{reads_trans}
 use Rattle.strat_base.proofs.NumberLemmas.{AreBytes-take}
 use Rattle.strat_base.proofs.ChangeLemmas.{change_in-bytes, change_in-some, length-change_bytes}
 use Rattle.strat_base.proofs.TreeLemmas.{option_cases}
 use Rattle.strat_journal.specs.RegionReader.{ReadSoFar, IsReadSoFar, MatchesImage, IsConclusive, IsClear, ReadsOn}
 use Rattle.strat_journal.proofs.RecordLemmas.{AreBytes-window}
-
-pub looks_refl : (v : DiskView) → OnlyReads v v
-looks_refl v = record { same = refl; images = leaves_refl v; time = passes_refl v }
-
-pub looks_trans : {old mid new : DiskView} → OnlyReads old mid → OnlyReads mid new → OnlyReads old new
-looks_trans {old} {mid} {new} a b = record {
-  same = b.same ∙ a.same;
-  images = leaves_trans old mid new a.time b.time a.images b.images;
-  time = passes_trans a.time b.time;
-}
 
 -- a call that reads on behind another that did
 pub reads_on_trans : {X T E : Type 0} (old mid new : DiskView) (before between now : ℕ) (part next last : ReadSoFar) (x : X) (r : Result T E)
@@ -34,7 +25,7 @@ reads_on_trans old mid new before between now part next last x r a b = record {
   size = b.size ∙ a.size;
   longer = omega (arith, a.longer, b.longer);
   within = b.within;
-  looks = looks_trans a.looks b.looks;
+  looks = reads_trans a.looks b.looks;
   shows = on_ok_weaker r (λ (g : (f : Image) → mid.content ≡ Some f → MatchesImage f next → MatchesImage f last) f exposed shown. g f (a.looks.same ∙ exposed) (a.shows f exposed shown)) b.shows;
   fewest = omega (arith, a.fewest, b.fewest);
   most = omega (arith, a.each_once, b.most, a.size);

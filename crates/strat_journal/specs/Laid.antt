@@ -6,7 +6,7 @@ use Rattle.strat_base.specs.Change.{Change, is_lawful}
 use Rattle.strat_format.specs.Records.{records_bytes}
 use Rattle.strat_format.specs.Layout.{open_flag}
 
--- these records, lawful and at most n, stand from a place on up to a closed gate
+-- these records, lawful and at most n, stand from an offset on, up to a closed gate
 pub record Laid (c : Image) (end n at : ℕ) (list : List Change) : Type 0 where
   pub text : window c at (length (records_bytes list)) ≡ records_bytes list
   pub lawful : list_all is_lawful list ≡ true

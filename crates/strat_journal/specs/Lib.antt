@@ -1,5 +1,4 @@
 pub mod Records
 pub mod Log
-pub mod Raising
 pub mod RegionReader
 pub mod Laid

@@ -1,15 +1,16 @@
 -- A journal in memory.
-use Rattle.std.specs.Prelude.{◌≡◌, ◌≢◌, ◌⊎◌, ◌≤◌, ◌<◌, ℕ, zero, suc, ◌+◌, ◌*◌, Bool, true, false, List, [], ◌∷◌, ◌++◌, length, map, drop, slice_index, Option, Some, None, Ok}
+use Rattle.std.specs.Prelude.{◌≡◌, ◌≢◌, ◌⊎◌, ◌≤◌, ◌<◌, ℕ, zero, suc, ◌+◌, ◌*◌, Bool, true, false, List, [], ◌∷◌, ◌++◌, length, map, drop, slice_index, Option, Some, None, Ok, IsTrue, ◌↔◌}
 use Rattle.std.specs.List.{list_all}
 use Rattle.strat_base.specs.Change.{Change, change_bytes, change_in, is_lawful}
-use Rattle.strat_crash.specs.Image.{Image}
+use Rattle.strat_crash.specs.Image.{Image, patch}
 use Rattle.strat_format.specs.Layout.{region_at, other_region, open_flag}
-use Rattle.strat_crash.specs.Moments.{DiskView, Images}
+use Rattle.strat_crash.specs.Moments.{DiskView, Exposes, Images, IsDurable}
 use Rattle.strat_journal.specs.declared.journal.Logged.{Logged}
 use Rattle.strat_format.specs.Records.{records_bytes}
-use Rattle.strat_journal.specs.Records.{journal_changes}
+use Rattle.strat_journal.specs.Records.{logged_of, journal_changes, recover_journal_now}
 
--- what a journal holds: how many changes a region takes, the active region, whether the other one is to be shut, the changes that are there for good, and those that become so together
+-- what a journal holds: how many changes a region takes, the active region, whether the other one is to be
+-- shut, the changes that are durable, and those that become so together
 pub record Log : Type 0 where
   pub mem : ℕ
   pub active : ℕ
@@ -17,7 +18,7 @@ pub record Log : Type 0 where
   pub list : List Change
   pub batch : List Change
 
--- the place of the first closed gate behind the list
+-- the offset of the first closed gate after the list
 abbrev pub gate_of : Log → ℕ
 gate_of log = region_at log.mem log.active + length (records_bytes log.list)
 
@@ -33,7 +34,7 @@ with_list list log = record log { list = list }
 abbrev pub empty_log : ℕ → ℕ → Log
 empty_log mem active = record { mem = mem; active = active; stale = false; list = []; batch = [] }
 
--- a change and those of the records behind it
+-- a change and those of the records after it
 abbrev pub change_then : (List ℕ → List Change) → List ℕ → Option Change → List Change
 change_then later bytes None = []
 change_then later bytes (Some change) = change ∷ later (drop (length (change_bytes change)) bytes)
@@ -44,12 +45,14 @@ changes_in zero bytes = []
 changes_in (suc n) [] = []
 changes_in (suc n) (gate ∷ bytes) = change_then (λ rest. changes_in n rest) bytes (change_in bytes)
 
--- bytes that a buffer needs for twice as many of the largest records as a region takes, for those of a batch, and for a closed gate
+-- bytes of a buffer for twice as many of the largest records as a region takes, for those of a batch, and
+-- for a closed gate
 abbrev pub room_for : ℕ → ℕ
 room_for mem = 1288 * (2 * mem + 16) + 1
 
--- the buffer has the records of the list, those of the batch behind them, and a closed gate
-pub record Keeps (list batch : List Change) (bytes : List ℕ) (mem active count staged end len : ℕ) : Type 0 where
+-- the buffer has the records of the list, those of the batch after them, and a closed gate
+pub record Keeps (list batch : List Change) (bytes : List ℕ)
+    (mem active count staged end len : ℕ) : Type 0 where
   pub text : bytes ≡ records_bytes list ++ (records_bytes batch ++ drop len bytes)
   pub closed : slice_index bytes len ≡ 0
   pub list_end : end ≡ length (records_bytes list)
@@ -65,15 +68,24 @@ pub record Keeps (list batch : List Change) (bytes : List ℕ) (mem active count
   pub active_most : active ≤ 1
   pub room : length bytes ≡ room_for mem
 
--- every image gives the list, and where that is shorter than a region takes the first gate of the region that is not active is closed
+-- every image gives the list, and where that is shorter than a region takes the first gate of the region
+-- that is not active is closed
 pub record Stands (v : DiskView) (log : Log) : Type 0 where
   pub given : (c : Image) → Images v c → journal_changes c log.mem log.active ≡ Ok log.list
-  pub shut : (c : Image) → Images v c → length log.list < log.mem → c (region_at log.mem (other_region log.active)) ≢ open_flag
+  pub shut : (c : Image) → Images v c → length log.list < log.mem
+      → c (region_at log.mem (other_region log.active)) ≢ open_flag
 
--- an image gives the list, or the list with the whole batch behind it
+-- an image gives the list, or the list with the whole batch after it
 abbrev pub GivesAllOrNone : Log → Image → Type 0
 GivesAllOrNone log c =
-    (journal_changes c log.mem log.active ≡ Ok log.list) ⊎ (journal_changes c log.mem log.active ≡ Ok (log.list ++ log.batch))
+    (journal_changes c log.mem log.active ≡ Ok log.list)
+    ⊎ (journal_changes c log.mem log.active ≡ Ok (log.list ++ log.batch))
+
+-- the batch's records and a closed gate were written over the content after the list, and are durable
+pub record HoldsBatch (old new : DiskView) (log : Log) : Type 0 where
+  pub content : (f : Image) → Exposes old f
+      → new.content ≡ Some (patch f (gate_of log) (records_bytes log.batch ++ 0 ∷ []))
+  pub settled : IsDurable new
 
 -- a journal whose list are these changes in their order
 pub record Restores (mem active : ℕ) (logged : List Logged) (log : Log) : Type 0 where
@@ -86,3 +98,9 @@ pub record Restores (mem active : ℕ) (logged : List Logged) (log : Log) : Type
 -- so many changes leave room in the active region, and the other one's first gate is open
 abbrev pub IsStale : Image → ℕ → ℕ → ℕ → Type 0
 IsStale f mem active count = (count < mem) × (f (region_at mem (other_region active)) ≡ open_flag)
+
+-- these records and this journal are what recovery reads of an image
+pub record RecoversTo (f : Image) (mem active : ℕ) (logged : List Logged) (log : Log) : Type 0 where
+  pub records : recover_journal_now f mem active ≡ Ok (map logged_of logged)
+  pub changes : journal_changes f mem active ≡ Ok log.list
+  pub stale : IsTrue log.stale ↔ IsStale f mem active (length log.list)

@@ -10,11 +10,12 @@ use Rattle.strat_journal.specs.declared.journal.Logged.{Logged as Owned}
 abbrev pub logged_of : Owned → Logged
 logged_of l = record { change = l.change; block = l.block }
 
--- changes with the blocks in which the gates of their records stand, from a place on
+-- changes with the blocks in which the gates of their records stand, from an offset on
 abbrev pub logged_from : ℕ → List Change → List Logged
 logged_from at [] = []
 logged_from at (change ∷ changes) =
-    record { change = change; block = block_of at } ∷ logged_from (at + 1 + length (change_bytes change)) changes
+    record { change = change; block = block_of at }
+    ∷ logged_from (at + 1 + length (change_bytes change)) changes
 
 -- the changes of what is read, without their blocks
 abbrev pub changes_in_order : Read (List Logged) → Read (List Change)
@@ -40,8 +41,10 @@ plain_records logged = plain_or logged (find (λ l. not (is_plain l.change)) log
 
 -- plain records, where they are not n or another gate is closed; else the block of that gate
 abbrev pub alone_then : ℕ → Bool → ℕ → List Logged → Read (List Logged)
-alone_then n others block logged = and_then (passed_or block (not ((length logged == n) && others)) logged) plain_records
+alone_then n others block logged =
+    and_then (passed_or block (not ((length logged == n) && others)) logged) plain_records
 
--- what an opening reads as long as stores have one version and use one region at a time: a journal that one region holds, and all of its records plain
+-- what recovery reads as long as stores have one version and use one region at a time: a journal that one
+-- region holds, and all of its records plain
 abbrev pub recover_journal_now : Image → ℕ → ℕ → Read (List Logged)
 recover_journal_now c mem active = and_then (journal_in_one c mem active) plain_records

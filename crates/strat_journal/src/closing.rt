@@ -17,16 +17,15 @@ use strat_gate::gate_ensure_shut;
 /// Shuts a region's first gate where it reads open, and writes nothing where it does not: at most one read,
 /// one write and one sync. The region should not be the active one.
 pub fn close_region<D: Disk>(disk: &mut D, mem: u32, region: u8) -> Result<(), Failed>
-    requires least { 4 ≤ mem }
-    requires most { mem ≤ 4096 }
-    requires region { region ≤ 1 }
+    requires fits { (4 ≤ mem) × (mem ≤ 4096) × (region ≤ 1) }
     ensures kept { (logged : List Logged) → length logged < mem
         → ((c : Image) → Images (D.view disk.old) c
         → journal_of c mem (places.other_region region) ≡ Ok logged)
         → (c : Image) → Since (D.view disk.new) (D.view disk.old).moment c
         → journal_of c mem (places.other_region region) ≡ Ok logged }
-    ensures shut { OnOk result ((f : Image) → Exposes (D.view disk.old) f → IsDurable (D.view disk.old)
-        → (c : Image) → Images (D.view disk.new) c → c (places.region_at mem region) ≢ open_flag) }
+    ensures durable { OnOk result ((f : Image) → Exposes (D.view disk.old) f
+        → IsDurable (D.view disk.old) → (c : Image) → Images (D.view disk.new) c
+        → c (places.region_at mem region) ≢ open_flag) }
     ensures ok { OnOk result ((f : Image) → Exposes (D.view disk.old) f
         → EndsShut f (places.region_at mem region) (D.view disk.old) (D.view disk.new)) }
     ensures images { TearsOnly (D.view disk.old) (D.view disk.new) (places.region_at mem region) 1 }

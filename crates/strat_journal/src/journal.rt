@@ -4,24 +4,23 @@ ghost use Rattle.std.specs.Prelude.{◌≡◌, ◌≤◌, ◌<◌, ℕ, ◌+◌,
 ghost use Rattle.strat_base.specs.Change.{is_lawful};
 ghost use Rattle.strat_base.specs.ChangeView.{change_of};
 ghost use Rattle.strat_crash.specs.Faults.{CountsFaults};
-ghost use Rattle.strat_crash.specs.Image.{Image, patch};
+ghost use Rattle.strat_crash.specs.Image.{Image};
 ghost use Rattle.strat_format.specs.Layout as places;
-ghost use Rattle.strat_crash.specs.Moments.{Exposes, Since, Passes, TearsOnly, IsDurable};
-ghost use Rattle.strat_journal.specs.Log.{Stands, GivesAllOrNone, batch_joined, with_list, empty_log, gate_of};
-ghost use Rattle.strat_format.specs.Records.{records_bytes};
+ghost use Rattle.strat_crash.specs.Moments.{Exposes, Since, Passes, TearsOnly};
+ghost use Rattle.strat_journal.specs.Log.{Stands, GivesAllOrNone, HoldsBatch, batch_joined, with_list, empty_log};
 
-use crate::raising::raise_over;
 use crate::text::{behind_gate, put_record};
 use std::alloc::Global;
 use std::marker::Model;
 use strat_base::{Change, Failed, NoMemory, OwnedChange};
 use strat_disk::Disk;
 use strat_format::{RECORD_MAX, region_at};
+use strat_gate::gate_commit;
 
 /// Most changes of a batch.
 pub const BATCH_MAX: usize = 16;
 
-/// A change that an opening read, and the block in which the gate of its record stands.
+/// A change that recovery read, and the block of its record's gate.
 #[derive(Debug, Drop)]
 pub struct Logged {
     pub change: OwnedChange,
@@ -32,7 +31,7 @@ pub struct Logged {
 /// are not in the list yet.
 ///
 /// Its buffer has the records as they stand on the disk, so a batch is written from where it was put. The
-/// memory for it is taken at the opening: 1,288 bytes for each of twice as many changes as a region takes, and
+/// memory for it is taken at recovery: 1,288 bytes for each of twice as many changes as a region takes, and
 /// for each of 16 of a batch.
 #[derive(Drop)]
 pub struct Journal {
@@ -75,9 +74,7 @@ impl Model for Journal {
 impl Journal {
     /// Nothing in the list, and room for as many changes as two regions take and for a batch.
     pub(crate) fn empty(alloc: Global, mem: u32, active: u8) -> Result<Journal, NoMemory>
-        requires least { 4 ≤ mem }
-        requires most { mem ≤ 4096 }
-        requires region { active ≤ 1 }
+        requires fits { (4 ≤ mem) × (mem ≤ 4096) × (active ≤ 1) }
         ensures ok { IfOk result (λ j. j ≡ empty_log mem active) }
     {
         let room = RECORD_MAX as usize * (2 * mem as usize + BATCH_MAX) + 1;
@@ -93,10 +90,10 @@ impl Journal {
         })
     }
 
-    /// Puts a change behind the list that an opening read.
+    /// Adds a change that recovery read to the list.
     fn restore(&mut self, change: &Change<'_>)
         requires fits { IsTrue (is_lawful (change_of change.now)) }
-        requires empty { self.old.batch ≡ [] }
+        requires none { self.old.batch ≡ [] }
         requires room { length self.old.list < self.old.mem }
         ensures ok { self.new ≡ with_list (self.old.list ++ change_of change.now ∷ []) self.old }
     {
@@ -104,18 +101,19 @@ impl Journal {
         self.join();
     }
 
-    /// Puts changes behind the list that an opening read.
+    /// Adds changes that recovery read to the list.
     pub(crate) fn restore_all(&mut self, logged: &[Logged])
-        requires empty { self.old.batch ≡ [] }
+        requires none { self.old.batch ≡ [] }
         requires room { length self.old.list + length logged.now ≤ self.old.mem }
-        ensures ok { self.new ≡ with_list (self.old.list ++ map (λ l. l.change) logged.now) self.old }
+        ensures ok { self.new
+            ≡ with_list (self.old.list ++ map (λ l. l.change) logged.now) self.old }
     {
         for record in logged {
             self.restore(&record.change.as_change());
         }
     }
 
-    /// Says whether the region that is not active is to be shut.
+    /// Sets whether the region that is not active is to be shut.
     pub(crate) fn set_stale(&mut self, stale: bool)
         ensures ok { self.new ≡ record self.old { stale = stale } }
     {
@@ -143,13 +141,14 @@ impl Journal {
         self.stale
     }
 
-    /// Puts a change behind the batch, in the time of copying its bytes. It is not in the list before
-    /// `append` makes it so, and takes no memory.
+    /// Adds a change to the batch, in the time of copying its bytes. It is not in the list before `append`
+    /// makes it so, and takes no memory.
     pub fn add(&mut self, change: &Change<'_>)
         requires fits { IsTrue (is_lawful (change_of change.now)) }
-        requires few { length self.old.batch < 16 }
-        requires room { length self.old.list + length self.old.batch < self.old.mem }
-        ensures ok { self.new ≡ record self.old { batch = self.old.batch ++ change_of change.now ∷ [] } }
+        requires room { (length self.old.batch < 16)
+            × (length self.old.list + length self.old.batch < self.old.mem) }
+        ensures ok { self.new
+            ≡ record self.old { batch = self.old.batch ++ change_of change.now ∷ [] } }
     {
         self.len = put_record(&mut self.bytes, self.len, change);
         self.staged += 1;
@@ -165,19 +164,18 @@ impl Journal {
     }
 
     /// Makes the batch durable, all of it or none at any crash: two writes and two syncs, whatever its
-    /// size. After an error the journal is spent.
+    /// size. After an error the journal has the batch still, and only another recovery tells what the disk has.
     pub fn append<D: Disk>(&mut self, disk: &mut D) -> Result<(), Failed>
         requires { 0 < length self.old.batch }
-        ensures any_moment { (f : Image) → Exposes (D.view disk.old) f
+        ensures trail { (f : Image) → Exposes (D.view disk.old) f
             → Stands (D.view disk.old) self.old
-            → (c : Image) → Since (D.view disk.new) (D.view disk.old).moment c → GivesAllOrNone self.old c }
+            → (c : Image) → Since (D.view disk.new) (D.view disk.old).moment c
+            → GivesAllOrNone self.old c }
         ensures kept { OnOk result ((f : Image) → Exposes (D.view disk.old) f
             → Stands (D.view disk.old) self.old → Stands (D.view disk.new) self.new) }
         ensures ok { OnOk result (self.new ≡ batch_joined self.old) }
         ensures err { OnErr result (self.new ≡ self.old) }
-        ensures content { OnOk result ((f : Image) → Exposes (D.view disk.old) f
-            → (D.view disk.new).content ≡ Some (patch f (gate_of self.old) (records_bytes self.old.batch ++ 0 ∷ []))) }
-        ensures settled { OnOk result (IsDurable (D.view disk.new)) }
+        ensures durable { OnOk result (HoldsBatch (D.view disk.old) (D.view disk.new) self.old) }
         ensures images { TearsOnly (D.view disk.old) (D.view disk.new)
             (places.region_at self.old.mem self.old.active) (places.region_size self.old.mem) }
         ensures time { Passes (D.view disk.old) (D.view disk.new) }
@@ -185,7 +183,7 @@ impl Journal {
         ensures reads { D.reads disk.new ≡ D.reads disk.old }
     {
         let gate = region_at(self.mem, self.active) + self.end as u64;
-        raise_over(disk, gate, behind_gate(&self.bytes, self.end, self.len))?;
+        gate_commit(disk, gate, behind_gate(&self.bytes, self.end, self.len))?;
         self.join();
         Ok(())
     }

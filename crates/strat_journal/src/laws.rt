@@ -9,19 +9,20 @@ ghost use Rattle.strat_journal.specs.Laid.{Laid};
 ghost use Rattle.strat_format.specs.Records.{Logged, records, journal_of};
 ghost use Rattle.strat_journal.specs.Records.{is_plain, logged_from, recover_journal_now};
 
-/// What an opening reads today is the journal, and each journal of plain records that has no more than a
+/// What recovery reads today is the journal, and each journal of plain records that has no more than a
 /// region takes is read. A journal is empty where the active region's first gate is closed.
 pub fn plain_journals_are_journals()
     ensures narrow { (c : Image) (mem active : ℕ) (logged : List Logged)
         → recover_journal_now c mem active ≡ Ok logged → journal_of c mem active ≡ Ok logged }
     ensures wide { (c : Image) (mem active : ℕ) (logged : List Logged) → 0 < mem
         → journal_of c mem active ≡ Ok logged → length logged ≤ mem
-        → IsTrue (list_all (λ l. is_plain l.change) logged) → recover_journal_now c mem active ≡ Ok logged }
+        → IsTrue (list_all (λ l. is_plain l.change) logged)
+        → recover_journal_now c mem active ≡ Ok logged }
     ensures empty { (c : Image) (mem active : ℕ) → 0 < mem → c (region_at mem active) ≢ open_flag
         → recover_journal_now c mem active ≡ Ok [] }
 {}
 
-/// Records that stand one behind the other up to a closed gate are read, each with the block of its gate, and
+/// Records that stand one after the other up to a closed gate are read, each with the block of its gate, and
 /// what is read stands so.
 pub fn records_are_read_as_written()
     ensures read { (c : Image) (end n at : ℕ) (list : List Change) → Laid c end n at list

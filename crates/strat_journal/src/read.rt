@@ -1,16 +1,16 @@
-//! Reading a journal when a store is opened.
+//! Reading a journal at recovery.
 
-ghost use Rattle.std.specs.Prelude.{◌≡◌, ◌≢◌, ◌≤◌, ◌<◌, ℕ, ◌+◌, not, find, length, map, Some, Ok, Err, IfOk, IfErr, OnOk, IsErrOf, IsTrue, ◌↔◌, vec_len};
+ghost use Rattle.std.specs.Prelude.{◌≡◌, ◌≢◌, ◌≤◌, ℕ, ◌+◌, not, find, length, map, Some, Ok, Err, IfOk, IfErr, OnOk, IsErrOf, IsTrue, ◌↔◌, vec_len};
 ghost use Rattle.std.specs.Option.{option_copied};
 ghost use Rattle.strat_crash.specs.Image.{Image};
 ghost use Rattle.strat_format.specs.Layout as places;
-ghost use Rattle.strat_crash.specs.Moments.{Exposes, Passes, KeepsImages, OnlyReads};
+ghost use Rattle.strat_crash.specs.Moments.{Exposes, OnlyReads};
 ghost use Rattle.strat_format.specs.SuperBlock.{IsLawful};
 ghost use Rattle.strat_base.specs.declared.failures.Trouble.TheVariants.{Damaged, Device};
 ghost use Rattle.strat_gate.specs.SuperView.{super_of};
-ghost use Rattle.strat_journal.specs.Log.{Restores, IsStale};
+ghost use Rattle.strat_journal.specs.Log.{Restores, RecoversTo};
 ghost use Rattle.strat_format.specs.Records.{region_records};
-ghost use Rattle.strat_journal.specs.Records.{logged_of, journal_changes, alone_then, recover_journal_now};
+ghost use Rattle.strat_journal.specs.Records.{logged_of, alone_then, recover_journal_now};
 ghost use Rattle.strat_journal.specs.Records.{is_plain as plain_change};
 ghost use Rattle.strat_crash.specs.Faults.{HasCause, ReadsAtMost};
 ghost use Rattle.strat_format.specs.Layout.{is_open};
@@ -24,21 +24,20 @@ use strat_format::{region_at, region_first};
 use strat_gate::{SuperBlock, gate_up};
 
 /// The records of a region, up to its first closed gate or as many as it takes. Reads each block at most
-/// once and none behind that gate.
+/// once and none after that gate.
 fn read_region<D: Disk>(
     alloc: Global,
     disk: &mut D,
     mem: u32,
     region: u8,
 ) -> Result<Vec<Logged>, Trouble>
-    requires mem { mem ≤ 4096 }
-    requires region { region ≤ 1 }
+    requires fits { (mem ≤ 4096) × (region ≤ 1) }
     ensures found { IfOk result (λ v. (f : Image) → Exposes (D.view disk.old) f
         → region_records f mem region ≡ Ok (map logged_of v.items)) }
-    ensures few { IfOk result (λ v. vec_len v ≤ mem) }
+    ensures len { IfOk result (λ v. vec_len v ≤ mem) }
     ensures damaged { (b : ℕ) → IsErrOf result (Damaged b) → (f : Image)
         → Exposes (D.view disk.old) f → region_records f mem region ≡ Err b }
-    ensures looks { OnlyReads (D.view disk.old) (D.view disk.new) }
+    ensures same { OnlyReads (D.view disk.old) (D.view disk.new) }
     ensures cause { HasCause Device (D.faults disk.old) (D.faults disk.new) result }
     ensures reads { ReadsAtMost (places.region_blocks mem) (D.reads disk.old) (D.reads disk.new) }
 {
@@ -87,7 +86,7 @@ fn goes_on(len: usize, mem: u32, others: bool) -> bool
 fn require_plain(logged: &[Logged], mem: u32, others: bool, block: u32) -> Result<(), Trouble>
     ensures ok { OnOk result (alone_then mem others block (map logged_of logged.now)
         ≡ Ok (map logged_of logged.now)) }
-    ensures apart { OnOk result (IsTrue others → length logged.now ≢ mem) }
+    ensures room { OnOk result (IsTrue others → length logged.now ≢ mem) }
     ensures damaged { IfErr result
         (λ e. (b : ℕ) × (e ≡ Damaged b) ×
         (alone_then mem others block (map logged_of logged.now) ≡ Err b)) }
@@ -101,25 +100,24 @@ fn require_plain(logged: &[Logged], mem: u32, others: bool, block: u32) -> Resul
     }
 }
 
-/// What an opening reads of a journal, and whether the other region's first gate is open.
+/// What recovery reads of a journal, and whether the other region's first gate is open.
 fn read_records<D: Disk>(
     alloc: Global,
     disk: &mut D,
     mem: u32,
     region: u8,
 ) -> Result<(Vec<Logged>, bool), Trouble>
-    requires mem { mem ≤ 4096 }
-    requires region { region ≤ 1 }
+    requires fits { (mem ≤ 4096) × (region ≤ 1) }
     ensures found { IfOk result (λ r. (f : Image) → Exposes (D.view disk.old) f
-        → recover_journal_now f mem region ≡ Ok (map logged_of r.0.items)) }
-    ensures others { IfOk result (λ r. (f : Image) → Exposes (D.view disk.old) f
-        → r.1 ≡ is_open (f (places.region_at mem (places.other_region region)))) }
-    ensures few { IfOk result (λ r. (vec_len r.0 ≤ mem) × (IsTrue r.1 → vec_len r.0 ≢ mem)) }
+        → (recover_journal_now f mem region ≡ Ok (map logged_of r.0.items))
+        × (r.1 ≡ is_open (f (places.region_at mem (places.other_region region))))) }
+    ensures len { IfOk result (λ r. (vec_len r.0 ≤ mem) × (IsTrue r.1 → vec_len r.0 ≢ mem)) }
     ensures damaged { (b : ℕ) → IsErrOf result (Damaged b) → (f : Image)
         → Exposes (D.view disk.old) f → recover_journal_now f mem region ≡ Err b }
-    ensures looks { OnlyReads (D.view disk.old) (D.view disk.new) }
+    ensures same { OnlyReads (D.view disk.old) (D.view disk.new) }
     ensures cause { HasCause Device (D.faults disk.old) (D.faults disk.new) result }
-    ensures reads { ReadsAtMost (places.region_blocks mem + 1) (D.reads disk.old) (D.reads disk.new) }
+    ensures reads { ReadsAtMost (places.region_blocks mem + 1)
+        (D.reads disk.old) (D.reads disk.new) }
 {
     let logged = read_region(alloc, disk, mem, region)?;
     let others = gate_up(disk, region_at(mem, 1 - region))?;
@@ -130,28 +128,23 @@ fn read_records<D: Disk>(
 impl Journal {
     /// Reads the journal of a superblock, and gives it with its changes in order and the blocks of their
     /// gates. Takes all the memory that later calls need, and writes nothing. Reads each block of the active
-    /// region at most once, none behind its first closed gate, and one of the other region.
+    /// region at most once, none after its first closed gate, and one of the other region.
     pub fn read<D: Disk>(
         alloc: Global,
         disk: &mut D,
         sb: &SuperBlock,
     ) -> Result<(Journal, Vec<Logged>), Trouble>
         requires { IsLawful (super_of sb.now) }
+        ensures ok { IfOk result (λ r. Restores sb.now.mem sb.now.region r.1.items r.0) }
         ensures found { IfOk result (λ r. (f : Image) → Exposes (D.view disk.old) f
-            → recover_journal_now f sb.now.mem sb.now.region ≡ Ok (map logged_of r.1.items)) }
-        ensures given { IfOk result (λ r. (f : Image) → Exposes (D.view disk.old) f
-            → journal_changes f sb.now.mem sb.now.region ≡ Ok r.0.list) }
-        ensures log { IfOk result (λ r. Restores sb.now.mem sb.now.region r.1.items r.0) }
-        ensures stale { IfOk result (λ r. (f : Image) → Exposes (D.view disk.old) f
-            → IsTrue r.0.stale ↔ IsStale f sb.now.mem sb.now.region (length r.0.list)) }
+            → RecoversTo f sb.now.mem sb.now.region r.1.items r.0) }
         ensures damaged { (b : ℕ) → IsErrOf result (Damaged b) → (f : Image)
             → Exposes (D.view disk.old) f
             → recover_journal_now f sb.now.mem sb.now.region ≡ Err b }
-        ensures same { (D.view disk.new).content ≡ (D.view disk.old).content }
-        ensures images { KeepsImages (D.view disk.old) (D.view disk.new) }
-        ensures time { Passes (D.view disk.old) (D.view disk.new) }
+        ensures same { OnlyReads (D.view disk.old) (D.view disk.new) }
         ensures cause { HasCause Device (D.faults disk.old) (D.faults disk.new) result }
-        ensures reads { ReadsAtMost (places.region_blocks sb.now.mem + 1) (D.reads disk.old) (D.reads disk.new) }
+        ensures reads { ReadsAtMost (places.region_blocks sb.now.mem + 1)
+            (D.reads disk.old) (D.reads disk.new) }
     {
         let mut journal = Journal::empty(alloc, sb.mem, sb.region)?;
         let (logged, others) = read_records(alloc, disk, sb.mem, sb.region)?;

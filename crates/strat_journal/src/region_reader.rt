@@ -40,8 +40,7 @@ impl Model for RegionReader {
 impl RegionReader {
     /// No block of this region yet.
     pub(crate) fn new(alloc: Global, mem: u32, region: u8) -> Result<RegionReader, NoMemory>
-        requires mem { mem ≤ 4096 }
-        requires region { region ≤ 1 }
+        requires fits { (mem ≤ 4096) × (region ≤ 1) }
         ensures ok { IfOk result (λ p. p ≡ record {
           first = places.region_at mem region;
           size = places.region_size mem;
@@ -59,7 +58,7 @@ impl RegionReader {
     /// How many bytes were read.
     pub(crate) fn len(&self) -> usize
         ensures ok { result ≡ length self.now.bytes }
-        ensures few { result ≤ self.now.size }
+        ensures fits { result ≤ self.now.size }
     {
         self.bytes.len()
     }
@@ -67,9 +66,9 @@ impl RegionReader {
     /// Reads the next block: one read.
     fn more<D: Disk>(&mut self, disk: &mut D) -> Result<(), Failed>
         requires { length self.old.bytes < self.old.size }
-        ensures longer { OnOk result (length self.new.bytes ≡ length self.old.bytes + 4096) }
-        ensures ok { ReadsOn (D.view disk.old) (D.view disk.new) (D.reads disk.old) (D.reads disk.new)
-            self.old self.new result }
+        ensures len { OnOk result (length self.new.bytes ≡ length self.old.bytes + 4096) }
+        ensures ok { ReadsOn (D.view disk.old) (D.view disk.new)
+            (D.reads disk.old) (D.reads disk.new) self.old self.new result }
         ensures cause { CountsFaults (D.faults disk.old) (D.faults disk.new) result }
     {
         let mut block = [0; BLOCK];
@@ -78,13 +77,12 @@ impl RegionReader {
         Ok(())
     }
 
-    /// Reads on until the byte at a place was read: one block more at most.
+    /// Reads on until the byte at an offset was read: one block more at most.
     fn touch<D: Disk>(&mut self, disk: &mut D, at: usize) -> Result<(), Failed>
-        requires near { at ≤ length self.old.bytes }
-        requires within { at < self.old.size }
-        ensures there { OnOk result (at < length self.new.bytes) }
-        ensures ok { ReadsOn (D.view disk.old) (D.view disk.new) (D.reads disk.old) (D.reads disk.new)
-            self.old self.new result }
+        requires fits { (at ≤ length self.old.bytes) × (at < self.old.size) }
+        ensures len { OnOk result (at < length self.new.bytes) }
+        ensures ok { ReadsOn (D.view disk.old) (D.view disk.new)
+            (D.reads disk.old) (D.reads disk.new) self.old self.new result }
         ensures cause { CountsFaults (D.faults disk.old) (D.faults disk.new) result }
     {
         if at < self.bytes.len() {
@@ -94,26 +92,25 @@ impl RegionReader {
         Ok(())
     }
 
-    /// Whether the bytes end before it is clear which change stands behind the gate at a place.
+    /// Whether the bytes end before it is clear which change follows the gate at an offset.
     fn needs_more(&self, at: usize) -> bool
         requires { at < length self.now.bytes }
-        ensures cut { OnTrue result (length self.now.bytes < self.now.size) }
-        ensures clear { OnFalse result (IsConclusive self.now at) }
+        ensures ok { OnTrue result (length self.now.bytes < self.now.size)
+            × OnFalse result (IsConclusive self.now at) }
     {
         self.bytes[at] == OPEN
             && self.bytes.len() < self.size
             && get_change(&self.bytes, at + 1).is_none()
     }
 
-    /// Reads on until it is clear what stands at a place: two blocks more at most.
+    /// Reads on until it is clear what stands at an offset: two blocks more at most.
     pub(crate) fn reach<D: Disk>(&mut self, disk: &mut D, at: usize) -> Result<(), Failed>
-        requires near { at ≤ length self.old.bytes }
-        requires within { at + 1288 ≤ self.old.size }
-        ensures there { OnOk result (at < length self.new.bytes) }
-        ensures clear { OnOk result ((f : Image) → Exposes (D.view disk.old) f
+        requires fits { (at ≤ length self.old.bytes) × (at + 1288 ≤ self.old.size) }
+        ensures len { OnOk result (at < length self.new.bytes) }
+        ensures found { OnOk result ((f : Image) → Exposes (D.view disk.old) f
             → MatchesImage f self.old → IsClear f self.new at) }
-        ensures ok { ReadsOn (D.view disk.old) (D.view disk.new) (D.reads disk.old) (D.reads disk.new)
-            self.old self.new result }
+        ensures ok { ReadsOn (D.view disk.old) (D.view disk.new)
+            (D.reads disk.old) (D.reads disk.new) self.old self.new result }
         ensures cause { CountsFaults (D.faults disk.old) (D.faults disk.new) result }
     {
         self.touch(disk, at)?;
@@ -132,17 +129,16 @@ impl RegionReader {
         ((self.first + at as u64) / BLOCK as u64) as u32
     }
 
-    /// The change behind an open gate and the place after it, or nothing behind a closed one. No change
-    /// behind an open gate is damage. Takes memory for the change.
+    /// The change after an open gate and the offset after it, or nothing after a closed one. No change
+    /// after an open gate is damage. Takes memory for the change.
     fn record(&self, alloc: Global, at: usize) -> Result<Option<(OwnedChange, usize)>, Trouble>
-        requires there { at < length self.now.bytes }
-        requires within { length self.now.bytes ≤ self.now.size }
+        requires fits { (at < length self.now.bytes) × (length self.now.bytes ≤ self.now.size) }
         ensures found { IfOk result (λ r. HoldsRecord self.now at r) }
-        ensures near { IfOk result (λ r. IfSome r
+        ensures end { IfOk result (λ r. IfSome r
             (λ x. (x.1 ≤ at + 1288) × (x.1 ≤ length self.now.bytes))) }
         ensures damaged { (b : ℕ) → IsErrOf result (Damaged b)
             → HoldsNoRecord self.now at × (b ≡ block_of (self.now.first + at)) }
-        ensures device { IsErrOf result Device → ⊥ }
+        ensures cause { IsErrOf result Device → ⊥ }
     {
         if self.bytes[at] != OPEN {
             return Ok(None);
@@ -155,23 +151,22 @@ impl RegionReader {
         Ok(Some((OwnedChange::new(alloc, &change)?, next)))
     }
 
-    /// The record at a place and the place after it, or nothing where a closed gate ends the records.
+    /// The record at an offset and the offset after it, or nothing where a closed gate ends the records.
     pub(crate) fn next<D: Disk>(
         &mut self,
         alloc: Global,
         disk: &mut D,
         at: usize,
     ) -> Result<Option<(Logged, usize)>, Trouble>
-        requires near { at ≤ length self.old.bytes }
-        requires within { at + 1288 ≤ self.old.size }
+        requires fits { (at ≤ length self.old.bytes) × (at + 1288 ≤ self.old.size) }
         ensures found { IfOk result (λ r. (f : Image) → Exposes (D.view disk.old) f
             → MatchesImage f self.old → Stored f self.old at r) }
-        ensures near { IfOk result (λ r. IfSome r
+        ensures end { IfOk result (λ r. IfSome r
             (λ x. (x.1 ≤ at + 1288) × (x.1 ≤ length self.new.bytes))) }
         ensures damaged { (b : ℕ) → IsErrOf result (Damaged b) → (f : Image)
             → Exposes (D.view disk.old) f → MatchesImage f self.old → StoredNone f self.old at b }
-        ensures ok { ReadsOn (D.view disk.old) (D.view disk.new) (D.reads disk.old) (D.reads disk.new)
-            self.old self.new result }
+        ensures ok { ReadsOn (D.view disk.old) (D.view disk.new)
+            (D.reads disk.old) (D.reads disk.new) self.old self.new result }
         ensures cause { HasCause Device (D.faults disk.old) (D.faults disk.new) result }
     {
         self.reach(disk, at)?;

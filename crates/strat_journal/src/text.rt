@@ -9,7 +9,7 @@ ghost use Rattle.strat_format.specs.Layout.{open_flag};
 use strat_base::{Change, put_change};
 use strat_format::OPEN;
 
-/// Puts a record and a closed gate behind it into the buffer, and gives the place of that gate.
+/// Writes a record and a closed gate after it into the buffer, and gives the offset of that gate.
 pub(crate) fn put_record(bytes: &mut Vec<u8>, at: usize, change: &Change<'_>) -> usize
     requires fits { IsTrue (is_lawful (change_of change.now)) }
     requires room { at + 2 + length (change_bytes (change_of change.now)) ≤ vec_len bytes.old }
@@ -23,12 +23,11 @@ pub(crate) fn put_record(bytes: &mut Vec<u8>, at: usize, change: &Change<'_>) ->
     end
 }
 
-/// The batch's records behind the first one's gate, and the closed gate behind them.
+/// The batch's records after the first one's gate, and the closed gate after them.
 pub(crate) fn behind_gate(bytes: &[u8], end: usize, len: usize) -> &[u8]
-    requires order { end ≤ len }
-    requires within { len < length bytes.now }
+    requires fits { (end ≤ len) × (len < length bytes.now) }
     ensures ok { result.now ≡ take (len - end) (drop (end + 1) bytes.now) }
-    ensures size { length result.now ≡ len - end }
+    ensures len { length result.now ≡ len - end }
 {
     &bytes[end + 1..len + 1]
 }

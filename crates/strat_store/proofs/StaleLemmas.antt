@@ -11,7 +11,7 @@ use Rattle.strat_crash.proofs.MomentLemmas.{settled_at}
 use Rattle.strat_gate.specs.Gates.{EndsShut}
 use Rattle.strat_journal.specs.Log.{Log}
 use Rattle.strat_journal.proofs.NowLemmas.{narrow, wide}
-use Rattle.strat_journal.proofs.RaisingLemmas.{patched_first}
+use Rattle.strat_gate.proofs.RaisingLemmas.{patched_first}
 use Rattle.strat_store.specs.Opened.{recover_now, head_from}
 use Rattle.strat_store.specs.Store.{Holds, IsLogFor, IsOpenedBy}
 use Rattle.strat_store.proofs.OpenedLemmas.{Behind, behind_of, fits_of, head_from_parts}

@@ -2,6 +2,6 @@ use Rattle.std.proofs.Common.{refl}
 use Rattle.strat_format.specs.SuperBlock.{zeros}
 use Rattle.strat_gate.proofs.slots.write_body.Goals as goal
 
-pub spell-requires-clause-blank : goal.spell-requires-clause-blank
+pub spell-requires-clause-none : goal.spell-requires-clause-none
 unfolding zeros
-spell-requires-clause-blank g c = refl
+spell-requires-clause-none g c = refl

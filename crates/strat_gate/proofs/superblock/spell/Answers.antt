@@ -9,7 +9,7 @@ pub returns : goal.returns
 returns c =
     let sb : Super = super_of c.args.sb.now in
     let fs : List (ℕ × ℕ) = fields sb in
-    let s0 : c.args.into.now ≡ spelled [] ++ zeros 4095 = c.requires.blank in
+    let s0 : c.args.into.now ≡ spelled [] ++ zeros 4095 = c.requires.none in
     let s1 : c.put_u64.new.into ≡ spelled (take 1 fs) ++ zeros 4087 =
     c.put_u64.ensures ∙ ap (λ (l : List ℕ). placed l 0 (be 8 magic)) s0 ∙ spelled_next [] 8 magic 4087 in
     let s2 : c.put_u16.new.into ≡ spelled (take 2 fs) ++ zeros 4085 =

@@ -1,6 +1,6 @@
 use Rattle.std.proofs.Common.{refl, ◌∙◌, arith}
 use Rattle.std.proofs.lemmas.Result.{err_from_is_err_and}
-use Rattle.strat_journal.proofs.RegionReaderLemmas.{looks_trans}
+use Rattle.strat_gate.proofs.ReadingLemmas.{reads_trans}
 use Rattle.strat_journal.proofs.ReadLemmas.{same_err, begun, one_more, ends_shut, ends_torn, ends_full}
 use Rattle.strat_journal.proofs.read.read_region.Goals as goal
 
@@ -12,24 +12,24 @@ returns-in_err-record-clause-damaged g c = λ b torn.
     let p = err_from_is_err_and c.from_residual-in_err-record.result c.from_residual-in_err-record.ensures.1 in
     ends_torn _ _ (g.D.Disk.view c.next.new.disk) _ _ (g.D.Disk.reads c.next.new.disk) _ _ _ _ _ c.next.new.self _ c.loop-i.invariant.0 b c.loop-i-test.true (c.in_err-record.ensures.damaged b (same_err c.from_residual-in_err-record.result p.0 _ _ p.1 p.2 torn))
 
-pub returns-in_err-record-clause-looks : goal.returns-in_err-record-clause-looks
-returns-in_err-record-clause-looks g c = looks_trans c.loop-i.invariant.0.looks c.next.ensures.ok.looks
+pub returns-in_err-record-clause-same : goal.returns-in_err-record-clause-same
+returns-in_err-record-clause-same g c = reads_trans c.loop-i.invariant.0.looks c.next.ensures.ok.looks
 
 pub returns-in_default-clause-found : goal.returns-in_default-clause-found
 returns-in_default-clause-found g c =
     ends_shut _ _ (g.D.Disk.view c.next.new.disk) _ _ (g.D.Disk.reads c.next.new.disk) _ _ _ _ _ c.next.new.self _ c.loop-i.invariant.0 c.loop-i-test.true (rw c.in_default.is at c.in_ok-record.ensures.found)
 
-pub returns-in_default-clause-looks : goal.returns-in_default-clause-looks
-returns-in_default-clause-looks g c = looks_trans c.loop-i.invariant.0.looks c.next.ensures.ok.looks
+pub returns-in_default-clause-same : goal.returns-in_default-clause-same
+returns-in_default-clause-same g c = reads_trans c.loop-i.invariant.0.looks c.next.ensures.ok.looks
 
-pub returns-in_err-push-clause-looks : goal.returns-in_err-push-clause-looks
-returns-in_err-push-clause-looks g c = looks_trans c.loop-i.invariant.0.looks c.next.ensures.ok.looks
+pub returns-in_err-push-clause-same : goal.returns-in_err-push-clause-same
+returns-in_err-push-clause-same g c = reads_trans c.loop-i.invariant.0.looks c.next.ensures.ok.looks
 
 pub loop-i-preserved : goal.loop-i-preserved
 loop-i-preserved g c =
     let on = c.in_ok-record.ensures in (
       one_more _ _ _ _ _ _ _ _ _ _ _ _ _ c.loop-i.invariant.0 _ c.in-Some.record c.in-Some.next c.loop-i-test.true on.ok
-          (rw c.in-Some.is at on.found) (rw c.in-Some.is at on.near) _ c.in_ok-push.ensures.items,
+          (rw c.in-Some.is at on.found) (rw c.in-Some.is at on.end) _ c.in_ok-push.ensures.items,
       on.cause.ok ∙ c.loop-i.invariant.1,
     )
 

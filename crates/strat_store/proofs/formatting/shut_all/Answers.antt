@@ -10,7 +10,7 @@ use Rattle.strat_store.proofs.formatting.shut_all.Goals.{After-gate_ensure_shut-
 
 pub returns-in_err-gate_ensure_shut-clause-images : goal.returns-in_err-gate_ensure_shut-clause-images
 returns-in_err-gate_ensure_shut-clause-images g c = λ f exposed blank.
-    (blank_first _ _ f (g.met.D.Disk.leaves_content c.args.disk.now) exposed (c.gate_ensure_shut.ensures.alone f exposed) blank).each
+    (blank_first _ _ f (g.met.D.Disk.leaves_content c.args.disk.now) exposed (c.gate_ensure_shut.ensures.same f exposed) blank).each
 
 -- up to the second gate
 second : (g : Over) (c : After-gate_ensure_shut-2 g) (f : Image) → (g.D.Disk.view c.args.disk.now).content ≡ Some f → IsBlank (g.D.Disk.view c.args.disk.now)
@@ -18,8 +18,8 @@ second : (g : Over) (c : After-gate_ensure_shut-2 g) (f : Image) → (g.D.Disk.v
 second g c f exposed blank =
     let first : Shuts f 0 (g.D.Disk.view c.gate_ensure_shut.new.disk) = shuts f 0 _ _ (c.in_ok-gate_ensure_shut.ensures.ok f exposed) in
     blank_then _ _ _ c.gate_ensure_shut.ensures.time c.gate_ensure_shut-2.ensures.time
-    (blank_first _ _ f (g.met.D.Disk.leaves_content c.args.disk.now) exposed (c.gate_ensure_shut.ensures.alone f exposed) blank)
-    (blank_second _ _ first.content (g.met.D.Disk.leaves_content c.gate_ensure_shut.new.disk) first.exposed (c.gate_ensure_shut-2.ensures.alone first.content first.exposed))
+    (blank_first _ _ f (g.met.D.Disk.leaves_content c.args.disk.now) exposed (c.gate_ensure_shut.ensures.same f exposed) blank)
+    (blank_second _ _ first.content (g.met.D.Disk.leaves_content c.gate_ensure_shut.new.disk) first.exposed (c.gate_ensure_shut-2.ensures.same first.content first.exposed))
 
 pub returns-in_err-gate_ensure_shut-2-clause-images : goal.returns-in_err-gate_ensure_shut-2-clause-images
 returns-in_err-gate_ensure_shut-2-clause-images g c = λ f exposed blank.

@@ -1,14 +1,21 @@
-use Rattle.strat_journal.proofs.RegionReaderLemmas.{looks_trans}
+use Rattle.std.proofs.Common.{refl, ◌∙◌}
+use Rattle.strat_gate.proofs.ReadingLemmas.{reads_trans}
 use Rattle.strat_store.proofs.opening.read_store.Goals as goal
 
 pub returns-in_err-journal-clause-same : goal.returns-in_err-journal-clause-same
-returns-in_err-journal-clause-same g c =
-    looks_trans c.read_manifest.ensures.same (record { same = c.read.ensures.same; images = c.read.ensures.images; time = c.read.ensures.time })
+returns-in_err-journal-clause-same g c = reads_trans c.read_manifest.ensures.same c.read.ensures.same
 
 pub returns-in_err-table-clause-same : goal.returns-in_err-table-clause-same
-returns-in_err-table-clause-same g c =
-    looks_trans c.read_manifest.ensures.same (record { same = c.read.ensures.same; images = c.read.ensures.images; time = c.read.ensures.time })
+returns-in_err-table-clause-same g c = reads_trans c.read_manifest.ensures.same c.read.ensures.same
 
 pub returns-clause-same : goal.returns-clause-same
-returns-clause-same g c =
-    looks_trans c.read_manifest.ensures.same (record { same = c.read.ensures.same; images = c.read.ensures.images; time = c.read.ensures.time })
+returns-clause-same g c = reads_trans c.read_manifest.ensures.same c.read.ensures.same
+
+pub returns-clause-found : goal.returns-clause-found
+returns-clause-found g c = λ f exposed.
+    let read = c.in_ok-journal.ensures.found f (c.read_manifest.ensures.same.same ∙ exposed) in
+    let accepted = rw c.deref.ensures.value at c.in_ok-table.ensures.found in
+    record {
+      found = rw (c.in_ok-read_manifest.ensures.found f exposed, read.records, accepted, c.in_ok-journal.ensures.ok.list_is) refl;
+      stale = read.stale;
+    }

@@ -5,26 +5,32 @@ use Rattle.strat_crash.proofs.MomentLemmas.{at_told}
 use Rattle.strat_journal.proofs.AppendLemmas as append
 use Rattle.strat_journal.proofs.journal.Journal.append.Goals as goal
 
-pub behind_gate-requires-clause-within : goal.behind_gate-requires-clause-within
-behind_gate-requires-clause-within g c =
+pub behind_gate-requires : goal.behind_gate-requires
+behind_gate-requires g c =
     let s = c.self.inside in
-    rw c.deref.ensures.value (append.len_within s.mem s.active s.stale _ _ s.bytes.items s.count s.staged s.end s.len c.self.invariant)
+    rw c.deref.ensures.value
+    (record {
+      fits = (
+        omega (arith, c.self.invariant.batch_end),
+        append.len_within s.mem s.active s.stale _ _ s.bytes.items s.count s.staged s.end s.len c.self.invariant,
+      );
+    })
 
-pub returns-in_err-raise_over-clause-images : goal.returns-in_err-raise_over-clause-images
-returns-in_err-raise_over-clause-images g c =
+pub returns-in_err-gate_commit-clause-images : goal.returns-in_err-gate_commit-clause-images
+returns-in_err-gate_commit-clause-images g c =
     let s = c.self.inside in
     let some = rw (← c.self.view_is) at c.requires in
     rw (← c.self.view_is)
     (append.append_images s.mem s.active s.stale _ _ s.bytes.items s.count s.staged s.end s.len c.self.invariant some _ _ (c.region_at.result + s.end) c.behind_gate.result.now
-    (omega (arith, c.region_at.ensures.ok)) (rw c.deref.ensures.value at c.behind_gate.ensures.ok) c.raise_over.ensures.raises.images)
+    (omega (arith, c.region_at.ensures.ok)) (rw c.deref.ensures.value at c.behind_gate.ensures.ok) c.gate_commit.ensures.ok.images)
 
-pub returns-in_err-raise_over-clause-any_moment : goal.returns-in_err-raise_over-clause-any_moment
-returns-in_err-raise_over-clause-any_moment g c =
+pub returns-in_err-gate_commit-clause-trail : goal.returns-in_err-gate_commit-clause-trail
+returns-in_err-gate_commit-clause-trail g c =
     let s = c.self.inside in
     let some = rw (← c.self.view_is) at c.requires in
     rw (← c.self.view_is)
     (λ f exposed. append.append_moment s.mem s.active s.stale _ _ s.bytes.items s.count s.staged s.end s.len c.self.invariant some _ _ (c.region_at.result + s.end) c.behind_gate.result.now
-    (omega (arith, c.region_at.ensures.ok)) (rw c.deref.ensures.value at c.behind_gate.ensures.ok) c.raise_over.ensures.raises.any_moment
+    (omega (arith, c.region_at.ensures.ok)) (rw c.deref.ensures.value at c.behind_gate.ensures.ok) c.gate_commit.ensures.ok.any_moment
     f exposed (at_told _ (λ (f : Image). Images (g.D.Disk.view c.args.disk.now) f) f exposed (g.met.D.Disk.leaves_content c.args.disk.now)) (λ d left. g.met.D.Disk.leaves_bytes c.args.disk.now _ d left))
 
 pub returns-clause-images : goal.returns-clause-images
@@ -33,31 +39,35 @@ returns-clause-images g c =
     let some = rw (← c.self.view_is) at c.requires in
     rw (← c.self.view_is)
     (append.append_images s.mem s.active s.stale _ _ s.bytes.items s.count s.staged s.end s.len c.self.invariant some _ _ (c.region_at.result + s.end) c.behind_gate.result.now
-    (omega (arith, c.region_at.ensures.ok)) (rw c.deref.ensures.value at c.behind_gate.ensures.ok) c.raise_over.ensures.raises.images)
+    (omega (arith, c.region_at.ensures.ok)) (rw c.deref.ensures.value at c.behind_gate.ensures.ok) c.gate_commit.ensures.ok.images)
 
-pub returns-clause-any_moment : goal.returns-clause-any_moment
-returns-clause-any_moment g c =
+pub returns-clause-trail : goal.returns-clause-trail
+returns-clause-trail g c =
     let s = c.self.inside in
     let some = rw (← c.self.view_is) at c.requires in
     rw (← c.self.view_is)
     (λ f exposed. append.append_moment s.mem s.active s.stale _ _ s.bytes.items s.count s.staged s.end s.len c.self.invariant some _ _ (c.region_at.result + s.end) c.behind_gate.result.now
-    (omega (arith, c.region_at.ensures.ok)) (rw c.deref.ensures.value at c.behind_gate.ensures.ok) c.raise_over.ensures.raises.any_moment
+    (omega (arith, c.region_at.ensures.ok)) (rw c.deref.ensures.value at c.behind_gate.ensures.ok) c.gate_commit.ensures.ok.any_moment
     f exposed (at_told _ (λ (f : Image). Images (g.D.Disk.view c.args.disk.now) f) f exposed (g.met.D.Disk.leaves_content c.args.disk.now)) (λ d left. g.met.D.Disk.leaves_bytes c.args.disk.now _ d left))
 
 pub returns-clause-kept : goal.returns-clause-kept
 returns-clause-kept g c =
     let s = c.self.inside in
     let some = rw (← c.self.view_is) at c.requires in
-    let done = c.in_ok-raise_over.ensures.raises in
+    let done = c.in_ok-gate_commit.ensures.ok in
     rw (c.join.ensures.ok, ← c.self.view_is)
     (λ f exposed. append.append_stands s.mem s.active s.stale _ _ s.bytes.items s.count s.staged s.end s.len c.self.invariant some _ _ (c.region_at.result + s.end) c.behind_gate.result.now
     (omega (arith, c.region_at.ensures.ok)) (rw c.deref.ensures.value at c.behind_gate.ensures.ok) done.content done.settled
     f exposed (at_told _ (λ (f : Image). Images (g.D.Disk.view c.args.disk.now) f) f exposed (g.met.D.Disk.leaves_content c.args.disk.now)) (λ d left. g.met.D.Disk.leaves_bytes c.args.disk.now _ d left))
 
-pub returns-clause-content : goal.returns-clause-content
-returns-clause-content g c =
+pub returns-clause-durable : goal.returns-clause-durable
+returns-clause-durable g c =
     let s = c.self.inside in
     let some = rw (← c.self.view_is) at c.requires in
+    let done = c.in_ok-gate_commit.ensures.ok in
     rw (← c.self.view_is)
-    (append.append_content s.mem s.active s.stale _ _ s.bytes.items s.count s.staged s.end s.len c.self.invariant some (g.D.Disk.view c.args.disk.now) (g.D.Disk.view c.raise_over.new.disk) (c.region_at.result + s.end) c.behind_gate.result.now
-    (omega (arith, c.region_at.ensures.ok)) (rw c.deref.ensures.value at c.behind_gate.ensures.ok) c.in_ok-raise_over.ensures.raises.content)
+    (record {
+      content = append.append_content s.mem s.active s.stale _ _ s.bytes.items s.count s.staged s.end s.len c.self.invariant some (g.D.Disk.view c.args.disk.now) (g.D.Disk.view c.gate_commit.new.disk) (c.region_at.result + s.end) c.behind_gate.result.now
+          (omega (arith, c.region_at.ensures.ok)) (rw c.deref.ensures.value at c.behind_gate.ensures.ok) done.content;
+      settled = done.settled;
+    })

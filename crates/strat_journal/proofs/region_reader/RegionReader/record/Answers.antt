@@ -4,8 +4,8 @@ use Rattle.strat_journal.specs.RegionReader.{ReadSoFar}
 use Rattle.strat_journal.proofs.RegionReaderLemmas.{begins_near}
 use Rattle.strat_journal.proofs.region_reader.RegionReader.record.Goals as goal
 
-pub returns-clause-near : goal.returns-clause-near
-returns-clause-near c =
+pub returns-clause-end : goal.returns-clause-end
+returns-clause-end c =
     begins_near c.deref.result.now c.args.self.now.bytes c.args.at c.in-Some.next (change_of c.in-Some.change)
     (c.deref.ensures.value ∙ ap (λ (p : ReadSoFar). p.bytes) c.self.view_is) c.in-Some.ensures.found
-    (let there = rw (← c.self.view_is) at c.requires.there in omega (arith, there, c.deref.ensures.len, c.self.inside.bytes.ok.0)) c.in-Some.ensures.end
+    (let there = rw (← c.self.view_is) at c.requires.fits in omega (arith, there.0, c.deref.ensures.len, c.self.inside.bytes.ok.0)) c.in-Some.ensures.end

@@ -5,7 +5,7 @@ use Rattle.strat_crash.specs.Moments.{Images, IsDurable, OnlyReads}
 use Rattle.strat_format.specs.SuperBlock.{newest_in}
 use Rattle.strat_crash.proofs.MomentLemmas.{at_told}
 use Rattle.strat_gate.specs.SuperView.{super_of, seen}
-use Rattle.strat_journal.proofs.RegionReaderLemmas.{looks_trans}
+use Rattle.strat_gate.proofs.ReadingLemmas.{reads_trans}
 use Rattle.strat_journal.proofs.ReadLemmas.{same_err}
 use Rattle.strat_model.specs.Table.{bare}
 use Rattle.strat_store.specs.Opened.{head_from, Opens}
@@ -23,15 +23,15 @@ synced g c = record { same = c.sync_first.ensures.same; images = c.sync_first.en
 
 -- until the superblock is known the disk was only read
 sb_looks : (g : Over) (c : After-newest g) → OnlyReads (g.D.Disk.view c.args.disk.now) (g.D.Disk.view c.newest.new.disk)
-sb_looks g c = looks_trans (synced g c) (record { same = c.newest.ensures.same; images = c.newest.ensures.images; time = c.newest.ensures.time })
+sb_looks g c = reads_trans (synced g c) c.newest.ensures.same
 
 -- and until the store is, from the sync on
 read_looks : (g : Over) (c : After-read_store g) → OnlyReads (g.D.Disk.view c.sync_first.new.disk) (g.D.Disk.view c.read_store.new.disk)
-read_looks g c = looks_trans (record { same = c.newest.ensures.same; images = c.newest.ensures.images; time = c.newest.ensures.time }) c.read_store.ensures.same
+read_looks g c = reads_trans c.newest.ensures.same c.read_store.ensures.same
 
 -- and from the start on
 store_looks : (g : Over) (c : After-read_store g) → OnlyReads (g.D.Disk.view c.args.disk.now) (g.D.Disk.view c.read_store.new.disk)
-store_looks g c = looks_trans (synced g (goal.at.After-read_store g c).After-newest) (read_looks g c)
+store_looks g c = reads_trans (synced g (goal.at.After-read_store g c).After-newest) (read_looks g c)
 
 -- then it is settled
 store_settled : (g : Over) (c : After-read_store g) (f : Image) → (g.D.Disk.view c.args.disk.now).content ≡ Some f → IsDurable (g.D.Disk.view c.read_store.new.disk)
@@ -43,7 +43,7 @@ opened_by : (g : Over) (c : In_ok-journal g) (f : Image) → (g.D.Disk.view c.ar
 opened_by g c f exposed = record {
   slot = c.in-Some.field-0-0;
   newest = c.in_ok-sb.ensures.found f (c.sync_first.ensures.same ∙ exposed) ∙ ap (λ (o : _). Ok (seen o)) c.in-Some.is;
-  read = c.in_ok-journal.ensures.found f (c.newest.ensures.same ∙ c.sync_first.ensures.same ∙ exposed);
+  read = c.in_ok-journal.ensures.found f (c.newest.ensures.same.same ∙ c.sync_first.ensures.same ∙ exposed);
 }
 
 -- the disk went through the opening
@@ -98,7 +98,7 @@ returns-in_err-journal-clause-damaged g c = λ block damaged f exposed.
     let there : (g.D.Disk.view c.sync_first.new.disk).content ≡ Some f = c.sync_first.ensures.same ∙ exposed in
     let newest : newest_in f ≡ Ok (Some (c.in-Some.field-0-0, super_of c.in-Some.sb)) = c.in_ok-sb.ensures.found f there ∙ ap (λ (o : _). Ok (seen o)) c.in-Some.is in
     damaged_now f c.in-Some.field-0-0 (super_of c.in-Some.sb) block newest
-    (c.in_err-journal.ensures.damaged block (same_err c.from_residual-in_err-journal.result p.0 _ _ p.1 p.2 damaged) f (c.newest.ensures.same ∙ there))
+    (c.in_err-journal.ensures.damaged block (same_err c.from_residual-in_err-journal.result p.0 _ _ p.1 p.2 damaged) f (c.newest.ensures.same.same ∙ there))
 
 -- the store stands on the disk
 stands : (g : Over) (c : After-new g) (f : Image) → (g.D.Disk.view c.args.disk.now).content ≡ Some f → StandsOn (g.D.Disk.view c.shut_other.new.disk) c.new.result

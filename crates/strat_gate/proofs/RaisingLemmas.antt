@@ -5,7 +5,7 @@ use Rattle.strat_crash.specs.Image.{Image, Outside, patch}
 use Rattle.strat_crash.specs.Moments.{DiskView, Since, Passes, TearsOnly, IsDurable}
 use Rattle.strat_crash.proofs.ImageLemmas.{same_everywhere, below, inside, above, lies, over_below, over_inside, over_above, outside_patch}
 use Rattle.strat_crash.proofs.MomentLemmas.{since_split, tears_wider, tears_trans, at_told, settled_at}
-use Rattle.strat_journal.specs.Raising.{BehindOrRaised, Raises}
+use Rattle.strat_gate.specs.Raising.{BehindOrRaised, Raises}
 
 -- the first of the bytes written over an image
 pub patched_first : (c : Image) (at byte : ℕ) (bytes : List ℕ) → patch c at (byte ∷ bytes) at ≡ byte
