@@ -701,6 +701,11 @@ def what_is_no_file_is_refused_by_name(folder):
     for words in (["serve", inner], ["format", inner, "4", "100", "10"], ["serve", os.path.join(folder, "no", "where")]):
         expect(f"{words}", run(words, input=PUT_A), (b"", 5, complaint(5)))
     expect("the folder", os.listdir(inner), [])
+    pipe = os.path.join(folder, "pipe")
+    os.mkfifo(pipe)
+    for path in (pipe, "/dev/null", "/dev/zero"):
+        for words in (["serve", path], ["format", path, "4", "100", "10"]):
+            expect(f"{words}", run(words, input=PUT_A), (b"", 5, complaint(5)))
     absent = os.path.join(folder, "absent")
     expect("an absent file", run(["serve", absent], input=PUT_A), (b"", 2, complaint(2)))
     expect("an absent file, now", bytes_of(absent), b"")
@@ -789,7 +794,7 @@ def a_sync_that_fails_is_a_device_fault(folder):
         expect(f"the file, {call}", (got, syncs[-1][2]), (fault, "-1 EIO"))
 
 
-def a_folder_that_may_not_be_read_is_a_device_fault(folder):
+def a_folder_or_file_without_leave_is_a_device_fault(folder):
     nobody = {}
     program, inner = os.path.join(folder, "program"), os.path.join(folder, "inner")
     shutil.copy(PROGRAM, program)
@@ -818,6 +823,9 @@ def a_folder_that_may_not_be_read_is_a_device_fault(folder):
     os.chmod(inner, 0o300)
     expect("serve", run_there("serve", path), fault)
     os.chmod(inner, 0o700)
+    os.chmod(path, 0o400)
+    expect("serve, the file not to be written", run_there("serve", path), fault)
+    os.chmod(path, 0o600)
     expect("the file", bytes_of(path) == made.file(), True)
     out, status = made.serve(PUT_A)
     expect("serve, with leave", run_there("serve", path), (out, status, b""))
@@ -891,7 +899,7 @@ CHECKS = [
     a_link_that_leads_to_no_name_is_a_device_fault,
     the_file_is_synced_at_each_sync_and_its_folder_once,
     a_sync_that_fails_is_a_device_fault,
-    a_folder_that_may_not_be_read_is_a_device_fault,
+    a_folder_or_file_without_leave_is_a_device_fault,
     a_full_device_is_a_device_fault,
 ]
 

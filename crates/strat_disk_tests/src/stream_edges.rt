@@ -7,7 +7,7 @@ use std::io;
 use std::io::{BufRead, ErrorKind, Lines, Read};
 use strat_io::{Sink, Source, StdSink, StdSource, put_all};
 
-/// How a made-up runtime behaves. A call that is neither interrupted nor fails moves three bytes at most.
+/// How a made-up runtime behaves. A call that is neither interrupted nor fails moves one byte.
 #[derive(Clone, Copy)]
 struct Manner {
     /// How many calls are interrupted, from the first on.
@@ -54,24 +54,6 @@ impl Console {
             len: Cell::new(0),
         }
     }
-
-    /// Takes three bytes at most.
-    fn take(&self, bytes: &[u8]) -> usize {
-        let mut taken = self.taken.get();
-        let mut len = self.len.get();
-        let mut count = 0;
-        for byte in bytes {
-            if count == 3 || len >= taken.len() {
-                break;
-            }
-            taken[len] = *byte;
-            len += 1;
-            count += 1;
-        }
-        self.taken.set(taken);
-        self.len.set(len);
-        count.min(bytes.len())
-    }
 }
 
 fn unsupported() -> io::Error {
@@ -93,7 +75,15 @@ impl Print for Console {
 
     fn write_some(&self, bytes: &[u8]) -> io::Result<usize> {
         call(self.manner, &self.calls)?;
-        Ok(self.take(bytes))
+        let mut taken = self.taken.get();
+        let len = self.len.get();
+        if bytes.is_empty() || len >= taken.len() {
+            return Ok(0);
+        }
+        taken[len] = bytes[0];
+        self.taken.set(taken);
+        self.len.set(len + 1);
+        Ok(1)
     }
 }
 
@@ -153,7 +143,7 @@ fn puts(manner: Manner, want: bool, calls: u64, taken: &[u8; 8]) -> bool {
 
 #[test]
 fn output_that_takes_little_or_is_interrupted_gets_all(rt: HostRuntime) {
-    for (interrupted, calls) in [(0, 3), (1, 4), (15, 18)] {
+    for (interrupted, calls) in [(0, 8), (1, 9), (15, 23)] {
         let manner = Manner {
             interrupted,
             ..SOUND
@@ -171,8 +161,8 @@ fn output_that_takes_little_or_is_interrupted_gets_all(rt: HostRuntime) {
 fn output_that_fails_is_a_fault_at_once_and_gets_no_more(rt: HostRuntime) {
     for (failing, kind, taken) in [
         (1, ErrorKind::BrokenPipe, b"\0\0\0\0\0\0\0\0"),
-        (2, ErrorKind::WouldBlock, b"abc\0\0\0\0\0"),
-        (3, ErrorKind::StorageFull, b"abcdef\0\0"),
+        (2, ErrorKind::WouldBlock, b"a\0\0\0\0\0\0\0"),
+        (8, ErrorKind::StorageFull, b"abcdefg\0"),
     ] {
         let manner = Manner {
             failing,
