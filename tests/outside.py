@@ -51,6 +51,10 @@ class Wrong(Exception):
     """A check that found something else than it wanted."""
 
 
+class Skipped(Exception):
+    """A check that wants something that isn't here."""
+
+
 def expect(name, got, want):
     if got != want:
         raise Wrong(f"{name}: got {repr(got)[:120]}, wanted {repr(want)[:120]}")
@@ -343,6 +347,91 @@ def a_closed_output_is_a_sink_fault(folder):
     expect("no reply, so no fault", run(["serve", store.path], input=b""), (b"", 0, b""))
 
 
+def an_output_that_takes_half_a_reply_is_a_sink_fault(folder):
+    def limited():
+        """Lets a file grow to 20 bytes."""
+        signal.signal(signal.SIGXFSZ, signal.SIG_IGN)
+        resource.setrlimit(resource.RLIMIT_FSIZE, (20, 20))
+
+    store = StoreFile(folder)
+    store.expect_served("a put", [PUT_A])
+    want, _ = store.model.serve(3 * GET_A)
+    taken = os.path.join(folder, "taken")
+    with open(taken, "wb") as output:
+        ran = subprocess.run([PROGRAM, "serve", store.path], input=3 * GET_A, stdout=output, stderr=subprocess.PIPE,
+                             timeout=DEADLINE, preexec_fn=limited)
+    expect("a full output", (ran.returncode, ran.stderr, bytes_of(taken)), (7, complaint(7), want[:20]))
+    store.expect_bytes("a full output")
+
+
+def many_replies(folder):
+    """A store with one large value, a file of frames that get it again and again, and what they are answered."""
+    store = StoreFile(folder)
+    store.expect_served("a put", [put(1, b"k", b"v" * model.VALUE_MAX)])
+    frames = b"".join(get(tag, b"k") for tag in range(100))
+    asked = os.path.join(folder, "asked")
+    with open(asked, "wb") as file:
+        file.write(frames)
+    want, _ = store.model.serve(frames)
+    return store, asked, want
+
+
+def small_pipe():
+    """The two ends of a pipe with room for one page."""
+    inside, outside = os.pipe()
+    fcntl.fcntl(outside, fcntl.F_SETPIPE_SZ, 4096)
+    return inside, outside
+
+
+def an_output_that_is_read_slowly_gets_every_reply(folder):
+    store, asked, want = many_replies(folder)
+    inside, outside = small_pipe()
+    with open(asked, "rb") as frames:
+        child = subprocess.Popen([PROGRAM, "serve", store.path], stdin=frames, stdout=outside, stderr=subprocess.PIPE)
+    os.close(outside)
+    time.sleep(0.1)  # the pipe is full by now, and the program waits
+    got = b"".join(iter(lambda: os.read(inside, 3), b""))
+    os.close(inside)
+    errors = child.stderr.read()
+    child.stderr.close()
+    expect("a slow reader", (child.wait(DEADLINE), errors, got == want), (0, b"", True))
+
+
+def streams_that_do_not_wait_are_faults_once_they_would(folder):
+    # what stands in the input is answered; a read that would have to wait fails
+    store = StoreFile(folder)
+    inside, outside = os.pipe()
+    os.set_blocking(inside, False)
+    os.write(outside, PUT_A + GET_A[:6])
+    out, _ = store.model.serve(PUT_A)
+    expect("input", run(["serve", store.path], stdin=inside), (out, 6, complaint(6)))
+    store.expect_bytes("input")
+    os.write(outside, GET_A)
+    os.close(outside)
+    out, _ = store.model.serve(GET_A)
+    expect("input with its end", run(["serve", store.path], stdin=inside), (out, 0, b""))
+    os.close(inside)
+    # so does a write into a pipe that is full; what it took are the first replies
+    store, asked, want = many_replies(folder)
+    inside, outside = small_pipe()
+    os.set_blocking(outside, False)
+    with open(asked, "rb") as frames:
+        ran = subprocess.run([PROGRAM, "serve", store.path], stdin=frames, stdout=outside, stderr=subprocess.PIPE,
+                             timeout=DEADLINE)
+    os.close(outside)
+    got = os.read(inside, len(want))
+    os.close(inside)
+    expect("output", (ran.returncode, ran.stderr), (7, complaint(7)))
+    expect("output, what was taken", (got == want[:len(got)], 0 < len(got) < len(want)), (True, True))
+
+
+def a_program_with_a_name_that_is_no_text_refuses_its_words(folder):
+    ran = subprocess.run([b"\xff", b"format", b"file", b"4", b"100", b"10"], executable=PROGRAM, cwd=folder,
+                         capture_output=True, timeout=DEADLINE)
+    expect("format", (ran.stdout, ran.returncode, ran.stderr), (b"", 1, complaint(1)))
+    expect("files", os.listdir(folder), [])
+
+
 def an_input_that_cannot_be_read_is_a_source_fault(folder):
     store = StoreFile(folder)
     inside = os.open("/", os.O_RDONLY)
@@ -612,9 +701,134 @@ def what_is_no_file_is_refused_by_name(folder):
     for words in (["serve", inner], ["format", inner, "4", "100", "10"], ["serve", os.path.join(folder, "no", "where")]):
         expect(f"{words}", run(words, input=PUT_A), (b"", 5, complaint(5)))
     expect("the folder", os.listdir(inner), [])
+    pipe = os.path.join(folder, "pipe")
+    os.mkfifo(pipe)
+    for path in (pipe, "/dev/null", "/dev/zero"):
+        for words in (["serve", path], ["format", path, "4", "100", "10"]):
+            expect(f"{words}", run(words, input=PUT_A), (b"", 5, complaint(5)))
     absent = os.path.join(folder, "absent")
     expect("an absent file", run(["serve", absent], input=PUT_A), (b"", 2, complaint(2)))
     expect("an absent file, now", bytes_of(absent), b"")
+
+
+def folders_of(folder):
+    """Two new folders, one for links and one for files."""
+    links, files = os.path.join(folder, "links"), os.path.join(folder, "files")
+    os.mkdir(links)
+    os.mkdir(files)
+    return links, files
+
+
+def a_file_is_reached_by_symbolic_links(folder):
+    links, files = folders_of(folder)
+    file, link, other = os.path.join(files, "a.store"), os.path.join(links, "link"), os.path.join(links, "other")
+    os.symlink("../files/a.store", link)
+    os.symlink(link, other)
+    made = Store(4, 100, 10)
+    expect("format by a link to no file", run(["format", other, "4", "100", "10"]), (made.line(), 0, b""))
+    expect("the file", bytes_of(file) == made.file(), True)
+    for path in (link, other, file):
+        out, status = made.serve(PUT_A + GET_A)
+        expect(f"serve {path}", serve(path, [PUT_A + GET_A]), (out, status, b""))
+        expect(f"serve {path}, the file", bytes_of(file) == made.file(), True)
+    expect("what is there", (sorted(os.listdir(links)), os.listdir(files)), (["link", "other"], ["a.store"]))
+    expect("links are links", (os.path.islink(link), os.path.islink(other)), (True, True))
+
+
+def a_link_that_leads_to_no_name_is_a_device_fault(folder):
+    links, files = folders_of(folder)
+    circle, odd = os.path.join(links, "circle"), os.path.join(links, "odd")
+    os.symlink("circle", circle)
+    os.symlink(os.fsencode(files) + b"/\xff", odd)
+    for path in (circle, odd):
+        for words in (["format", path, "4", "100", "10"], ["serve", path]):
+            expect(f"{words}", run(words, input=PUT_A), (b"", 5, complaint(5)))
+    expect("files", os.listdir(files), [])
+
+
+def traced(folder, words, *inject, data=b""):
+    """What a run under strace gives, and the files and folders that it synced: the call, the path and how it ended."""
+    if not shutil.which("strace"):
+        raise Skipped("strace is not here")
+    log = os.path.join(folder, "log")
+    wanted = [word for what in ("trace=fsync,fdatasync", *inject) for word in ("-e", what)]
+    ran = subprocess.run(["strace", "-y", "-o", log, *wanted, PROGRAM, *words], input=data, capture_output=True,
+                         timeout=DEADLINE, cwd=folder)
+    text = bytes_of(log).decode()
+    if not re.search(r"^\+\+\+ exited with", text, re.M):
+        raise Skipped(f"strace cannot run a program: {ran.stderr.decode().strip()}")
+    syncs = re.findall(r"^(fsync|fdatasync)\(\d+<(.*?)>\) += (-1 \w+|0)", text, re.M)
+    return (ran.stdout, ran.returncode, ran.stderr), syncs
+
+
+def the_file_is_synced_at_each_sync_and_its_folder_once(folder):
+    links, files = (os.path.realpath(path) for path in folders_of(folder))
+    os.symlink("../files/b.store", os.path.join(links, "link"))
+    for path, file, named in (("a.store", os.path.join(os.path.realpath(folder), "a.store"), os.path.realpath(folder)),
+                              ("links/link", os.path.join(files, "b.store"), files)):
+        made, file_synced, folder_synced = Store(4, 100, 10), ("fdatasync", file, "0"), ("fsync", named, "0")
+        got, syncs = traced(folder, ["format", path, "4", "100", "10"])
+        expect(f"format {path}", got, (made.line(), 0, b""))
+        # the manifest, the superblock and its gate; the folder with the first of them
+        expect(f"format {path}, syncs", syncs, [file_synced, folder_synced, file_synced, file_synced])
+        puts = b"".join(put(tag, b"%d" % tag, b"v") for tag in range(4))
+        out, status = made.serve(puts)
+        got, syncs = traced(folder, ["serve", path], data=puts)
+        expect(f"serve {path}", got, (out, status, b""))
+        # the opening, and for each put its record and its gate
+        expect(f"serve {path}, syncs", syncs, [file_synced, folder_synced, *(8 * [file_synced])])
+
+
+def a_sync_that_fails_is_a_device_fault(folder):
+    words, line, fault = ["format", "a.store", "4", "100", "10"], Store(4, 100, 10).line(), (b"", 5, complaint(5))
+    # the file was made at the first try, and its name is as little durable at the next
+    for turn in range(2):
+        for error in ("EIO", "ENOSPC", "EACCES"):
+            got, syncs = traced(folder, words, f"inject=fsync:error={error}")
+            expect(f"the folder, {error}, {turn}", (got, len(syncs)), (fault, 2))
+    for error in ("EINVAL", "ENOSYS", "EOPNOTSUPP"):
+        got, syncs = traced(folder, words, f"inject=fsync:error={error}")
+        expect(f"a system without it, {error}", (got, len(syncs) > 2), ((line, 0, b""), True))
+    for call in (1, 2, 3):
+        got, syncs = traced(folder, words, f"inject=fdatasync:error=EIO:when={call}")
+        expect(f"the file, {call}", (got, syncs[-1][2]), (fault, "-1 EIO"))
+
+
+def a_folder_or_file_without_leave_is_a_device_fault(folder):
+    nobody = {}
+    program, inner = os.path.join(folder, "program"), os.path.join(folder, "inner")
+    shutil.copy(PROGRAM, program)
+    os.chmod(program, 0o755)
+    os.chmod(folder, 0o711)
+    os.mkdir(inner)
+    if os.geteuid() == 0:  # who may read each folder
+        nobody = {"user": 65534, "group": 65534, "extra_groups": []}
+        os.chown(inner, 65534, 65534)
+    path = os.path.join(inner, "a.store")
+
+    def run_there(*words):
+        ran = subprocess.run([program, *words], input=PUT_A, capture_output=True, timeout=DEADLINE, **nobody)
+        return ran.stdout, ran.returncode, ran.stderr
+
+    try:
+        expect("no job", run_there()[1], 1)
+    except (subprocess.SubprocessError, PermissionError) as wrong:
+        raise Skipped(f"no run without rights: {wrong}") from None
+    made, fault = Store(4, 100, 10), (b"", 5, complaint(5))
+    os.chmod(inner, 0o300)
+    for turn in range(2):
+        expect(f"format, {turn}", run_there("format", path, "4", "100", "10"), fault)
+    os.chmod(inner, 0o700)
+    expect("format, with leave", run_there("format", path, "4", "100", "10"), (made.line(), 0, b""))
+    os.chmod(inner, 0o300)
+    expect("serve", run_there("serve", path), fault)
+    os.chmod(inner, 0o700)
+    os.chmod(path, 0o400)
+    expect("serve, the file not to be written", run_there("serve", path), fault)
+    os.chmod(path, 0o600)
+    expect("the file", bytes_of(path) == made.file(), True)
+    out, status = made.serve(PUT_A)
+    expect("serve, with leave", run_there("serve", path), (out, status, b""))
 
 
 def a_full_device_is_a_device_fault(folder):
@@ -661,6 +875,10 @@ CHECKS = [
     noise_ends_with_a_named_status,
     wrong_words_are_refused_and_nothing_is_touched,
     a_closed_output_is_a_sink_fault,
+    an_output_that_takes_half_a_reply_is_a_sink_fault,
+    an_output_that_is_read_slowly_gets_every_reply,
+    streams_that_do_not_wait_are_faults_once_they_would,
+    a_program_with_a_name_that_is_no_text_refuses_its_words,
     an_input_that_cannot_be_read_is_a_source_fault,
     a_closed_stream_does_not_reach_the_store,
     a_program_that_may_open_no_file_touches_none,
@@ -677,6 +895,11 @@ CHECKS = [
     a_store_cut_short_is_refused_by_name,
     a_store_overwritten_with_noise_is_refused_by_name,
     what_is_no_file_is_refused_by_name,
+    a_file_is_reached_by_symbolic_links,
+    a_link_that_leads_to_no_name_is_a_device_fault,
+    the_file_is_synced_at_each_sync_and_its_folder_once,
+    a_sync_that_fails_is_a_device_fault,
+    a_folder_or_file_without_leave_is_a_device_fault,
     a_full_device_is_a_device_fault,
 ]
 
@@ -706,6 +929,8 @@ def main():
         try:
             with tempfile.TemporaryDirectory() as folder:
                 check(folder)
+        except Skipped as why:
+            print(f"outside: skipped: {name}: {why}")
         except (Wrong, subprocess.SubprocessError, OSError) as wrong:
             print(f"outside: FAILED: {name}: {wrong}")
             failed += 1

@@ -3,9 +3,11 @@
 
 mod arguments;
 mod formatting;
+mod links;
 mod program;
 
 use arguments::path_of;
+use links::file_of;
 use program::{run, status_text};
 use std::fs::OpenOptions;
 use std::io::{Eprint, ErrorKind, Input, Print};
@@ -68,7 +70,11 @@ fn start<R: Env + Input + Print + Files + AllocGlobal>(rt: &R) -> u8 {
     else {
         return Ended::NoMemory.status();
     };
-    run_over(rt, &words, path)
+    // A file is named for good once the folder that it stands in is synced, and not that of a link.
+    match file_of(rt, path) {
+        Ok(file) => run_over(rt, &words, file.as_str()),
+        Err(ended) => ended.status(),
+    }
 }
 
 fn main(rt: HostRuntime) -> ExitCode {

@@ -12,8 +12,8 @@ use strat_base::Failed;
 /// One file, by its path, that is opened at the first call and created where it is absent.
 ///
 /// A read or a write is a seek and a transfer. The first sync also syncs the folder that names the file, so that a
-/// new file is still there after a power loss; after a sync that failed each one fails. It exposes no content, and is seen
-/// as its count of faults.
+/// new file is still there after a power loss, and fails where the path is a symbolic link, which does not name that
+/// folder; after a sync that failed each one fails. It exposes no content, and is seen as its count of faults.
 #[derive(Drop)]
 pub struct FileDisk<'a, R: Files> {
     file: OneFile<'a, R>,

@@ -11,7 +11,6 @@ pub struct OneFile<'a, R: Files> {
     rt: &'a R,
     path: &'a str,
     file: Option<R::File>,
-    created: bool,
     folder_synced: bool,
     sync_failed: bool,
 }
@@ -22,7 +21,6 @@ impl<'a, R: Files> OneFile<'a, R> {
             rt,
             path,
             file: None,
-            created: false,
             folder_synced: false,
             sync_failed: false,
         }
@@ -48,7 +46,8 @@ impl<'a, R: Files> OneFile<'a, R> {
         }
     }
 
-    /// Syncs the file's bytes, and the first time also the folder that names it.
+    /// Syncs the file's bytes, and the first time also the folder that names it: whoever made the file, and
+    /// however long ago, may have failed to.
     pub fn sync(&mut self) -> io::Result<()> {
         // A sync that failed may have lost what it was to keep, and the next one would not say so.
         if self.sync_failed {
@@ -61,11 +60,8 @@ impl<'a, R: Files> OneFile<'a, R> {
             None => return Err(ErrorKind::NotFound.into()),
         }
         if !self.folder_synced {
-            // Only a file that was made here needs its folder: another one had its name before.
-            match sync_folder(self.rt, self.path) {
-                Err(e) if self.created => return Err(e),
-                _ => self.folder_synced = true,
-            }
+            sync_folder(self.rt, self.path)?;
+            self.folder_synced = true;
         }
         self.sync_failed = false;
         Ok(())
@@ -79,7 +75,6 @@ impl<'a, R: Files> OneFile<'a, R> {
             Ok(file) => self.file = Some(file),
             Err(e) if e.kind() == ErrorKind::NotFound => {
                 self.file = Some(create(self.rt, self.path)?);
-                self.created = true;
             }
             Err(e) => return Err(e),
         }
@@ -127,12 +122,38 @@ fn sync_data<F: OpenFile>(file: &F) -> io::Result<()> {
     Err(ErrorKind::Interrupted.into())
 }
 
-/// Syncs the folder in which the file has its name.
+/// Syncs the folder in which the file has its name. Where the system has no such operation for this folder there is
+/// nothing to be waited for.
 fn sync_folder<R: Files>(rt: &R, path: &str) -> io::Result<()> {
-    let folder = match Path::new(path).parent() {
+    // The folder of a symbolic link is not the one that names the file.
+    if rt.symlink_metadata(path)?.is_symlink() {
+        return Err(ErrorKind::InvalidFilename.into());
+    }
+    let folder = OpenOptions::new().read(true).open(rt, folder_of(path))?;
+    match sync_all(&folder) {
+        Err(e) if is_no_operation(e.kind()) => Ok(()),
+        done => done,
+    }
+}
+
+fn folder_of(path: &str) -> Path<'_> {
+    match Path::new(path).parent() {
         Some(folder) if folder != Path::new("") => folder,
         _ => Path::new("."),
-    };
-    let folder = OpenOptions::new().read(true).open(rt, folder)?;
-    folder.sync_all()
+    }
+}
+
+fn sync_all<F: OpenFile>(folder: &F) -> io::Result<()> {
+    for _ in 0..u64::MAX {
+        match folder.sync_all() {
+            Err(e) if e.kind() == ErrorKind::Interrupted => {}
+            done => return done,
+        }
+    }
+    Err(ErrorKind::Interrupted.into())
+}
+
+/// Whether this is how a system says that a file or folder of this kind cannot be synced at all.
+fn is_no_operation(kind: ErrorKind) -> bool {
+    kind == ErrorKind::Unsupported || kind == ErrorKind::InvalidInput
 }

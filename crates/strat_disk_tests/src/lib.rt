@@ -5,4 +5,8 @@
 #[cfg(test)]
 mod disks;
 #[cfg(test)]
+mod file_edges;
+#[cfg(test)]
+mod stream_edges;
+#[cfg(test)]
 mod streams;
