@@ -8,6 +8,7 @@ use std::process::Abort;
 use std::test::Fail;
 use strat_base::{Change, Failed, Trouble};
 use strat_disk::{Disk, FuseDisk, MemDisk};
+use strat_format::{region_at, region_blocks, region_first};
 use strat_gate::SuperBlock;
 
 // The superblock of an empty store with this journal.
