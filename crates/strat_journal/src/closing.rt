@@ -7,7 +7,7 @@ ghost use Rattle.strat_format.specs.Layout as places;
 ghost use Rattle.strat_crash.specs.Moments.{Exposes, Images, Since, Passes, TearsOnly, IsDurable};
 ghost use Rattle.strat_gate.specs.Gates.{EndsShut};
 ghost use Rattle.strat_format.specs.Records.{Logged, journal_of};
-ghost use Rattle.strat_format.specs.Layout.{open_flag};
+ghost use Rattle.strat_format.specs.Layout.{IsRegion, open_flag};
 
 use strat_base::Failed;
 use strat_disk::Disk;
@@ -17,7 +17,7 @@ use strat_gate::gate_ensure_shut;
 /// Shuts a region's first gate where it reads open, and writes nothing where it does not: at most one read,
 /// one write and one sync. The region should not be the active one.
 pub fn close_region<D: Disk>(disk: &mut D, mem: u32, region: u8) -> Result<(), Failed>
-    requires fits { (4 ≤ mem) × (mem ≤ 4096) × (region ≤ 1) }
+    requires fits { (4 ≤ mem) × IsRegion mem region }
     ensures kept { (logged : List Logged) → length logged < mem
         → ((c : Image) → Images (D.view disk.old) c
         → journal_of c mem (places.other_region region) ≡ Ok logged)

@@ -6,6 +6,7 @@ ghost use Rattle.strat_base.specs.ChangeView.{change_of};
 ghost use Rattle.strat_crash.specs.Faults.{CountsFaults};
 ghost use Rattle.strat_crash.specs.Image.{Image};
 ghost use Rattle.strat_format.specs.Layout as places;
+ghost use Rattle.strat_format.specs.Layout.{IsRegion};
 ghost use Rattle.strat_crash.specs.Moments.{Exposes, Since, Passes, TearsOnly};
 ghost use Rattle.strat_journal.specs.Log.{Stands, GivesAllOrNone, HoldsBatch, batch_joined, with_list, empty_log};
 
@@ -74,7 +75,7 @@ impl Model for Journal {
 impl Journal {
     /// Nothing in the list, and room for as many changes as two regions take and for a batch.
     pub(crate) fn empty(alloc: Global, mem: u32, active: u8) -> Result<Journal, NoMemory>
-        requires fits { (4 ≤ mem) × (mem ≤ 4096) × (active ≤ 1) }
+        requires fits { (4 ≤ mem) × IsRegion mem active }
         ensures ok { IfOk result (λ j. j ≡ empty_log mem active) }
     {
         let room = RECORD_MAX as usize * (2 * mem as usize + BATCH_MAX) + 1;

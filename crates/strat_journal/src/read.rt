@@ -13,7 +13,7 @@ ghost use Rattle.strat_format.specs.Records.{region_records};
 ghost use Rattle.strat_journal.specs.Records.{logged_of, alone_then, recover_journal_now};
 ghost use Rattle.strat_journal.specs.Records.{is_plain as plain_change};
 ghost use Rattle.strat_crash.specs.Faults.{HasCause, ReadsAtMost};
-ghost use Rattle.strat_format.specs.Layout.{is_open};
+ghost use Rattle.strat_format.specs.Layout.{IsRegion, is_open};
 
 use crate::journal::{Journal, Logged};
 use crate::region_reader::RegionReader;
@@ -31,7 +31,7 @@ fn read_region<D: Disk>(
     mem: u32,
     region: u8,
 ) -> Result<Vec<Logged>, Trouble>
-    requires fits { (mem ≤ 4096) × (region ≤ 1) }
+    requires fits { IsRegion mem region }
     ensures found { IfOk result (λ v. (f : Image) → Exposes (D.view disk.old) f
         → region_records f mem region ≡ Ok (map logged_of v.items)) }
     ensures len { IfOk result (λ v. vec_len v ≤ mem) }
@@ -107,7 +107,7 @@ fn read_records<D: Disk>(
     mem: u32,
     region: u8,
 ) -> Result<(Vec<Logged>, bool), Trouble>
-    requires fits { (mem ≤ 4096) × (region ≤ 1) }
+    requires fits { IsRegion mem region }
     ensures found { IfOk result (λ r. (f : Image) → Exposes (D.view disk.old) f
         → (recover_journal_now f mem region ≡ Ok (map logged_of r.0.items))
         × (r.1 ≡ is_open (f (places.region_at mem (places.other_region region))))) }

@@ -5,6 +5,7 @@ ghost use Rattle.strat_crash.specs.Faults.{CountsFaults, HasCause};
 ghost use Rattle.std.specs.Bool.{OnTrue, OnFalse};
 ghost use Rattle.strat_crash.specs.Image.{Image};
 ghost use Rattle.strat_format.specs.Layout as places;
+ghost use Rattle.strat_format.specs.Layout.{IsRegion};
 ghost use Rattle.strat_journal.specs.RegionReader.{MatchesImage, IsClear, IsConclusive, ReadsOn, HoldsRecord, HoldsNoRecord, Stored, StoredNone};
 ghost use Rattle.strat_format.specs.Records.{block_of};
 ghost use Rattle.strat_base.specs.declared.failures.Trouble.TheVariants.{Device, Damaged};
@@ -40,7 +41,7 @@ impl Model for RegionReader {
 impl RegionReader {
     /// No block of this region yet.
     pub(crate) fn new(alloc: Global, mem: u32, region: u8) -> Result<RegionReader, NoMemory>
-        requires fits { (mem ≤ 4096) × (region ≤ 1) }
+        requires fits { IsRegion mem region }
         ensures ok { IfOk result (λ p. p ≡ record {
           first = places.region_at mem region;
           size = places.region_size mem;
