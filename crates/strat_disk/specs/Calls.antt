@@ -1,5 +1,5 @@
 -- CountsFaults of calls, and the calls that are to fail.
-use Rattle.std.specs.Prelude.{◌==◌, ℕ, ◌+◌, ◌-◌, ◌^◌, min, Bool, List}
+use Rattle.std.specs.Prelude.{◌==◌, ℕ, Bool, List}
 use Rattle.std.specs.List.{list_any}
 
 -- the call with this number is one of those that fail
