@@ -1,4 +1,4 @@
--- CountsFaults of calls, and the calls that are to fail.
+-- Counts of calls, and the calls that are to fail.
 use Rattle.std.specs.Prelude.{◌==◌, ℕ, Bool, List}
 use Rattle.std.specs.List.{list_any}
 

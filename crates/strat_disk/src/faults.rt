@@ -1,10 +1,10 @@
-//! CountsFaults of faults.
+//! Counts of faults.
 ghost use Rattle.std.specs.Prelude.{◌≡◌, ◌≤◌};
 ghost use Rattle.strat_crash.specs.Faults.{Rose, one_more};
 
 use strat_base::Failed;
 
-/// CountsFaults a fault. The count stands still at the end of its type.
+/// Counts a fault. The count stands still at the end of its type.
 pub(crate) fn fault(faults: &mut u64) -> Failed
     ensures faults { faults.new ≡ one_more faults.old }
     ensures later { faults.old ≤ faults.new }

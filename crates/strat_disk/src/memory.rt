@@ -105,7 +105,7 @@ impl MemDisk {
     }
 }
 
-/// CountsFaults a call, and says whether it is to fail.
+/// Counts a call, and says whether it is to fail.
 fn fails(calls: &mut u64, failing: &Vec<u64>) -> bool
     ensures calls { calls.new ≡ one_more calls.old }
     ensures value { result ≡ is_failing failing.now.items calls.new }

@@ -31,7 +31,7 @@ impl Calls {
         })
     }
 
-    /// CountsFaults one more call, and tells whether it is to fail.
+    /// Counts one more call, and tells whether it is to fail.
     fn next_fails(&mut self) -> bool
         ensures found { IsTrue result ↔ Contains self.old.failing.items self.new.made }
         ensures same { self.new ≡ record self.old { made = one_more self.old.made } }
@@ -40,7 +40,7 @@ impl Calls {
         self.failing.contains(&self.made)
     }
 
-    /// CountsFaults one more failure.
+    /// Counts one more failure.
     fn fail(&mut self) -> Failed
         ensures same { self.new ≡ record self.old { faults = one_more self.old.faults } }
         ensures later { self.old.faults ≤ self.new.faults }
