@@ -751,6 +751,7 @@ def traced(folder, words, *inject, data=b""):
     if not shutil.which("strace"):
         raise Skipped("strace is not here")
     log = os.path.join(folder, "log")
+    open(log, "wb").close()
     wanted = [word for what in ("trace=fsync,fdatasync", *inject) for word in ("-e", what)]
     ran = subprocess.run(["strace", "-y", "-o", log, *wanted, PROGRAM, *words], input=data, capture_output=True,
                          timeout=DEADLINE, cwd=folder)
@@ -792,6 +793,14 @@ def a_sync_that_fails_is_a_device_fault(folder):
     for call in (1, 2, 3):
         got, syncs = traced(folder, words, f"inject=fdatasync:error=EIO:when={call}")
         expect(f"the file, {call}", (got, syncs[-1][2]), (fault, "-1 EIO"))
+    # the syncs of a serving run: at its opening, and two for each put
+    puts = b"".join(put(tag, b"%d" % tag, b"v") for tag in range(3))
+    for call in range(1, 8):
+        got, syncs = traced(folder, ["serve", StoreFile(folder).path], f"inject=fdatasync:error=EIO:when={call}", data=puts)
+        done = b"".join(reply(tag, model.DONE) for tag in range((call - 2) // 2))
+        if call > 1:
+            done += reply((call - 2) // 2, model.DEVICE_FAULT)
+        expect(f"serve, sync {call}", (got, len(syncs)), ((done, 5, complaint(5)), call + (call > 1)))
 
 
 def a_folder_or_file_without_leave_is_a_device_fault(folder):

@@ -1,10 +1,12 @@
 //! A disk in one file. What the file holds is trusted and not proved.
-ghost use Rattle.std.specs.Prelude.{◌≡◌};
+ghost use Rattle.std.specs.Prelude.{◌≡◌, OnErr};
+ghost use Rattle.strat_crash.specs.Faults.{CountsFaults, one_more};
 ghost use Rattle.strat_disk.specs.Hidden.{hidden};
 
 use crate::disk::Disk;
 use crate::faults::fault;
 use crate::one_file::OneFile;
+use std::io;
 use std::marker::Model;
 use std::rt::Files;
 use strat_base::Failed;
@@ -40,6 +42,17 @@ impl<'a, R: Files> FileDisk<'a, R> {
     }
 }
 
+/// What a call of the file comes to: a failure is counted as one fault, whatever the file was doing.
+fn counted(done: io::Result<()>, faults: &mut u64) -> Result<(), Failed>
+    ensures faults { OnErr result (faults.new ≡ one_more faults.old) }
+    ensures cause { CountsFaults faults.old faults.new result }
+{
+    match done {
+        Ok(()) => Ok(()),
+        Err(_) => Err(fault(faults)),
+    }
+}
+
 impl<R: Files> Disk for FileDisk<'_, R> {
     ghost view = { λ d. hidden };
 
@@ -48,25 +61,19 @@ impl<R: Files> Disk for FileDisk<'_, R> {
     ghost reads = { λ d. 0 };
 
     fn read_at(&mut self, at: u64, into: &mut [u8]) -> Result<(), Failed> {
-        match self.file.read(at, into) {
-            Ok(()) => Ok(()),
-            Err(_) => Err(fault(&mut self.faults)),
-        }
+        let done = self.file.read(at, into);
+        counted(done, &mut self.faults)
     }
 
     #[tactic(auto, using(crate::proofs::HiddenLemmas::tears_hidden))]
     fn write_at(&mut self, at: u64, bytes: &[u8]) -> Result<(), Failed> {
-        match self.file.write(at, bytes) {
-            Ok(()) => Ok(()),
-            Err(_) => Err(fault(&mut self.faults)),
-        }
+        let done = self.file.write(at, bytes);
+        counted(done, &mut self.faults)
     }
 
     fn sync(&mut self) -> Result<(), Failed> {
-        match self.file.sync() {
-            Ok(()) => Ok(()),
-            Err(_) => Err(fault(&mut self.faults)),
-        }
+        let done = self.file.sync();
+        counted(done, &mut self.faults)
     }
 
     ghost leaves_content = { λ d. tt };
