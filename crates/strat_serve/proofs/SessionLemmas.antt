@@ -45,8 +45,8 @@ earlier_first xs =
     let n = length xs - 1 in (
       sent_bytes (map (λ (x : Exchange). x.response) (drop n xs)),
       ap (λ (ys : List Exchange). sent_bytes (map (λ (x : Exchange). x.response) ys)) (sym (take-append-drop n xs))
-      ∙ ap sent_bytes (map-append (λ (x : Exchange). x.response) (take n xs) (drop n xs))
-      ∙ flat_map-append response_bytes (map (λ (x : Exchange). x.response) (take n xs)) (map (λ (x : Exchange). x.response) (drop n xs)),
+          ∙ ap sent_bytes (map-append (λ (x : Exchange). x.response) (take n xs) (drop n xs))
+          ∙ flat_map-append response_bytes (map (λ (x : Exchange). x.response) (take n xs)) (map (λ (x : Exchange). x.response) (drop n xs)),
     )
 
 -- all but the last of a list with one more
@@ -233,9 +233,11 @@ answers_cut start old new count budget held rest body response before mid now p 
           ∙ ap (λ (x : List ℕ). earlier ++ x) cut.parts ∙ sym (append_assoc earlier cut.sent cut.later);
       some = cut.some;
       appends = appends_then before.held mid.held now.held earlier cut.sent p.sent cut.appends;
-    })
-    (cut.sent, ap (λ (xs : List Exchange). sent_bytes (map (λ (x : Exchange). x.response) xs) ++ cut.sent)
-        (sym (ap (λ (xs : List Exchange). take (length xs - 1) xs) q.1 ∙ all_but_last p.exchanges (record { body = body; response = response; at = position_of old }))))
+    }) (
+      cut.sent,
+      ap (λ (xs : List Exchange). sent_bytes (map (λ (x : Exchange). x.response) xs) ++ cut.sent)
+          (sym (ap (λ (xs : List Exchange). take (length xs - 1) xs) q.1 ∙ all_but_last p.exchanges (record { body = body; response = response; at = position_of old }))),
+    )
 
 -- the next body met a fault
 module _ (start old new : Attached) (count budget : ℕ) (held rest body : List ℕ) (response : Response) (before mid now : World) (p : Progress start old count held before mid) (within : count ≤ budget)
@@ -320,12 +322,12 @@ module _ (start old new : Attached) (count budget : ℕ) (held rest body : List 
       halts ended.Sink
       (record {
         cut = record {
-        sent = sent_bytes (map (λ (x : Exchange). x.response) p.exchanges) ++ cut.sent;
-        later = cut.later;
-        parts = output_broken ∙ ap (λ (x : List ℕ). sent_bytes (map (λ (y : Exchange). y.response) p.exchanges) ++ x) cut.parts
-            ∙ sym (append_assoc (sent_bytes (map (λ (x : Exchange). x.response) p.exchanges)) cut.sent cut.later);
-        some = cut.some;
-        appends = appends_then before.held mid.held now.held (sent_bytes (map (λ (x : Exchange). x.response) p.exchanges)) cut.sent p.sent cut.appends;
+          sent = sent_bytes (map (λ (x : Exchange). x.response) p.exchanges) ++ cut.sent;
+          later = cut.later;
+          parts = output_broken ∙ ap (λ (x : List ℕ). sent_bytes (map (λ (y : Exchange). y.response) p.exchanges) ++ x) cut.parts
+              ∙ sym (append_assoc (sent_bytes (map (λ (x : Exchange). x.response) p.exchanges)) cut.sent cut.later);
+          some = cut.some;
+          appends = appends_then before.held mid.held now.held (sent_bytes (map (λ (x : Exchange). x.response) p.exchanges)) cut.sent p.sent cut.appends;
         };
         part = cut.sent;
         replied = refl;
