@@ -86,6 +86,4 @@ fn main(rt: HostRuntime) -> ExitCode {
 }
 
 #[cfg(test)]
-mod disk_tests;
-#[cfg(test)]
 mod tests;

@@ -1,0 +1,12 @@
+//! Tests of `strat_store` and `strat_serve`, over sources, sinks and disks in memory that fail, crash and are altered.
+
+#![tactic(auto)]
+
+#[cfg(test)]
+mod disks;
+#[cfg(test)]
+mod formatting;
+#[cfg(test)]
+mod streams;
+#[cfg(test)]
+mod support;

@@ -1,0 +1,99 @@
+//! New stores in memory, and runs over them.
+
+ghost use Rattle.strat_format.specs.SuperBlock.{AreLimits};
+
+use std::alloc::Global;
+use strat_disk::{Disk, MemDisk};
+use strat_io::{MemSink, MemSource};
+use strat_model::Ended;
+use strat_serve::serve;
+use strat_store::format;
+
+/// Puts `a` = `1` to `d` = `4`, under tags 1 to 4.
+pub const PUTS: &[u8] = b"\x00\x00\x00\x0f\x00\x00\x00\x01\x01\x00\x00\x00\x00\x00\x01a\x00\x011\
+\x00\x00\x00\x0f\x00\x00\x00\x02\x01\x00\x00\x00\x00\x00\x01b\x00\x012\
+\x00\x00\x00\x0f\x00\x00\x00\x03\x01\x00\x00\x00\x00\x00\x01c\x00\x013\
+\x00\x00\x00\x0f\x00\x00\x00\x04\x01\x00\x00\x00\x00\x00\x01d\x00\x014";
+/// The first of them alone.
+pub const PUT: &[u8] = b"\x00\x00\x00\x0f\x00\x00\x00\x01\x01\x00\x00\x00\x00\x00\x01a\x00\x011";
+/// Asks for `a` to `d`, under tags 11 to 14.
+pub const GETS: &[u8] = b"\x00\x00\x00\x0c\x00\x00\x00\x0b\x03\x00\x00\x00\x00\x00\x01a\
+\x00\x00\x00\x0c\x00\x00\x00\x0c\x03\x00\x00\x00\x00\x00\x01b\
+\x00\x00\x00\x0c\x00\x00\x00\x0d\x03\x00\x00\x00\x00\x00\x01c\
+\x00\x00\x00\x0c\x00\x00\x00\x0e\x03\x00\x00\x00\x00\x00\x01d";
+/// The replies to these where each key was put; 12 bytes each.
+pub const FOUND: &[u8] = b"\x00\x00\x00\x08\x00\x00\x00\x0b\x01\x00\x011\
+\x00\x00\x00\x08\x00\x00\x00\x0c\x01\x00\x012\
+\x00\x00\x00\x08\x00\x00\x00\x0d\x01\x00\x013\
+\x00\x00\x00\x08\x00\x00\x00\x0e\x01\x00\x014";
+/// The replies to these where none was; 9 bytes each.
+pub const ABSENT: &[u8] = b"\x00\x00\x00\x05\x00\x00\x00\x0b\x02\
+\x00\x00\x00\x05\x00\x00\x00\x0c\x02\
+\x00\x00\x00\x05\x00\x00\x00\x0d\x02\
+\x00\x00\x00\x05\x00\x00\x00\x0e\x02";
+/// What a run may read here.
+const BUDGET: u64 = 100_000;
+
+/// A disk with a new store of these limits, which has counted no call.
+pub fn new_store(alloc: Global, mem: u32, changes: u32, versions: u32) -> Option<MemDisk>
+    requires { AreLimits mem changes versions }
+{
+    let mut disk = MemDisk::new(alloc, &[]).ok()?;
+    if format(alloc, &mut disk, mem, changes, versions).is_err() {
+        return None;
+    }
+    disk.crash(0).ok()
+}
+
+/// A disk with a small store, which takes four changes.
+pub fn small_store(alloc: Global) -> Option<MemDisk> {
+    new_store(alloc, 4, 100, 10)
+}
+
+/// How a run over a disk ends that is given these bytes, and the sink that it fills.
+pub fn run<D: Disk>(alloc: Global, disk: &mut D, input: &[u8]) -> Option<(Ended, MemSink)> {
+    let mut source = MemSource::new(alloc, input, &[], 4096).ok()?;
+    let mut sink = MemSink::new(alloc, &[], 4096).ok()?;
+    let how = serve(alloc, &mut source, &mut sink, disk, BUDGET);
+    Some((how, sink))
+}
+
+/// Whether a run that is given these bytes sends those and ends so.
+pub fn gives<D: Disk>(
+    alloc: Global,
+    disk: &mut D,
+    input: &[u8],
+    output: &[u8],
+    ended: Ended,
+) -> bool {
+    match run(alloc, disk, input) {
+        Some((how, sink)) => how == ended && sink.bytes() == output,
+        None => false,
+    }
+}
+
+/// Whether replies to the four gets say that just the first so many keys are there.
+fn tells(replies: &[u8], puts: usize) -> bool {
+    if puts > 4 {
+        return false;
+    }
+    let (found, absent) = (12 * puts, 9 * puts);
+    replies.len() == found + 36 - absent
+        && replies[..found] == FOUND[..found]
+        && replies[found..] == ABSENT[absent..]
+}
+
+/// How many of the four puts a disk has, where it has a prefix of them and nothing else that is asked for.
+pub fn puts_on<D: Disk>(alloc: Global, disk: &mut D) -> Option<usize> {
+    let (how, sink) = run(alloc, disk, GETS)?;
+    if how != Ended::Done {
+        return None;
+    }
+    (0..=4).find(|puts| tells(sink.bytes(), *puts))
+}
+
+/// How many of the four puts a crash of this choice leaves.
+pub fn left_by(alloc: Global, disk: &MemDisk, choice: u8) -> Option<usize> {
+    let mut after = disk.crash(choice).ok()?;
+    puts_on(alloc, &mut after)
+}
