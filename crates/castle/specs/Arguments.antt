@@ -1,4 +1,4 @@
--- The words of a command line.
+-- The arguments of a command line.
 use Rattle.std.specs.Prelude.{ℕ, ◌==◌, ◌&&◌, ◌||◌, nat_lt, nat_le, Bool, not, if◌then◌else◌, List, [], ◌∷◌, length, slice_index, Option, Some, None, codes, option_map, option_and_then, bytes_eq}
 use Rattle.std.specs.Str.{all_ascii_digits}
 use Rattle.std.specs.Str.Parse.{digits_value}
@@ -11,13 +11,13 @@ pub data Subcommand : Type 0 where
   Format : (path : List ℕ) (mem changes_max versions_max : ℕ) → Subcommand
   Serve : (path : List ℕ) → Subcommand
 
--- a job of the program, wherever its path lies
+-- a subcommand of the program, wherever its path lies
 abbrev pub subcommand_seen : Borrowed → Subcommand
 subcommand_seen (borrowed.Format path mem changes_max versions_max) =
     Format path.now mem changes_max versions_max
 subcommand_seen (borrowed.Serve path) = Serve path.now
 
--- the file of a job
+-- the file of a subcommand
 abbrev pub path_of_subcommand : Subcommand → List ℕ
 path_of_subcommand (Format path mem changes_max versions_max) = path
 path_of_subcommand (Serve path) = path
@@ -27,7 +27,7 @@ abbrev pub is_numeral : List ℕ → Bool
 is_numeral word = nat_lt 0 (length word)
     && (all_ascii_digits word && (not (slice_index word 0 == 48) || (length word == 1)))
 
--- the number that a word is, where it is a numeral within a range
+-- the number that an argument is, where it is a numeral within a range
 abbrev pub number_in : ℕ → ℕ → List ℕ → Option ℕ
 number_in least most word =
     if is_numeral word
@@ -35,13 +35,13 @@ number_in least most word =
     then Some (digits_value 10 word)
     else None
 
--- the job of serving a store, where these words ask for it
+-- the subcommand of serving a store, where these arguments ask for it
 abbrev pub serve_in : List ℕ → List ℕ → Option Subcommand
 serve_in job path =
     if bytes_eq job (codes "serve") && not (length path == 0) then Some (Serve path) else None
 
--- the job of making a store, where these words ask for it and the numbers among them are a store's
--- limits
+-- the subcommand of making a store, where these arguments ask for it and the numbers among them
+-- are a store's limits
 abbrev pub format_in : List ℕ → List ℕ → List ℕ → List ℕ → List ℕ → Option Subcommand
 format_in job path mem changes versions =
     if bytes_eq job (codes "format") && not (length path == 0) then
@@ -51,12 +51,12 @@ format_in job path mem changes versions =
     (number_in 1 CHANGES_MAX changes)) (number_in MEM_MIN MEM_MAX mem)
     else None
 
--- the job that words name, where they name one
+-- the subcommand that arguments name, where they name one
 abbrev pub subcommand_in : List (List ℕ) → Option Subcommand
 subcommand_in (job ∷ path ∷ []) = serve_in job path
 subcommand_in (job ∷ path ∷ mem ∷ changes ∷ versions ∷ []) = format_in job path mem changes versions
 subcommand_in _ = None
 
--- the file that words name, where they name a job
+-- the file that arguments name, where they name a subcommand
 abbrev pub path_in : List (List ℕ) → Option (List ℕ)
 path_in words = option_map path_of_subcommand (subcommand_in words)

@@ -20,8 +20,8 @@ use Rattle.castle.specs.Arguments.{Subcommand, Serve, Format}
 abbrev pub EndsAsInput : ℕ → Type 0
 EndsAsInput status = (status ≡ 0) ⊎ (status ≡ 3) ⊎ (status ≡ 4) ⊎ (status ≡ 8) ⊎ (status ≡ 10)
 
--- where nothing failed, a serving run ends as what an opening finds says: as its input does, as no
--- store, or as damaged; or out of memory
+-- where nothing failed, a serving run ends as what an opening finds says: as its input does, as
+-- no store, or as damaged; or out of memory
 abbrev pub EndsAsFound : Read (Option Head) → ℕ → Type 0
 EndsAsFound (Ok (Some head)) status = EndsAsInput status
 EndsAsFound (Ok None) status = (status ≡ 2) ⊎ (status ≡ 8)
@@ -55,8 +55,8 @@ Formats ended.Done = Unit {0}
 Formats ended.Sink = Unit {0}
 Formats _ = ⊥
 
--- a run that formats ended so: it made a new store and said so, or found no memory, or the disk or
--- the sink failed
+-- a run that formats ended so: it made a new store and said so, or found no memory, or the disk
+-- or the sink failed
 pub record FormatsDisk (mem changes_max versions_max : ℕ) (how : Ended) (before now : World)
     : Type 0 where
   pub sends : SendsLine how before.held now.held (format_text mem changes_max versions_max)
@@ -82,8 +82,8 @@ Runs (Some (Format path mem changes_max versions_max)) budget status before now 
     (how : Ended) × (status ≡ status_of how)
     × FormatsDisk mem changes_max versions_max how before now
 
--- a run ended before it read or wrote anything but the disk: with no store, out of memory, or with
--- a damaged block
+-- a run ended before it read or wrote anything but the disk: with no store, out of memory, or
+-- with a damaged block
 abbrev pub IsEarly : ℕ → Type 0
 IsEarly status = (status ≡ 2) ⊎ (status ≡ 8) ⊎ (status ≡ 9)
 

@@ -1,4 +1,4 @@
-//! The words of a command line, as a job of the program.
+//! The arguments of a command line, as a subcommand of the program.
 
 ghost use Rattle.std.specs.Prelude.{◌≡◌, map, string_bytes};
 ghost use Rattle.std.specs.Option.{option_copied};
@@ -37,7 +37,7 @@ fn are_digits(bytes: &[u8]) -> bool
     true
 }
 
-/// Whether a word is decimal digits, of which the first is 0 only where it is the only one.
+/// Whether an argument is decimal digits, of which the first is 0 only where it is the only one.
 fn is_numeral(word: &str) -> bool
     ensures { result ≡ is_numeral word.now }
 {
@@ -45,7 +45,7 @@ fn is_numeral(word: &str) -> bool
     !digits.is_empty() && are_digits(digits) && (digits[0] != b'0' || digits.len() == 1)
 }
 
-/// The number that a word is, where it is a numeral within a range.
+/// The number that an argument is, where it is a numeral within a range.
 fn number(word: &str, least: u32, most: u32) -> Option<u32>
     ensures { result ≡ number_in least most word.now }
 {
@@ -61,7 +61,7 @@ fn number(word: &str, least: u32, most: u32) -> Option<u32>
     Some(n)
 }
 
-/// The job of serving a store, where these words ask for it.
+/// The subcommand of serving a store, where these arguments ask for it.
 fn serve_of<'a>(job: &str, path: &'a str) -> Option<Subcommand<'a>>
     ensures { Finds subcommand_seen result (serve_in job.now path.now) }
 {
@@ -71,8 +71,8 @@ fn serve_of<'a>(job: &str, path: &'a str) -> Option<Subcommand<'a>>
     Some(Subcommand::Serve { path })
 }
 
-/// The job of making a store, where these words ask for it and the numbers among them are a store's
-/// limits.
+/// The subcommand of making a store, where these arguments ask for it and the numbers among them
+/// are a store's limits.
 fn format_of<'a>(
     job: &str,
     path: &'a str,
@@ -97,7 +97,8 @@ fn format_of<'a>(
     })
 }
 
-/// The job that the words name, where they name one: `format FILE M C V` or `serve FILE`.
+/// The subcommand that the arguments name, where they name one: `format FILE M C V` or `serve
+/// FILE`.
 pub fn subcommand_of(words: &[String]) -> Option<Subcommand<'_>>
     ensures { Finds subcommand_seen result (subcommand_in (map string_bytes words.now)) }
 {
@@ -116,7 +117,7 @@ pub fn subcommand_of(words: &[String]) -> Option<Subcommand<'_>>
     None
 }
 
-/// The file that the words name, where they name a job.
+/// The file that the arguments name, where they name a subcommand.
 pub fn path_of(words: &[String]) -> Option<&str>
     ensures { option_copied result ≡ path_in (map string_bytes words.now) }
 {

@@ -8,8 +8,9 @@ use strat_model::Ended;
 /// How many links are followed, one after the other. Linux follows as many.
 const LINKS: u32 = 40;
 
-/// The path at which the file itself is named, though there may be none yet: the last of the links that begin at this
-/// path leads there. What cannot be read as a link is taken for the file. Nothing is opened.
+/// The path at which the file itself is named, though there may be none yet: the last of the links
+/// that begin at this path leads there. What cannot be read as a link is taken for the file.
+/// Nothing is opened.
 pub fn file_of<R: Files + AllocGlobal>(rt: &R, path: &str) -> Result<PathBuf, Ended> {
     let mut file = PathBuf::from_str(rt.alloc(), path).map_err(|_| Ended::NoMemory)?;
     for _ in 0..LINKS {

@@ -19,8 +19,7 @@ use strat_io::{StdSink, StdSource};
 use strat_model::Ended;
 
 /// The program's arguments without its name, or how a run ends that cannot have them: one that is
-/// no text
-/// is no word of the program.
+/// no text is no argument of the program.
 fn program_arguments<R: Env + AllocGlobal>(rt: &R) -> Result<Vec<String>, Ended> {
     let args = match env::args(rt) {
         Ok(args) => args,
@@ -53,14 +52,14 @@ fn run_over<R: Input + Print + Files + AllocGlobal>(rt: &R, words: &[String], pa
     )
 }
 
-/// Runs the program over the standard streams and the file that its words name.
+/// Runs the program over the standard streams and the file that its arguments name.
 fn start<R: Env + Input + Print + Files + AllocGlobal>(rt: &R) -> u8 {
     let words = match program_arguments(rt) {
         Ok(words) => words,
         Err(ended) => return ended.status(),
     };
     let Some(path) = path_of(&words) else {
-        // `run` says that these words are no job, and opens no file.
+        // `run` says that these arguments name no subcommand, and opens no file.
         return run_over(rt, &words, "");
     };
     // The system gives an opened file the lowest free number, which is a standard stream's where

@@ -18,14 +18,12 @@ use strat_serve::serve;
 const BUDGET: u64 = 1_099_511_627_776;
 
 /// Runs the subcommand that the program's arguments name, these without the program's own name, and
-/// answers its exit
-/// status. Nothing is read or written where they name none.
+/// answers its exit status. Nothing is read or written where they name none.
 ///
-/// Serving takes the memory for frames, replies and the journal at its start, about 1 MB and 2.6 KB
-/// for each change that
-/// a journal region takes, and each put the memory of its pair. A get or a put looks through the
-/// pairs of the version, and
-/// a put makes two writes and two syncs.
+/// Serving takes the memory for frames, replies and the journal at its start, 0.7 MB and 2.6 KB for
+/// each change that a journal region takes (0.3 MB and 5.3 KB for each while it recovers), and each
+/// put the memory of its pair. A get or a put looks through the pairs of the version, and a put
+/// makes two writes and two syncs.
 pub fn run<S: Source, K: Sink, D: Disk>(
     alloc: Global,
     words: &[String],

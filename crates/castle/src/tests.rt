@@ -19,8 +19,8 @@ fn arguments(alloc: Global, texts: &[&str]) -> Option<Vec<String>> {
     Some(arguments)
 }
 
-/// Whether these arguments leave a disk with this status and send just these bytes, where a source has some and neither
-/// source nor sink fails but at calls that are listed.
+/// Whether these arguments leave a disk with this status and send just these bytes, where a source
+/// has some and neither source nor sink fails but at calls that are listed.
 fn ends(
     alloc: Global,
     disk: &mut MemDisk,
@@ -52,7 +52,8 @@ fn stores_are_made_and_served(rt: HostRuntime) -> Result<(), Fail> {
     Ok(())
 }
 
-/// Whether arguments name no subcommand, and touch neither source nor sink nor disk, whose first calls would fail.
+/// Whether arguments name no subcommand, and touch neither source nor sink nor disk, whose first
+/// calls would fail.
 fn is_refused(alloc: Global, texts: &[&str]) -> bool {
     let (Ok(mut disk), Some(arguments)) = (MemDisk::new(alloc, &[1]), arguments(alloc, texts))
     else {

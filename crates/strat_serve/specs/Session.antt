@@ -1,5 +1,5 @@
--- A serving run: what it took, what it answered, what it sent, what it left on the disk, and why it
--- ended.
+-- A serving run: what it took, what it answered, what it sent, what it left on the disk, and why
+-- it ended.
 use Rattle.std.specs.Prelude.{◌≡◌, ◌≢◌, ◌≤◌, ◌<◌, ◌⊎◌, ℕ, ◌==◌, ◌&&◌, Bool, true, false, if◌then◌else◌, List, [], ◌++◌, ◌-◌, length, take, map, Option, Some, None, Ok, Err}
 use Rattle.strat_crash.specs.Faults.{Rose}
 use Rattle.strat_crash.specs.Image.{Image}

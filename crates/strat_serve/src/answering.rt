@@ -80,7 +80,7 @@ pub fn answer<D: Disk>(
     }
 }
 
-/// Answers that a frame is too long, whatever its tag may be.
+/// Answers that a frame is too long, under tag 0: its body was not read.
 pub fn refuse_long<K: Sink>(
     sink: &mut K,
     pairs: &mut PairBuf,

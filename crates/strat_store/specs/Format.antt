@@ -45,8 +45,8 @@ pub record IsBlank (v : DiskView) : Type 0 where
   pub first : (c : Image) → Images v c → c 0 ≢ open_flag
   pub second : (c : Image) → Images v c → c 4096 ≢ open_flag
 
--- the disk exposes its content, in which both slots and the first gates of both journal regions are
--- shut
+-- the disk exposes its content, in which both slots and the first gates of both journal regions
+-- are shut
 pub record IsShut (mem : ℕ) (v : DiskView) : Type 0 where
   pub content : Image
   pub exposed : Exposes v content

@@ -1,7 +1,6 @@
 -- What recovery finds, as long as stores have one version and keep all that they took in one
--- journal region. It finds less than the general
--- recovery does (`Opening` of strat_recovery), whose manifests and journals are of any kind: what
--- it finds the general one finds too.
+-- journal region. It finds less than the general recovery does (`Opening` of strat_recovery),
+-- whose manifests and journals are of any kind: what it finds the general one finds too.
 use Rattle.std.specs.Prelude.{◌≡◌, ◌≤◌, ◌<◌, ◌⊎◌, ℕ, ◌*◌, ◌==◌, ◌&&◌, min, Bool, true, List, [], ◌∷◌, ◌++◌, bytes_eq, Option, Some, None, Ok, IsTrue}
 use Rattle.strat_base.specs.declared.limits.TheConstants.{BLOCK}
 use Rattle.strat_format.specs.Chain.{link_bytes}
@@ -60,8 +59,8 @@ abbrev pub recover_slot_now : Image → Option (ℕ × Super) → Read (Option H
 recover_slot_now c None = Ok None
 recover_slot_now c (Some slot) = and_then (recover_head_now c slot.1) (λ h. Ok (Some h))
 
--- what an opening finds: nothing where the disk is no store, the store's head, or the block that is
--- damaged
+-- what an opening finds: nothing where the disk is no store, the store's head, or the block that
+-- is damaged
 abbrev pub recover_now : Image → Read (Option Head)
 recover_now c = and_then (newest_in c) (recover_slot_now c)
 
@@ -145,8 +144,8 @@ pub record Opens (before now : DiskView) (f : Image) (mem : ℕ) (t : Table) : T
 abbrev pub IsUnchanged : DiskView → DiskView → Type 0
 IsUnchanged before now = (now.content ≡ before.content) × KeepsImages before now
 
--- an opening of a disk with this content failed: the disk is left as it was, or the sync succeeded
--- and the last step failed, which shuts a gate
+-- an opening of a disk with this content failed: the disk is left as it was, or the sync
+-- succeeded and the last step failed, which shuts a gate
 abbrev pub FailsToOpen : DiskView → DiskView → Image → Type 0
 FailsToOpen before now f =
     IsUnchanged before now ⊎ ((mem : ℕ) × ((t : Table) × Opens before now f mem t))

@@ -18,7 +18,8 @@ use Rattle.strat_model.specs.Step.{step}
 use Rattle.strat_model.specs.Table.{Table, bare}
 use Rattle.strat_store.specs.Opened.{recover_now, recover_head_now, head_from, table_now, Shows, SameButJournal, Opens}
 
--- a store as its callers see it: its table, its journal, and whether a fault left it unfit for use
+-- a store as its callers see it: its table, its journal, and whether a fault left it unfit for
+-- use
 pub record Attached : Type 0 where
   pub table : Table
   pub log : Log
@@ -28,8 +29,8 @@ pub record Attached : Type 0 where
 abbrev pub position_of : Attached → Position
 position_of s = record { table = s.table; fill = length s.log.list }
 
--- between two commands of a store all changes are in the journal, which has room for as many as the
--- table takes
+-- between two commands of a store all changes are in the journal, which has room for as many as
+-- the table takes
 pub record IsReady (s : Attached) : Type 0 where
   pub batch : s.log.batch ≡ []
   pub count : length s.log.list ≡ s.table.changes
@@ -66,8 +67,8 @@ pub record IsOpenedBy (f : Image) (sb : Super) (log : Log) : Type 0 where
   pub newest : newest_in f ≡ Ok (Some (slot, sb))
   pub read : IsRead f sb log
 
--- a store stands on a disk: the disk has a head for good, and the store has that head's journal and
--- table
+-- a store stands on a disk: the disk has a head for good, and the store has that head's journal
+-- and table
 pub record StandsOn (v : DiskView) (s : Attached) : Type 0 where
   pub head : Head
   pub holds : Holds v s.log head
@@ -104,7 +105,8 @@ pub record LacksMemory (old : Attached) (request : Request) (answer : Answer) (n
   pub same : position_of new ≡ position_of old
   pub going : new.spent ≡ false
 
--- a command that the table accepts met a fault of the device, and the store is not to be used again
+-- a command that the table accepts met a fault of the device, and the store is not to be used
+-- again
 pub record IsBroken (old : Attached) (request : Request) (answer : Answer) (new : Attached)
     : Type 0 where
   pub reaches : reaches_disk request ≡ true

@@ -58,12 +58,10 @@ impl From<Failed> for FormatFault {
 }
 
 /// Makes a new store with so many changes per journal region, and so many changes and versions at
-/// most, whatever the
-/// disk had: five reads at most, and eight writes at most, each with a sync. The manifest of a new
-/// store fits a buffer on
-/// the stack, so no memory is taken. After an error nothing is said of the disk until it is
-/// formatted again; but one whose
-/// two slots were shut is then still no store, or the whole of the new one.
+/// most, whatever the disk had: five reads at most, and eight writes at most, each with a sync. The
+/// manifest of a new store fits a buffer on the stack, so no memory is taken. After an error
+/// nothing is said of the disk until it is formatted again; but one whose two slots were shut is
+/// then still no store, or the whole of the new one.
 pub fn format<D: Disk>(
     _alloc: Global,
     disk: &mut D,

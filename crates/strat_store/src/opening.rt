@@ -133,8 +133,7 @@ fn redo(table: &mut PlainTable, pairs: &mut PairBuf, logged: &Logged) -> Result<
 }
 
 /// The table after a journal's changes, each of which the table has to accept in its turn. It takes
-/// the memory of the
-/// pairs, and linear time for each change.
+/// the memory of the pairs, and linear time for each change.
 fn replay(alloc: Global, sb: &SuperBlock, logged: &[Logged]) -> Result<PlainTable, Trouble>
     requires fits { IsLawful (super_of sb.now) }
     requires room { length logged.now ≤ sb.now.mem }
@@ -213,13 +212,14 @@ fn shut_other<D: Disk>(disk: &mut D, sb: &SuperBlock, journal: &Journal) -> Resu
 }
 
 impl Store {
-    /// Opens the store on a disk. It syncs, reads the superblock, the manifest and the journal, and
-    /// shuts the region that is
-    /// not active where a crash left it open. Until the sync succeeds a crash leaves only what it
-    /// might have left before. It takes
-    /// the memory for the journal and for the pairs of its changes. It reads each block of the
-    /// journal once; each change
-    /// walks the pairs of its version.
+    /// Opens the store on a disk. It syncs, reads the two superblock slots, the manifest's block,
+    /// the active journal region up to its first closed gate and one gate of the other region, each
+    /// once, and shuts that gate where it reads open while the active region has room (no run of
+    /// this program leaves it so): at most one read, one write and one sync more. Until the sync
+    /// succeeds a crash leaves only what it might have left before. It takes 5.3 KB for each change
+    /// that a region has room for and 0.3 MB at its height, and keeps 2.6 KB for each and the
+    /// pairs. Each change walks the pairs of its version. After an error other than `Device` the
+    /// disk is as it was; after that one too, or its last step failed, which shuts that gate.
     pub fn attach<D: Disk>(alloc: Global, disk: &mut D) -> Result<Store, AttachFault>
         ensures ok { IfOk result (λ s. IsAttached (D.view disk.old) (D.view disk.new) s) }
         ensures none { IsErrOf result fault.NotAStore → (f : Image)

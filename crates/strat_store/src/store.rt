@@ -1,7 +1,7 @@
 //! An open store: its table in memory, and the journal that makes each change durable before it is
 //! answered.
 
-ghost use Rattle.std.specs.Prelude.{◌≡◌, ◌≤◌, ◌<◌, ◌⊎◌, ℕ, ◌+◌, ◌-◌, [], ◌∷◌, ◌++◌, length, Some, None, Ok, IfOk, OnOk, IsTrue, true, false};
+ghost use Rattle.std.specs.Prelude.{◌≡◌, ◌≢◌, ◌≤◌, ◌<◌, ◌⊎◌, ℕ, ◌+◌, ◌-◌, [], ◌∷◌, ◌++◌, length, Some, None, Ok, IfOk, OnOk, IsTrue, true, false};
 ghost use Rattle.strat_base.specs.Change.{is_lawful};
 ghost use Rattle.strat_base.specs.ChangeView.{change_of};
 ghost use Rattle.strat_crash.specs.Faults.{CountsFaults};
@@ -13,7 +13,8 @@ ghost use Rattle.strat_model.specs.Answer.{as_told, accepts};
 ghost use Rattle.strat_model.specs.Command.{request_of};
 ghost use Rattle.strat_recovery.specs.Head.{Head};
 ghost use Rattle.strat_model.specs.Spelling.{is_taken};
-ghost use Rattle.strat_model.specs.Step.{step};
+ghost use Rattle.strat_model.specs.declared.replies.Refusal.TheVariants as why;
+ghost use Rattle.strat_model.specs.declared.replies.Reply.TheVariants as reply;
 ghost use Rattle.strat_store.specs.Opened.{recover_now, head_with, MayFollow};
 ghost use Rattle.strat_store.specs.Store.{IsReady, Holds, StandsOn, IsApplied, Moves, BreaksByFault, change_asked};
 
@@ -24,8 +25,7 @@ use strat_journal::Journal;
 use strat_model::{Command, PlainTable, Refusal, Reply};
 
 /// An open store, seen as its table, its journal, and whether it is spent: after a fault of the
-/// device only another
-/// opening can tell what the disk holds.
+/// device only another opening can tell what the disk holds.
 #[derive(Drop)]
 pub struct Store {
     table: PlainTable,
@@ -122,11 +122,11 @@ impl Store {
     }
 
     /// Carries out one command. The pairs of its answer are in `out`, from which all others are
-    /// gone. A change is durable
-    /// before it is answered: two writes and two syncs, whatever the size of the store. A look-up
-    /// and a change take linear
-    /// time in the pairs of the version. After the refusal `DeviceFault`, and no other, the store
-    /// is spent.
+    /// gone. A change is durable before it is answered: two writes and two syncs, whatever the size
+    /// of the store. A look-up and a change take linear time in the pairs of the version. The
+    /// refusal `NoMemory` comes for a put alone, and leaves store and disk as they were. After the
+    /// refusal `DeviceFault`, and no other, the store is spent: whether the change is there the
+    /// next opening tells.
     pub fn apply<D: Disk>(
         &mut self,
         disk: &mut D,
@@ -140,7 +140,7 @@ impl Store {
             → Moves (D.view disk.old) (D.view disk.new) self.old self.new }
         ensures same { self.new.log.mem ≡ self.old.log.mem }
         ensures none { change_asked (request_of command.now) ≡ None → disk.new ≡ disk.old }
-        ensures err { accepts (step self.old.table (request_of command.now)).answer.reply ≡ false
+        ensures err { accepts result ≡ false → result ≢ reply.Refused why.DeviceFault
             → disk.new ≡ disk.old }
         ensures time { Passes (D.view disk.old) (D.view disk.new) }
         ensures cause { BreaksByFault (D.faults disk.old) (D.faults disk.new) self.new }
