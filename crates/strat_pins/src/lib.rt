@@ -1,0 +1,7 @@
+//! What the definitions of states and formats say at their bounds: at each bound a value that passes, and one past it
+//! that does not, so that no bound can be altered unnoticed. Each is the contract of a function that does nothing.
+
+#![tactic(auto)]
+
+pub mod limits;
+pub mod states;

@@ -1,0 +1,76 @@
+//! States at the bounds of definitions: at each bound one that passes, and one past it that doesn't. Each is
+//! the contract of a function that does nothing.
+
+#![tactic(auto, unfolding(strat_base::specs::Tree::climb, strat_state::specs::State::deep))]
+
+ghost use Rattle.std.specs.Prelude.{◌≡◌, [], ◌∷◌, true, false};
+ghost use Rattle.strat_state.specs.Breach.{breach, breaches};
+ghost use Rattle.strat_state.specs.Sound.{is_numbered_from};
+ghost use Rattle.strat_state.specs.State.{densities, deep, promised, IsPaid};
+ghost use Rattle.strat_pins.specs.States.{two_levels, two_levels_after, only_array_in, with_a_lead, without_leads, eight_leads_in, a_third_is_live, tag_at_the_horizon, shallower_horizon_is, fan_says, all_broken};
+
+/// After nine changes there may be leads in level 2, and 72 entries may be written: four for each change
+/// and level. Of these a lead in level 1 keeps back four.
+pub fn writing_is_paid_up_to_its_bound()
+    ensures deep { deep 4 9 ≡ 2 }
+    ensures promised { promised two_levels 2 ≡ 1 }
+    ensures kept { breaches two_levels ≡ [] }
+    ensures most { IsPaid (two_levels_after 68) }
+    ensures more { ¬ IsPaid (two_levels_after 69) }
+{}
+
+/// After nine changes level 3 is too deep for a lead, and level 2 is not.
+pub fn leads_are_no_deeper_than_paid()
+    ensures most { IsPaid (only_array_in 2 with_a_lead) }
+    ensures more { ¬ IsPaid (only_array_in 3 with_a_lead) }
+    ensures none { IsPaid (only_array_in 3 without_leads) }
+{}
+
+/// A level has room for as many leads as a region takes changes, twice for each level down to it.
+pub fn rooms_double_from_level_to_level()
+    ensures first { breaches (eight_leads_in 4 1) ≡ [] }
+    ensures third { breaches (eight_leads_in 1 3) ≡ [] }
+    ensures second { breaches (eight_leads_in 1 2) ≡ breach 104 2 0 ∷ [] }
+    ensures fewer { breaches (eight_leads_in 3 1) ≡ breach 104 1 0 ∷ [] }
+{}
+
+/// Levels are numbered from 1 to 22.
+pub fn levels_are_numbered_to_twenty_two()
+    ensures least { is_numbered_from 1 (eight_leads_in 4 1).levels ≡ true }
+    ensures most { is_numbered_from 1 (eight_leads_in 4 22).levels ≡ true }
+    ensures none { is_numbered_from 1 (eight_leads_in 4 0).levels ≡ false }
+    ensures more { is_numbered_from 1 (eight_leads_in 4 23).levels ≡ false }
+{}
+
+/// An array of which a third is live at a version is dense enough.
+pub fn a_third_is_enough()
+    ensures ok { breaches a_third_is_live ≡ [] }
+    ensures density { densities a_third_is_live ≡ (1, 3) ∷ [] }
+{}
+
+/// A tag has no version that is its level's horizon.
+pub fn tags_end_below_the_horizon()
+    ensures { breaches tag_at_the_horizon ≡ breach 97 1 0 ∷ [] }
+{}
+
+/// Of two levels the deeper may have the same horizon, and no greater one.
+pub fn deeper_horizons_are_no_greater()
+    ensures same { breaches (shallower_horizon_is 3) ≡ [] }
+    ensures greater { breaches (shallower_horizon_is 2) ≡ breach 105 2 0 ∷ [] }
+{}
+
+/// Each number of a descriptor is that of its array.
+pub fn descriptors_are_exact()
+    ensures ok { breaches (fan_says 3 3 2) ≡ [] }
+    ensures entries { breaches (fan_says 2 3 2) ≡ breach 107 1 1 ∷ [] }
+    ensures leads { breaches (fan_says 3 2 2) ≡ breach 107 1 1 ∷ [] }
+    ensures least { breaches (fan_says 3 3 1) ≡ breach 107 1 1 ∷ [] }
+{}
+
+/// Breaches are told rule by rule, in one rule level by level, and in a level array by array.
+pub fn breaches_are_told_in_order()
+    ensures { breaches all_broken ≡ breach 109 1 1 ∷ breach 97 1 0 ∷ breach 98 1 0 ∷ breach 98 2 0
+        ∷ breach 99 1 2 ∷ breach 100 1 2 ∷ breach 101 1 2 ∷ breach 102 1 2 ∷ breach 103 1 0
+        ∷ breach 104 1 0 ∷ breach 105 1 0 ∷ breach 105 2 0 ∷ breach 106 2 0
+        ∷ breach 107 1 1 ∷ breach 107 1 2 ∷ breach 108 0 0 ∷ [] }
+{}
