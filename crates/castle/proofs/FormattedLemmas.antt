@@ -1,15 +1,11 @@
 -- How a run that formats ends.
-use Rattle.std.proofs.Common.{◌≡◌, ◌≢◌, ℕ, List, Option, Some, refl, subst, inl, inr, ◌⊎◌, arith}
+use Rattle.std.proofs.Common.{◌≡◌, ℕ, List, Option, refl, inl, inr, ◌⊎◌, arith}
 use Rattle.strat_crash.specs.Faults.{Rose}
-use Rattle.strat_crash.specs.Image.{Image}
-use Rattle.strat_crash.specs.Moments.{Since}
 use Rattle.strat_model.specs.declared.ended.Ended.{Ended}
 use Rattle.strat_model.specs.declared.ended.Ended.TheVariants as ended
 use Rattle.strat_model.specs.Ended.{status_of}
-use Rattle.strat_store.specs.Format.{IsNewDisk, IsBlank, IsNoneOrNew}
-use Rattle.castle.specs.Outcomes.{SendsLine, Formats, FormatsDisk, format_text}
+use Rattle.castle.specs.Outcomes.{SendsLine}
 use Rattle.strat_serve.specs.Session.{EndHasCause}
-use Rattle.castle.specs.Arguments.{Subcommand, Format}
 use Rattle.strat_serve.specs.World.{World}
 
 -- where neither the sink nor the disk failed it is done, or found no memory

@@ -9,7 +9,7 @@ use Rattle.strat_model.specs.declared.ended.Ended.TheVariants as ended
 use Rattle.strat_model.specs.Ended.{status_of}
 use Rattle.strat_recovery.specs.Head.{Head}
 use Rattle.strat_recovery.specs.Texts as texts
-use Rattle.strat_store.specs.Format.{IsNewDisk, IsBlank, IsNoneOrNew}
+use Rattle.strat_store.specs.Format.{IsNewDisk, IsBlank, IsNoneOrNew, KeepsOthers}
 use Rattle.strat_serve.specs.Session.{SendsPrefix, RunOutcome, RefusesFor, EndHasCause}
 use Rattle.strat_serve.specs.World.{World, IsCalm}
 use Rattle.strat_crash.specs.Faults.{Rose}
@@ -66,6 +66,8 @@ pub record FormatsDisk (mem changes_max versions_max : ℕ) (how : Ended) (befor
   pub moments : (f : Image) → Exposes before.disk f → IsBlank before.disk
       → (c : Image) → Since now.disk before.disk.moment c
       → IsNoneOrNew mem changes_max versions_max c
+  -- and it writes the slots, the first gates of the regions and the manifest's block alone
+  pub kept : KeepsOthers mem before.disk now.disk
   pub cause : EndHasCause how before now
   pub calm : how ≢ ended.Device → now.disk_faults ≡ before.disk_faults
   pub complete : ¬ Rose before.sink_faults now.sink_faults

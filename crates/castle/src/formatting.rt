@@ -4,7 +4,7 @@ ghost use Rattle.std.specs.Prelude.{◌≡◌, ◌≢◌, ◌≤◌, ℕ, List, 
 ghost use Rattle.strat_format.specs.SuperBlock.{AreLimits};
 ghost use Rattle.strat_crash.specs.Image.{Image};
 ghost use Rattle.strat_crash.specs.Moments.{Exposes, Since, Passes};
-ghost use Rattle.strat_store.specs.Format.{IsNewDisk, IsBlank, IsNoneOrNew};
+ghost use Rattle.strat_store.specs.Format.{IsNewDisk, IsBlank, IsNoneOrNew, KeepsOthers};
 ghost use Rattle.strat_serve.specs.Session.{EndHasCause};
 ghost use Rattle.strat_serve.specs.World.{world};
 ghost use Rattle.castle.specs.Outcomes.{SendsLine, Formats, format_text};
@@ -45,6 +45,7 @@ pub fn make_store<K: Sink, D: Disk>(
     ensures images { (f : Image) → Exposes (D.view disk.old) f → IsBlank (D.view disk.old)
         → (c : Image) → Since (D.view disk.new) (D.view disk.old).moment c
         → IsNoneOrNew mem changes_max versions_max c }
+    ensures kept { KeepsOthers mem (D.view disk.old) (D.view disk.new) }
     ensures time { Passes (D.view disk.old) (D.view disk.new) }
     ensures cause { (left : Option (List ℕ)) (source_faults : ℕ) → EndHasCause result
         (world left source_faults (K.held sink.old) (K.faults sink.old)

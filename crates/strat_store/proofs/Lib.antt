@@ -12,3 +12,4 @@ pub mod StaleLemmas
 pub mod StandLemmas
 pub mod StepLemmas
 pub mod StoreLemmas
+pub mod OtherLemmas

@@ -1,5 +1,5 @@
 -- A store that stands on a disk.
-use Rattle.std.proofs.Common.{◌≡◌, false, [], ◌∷◌, length, Some, sym, ap, subst, ◌∙◌, inl, arith}
+use Rattle.std.proofs.Common.{◌≡◌, false, [], ◌∷◌, Some, sym, ap, subst, ◌∙◌, inl, arith}
 use Rattle.std.specs.Prelude.{if◌then◌else◌, Ok}
 use Rattle.strat_crash.specs.Image.{Image}
 use Rattle.strat_crash.specs.Moments.{DiskView, Images}
@@ -10,7 +10,7 @@ use Rattle.strat_journal.specs.Log.{Log}
 use Rattle.strat_recovery.specs.Head.{Head}
 use Rattle.strat_model.specs.Table.{Table, bare}
 use Rattle.strat_store.specs.Opened.{recover_now, state_now, table_now, Shows}
-use Rattle.strat_store.specs.Store.{Attached, position_of, Holds, StandsOn, OpensFrom, Moves}
+use Rattle.strat_store.specs.Store.{Attached, Holds, StandsOn, Moves}
 use Rattle.strat_store.proofs.HeadSameLemmas.{same_journal_refl}
 use Rattle.strat_store.proofs.OpenedLemmas.{reads_now, sound_now}
 

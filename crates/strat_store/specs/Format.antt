@@ -1,8 +1,8 @@
 -- A disk that was just formatted.
-use Rattle.std.specs.Prelude.{◌≡◌, ◌≢◌, ◌⊎◌, ℕ, [], Some, None, Ok}
+use Rattle.std.specs.Prelude.{◌≡◌, ◌≢◌, ◌⊎◌, ℕ, [], Some, None, Ok, ◌≤◌, ◌<◌, ◌+◌, ◌*◌}
 use Rattle.strat_crash.specs.Image.{Image}
 use Rattle.strat_format.specs.Layout.{region_at, first_free, open_flag, manifest_min}
-use Rattle.strat_crash.specs.Moments.{DiskView, Exposes, Images}
+use Rattle.strat_crash.specs.Moments.{DiskView, Exposes, Images, Since}
 use Rattle.strat_state.specs.State.{fresh_state}
 use Rattle.strat_format.specs.SuperBlock.{Super, newest_in}
 use Rattle.strat_recovery.specs.Head.{Head}
@@ -59,3 +59,14 @@ pub record IsShut (mem : ℕ) (v : DiskView) : Type 0 where
 abbrev pub IsNoneOrNew : ℕ → ℕ → ℕ → Image → Type 0
 IsNoneOrNew mem changes_max versions_max c =
     (newest_in c ≡ Ok None) ⊎ IsNewStore mem changes_max versions_max c
+
+-- an offset that formatting may write: in the superblock slots, the first gate of a journal region, or
+-- in the manifest's block
+abbrev pub IsFormatted : ℕ → ℕ → Type 0
+IsFormatted mem i = (i < 8192) ⊎ ((i ≡ region_at mem 0) ⊎ ((i ≡ region_at mem 1)
+    ⊎ ((4096 * first_free mem ≤ i) × (i < 4096 * first_free mem + 4096))))
+
+-- each image since then has the bytes of one of before at all other offsets
+pub record KeepsOthers (mem : ℕ) (old new : DiskView) : Type 0 where
+  pub each : (c : Image) → Since new old.moment c
+      → (d : Image) × Images old d × ((i : ℕ) → ¬ IsFormatted mem i → c i ≡ d i)

@@ -6,7 +6,7 @@ ghost use Rattle.strat_crash.specs.Image.{Image};
 ghost use Rattle.strat_crash.specs.Moments.{DiskView, Exposes, Images, Since, Passes, IsDurable};
 ghost use Rattle.strat_format.specs.SuperBlock.{AreLimits};
 ghost use Rattle.strat_store.specs.declared.formatting.FormatFault.TheVariants as fault;
-ghost use Rattle.strat_store.specs.Format.{IsNewDisk, IsBlank, IsShut, IsNoneOrNew};
+ghost use Rattle.strat_store.specs.Format.{IsNewDisk, IsBlank, IsShut, IsNoneOrNew, KeepsOthers};
 ghost use Rattle.strat_format.specs.Layout.{open_flag};
 
 use crate::manifest::write_manifest;
@@ -26,6 +26,7 @@ fn shut_all<D: Disk>(disk: &mut D, mem: u32) -> Result<(), Failed>
     ensures images { (f : Image) → Exposes (D.view disk.old) f → IsBlank (D.view disk.old)
         → (c : Image) → Since (D.view disk.new) (D.view disk.old).moment c
         → (c 0 ≢ open_flag) × (c 4096 ≢ open_flag) }
+    ensures kept { KeepsOthers mem (D.view disk.old) (D.view disk.new) }
     ensures time { Passes (D.view disk.old) (D.view disk.new) }
     ensures cause { CountsFaults (D.faults disk.old) (D.faults disk.new) result }
 {
@@ -75,6 +76,7 @@ pub fn format<D: Disk>(
     ensures images { (f : Image) → Exposes (D.view disk.old) f → IsBlank (D.view disk.old)
         → (c : Image) → Since (D.view disk.new) (D.view disk.old).moment c
         → IsNoneOrNew mem changes_max versions_max c }
+    ensures kept { KeepsOthers mem (D.view disk.old) (D.view disk.new) }
     ensures same { IsErrOf result fault.NoMemory → disk.new ≡ disk.old }
     ensures time { Passes (D.view disk.old) (D.view disk.new) }
     ensures cause { HasCause fault.Device (D.faults disk.old) (D.faults disk.new) result }

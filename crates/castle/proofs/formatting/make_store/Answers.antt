@@ -3,6 +3,7 @@ use Rattle.strat_crash.proofs.MomentLemmas.{leaves_refl}
 use Rattle.castle.specs.Outcomes.{format_text}
 use Rattle.strat_store.proofs.FormatLemmas.{none_yet}
 use Rattle.strat_serve.proofs.SendLemmas.{sends_prefix}
+use Rattle.strat_store.proofs.OtherLemmas.{keep_refl}
 use Rattle.strat_store.proofs.ShutLemmas.{blank_leaves}
 use Rattle.castle.proofs.formatting.make_store.Goals as goal
 
@@ -15,3 +16,6 @@ returns-clause-ok g c =
 pub returns-in_default-clause-images : goal.returns-in_default-clause-images
 returns-in_default-clause-images g c = λ f exposed blank.
     none_yet c.args.mem c.args.changes_max c.args.versions_max (g.D.Disk.view c.args.disk.now) (g.D.Disk.view c.args.disk.now) (blank_leaves _ _ blank (leaves_refl _))
+
+pub returns-in_default-clause-kept : goal.returns-in_default-clause-kept
+returns-in_default-clause-kept g c = keep_refl c.args.mem (g.D.Disk.view c.args.disk.now)

@@ -1,5 +1,5 @@
-use Rattle.std.proofs.Common.{◌≡◌, ◌⊎◌, ℕ, Option, sym, ap, subst, ◌∙◌, refl, map, inl, inr}
-use Rattle.std.specs.Prelude.{string_bytes, Some, None}
+use Rattle.std.proofs.Common.{◌≡◌, Option, sym, ap, subst, ◌∙◌, refl, map, inl, inr}
+use Rattle.std.specs.Prelude.{string_bytes, Some}
 use Rattle.castle.specs.Arguments.{Subcommand, subcommand_seen}
 use Rattle.castle.specs.Outcomes.{IsEarly, Runs, LeavesAlone}
 use Rattle.castle.specs.declared.arguments.Subcommand.{Subcommand as Borrowed}
@@ -55,6 +55,7 @@ returns-in-Some-Format-clause-ok g c =
         sends = c.make_store.ensures.ok;
         left = c.make_store.ensures.found;
         moments = c.make_store.ensures.images;
+        kept = c.make_store.ensures.kept;
         cause = cause;
         calm = c.make_store.ensures.faults;
         complete = λ sink disk. formatted_ends c.make_store.result _ before now c.make_store.ensures.ok cause sink disk;

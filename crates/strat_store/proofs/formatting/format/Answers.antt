@@ -1,10 +1,12 @@
-use Rattle.std.proofs.Common.{◌≡◌, ◌*◌, Some, arith}
+use Rattle.std.proofs.Common.{◌≡◌, ◌*◌, length, Some, inl, inr, arith}
 use Rattle.strat_crash.specs.Image.{Image}
 use Rattle.strat_crash.specs.Moments.{Since}
-use Rattle.strat_crash.proofs.MomentLemmas.{each_then, settled_at}
-use Rattle.strat_store.specs.Format.{IsBlank, IsShut, IsNoneOrNew}
+use Rattle.strat_crash.proofs.MomentLemmas.{passes_trans, each_then, settled_at}
+use Rattle.strat_store.specs.Format.{IsBlank, IsShut, IsNoneOrNew, KeepsOthers}
+use Rattle.strat_store.specs.Opened.{new_block}
+use Rattle.strat_store.proofs.OtherLemmas.{tears_keep, keep_trans}
 use Rattle.strat_store.proofs.ShutLemmas.{StaysBlank, blank_behind, blank_then}
-use Rattle.strat_store.proofs.FormatLemmas.{Prepared, prepared, lays_over, laying, laid, none_yet, new_disk}
+use Rattle.strat_store.proofs.FormatLemmas.{length-new_block, Prepared, prepared, lays_over, laying, laid, none_yet, new_disk}
 use Rattle.strat_store.proofs.formatting.format.Given.{Over}
 use Rattle.strat_store.proofs.formatting.format.Goals as goal
 use Rattle.strat_store.proofs.formatting.format.Goals.{After-write_manifest, After-lay}
@@ -65,3 +67,24 @@ returns-clause-ok g c = λ f exposed.
     new_disk c.args.mem c.args.changes_max c.args.versions_max v3 _ there (settled_at v3 _ there c.in_ok-lay.ensures.durable) (g.met.D.Disk.leaves_content c.lay.new.disk)
     (laid c.args.mem c.args.changes_max c.args.versions_max (omega (arith, c.requires.fits.mem_least)) v2 p v3 c.first_free.result
     c.first_free.ensures.ok c.lay.ensures.time c.lay.ensures.images (c.in_ok-lay.ensures.found p.content (lays_over c.args.mem v2 p _)))
+
+-- what the manifest and the superblock leave alone
+kept_manifest : (g : Over) (c : After-write_manifest g) → KeepsOthers c.args.mem (g.D.Disk.view c.args.disk.now) (g.D.Disk.view c.write_manifest.new.disk)
+kept_manifest g c =
+    keep_trans c.args.mem _ _ _ c.shut_all.ensures.time c.write_manifest.ensures.ok.time c.shut_all.ensures.kept
+    (tears_keep c.args.mem (4096 * first_free c.args.mem) (length new_block) _ _ (λ i from to. inr (inr (inr (from, omega (arith, length-new_block))))) c.write_manifest.ensures.ok.images)
+
+kept_laid : (g : Over) (c : After-lay g) → KeepsOthers c.args.mem (g.D.Disk.view c.args.disk.now) (g.D.Disk.view c.lay.new.disk)
+kept_laid g c =
+    keep_trans c.args.mem _ _ _ (passes_trans c.shut_all.ensures.time c.write_manifest.ensures.ok.time) c.lay.ensures.time
+    (kept_manifest g (goal.at.After-lay g c).After-write_manifest)
+    (tears_keep c.args.mem (4096 * 0) 4096 _ _ (λ i from to. inl (omega arith)) c.lay.ensures.images)
+
+pub returns-in_err-write_manifest-clause-kept : goal.returns-in_err-write_manifest-clause-kept
+returns-in_err-write_manifest-clause-kept g c = kept_manifest g (goal.at.returns-in_err-write_manifest-clause-kept g c).After-write_manifest
+
+pub returns-in_err-lay-clause-kept : goal.returns-in_err-lay-clause-kept
+returns-in_err-lay-clause-kept g c = kept_laid g (goal.at.returns-in_err-lay-clause-kept g c).After-lay
+
+pub returns-clause-kept : goal.returns-clause-kept
+returns-clause-kept g c = kept_laid g (goal.at.returns-clause-kept g c).After-lay
