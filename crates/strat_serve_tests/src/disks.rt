@@ -1,6 +1,6 @@
 //! What runs find and leave on disks that are full, fail, crash, and are altered.
 
-use crate::support::{PUT, PUTS, gives, left_by, new_store, puts_on, run, small_store};
+use crate::support::{PUT, PUTS, gives, is_done, left_by, new_store, puts_on, run, small_store};
 use std::alloc::Global;
 use std::test::Fail;
 use strat_disk::{FuseDisk, MemDisk};
@@ -53,7 +53,7 @@ fn a_full_store_takes_no_put(rt: HostRuntime) {
 
 /// Whether a second run finds what the first acknowledged, after a crash too.
 fn keeps(alloc: Global, disk: &mut MemDisk) -> bool {
-    run(alloc, disk, PUTS).is_some()
+    is_done(alloc, disk, PUTS)
         && puts_on(alloc, disk) == Some(4)
         && left_by(alloc, disk, 0) == Some(4)
 }

@@ -1,6 +1,6 @@
 //! New stores, on disks that are empty, used, or fail.
 
-use crate::support::{PUTS, gives, left_by, new_store, puts_on, run};
+use crate::support::{PUTS, gives, is_done, left_by, new_store, puts_on};
 use std::alloc::Global;
 use std::test::Fail;
 use strat_disk::{FuseDisk, MemDisk};
@@ -80,7 +80,7 @@ fn a_stopped_formatting_leaves_no_store_or_a_new_one(rt: HostRuntime) {
 
 /// Whether a used store is a new one once it is formatted.
 fn forgets(alloc: Global, disk: &mut MemDisk) -> bool {
-    run(alloc, disk, PUTS).is_some()
+    is_done(alloc, disk, PUTS)
         && format(alloc, disk, 4, 100, 10).is_ok()
         && puts_on(alloc, disk) == Some(0)
 }

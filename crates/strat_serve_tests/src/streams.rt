@@ -218,7 +218,7 @@ fn a_failing_source_ends_the_run_after_whole_frames(rt: HostRuntime) {
         assert!(rt; false);
         return;
     };
-    for call in 1..=11 {
+    for call in 1..=12 {
         assert!(rt; fails_reading(rt.alloc(), &store, call));
     }
 }
@@ -314,4 +314,24 @@ fn the_budget_ends_the_run_after_whole_frames(rt: HostRuntime) {
         )
     );
     assert!(rt; is_bounded(rt.alloc(), &store, b"\x00\x00", b"", Ended::Truncated));
+}
+
+#[test]
+fn each_end_has_its_status(rt: HostRuntime) {
+    for (ended, status) in [
+        (Ended::Done, 0),
+        (Ended::Usage, 1),
+        (Ended::NotAStore, 2),
+        (Ended::FrameTooLong, 3),
+        (Ended::Truncated, 4),
+        (Ended::Device, 5),
+        (Ended::Source, 6),
+        (Ended::Sink, 7),
+        (Ended::NoMemory, 8),
+        (Ended::Damaged { block: 6 }, 9),
+        (Ended::Budget, 10),
+        (Ended::Unsound, 11),
+    ] {
+        assert!(rt; ended.status() == status);
+    }
 }

@@ -72,6 +72,14 @@ pub fn gives<D: Disk>(
     }
 }
 
+/// Whether a run that is given these bytes ends where they do.
+pub fn is_done<D: Disk>(alloc: Global, disk: &mut D, input: &[u8]) -> bool {
+    match run(alloc, disk, input) {
+        Some((how, _)) => how == Ended::Done,
+        None => false,
+    }
+}
+
 /// Whether replies to the four gets say that just the first so many keys are there.
 fn tells(replies: &[u8], puts: usize) -> bool {
     if puts > 4 {
