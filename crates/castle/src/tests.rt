@@ -4,11 +4,22 @@ use crate::arguments::path_of;
 use crate::program::{run, status_text};
 use std::alloc::Global;
 use std::test::Fail;
-use strat_disk::MemDisk;
+use strat_disk::{Disk, FuseDisk, MemDisk};
 use strat_io::{MemSink, MemSource};
 
 /// Puts `a` = `1` at version 0 under tag 7.
 const PUT: &[u8] = b"\x00\x00\x00\x0f\x00\x00\x00\x07\x01\x00\x00\x00\x00\x00\x01a\x00\x011";
+
+/// Asks for `a` to `d`, under tags 11 to 14.
+const GETS: &[u8] = b"\x00\x00\x00\x0c\x00\x00\x00\x0b\x03\x00\x00\x00\x00\x00\x01a\
+\x00\x00\x00\x0c\x00\x00\x00\x0c\x03\x00\x00\x00\x00\x00\x01b\
+\x00\x00\x00\x0c\x00\x00\x00\x0d\x03\x00\x00\x00\x00\x00\x01c\
+\x00\x00\x00\x0c\x00\x00\x00\x0e\x03\x00\x00\x00\x00\x00\x01d";
+/// The replies to these where none was put.
+const ABSENT: &[u8] = b"\x00\x00\x00\x05\x00\x00\x00\x0b\x02\
+\x00\x00\x00\x05\x00\x00\x00\x0c\x02\
+\x00\x00\x00\x05\x00\x00\x00\x0d\x02\
+\x00\x00\x00\x05\x00\x00\x00\x0e\x02";
 
 /// The program's arguments.
 fn arguments(alloc: Global, texts: &[&str]) -> Option<Vec<String>> {
@@ -19,36 +30,122 @@ fn arguments(alloc: Global, texts: &[&str]) -> Option<Vec<String>> {
     Some(arguments)
 }
 
-/// Whether these arguments leave a disk with this status and send just these bytes, where a source
-/// has some and neither source nor sink fails but at calls that are listed.
-fn ends(
+/// The arguments of making a small store, and the line that says that it was made.
+const FORMAT: [&str; 5] = ["format", "f", "4", "100", "10"];
+
+const LINE: &[u8] = b"format 1 mem 4 changes 100 versions 10\n";
+
+/// The status that these arguments end with.
+fn status_of<D: Disk>(
     alloc: Global,
-    disk: &mut MemDisk,
+    disk: &mut D,
     texts: &[&str],
-    failing: &[u64],
+    source: &mut MemSource,
+    sink: &mut MemSink,
+) -> Option<u8> {
+    let arguments = arguments(alloc, texts)?;
+    Some(run(alloc, &arguments, source, sink, disk))
+}
+
+/// Whether these arguments end with this status and send just these bytes, where a source has some
+/// and neither source nor sink fails but at calls that are listed.
+fn ends<D: Disk>(
+    alloc: Global,
+    disk: &mut D,
+    texts: &[&str],
+    failing: (&[u64], &[u64]),
     status: u8,
     output: &[u8],
 ) -> bool {
-    let (Some(arguments), Ok(mut source), Ok(mut sink)) = (
-        arguments(alloc, texts),
-        MemSource::new(alloc, PUT, failing, 4096),
-        MemSink::new(alloc, failing, 4096),
+    let (Ok(mut source), Ok(mut sink)) = (
+        MemSource::new(alloc, PUT, failing.0, 4096),
+        MemSink::new(alloc, failing.1, 4096),
     ) else {
         return false;
     };
-    run(alloc, &arguments, &mut source, &mut sink, disk) == status && sink.bytes() == output
+    status_of(alloc, disk, texts, &mut source, &mut sink) == Some(status) && sink.bytes() == output
+}
+
+/// Whether serving a disk ends with this status and sends just these bytes.
+fn serves(alloc: Global, disk: &mut MemDisk, status: u8, output: &[u8]) -> bool {
+    ends(alloc, disk, &["serve", "f"], (&[], &[]), status, output)
+}
+
+/// Whether formatting a disk reads no source, whose first call would fail, and sends its line.
+fn formats(alloc: Global, disk: &mut MemDisk) -> bool {
+    ends(alloc, disk, &FORMAT, (&[1], &[]), 0, LINE)
 }
 
 #[test]
 fn stores_are_made_and_served(rt: HostRuntime) -> Result<(), Fail> {
     let mut disk = MemDisk::new(rt.alloc(), &[])?;
-    let line = b"format 1 mem 4 changes 100 versions 10\n";
-    let format = ["format", "f", "4", "100", "10"];
-    assert!(rt; ends(rt.alloc(), &mut disk, &format, &[], 0, line));
-    let done = b"\x00\x00\x00\x05\x00\x00\x00\x07\x00";
-    assert!(rt; ends(rt.alloc(), &mut disk, &["serve", "f"], &[], 0, done));
-    assert!(rt; ends(rt.alloc(), &mut disk, &["serve", "f"], &[1], 6, b""));
-    assert!(rt; ends(rt.alloc(), &mut disk, &format, &[1], 7, b""));
+    assert!(rt; serves(rt.alloc(), &mut disk, 2, b""));
+    assert!(rt; formats(rt.alloc(), &mut disk));
+    assert!(rt;
+        serves(
+            rt.alloc(),
+            &mut disk,
+            0,
+            b"\x00\x00\x00\x05\x00\x00\x00\x07\x00"
+        )
+    );
+    assert!(rt; ends(rt.alloc(), &mut disk, &["serve", "f"], (&[1], &[]), 6, b""));
+    assert!(rt; ends(rt.alloc(), &mut disk, &FORMAT, (&[], &[1]), 7, b""));
+    Ok(())
+}
+
+/// Whether a sink that takes six bytes a call and fails at its second has the front of the line.
+fn cuts_the_line(alloc: Global, disk: &mut MemDisk) -> bool {
+    let (Ok(mut source), Ok(mut sink)) = (
+        MemSource::new(alloc, b"", &[1], 1),
+        MemSink::new(alloc, &[2], 6),
+    ) else {
+        return false;
+    };
+    status_of(alloc, disk, &FORMAT, &mut source, &mut sink) == Some(7)
+        && sink.bytes() == b"format".as_slice()
+}
+
+/// Whether a store is served that has no `a` to `d`, asked for under tags 11 to 14.
+fn has_no_key(alloc: Global, disk: &mut MemDisk) -> bool {
+    let (Ok(mut source), Ok(mut sink)) = (
+        MemSource::new(alloc, GETS, &[], 4096),
+        MemSink::new(alloc, &[], 4096),
+    ) else {
+        return false;
+    };
+    status_of(alloc, disk, &["serve", "f"], &mut source, &mut sink) == Some(0)
+        && sink.bytes() == ABSENT
+}
+
+#[test]
+fn a_line_that_is_cut_off_tells_of_a_new_store(rt: HostRuntime) -> Result<(), Fail> {
+    let mut disk = MemDisk::new(rt.alloc(), &[])?;
+    assert!(rt; cuts_the_line(rt.alloc(), &mut disk));
+    assert!(rt; has_no_key(rt.alloc(), &mut disk));
+    Ok(())
+}
+
+/// Whether formatting an empty disk that fails after so many calls has this status and sends just
+/// these bytes.
+fn fails_after(alloc: Global, calls: u64, status: u8, output: &[u8]) -> bool {
+    let Ok(disk) = MemDisk::new(alloc, &[]) else {
+        return false;
+    };
+    let mut disk = FuseDisk::new(disk, calls);
+    ends(alloc, &mut disk, &FORMAT, (&[1], &[]), status, output)
+}
+
+#[test]
+fn a_formatting_that_fails_sends_no_line(rt: HostRuntime) -> Result<(), Fail> {
+    let mut disk = MemDisk::new(rt.alloc(), &[])?;
+    assert!(rt; formats(rt.alloc(), &mut disk));
+    let all = disk.calls();
+    assert!(rt; all > 4 && all < 40);
+    for calls in 0..all {
+        assert!(rt; fails_after(rt.alloc(), calls, 5, b""));
+    }
+    assert!(rt; fails_after(rt.alloc(), all, 0, LINE));
     Ok(())
 }
 
@@ -59,7 +156,7 @@ fn is_refused(alloc: Global, texts: &[&str]) -> bool {
     else {
         return false;
     };
-    ends(alloc, &mut disk, texts, &[1], 1, b"")
+    ends(alloc, &mut disk, texts, (&[1], &[1]), 1, b"")
         && disk.calls() == 0
         && path_of(&arguments).is_none()
 }
