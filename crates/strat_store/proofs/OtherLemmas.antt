@@ -15,8 +15,8 @@ tears_keep mem at n old new inside tears = record {
         λ i other. elim (cases_lt i at) [
           | inl below ↦ it.2.below i below
           | inr from ↦ elim (cases_lt i (at + n)) [
-              | inl within ↦ absurd (other (inside i from within))
-              | inr past ↦ it.2.above i past
+            | inl within ↦ absurd (other (inside i from within))
+            | inr past ↦ it.2.above i past
           ]
         ],
       );
