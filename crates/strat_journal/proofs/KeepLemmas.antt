@@ -135,6 +135,39 @@ module _ (list batch : List Change) (bytes : List ℕ) (mem active count staged 
       room = ap length put ∙ length-placed bytes (0xa7 ∷ (change_bytes change ++ 0 ∷ [])) len (omega (arith, fits, length-append (change_bytes change) (0 ∷ []))) ∙ keeps.room;
     }
 
+  -- the list that was read takes the place of all
+  pub front_fits : (changes : List Change) (text : List ℕ) (n : ℕ) → text ≡ records_bytes changes → list_all is_lawful changes ≡ true → length changes ≡ n → n ≤ mem → length text < length bytes
+  front_fits changes text n text_is lawful number few = omega (arith, ap length text_is, length-records_bytes changes lawful, number, keeps.room, few)
+
+  module _ (changes : List Change) (text new : List ℕ) (n : ℕ) (text_is : text ≡ records_bytes changes) (lawful : list_all is_lawful changes ≡ true) (number : length changes ≡ n)
+      (few : n ≤ mem) (put : new ≡ placed bytes 0 (text ++ 0 ∷ [])) where
+    abbrev after : List ℕ
+    after = drop (0 + length (text ++ 0 ∷ [])) bytes
+
+    whole : new ≡ text ++ 0 ∷ after
+    whole = put ∙ append_assoc text (0 ∷ []) after
+
+    whole_behind : drop (length text) new ≡ 0 ∷ after
+    whole_behind = ap (drop (length text)) whole ∙ drop_at text (0 ∷ after) (length text) refl
+
+    pub list_restored : Keeps changes [] new mem active n 0 (length text) (length text)
+    list_restored = record {
+      text = whole ∙ (λ i. text_is i ++ sym whole_behind i);
+      closed = let same : length text ≡ length text + 0 = omega arith in ap (λ (i : ℕ). get_or new i 0) same ∙ sym (get_or-drop (length text) new 0 0) ∙ ap (λ (x : List ℕ). get_or x 0 0) whole_behind;
+      list_end = ap length text_is;
+      batch_end = omega arith;
+      list_count = number;
+      batch_count = refl;
+      list_fits = lawful;
+      batch_fits = refl;
+      few = omega (arith, few);
+      batch_few = omega arith;
+      mem_least = keeps.mem_least;
+      mem_most = keeps.mem_most;
+      active_most = keeps.active_most;
+      room = ap length put ∙ length-placed bytes (text ++ 0 ∷ []) 0 (omega (arith, front_fits changes text n text_is lawful number few, length-append text (0 ∷ []))) ∙ keeps.room;
+    }
+
   -- what an append writes behind the gate
   pub behind_split : 0 < length batch → len < length bytes → 0xa7 ∷ take (len - end) (drop (end + 1) bytes) ≡ records_bytes batch ++ 0 ∷ []
   behind_split some within =

@@ -1,23 +1,27 @@
 -- How the records of a region are read one after the other.
-use Rattle.std.proofs.Common.{map, ◌≡◌, ◌≢◌, ◌≤◌, ◌<◌, ◌+◌, ◌-◌, ◌*◌, ℕ, suc, List, [], ◌∷◌, ◌++◌, length, Some, None, Result, Ok, Err, Bool, true, refl, sym, ap, ◌∙◌, subst, arith, length-append, append_assoc}
-use Rattle.std.proofs.lemmas.Bool.{eqb-true, eq-eqb}
+use Rattle.std.proofs.Common.{map, ◌≡◌, ◌≢◌, ◌≤◌, ◌<◌, ◌+◌, ◌-◌, ◌*◌, ℕ, suc, List, [], ◌∷◌, ◌++◌, length, take, Some, None, Result, Ok, Err, Bool, true, refl, sym, ap, ◌∙◌, subst, arith, length-append, append_assoc}
+use Rattle.std.proofs.lemmas.Bool.{eqb-true, eq-eqb, and_from}
 use Rattle.std.proofs.lemmas.List.{append-nil, map-append}
 use Rattle.strat_crash.specs.Image.{Image, window}
 use Rattle.strat_crash.specs.Moments.{DiskView, OnlyReads}
-use Rattle.strat_base.specs.Change.{change_bytes, change_in}
+use Rattle.std.specs.List.{list_all}
+use Rattle.strat_base.specs.Change.{Change, change_bytes, change_in, is_lawful}
 use Rattle.strat_format.specs.Layout.{region_at, region_size, is_open}
 use Rattle.strat_journal.specs.declared.journal.Logged.{Logged as Owned}
 use Rattle.strat_format.specs.Damage.{put_first}
-use Rattle.strat_format.specs.Records.{Logged, block_of, record_then, records, region_records}
+use Rattle.strat_format.specs.Records.{Logged, records_bytes, block_of, record_then, records, region_records}
 use Rattle.strat_journal.specs.Records.{logged_of}
-use Rattle.strat_journal.proofs.LaidLemmas.{joined}
-use Rattle.strat_journal.specs.RegionReader.{ReadSoFar, MatchesImage, ReadsOn, Stored, StoredNone}
+use Rattle.strat_journal.proofs.LaidLemmas.{joined, records_bytes-append, all_lawful-append}
+use Rattle.strat_journal.specs.RegionReader.{ReadSoFar, MatchesImage, ReadsOn, EndsRecord, AreRecords, Stored, StoredNone}
 use Rattle.strat_journal.proofs.RecordLemmas.{open_gate, shut_gate}
 use Rattle.strat_gate.proofs.ReadingLemmas.{reads_refl, reads_trans}
 
 -- the records from a place on that are still to be read
 abbrev pub left : Image → ℕ → ℕ → ℕ → ℕ → Result (List Logged) ℕ
 left f mem region n at = records f (region_at mem region + region_size mem) n (region_at mem region + at)
+
+abbrev changes_of : List Owned → List Change
+changes_of items = map (λ (l : Owned). l.change) items
 
 -- after n records of a region
 pub record SoFar (old now : DiskView) (before reads : ℕ) (mem region n at : ℕ) (part : ReadSoFar) (items : List Owned) : Type 0 where
@@ -30,8 +34,26 @@ pub record SoFar (old now : DiskView) (before reads : ℕ) (mem region n at : �
   pub looks : OnlyReads old now
   pub shows : (f : Image) → old.content ≡ Some f → MatchesImage f part
   pub found : (f : Image) → old.content ≡ Some f → region_records f mem region ≡ joined (map logged_of items) (left f mem region (mem - n) at)
+  pub kept : AreRecords (take at part.bytes) items
   pub fewest : before ≤ reads
   pub each_once : 4096 * reads ≤ 4096 * before + length part.bytes
+
+-- the bytes of records and of one more
+pub records_more : (bytes more : List ℕ) (items : List Owned) (l : Owned) → AreRecords bytes items → more ≡ bytes ++ 0xa7 ∷ change_bytes l.change → is_lawful l.change ≡ true
+    → (all : List Owned) → all ≡ items ++ l ∷ [] → AreRecords more all
+records_more bytes more items l are more_is lawful all all_is =
+    let mapped : changes_of all ≡ changes_of items ++ l.change ∷ [] = ap changes_of all_is ∙ map-append (λ (l : Owned). l.change) items (l ∷ []) in
+    record {
+      text = more_is
+          ∙ (λ i. are.text i ++ 0xa7 ∷ sym (append-nil (change_bytes l.change)) i)
+          ∙ sym (records_bytes-append (changes_of items) (l.change ∷ []))
+          ∙ ap records_bytes (sym mapped);
+      lawful = ap (list_all is_lawful) mapped ∙ all_lawful-append (changes_of items) (l.change ∷ []) are.lawful (and_from (is_lawful l.change) true lawful refl);
+    }
+
+-- the same front of bytes that were read on
+pub front_kept : (bytes more : List ℕ) (at : ℕ) (front : List ℕ) (items : List Owned) → AreRecords (take at bytes) items → take at more ≡ take at bytes → front ≡ take at more → AreRecords front items
+front_kept bytes more at front items are same front_is = subst (λ (x : List ℕ). AreRecords x items) (sym (front_is ∙ same)) are
 
 pub joined_none : {X : Type 0} (r : Result (List X) ℕ) → joined [] r ≡ r
 joined_none (Ok xs) = refl
@@ -105,6 +127,7 @@ begun v reads mem region part items part_is none =
           let all : mem ≡ mem - 0 = omega arith in
           let start : region_at mem region ≡ region_at mem region + 0 = omega arith in
           (λ i. records f (region_at mem region + region_size mem) (all i) (start i)) ∙ sym (joined_none (left f mem region (mem - 0) 0));
+      kept = record { text = refl; lawful = refl };
       fewest = omega arith;
       each_once = omega arith;
     }))
@@ -121,8 +144,8 @@ module _ (old mid new : DiskView) (before between reads : ℕ) (mem region n at 
 
   pub one_more : {T E : Type 0} (x : T) (l : Owned) (to : ℕ) → n < mem → ReadsOn {T = T} {E = E} mid new between reads part next (Ok x)
       → ((f : Image) → mid.content ≡ Some f → MatchesImage f part → Stored f part at (Some (l, to))) → (to ≤ at + 1288) × (to ≤ length next.bytes)
-      → (all : List Owned) → all ≡ items ++ l ∷ [] → SoFar old new before reads mem region (n + 1) to next all
-  one_more x l to few on there near all all_is = record {
+      → EndsRecord next.bytes at l.change to → (all : List Owned) → all ≡ items ++ l ∷ [] → SoFar old new before reads mem region (n + 1) to next all
+  one_more x l to few on there near ends all all_is = record {
     first = on.first ∙ sofar.first;
     size = on.size ∙ sofar.size;
     near = near.1;
@@ -136,6 +159,7 @@ module _ (old mid new : DiskView) (before between reads : ℕ) (mem region n at 
         ∙ ap (joined logged) (left_record f mem region part sofar.first sofar.size at (mem - (n + 1)) l to (there f (sofar.looks.same ∙ exposed) (sofar.shows f exposed)))
         ∙ joined_first logged (logged_of l) (left f mem region (mem - (n + 1)) to)
         ∙ ap (λ (xs : List Logged). joined xs (left f mem region (mem - (n + 1)) to)) (sym (map-append logged_of items (l ∷ [])) ∙ ap (map logged_of) (sym all_is));
+    kept = records_more (take at part.bytes) (take to next.bytes) items l (sofar.kept) (ends.text ∙ ap (λ (x : List ℕ). x ++ 0xa7 ∷ change_bytes l.change) (on.front at sofar.near)) ends.lawful all all_is;
     fewest = omega (arith, sofar.fewest, on.fewest);
     each_once = omega (arith, sofar.each_once, on.each_once);
   }

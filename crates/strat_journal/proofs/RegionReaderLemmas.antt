@@ -1,5 +1,5 @@
 -- What stands behind a gate is clear as soon as the bytes read have it whole, or as many bytes as a change may have.
-use Rattle.std.proofs.Common.{◌≡◌, ◌≤◌, ◌<◌, ◌+◌, ◌-◌, ◌*◌, ℕ, inl, inr, List, [], ◌++◌, length, take, drop, get_or, Some, None, Result, Ok, IsErr, IfSome, refl, sym, ap, ◌∙◌, subst, arith, length-append, length-drop, take-append-drop, append_assoc}
+use Rattle.std.proofs.Common.{◌≡◌, ◌≤◌, ◌<◌, ◌+◌, ◌-◌, ◌*◌, ℕ, suc, inl, inr, List, [], ◌∷◌, ◌++◌, length, take, drop, get_or, Some, None, Result, Ok, IsErr, IfSome, refl, sym, ap, ◌∙◌, subst, arith, length-append, length-drop, length-take, take-append-drop, append_assoc, drop-cons}
 use Rattle.std.specs.Option.{IsSome}
 use Rattle.std.proofs.lemmas.Result.{IfOk-from_err, on_ok_weaker}
 use Rattle.std.proofs.lemmas.List.{take_at, drop_at, append-nil, take-append-le}
@@ -14,7 +14,7 @@ use Rattle.strat_gate.proofs.ReadingLemmas.{reads_trans}
 use Rattle.strat_base.proofs.NumberLemmas.{AreBytes-take}
 use Rattle.strat_base.proofs.ChangeLemmas.{change_in-bytes, change_in-some, length-change_bytes}
 use Rattle.strat_base.proofs.TreeLemmas.{option_cases}
-use Rattle.strat_journal.specs.RegionReader.{ReadSoFar, IsReadSoFar, MatchesImage, IsConclusive, IsClear, ReadsOn}
+use Rattle.strat_journal.specs.RegionReader.{ReadSoFar, IsReadSoFar, MatchesImage, IsConclusive, IsClear, ReadsOn, EndsRecord}
 use Rattle.strat_journal.proofs.RecordLemmas.{AreBytes-window}
 
 -- a call that reads on behind another that did
@@ -26,6 +26,7 @@ reads_on_trans old mid new before between now part next last x r a b = record {
   longer = omega (arith, a.longer, b.longer);
   within = b.within;
   looks = reads_trans a.looks b.looks;
+  front = λ k few. b.front k (omega (arith, few, a.longer)) ∙ a.front k few;
   shows = on_ok_weaker r (λ (g : (f : Image) → mid.content ≡ Some f → MatchesImage f next → MatchesImage f last) f exposed shown. g f (a.looks.same ∙ exposed) (a.shows f exposed shown)) b.shows;
   fewest = omega (arith, a.fewest, b.fewest);
   most = omega (arith, a.each_once, b.most, a.size);
@@ -41,6 +42,7 @@ reads_on_err {old = old} {new = new} {before = before} {now = now} {part = part}
   longer = a.longer;
   within = a.within;
   looks = a.looks;
+  front = a.front;
   shows = IfOk-from_err s (λ _. (f : Image) → old.content ≡ Some f → MatchesImage f part → MatchesImage f next) err;
   fewest = a.fewest;
   most = a.most;
@@ -161,12 +163,28 @@ block_read old new before now first size room bytes block all x place n part sho
       longer = omega (arith, long);
       within = omega (arith, long, part.within, part.blocks, part.whole);
       looks = looks;
+      front = λ k few'. ap (take k) all_is ∙ take-append-le k bytes block few';
       shows = λ f exposed shown. shows_more f first bytes block all all_is shown
           (at_told old.content (λ f. block ≡ window f place n) f exposed there ∙ (λ i. window f (place_is i) (sym len i)));
       fewest = few;
       most = omega (arith, long, part.within, part.blocks, part.whole);
       each_once = omega (arith, long);
     }
+
+-- an open gate and a change behind it are a record
+pub record_ends : (bytes all : List ℕ) (at next : ℕ) (c : Change) → bytes ≡ all → get_or all at 0 ≡ 0xa7 → BeginsWithChange (drop (at + 1) bytes) c → at < length bytes
+    → next ≡ at + 1 + length (change_bytes c) → EndsRecord all at c next
+record_ends bytes all at next c same up begins there next_is =
+    let step : at + 1 ≡ suc at = omega arith in
+    let behind : drop at bytes ≡ 0xa7 ∷ (change_bytes c ++ begins.rest) =
+    drop-cons bytes at 0 there ∙ (λ i. (ap (λ (x : List ℕ). get_or x at 0) same ∙ up) i ∷ drop (sym step i) bytes) ∙ ap (λ (x : List ℕ). 0xa7 ∷ x) begins.split in
+    let split : bytes ≡ (take at bytes ++ 0xa7 ∷ change_bytes c) ++ begins.rest =
+    sym (take-append-drop at bytes) ∙ ap (λ (x : List ℕ). take at bytes ++ x) behind ∙ sym (append_assoc (take at bytes) (0xa7 ∷ change_bytes c) begins.rest) in
+    subst (λ (x : List ℕ). EndsRecord x at c next) same (record {
+      text = ap (take next) split ∙ take_at (take at bytes ++ 0xa7 ∷ change_bytes c) begins.rest next
+          (omega (arith, next_is, length-append (take at bytes) (0xa7 ∷ change_bytes c), length-take {A = ℕ} at bytes, there));
+      lawful = begins.lawful;
+    })
 
 -- a change that stands behind a place ends within the bytes, and not far behind it
 pub begins_near : (bytes all : List ℕ) (at next : ℕ) (c : Change) → bytes ≡ all → BeginsWithChange (drop (at + 1) bytes) c → at < length bytes → next ≡ at + 1 + length (change_bytes c)

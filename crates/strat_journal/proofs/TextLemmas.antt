@@ -24,3 +24,10 @@ gate_text_gate old text new mid at end room fits is room_is mid_is new_is =
     ∙ set_placed new end 0 (omega arith)
     ∙ ap (λ (x : List ℕ). placed x end (0 ∷ [])) (new_is ∙ ap (λ (x : List ℕ). placed x (at + 1) text) first)
     ∙ placed_three old (0xa7 ∷ []) text (0 ∷ []) at (at + 1) end (omega arith) (omega arith) (omega arith)
+
+-- a text written over the front of a buffer that was lent
+pub whole_buffer : (items lent text new : List ℕ) (room : ℕ) → lent ≡ items → room ≡ length items → length text ≤ length items → new ≡ placed lent 0 text
+    → take room (new ++ drop (length new) items) ≡ placed items 0 text
+whole_buffer items lent text new room same room_is fits new_is =
+    let long : length new ≡ length lent = ap length new_is ∙ length-placed lent text 0 (omega (arith, fits, ap length same)) in
+    take_at new (drop (length new) items) room (omega (arith, long, ap length same, room_is)) ∙ new_is ∙ ap (λ (x : List ℕ). placed x 0 text) same

@@ -1,10 +1,11 @@
 -- The front of a region that was read.
-use Rattle.std.specs.Prelude.{◌≡◌, ◌≢◌, ◌⊎◌, ◌≤◌, ◌<◌, ℕ, ◌+◌, ◌-◌, ◌%◌, ◌^◌, List, length, drop, slice_index, Option, Some, None, ◌*◌, IsSome, Result, OnOk}
+use Rattle.std.specs.Prelude.{◌≡◌, ◌≢◌, ◌⊎◌, ◌≤◌, ◌<◌, ℕ, ◌+◌, ◌-◌, ◌%◌, ◌^◌, List, length, take, drop, slice_index, ◌∷◌, ◌++◌, true, map, Option, Some, None, ◌*◌, IsSome, Result, OnOk}
 use Rattle.strat_crash.specs.Image.{Image, window}
 use Rattle.strat_crash.specs.Moments.{DiskView, Exposes, OnlyReads}
-use Rattle.strat_base.specs.Change.{Change, change_bytes, change_in}
+use Rattle.std.specs.List.{list_all}
+use Rattle.strat_base.specs.Change.{Change, change_bytes, change_in, is_lawful}
 use Rattle.strat_journal.specs.declared.journal.Logged.{Logged}
-use Rattle.strat_format.specs.Records.{block_of}
+use Rattle.strat_format.specs.Records.{block_of, records_bytes}
 use Rattle.strat_format.specs.Layout.{open_flag}
 
 -- where a region begins, how many bytes it has, and the first of them
@@ -50,6 +51,7 @@ pub record ReadsOn {T E : Type 0} (old new : DiskView) (before now : ℕ) (part 
   pub longer : length part.bytes ≤ length next.bytes
   pub within : length next.bytes ≤ next.size
   pub looks : OnlyReads old new
+  pub front : (k : ℕ) → k ≤ length part.bytes → take k next.bytes ≡ take k part.bytes
   pub shows : OnOk result ((f : Image) → Exposes old f → MatchesImage f part → MatchesImage f next)
   pub fewest : before ≤ now
   pub most : 4096 * now + length part.bytes ≤ 4096 * before + part.size
@@ -61,6 +63,16 @@ HoldsRecord part at None = slice_index part.bytes at ≢ open_flag
 HoldsRecord part at (Some (change, next)) =
     (slice_index part.bytes at ≡ open_flag) × (change_in (drop (at + 1) part.bytes) ≡ Some change)
     × (next ≡ at + 1 + length (change_bytes change))
+
+-- the bytes up to an offset are those up to another and then the record of this change
+pub record EndsRecord (bytes : List ℕ) (at : ℕ) (change : Change) (next : ℕ) : Type 0 where
+  pub text : take next bytes ≡ take at bytes ++ open_flag ∷ change_bytes change
+  pub lawful : is_lawful change ≡ true
+
+-- the bytes are the records of these changes
+pub record AreRecords (bytes : List ℕ) (logged : List Logged) : Type 0 where
+  pub text : bytes ≡ records_bytes (map (λ l. l.change) logged)
+  pub lawful : list_all is_lawful (map (λ l. l.change) logged) ≡ true
 
 -- a gate stands open at an offset, and no change after it
 abbrev pub HoldsNoRecord : ReadSoFar → ℕ → Type 0

@@ -8,9 +8,10 @@ ghost use Rattle.strat_crash.specs.Image.{Image};
 ghost use Rattle.strat_format.specs.Layout as places;
 ghost use Rattle.strat_format.specs.Layout.{IsRegion};
 ghost use Rattle.strat_crash.specs.Moments.{Exposes, Since, Passes, TearsOnly};
+ghost use Rattle.strat_journal.specs.RegionReader.{AreRecords};
 ghost use Rattle.strat_journal.specs.Log.{Stands, GivesAllOrNone, HoldsBatch, batch_joined, with_list, empty_log};
 
-use crate::text::{behind_gate, put_record};
+use crate::text::{behind_gate, put_record, put_records};
 use std::alloc::Global;
 use std::marker::Model;
 use strat_base::{Change, Failed, NoMemory, OwnedChange};
@@ -91,27 +92,19 @@ impl Journal {
         })
     }
 
-    /// Adds a change that recovery read to the list.
-    fn restore(&mut self, change: &Change<'_>)
-        requires fits { IsTrue (is_lawful (change_of change.now)) }
-        requires none { self.old.batch ≡ [] }
-        requires room { length self.old.list < self.old.mem }
-        ensures ok { self.new ≡ with_list (self.old.list ++ change_of change.now ∷ []) self.old }
-    {
-        self.add(change);
-        self.join();
-    }
-
-    /// Adds changes that recovery read to the list.
-    pub(crate) fn restore_all(&mut self, logged: &[Logged])
-        requires none { self.old.batch ≡ [] }
-        requires room { length self.old.list + length logged.now ≤ self.old.mem }
+    /// Takes the list that recovery read, with its records as they were read: one copy of their bytes.
+    pub(crate) fn restore(&mut self, logged: &[Logged], bytes: &[u8])
+        requires kept { AreRecords bytes.now logged.now }
+        requires room { length logged.now ≤ self.old.mem }
         ensures ok { self.new
-            ≡ with_list (self.old.list ++ map (λ l. l.change) logged.now) self.old }
+            ≡ with_list (map (λ l. l.change) logged.now) (record self.old { batch = [] }) }
     {
-        for record in logged {
-            self.restore(&record.change.as_change());
-        }
+        let end = bytes.len();
+        put_records(&mut self.bytes, bytes);
+        self.count = logged.len() as u32;
+        self.staged = 0;
+        self.end = end;
+        self.len = end;
     }
 
     /// Sets whether the region that is not active is to be shut.

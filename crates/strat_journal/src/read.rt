@@ -9,6 +9,7 @@ ghost use Rattle.strat_format.specs.SuperBlock.{IsLawful};
 ghost use Rattle.strat_base.specs.declared.failures.Trouble.TheVariants.{Damaged, Device};
 ghost use Rattle.strat_gate.specs.SuperView.{super_of};
 ghost use Rattle.strat_journal.specs.Log.{Restores, RecoversTo};
+ghost use Rattle.strat_journal.specs.RegionReader.{AreRecords};
 ghost use Rattle.strat_format.specs.Records.{region_records};
 ghost use Rattle.strat_journal.specs.Records.{logged_of, alone_then, recover_journal_now};
 ghost use Rattle.strat_journal.specs.Records.{is_plain as plain_change};
@@ -23,18 +24,19 @@ use strat_disk::Disk;
 use strat_format::{region_at, region_first};
 use strat_gate::{SuperBlock, gate_up};
 
-/// The records of a region, up to its first closed gate or as many as it takes. Reads each block at most
-/// once and none after that gate.
+/// The records of a region, up to its first closed gate or as many as it takes, and their bytes. Reads each
+/// block at most once and none after that gate.
 fn read_region<D: Disk>(
     alloc: Global,
     disk: &mut D,
     mem: u32,
     region: u8,
-) -> Result<Vec<Logged>, Trouble>
+) -> Result<(Vec<Logged>, Vec<u8>), Trouble>
     requires fits { IsRegion mem region }
-    ensures found { IfOk result (λ v. (f : Image) → Exposes (D.view disk.old) f
-        → region_records f mem region ≡ Ok (map logged_of v.items)) }
-    ensures len { IfOk result (λ v. vec_len v ≤ mem) }
+    ensures found { IfOk result (λ r. (f : Image) → Exposes (D.view disk.old) f
+        → region_records f mem region ≡ Ok (map logged_of r.0.items)) }
+    ensures kept { IfOk result (λ r. AreRecords r.1.items r.0.items) }
+    ensures len { IfOk result (λ r. vec_len r.0 ≤ mem) }
     ensures damaged { (b : ℕ) → IsErrOf result (Damaged b) → (f : Image)
         → Exposes (D.view disk.old) f → region_records f mem region ≡ Err b }
     ensures same { OnlyReads (D.view disk.old) (D.view disk.new) }
@@ -46,12 +48,12 @@ fn read_region<D: Disk>(
     let mut at = 0;
     for _i in 0..mem {
         let Some((record, next)) = reader.next(alloc, disk, at)? else {
-            return Ok(logged);
+            return Ok((logged, reader.into_front(at)));
         };
         logged.push(record)?;
         at = next;
     }
-    Ok(logged)
+    Ok((logged, reader.into_front(at)))
 }
 
 /// Whether a change is one that stores take so far: a put at version 0.
@@ -106,12 +108,13 @@ fn read_records<D: Disk>(
     disk: &mut D,
     mem: u32,
     region: u8,
-) -> Result<(Vec<Logged>, bool), Trouble>
+) -> Result<(Vec<Logged>, Vec<u8>, bool), Trouble>
     requires fits { IsRegion mem region }
     ensures found { IfOk result (λ r. (f : Image) → Exposes (D.view disk.old) f
         → (recover_journal_now f mem region ≡ Ok (map logged_of r.0.items))
-        × (r.1 ≡ is_open (f (places.region_at mem (places.other_region region))))) }
-    ensures len { IfOk result (λ r. (vec_len r.0 ≤ mem) × (IsTrue r.1 → vec_len r.0 ≢ mem)) }
+        × (r.2 ≡ is_open (f (places.region_at mem (places.other_region region))))) }
+    ensures len { IfOk result (λ r. (vec_len r.0 ≤ mem) × (IsTrue r.2 → vec_len r.0 ≢ mem)) }
+    ensures kept { IfOk result (λ r. AreRecords r.1.items r.0.items) }
     ensures damaged { (b : ℕ) → IsErrOf result (Damaged b) → (f : Image)
         → Exposes (D.view disk.old) f → recover_journal_now f mem region ≡ Err b }
     ensures same { OnlyReads (D.view disk.old) (D.view disk.new) }
@@ -119,10 +122,10 @@ fn read_records<D: Disk>(
     ensures reads { ReadsAtMost (places.region_blocks mem + 1)
         (D.reads disk.old) (D.reads disk.new) }
 {
-    let logged = read_region(alloc, disk, mem, region)?;
+    let (logged, bytes) = read_region(alloc, disk, mem, region)?;
     let others = gate_up(disk, region_at(mem, 1 - region))?;
     require_plain(&logged, mem, others, region_first(mem, 1 - region))?;
-    Ok((logged, others))
+    Ok((logged, bytes, others))
 }
 
 impl Journal {
@@ -147,8 +150,8 @@ impl Journal {
             (D.reads disk.old) (D.reads disk.new) }
     {
         let mut journal = Journal::empty(alloc, sb.mem, sb.region)?;
-        let (logged, others) = read_records(alloc, disk, sb.mem, sb.region)?;
-        journal.restore_all(&logged);
+        let (logged, bytes, others) = read_records(alloc, disk, sb.mem, sb.region)?;
+        journal.restore(&logged, &bytes);
         journal.set_stale(others);
         Ok((journal, logged))
     }

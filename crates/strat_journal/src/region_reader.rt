@@ -1,12 +1,12 @@
 //! The front of a region, read block by block as far as its records are looked at.
 
-ghost use Rattle.std.specs.Prelude.{◌≡◌, ◌≤◌, ◌<◌, ℕ, ◌+◌, ◌-◌, [], length, Some, IfOk, IfSome, IsErrOf, OnOk};
+ghost use Rattle.std.specs.Prelude.{◌≡◌, ◌≤◌, ◌<◌, ℕ, ◌+◌, ◌-◌, [], length, take, Some, IfOk, IfSome, IsErrOf, OnOk};
 ghost use Rattle.strat_crash.specs.Faults.{CountsFaults, HasCause};
 ghost use Rattle.std.specs.Bool.{OnTrue, OnFalse};
 ghost use Rattle.strat_crash.specs.Image.{Image};
 ghost use Rattle.strat_format.specs.Layout as places;
 ghost use Rattle.strat_format.specs.Layout.{IsRegion};
-ghost use Rattle.strat_journal.specs.RegionReader.{MatchesImage, IsClear, IsConclusive, ReadsOn, HoldsRecord, HoldsNoRecord, Stored, StoredNone};
+ghost use Rattle.strat_journal.specs.RegionReader.{MatchesImage, IsClear, IsConclusive, ReadsOn, HoldsRecord, EndsRecord, HoldsNoRecord, Stored, StoredNone};
 ghost use Rattle.strat_format.specs.Records.{block_of};
 ghost use Rattle.strat_base.specs.declared.failures.Trouble.TheVariants.{Device, Damaged};
 ghost use Rattle.strat_crash.specs.Moments.{Exposes};
@@ -122,6 +122,19 @@ impl RegionReader {
         Ok(())
     }
 
+    /// The bytes up to an offset.
+    pub(crate) fn into_front(self, at: usize) -> Vec<u8>
+        ensures { result.items ≡ take at self.bytes }
+    {
+        let RegionReader {
+            first: _,
+            size: _,
+            mut bytes,
+        } = self;
+        bytes.truncate(at);
+        bytes
+    }
+
     /// The block in which a byte of the region lies.
     pub(crate) fn block(&self, at: usize) -> u32
         requires { at < self.now.size }
@@ -137,6 +150,8 @@ impl RegionReader {
         ensures found { IfOk result (λ r. HoldsRecord self.now at r) }
         ensures end { IfOk result (λ r. IfSome r
             (λ x. (x.1 ≤ at + 1288) × (x.1 ≤ length self.now.bytes))) }
+        ensures kept { IfOk result (λ r. IfSome r
+            (λ x. EndsRecord self.now.bytes at x.0 x.1)) }
         ensures damaged { (b : ℕ) → IsErrOf result (Damaged b)
             → HoldsNoRecord self.now at × (b ≡ block_of (self.now.first + at)) }
         ensures cause { IsErrOf result Device → ⊥ }
@@ -164,6 +179,8 @@ impl RegionReader {
             → MatchesImage f self.old → Stored f self.old at r) }
         ensures end { IfOk result (λ r. IfSome r
             (λ x. (x.1 ≤ at + 1288) × (x.1 ≤ length self.new.bytes))) }
+        ensures kept { IfOk result (λ r. IfSome r
+            (λ x. EndsRecord self.new.bytes at x.0.change x.1)) }
         ensures damaged { (b : ℕ) → IsErrOf result (Damaged b) → (f : Image)
             → Exposes (D.view disk.old) f → MatchesImage f self.old → StoredNone f self.old at b }
         ensures ok { ReadsOn (D.view disk.old) (D.view disk.new)

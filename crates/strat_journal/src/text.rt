@@ -23,6 +23,23 @@ pub(crate) fn put_record(bytes: &mut Vec<u8>, at: usize, change: &Change<'_>) ->
     end
 }
 
+/// Copies bytes over the front of others.
+fn put_front(into: &mut [u8], bytes: &[u8])
+    requires room { length bytes.now ≤ length into.old }
+    ensures ok { into.new ≡ placed into.old 0 bytes.now }
+{
+    into[..bytes.len()].copy_from_slice(bytes);
+}
+
+/// Writes records and a closed gate after them over the front of the buffer.
+pub(crate) fn put_records(into: &mut [u8], records: &[u8])
+    requires room { length records.now < length into.old }
+    ensures ok { into.new ≡ placed into.old 0 (records.now ++ 0 ∷ []) }
+{
+    put_front(into, records);
+    into[records.len()] = 0;
+}
+
 /// The batch's records after the first one's gate, and the closed gate after them.
 pub(crate) fn behind_gate(bytes: &[u8], end: usize, len: usize) -> &[u8]
     requires fits { (end ≤ len) × (len < length bytes.now) }

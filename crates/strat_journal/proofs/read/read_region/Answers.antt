@@ -1,7 +1,7 @@
 use Rattle.std.proofs.Common.{refl, ◌∙◌, arith}
 use Rattle.std.proofs.lemmas.Result.{err_from_is_err_and}
 use Rattle.strat_gate.proofs.ReadingLemmas.{reads_trans}
-use Rattle.strat_journal.proofs.ReadLemmas.{same_err, begun, one_more, ends_shut, ends_torn, ends_full}
+use Rattle.strat_journal.proofs.ReadLemmas.{same_err, begun, one_more, ends_shut, ends_torn, ends_full, front_kept}
 use Rattle.strat_journal.proofs.read.read_region.Goals as goal
 
 pub loop-i-init : goal.loop-i-init
@@ -29,9 +29,16 @@ pub loop-i-preserved : goal.loop-i-preserved
 loop-i-preserved g c =
     let on = c.in_ok-record.ensures in (
       one_more _ _ _ _ _ _ _ _ _ _ _ _ _ c.loop-i.invariant.0 _ c.in-Some.record c.in-Some.next c.loop-i-test.true on.ok
-          (rw c.in-Some.is at on.found) (rw c.in-Some.is at on.end) _ c.in_ok-push.ensures.items,
+          (rw c.in-Some.is at on.found) (rw c.in-Some.is at on.end) (rw c.in-Some.is at on.kept) _ c.in_ok-push.ensures.items,
       on.cause.ok ∙ c.loop-i.invariant.1,
     )
 
 pub returns-clause-found : goal.returns-clause-found
 returns-clause-found g c = ends_full _ _ (g.D.Disk.view c.loop-i.disk) _ _ (g.D.Disk.reads c.loop-i.disk) _ _ _ _ _ c.loop-i.reader _ c.loop-i.invariant.0 (omega arith)
+
+pub returns-in_default-clause-kept : goal.returns-in_default-clause-kept
+returns-in_default-clause-kept g c =
+    front_kept _ c.next.new.self.bytes c.loop-i.at c.into_front.result.items c.loop-i.logged.items c.loop-i.invariant.0.kept (c.next.ensures.ok.front c.loop-i.at c.loop-i.invariant.0.near) c.into_front.ensures
+
+pub returns-clause-kept : goal.returns-clause-kept
+returns-clause-kept g c = rw c.into_front-2.ensures c.loop-i.invariant.0.kept

@@ -1,4 +1,4 @@
-use Rattle.std.proofs.Common.{◌∙◌, ◌++◌, length, map, arith, ap, length-append}
+use Rattle.std.proofs.Common.{◌∙◌, length, map, arith, ap}
 use Rattle.std.proofs.lemmas.List.{length-map}
 use Rattle.strat_journal.specs.declared.journal.Logged.{Logged}
 use Rattle.strat_journal.specs.Log.{Log}
@@ -10,21 +10,12 @@ pub returns-clause-found : goal.returns-clause-found
 returns-clause-found g c = λ f exposed.
     let read = c.in_ok-logged.ensures in
     let recovered = read.found f exposed in
-    let list = ap (λ (j : Log). length j.list) c.restore_all.ensures.ok in
-    let none = ap (λ (j : Log). length j.list) c.in_ok-journal.ensures.ok in
     record {
       records = recovered.0;
       changes = changes_now f c.args.sb.now.mem c.args.sb.now.region c.in_ok-logged.logged.items c.set_stale.new.self.list recovered.0
-          (ap (λ (j : Log). j.list) c.set_stale.ensures.ok ∙ ap (λ (j : Log). j.list) c.restore_all.ensures.ok
-          ∙ (λ i. (ap (λ (j : Log). j.list) c.in_ok-journal.ensures.ok) i ++ map (λ (l : Logged). l.change) (c.deref.ensures.value i)));
+          (ap (λ (j : Log). j.list) c.set_stale.ensures.ok ∙ ap (λ (j : Log). j.list) c.restore.ensures.ok
+          ∙ ap (map (λ (l : Logged). l.change)) c.deref.ensures.value);
       stale = rw c.set_stale.ensures.ok
           (stale_is _ _ c.args.sb.now.mem _ _ recovered.1 read.len.0 read.len.1
-          (omega (
-            arith,
-            list,
-            none,
-            length-append c.in_ok-journal.journal.list (map (λ (l : Logged). l.change) c.deref.result.now),
-            length-map c.deref.result.now (λ (l : Logged). l.change),
-            c.deref.ensures.len,
-          )));
+          (omega (arith, ap (λ (j : Log). length j.list) c.restore.ensures.ok, length-map c.deref.result.now (λ (l : Logged). l.change), c.deref.ensures.len)));
     }
