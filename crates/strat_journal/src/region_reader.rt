@@ -1,11 +1,11 @@
 //! The front of a region, read block by block as far as its records are looked at.
 
-ghost use Rattle.std.specs.Prelude.{◌≡◌, ◌≤◌, ◌<◌, ℕ, ◌+◌, ◌-◌, [], length, take, Some, IfOk, IfSome, IsErrOf, OnOk};
+ghost use Rattle.std.specs.Prelude.{◌≡◌, ◌≢◌, ◌≤◌, ◌<◌, ℕ, ◌+◌, ◌-◌, [], length, take, slice_index, Some, IfOk, IfSome, IsErrOf, OnOk};
 ghost use Rattle.strat_crash.specs.Faults.{CountsFaults, HasCause};
 ghost use Rattle.std.specs.Bool.{OnTrue, OnFalse};
 ghost use Rattle.strat_crash.specs.Image.{Image};
 ghost use Rattle.strat_format.specs.Layout as places;
-ghost use Rattle.strat_format.specs.Layout.{IsRegion};
+ghost use Rattle.strat_format.specs.Layout.{IsRegion, open_flag};
 ghost use Rattle.strat_journal.specs.RegionReader.{MatchesImage, IsClear, IsConclusive, ReadsOn, HoldsRecord, EndsRecord, HoldsNoRecord, Stored, StoredNone};
 ghost use Rattle.strat_format.specs.Records.{block_of};
 ghost use Rattle.strat_base.specs.declared.failures.Trouble.TheVariants.{Device, Damaged};
@@ -93,13 +93,23 @@ impl RegionReader {
         Ok(())
     }
 
+    /// Whether the gate at an offset is open.
+    // A function of its own, since no proof file cites its steps: so wrong bodies of it are refused for what they do.
+    fn is_open(&self, at: usize) -> bool
+        requires { at < length self.now.bytes }
+        ensures ok { OnTrue result (slice_index self.now.bytes at ≡ open_flag)
+            × OnFalse result (slice_index self.now.bytes at ≢ open_flag) }
+    {
+        self.bytes[at] == OPEN
+    }
+
     /// Whether the bytes end before it is clear which change follows the gate at an offset.
     fn needs_more(&self, at: usize) -> bool
         requires { at < length self.now.bytes }
         ensures ok { OnTrue result (length self.now.bytes < self.now.size)
             × OnFalse result (IsConclusive self.now at) }
     {
-        self.bytes[at] == OPEN
+        self.is_open(at)
             && self.bytes.len() < self.size
             && get_change(&self.bytes, at + 1).is_none()
     }
@@ -156,7 +166,7 @@ impl RegionReader {
             → HoldsNoRecord self.now at × (b ≡ block_of (self.now.first + at)) }
         ensures cause { IsErrOf result Device → ⊥ }
     {
-        if self.bytes[at] != OPEN {
+        if !self.is_open(at) {
             return Ok(None);
         }
         let Some((change, next)) = get_change(&self.bytes, at + 1) else {

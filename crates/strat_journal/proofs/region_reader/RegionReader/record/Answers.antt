@@ -1,5 +1,4 @@
-use Rattle.std.proofs.Common.{ap, sym, ◌∙◌, get_or, arith}
-use Rattle.std.proofs.lemmas.List.{get_or_default}
+use Rattle.std.proofs.Common.{ap, ◌∙◌, arith}
 use Rattle.strat_base.specs.ChangeView.{change_of}
 use Rattle.strat_journal.specs.RegionReader.{ReadSoFar}
 use Rattle.strat_journal.proofs.RegionReaderLemmas.{begins_near, record_ends}
@@ -15,7 +14,6 @@ pub returns-clause-kept : goal.returns-clause-kept
 returns-clause-kept c =
     let bytes = c.deref.ensures.value ∙ ap (λ (p : ReadSoFar). p.bytes) c.self.view_is in
     let there = rw (← c.self.view_is) at c.requires.fits in
-    let up = sym (ap (λ (p : ReadSoFar). get_or p.bytes c.args.at 0) c.self.view_is) ∙ get_or_default c.self.inside.bytes.items c.args.at 0 _ there.0 ∙ sym c.index.ensures ∙ c.if-index.false in
     rw c.in_ok-new.ensures.ok
     (record_ends c.deref.result.now c.args.self.now.bytes c.args.at c.in-Some.next (change_of c.in-Some.change) bytes
-    up c.in-Some.ensures.found (omega (arith, there.0, c.deref.ensures.len, c.self.inside.bytes.ok.0)) c.in-Some.ensures.end)
+    c.if-not-is_open.ensures.ok.0 c.in-Some.ensures.found (omega (arith, there.0, c.deref.ensures.len, c.self.inside.bytes.ok.0)) c.in-Some.ensures.end)
