@@ -1,1 +1,3 @@
+pub mod Disks
+pub mod Formats
 pub mod States

@@ -3,5 +3,8 @@
 
 #![tactic(auto)]
 
+pub mod disks;
+pub mod formats;
 pub mod limits;
+pub mod scans;
 pub mod states;

@@ -1,0 +1,151 @@
+-- Descriptors, superblocks and disks that stand exactly at a bound of the formats, or one past it.
+use Rattle.std.specs.Prelude.{ℕ, List, [], ◌∷◌, ◌++◌, map, replicate, Some}
+use Rattle.strat_base.specs.Entries.{Entry}
+use Rattle.strat_base.specs.Change.{Change, Put}
+use Rattle.strat_crash.specs.Image.{Image, patch}
+use Rattle.strat_format.specs.Manifest.{Extent, ArrayDesc, LevelDesc, Manifest}
+use Rattle.strat_format.specs.Records.{records_bytes}
+use Rattle.strat_format.specs.SuperBlock.{Super, Slot}
+
+-- four keys with values of 1,024 bytes, and of so many for the last key
+abbrev pub four_entries : ℕ → List Entry
+four_entries last =
+    map (λ key. record { key = key ∷ []; version = 0; value = Some (replicate 1024 49) })
+    (97 ∷ 98 ∷ 99 ∷ [])
+    ++ record { key = 100 ∷ []; version = 0; value = Some (replicate last 49) } ∷ []
+
+-- an extent of so many blocks from a block on
+abbrev pub from_block : ℕ → ℕ → Extent
+from_block start len = record { start = start; len = len }
+
+-- array 1, with as many leads and live entries as entries
+abbrev pub two_leads : ArrayDesc
+two_leads = record {
+  id = 1;
+  entries = 2;
+  leads = 2;
+  least = 2;
+  extents = from_block 7 1 ∷ from_block 9 1 ∷ [];
+  versions = 0 ∷ 1 ∷ [];
+}
+
+-- the same array in these extents
+abbrev pub in_extents : List Extent → ArrayDesc
+in_extents extents = record two_leads { extents = extents }
+
+-- the same array for these versions
+abbrev pub for_versions : List ℕ → ArrayDesc
+for_versions versions = record two_leads { versions = versions }
+
+-- a level with this number and horizon, and these arrays
+abbrev pub level_desc : ℕ → ℕ → List ArrayDesc → LevelDesc
+level_desc number horizon arrays = record { number = number; horizon = horizon; arrays = arrays }
+
+-- a manifest of two updates and three versions with these arrays in level 1
+abbrev pub with_arrays : List ArrayDesc → Manifest
+with_arrays arrays = record {
+  changes = 2;
+  updates = 2;
+  written = 2;
+  next_array = 2;
+  parents = 0 ∷ 1 ∷ [];
+  levels = level_desc 1 3 arrays ∷ [];
+}
+
+-- the same in two extents: block 7, and this block
+abbrev pub second_extent_at : ℕ → Manifest
+second_extent_at start = with_arrays (in_extents (from_block 7 1 ∷ from_block start 1 ∷ []) ∷ [])
+
+-- the manifest of a store without levels that had so many changes, all of them updates
+abbrev pub without_levels : ℕ → Manifest
+without_levels changes = record {
+  changes = changes;
+  updates = changes;
+  written = 0;
+  next_array = 1;
+  parents = [];
+  levels = [];
+}
+
+-- two arrays in level 1, the second in two extents
+abbrev pub two_arrays : Manifest
+two_arrays = record {
+  changes = 4;
+  updates = 3;
+  written = 5;
+  next_array = 3;
+  parents = 0 ∷ [];
+  levels = level_desc 1 2 (
+      record {
+        id = 1;
+        entries = 1;
+        leads = 1;
+        least = 1;
+        extents = from_block 7 1 ∷ [];
+        versions = 0 ∷ [];
+      }
+      ∷ record {
+        id = 2;
+        entries = 3;
+        leads = 2;
+        least = 3;
+        extents = from_block 8 2 ∷ from_block 11 1 ∷ [];
+        versions = 1 ∷ [];
+      } ∷ []) ∷ [];
+}
+
+-- their bytes: the counts, the next array and one clone of version 0; level 1; and for each array a
+-- row with its numbers, and one with its extents and its version
+abbrev pub two_arrays_bytes : List ℕ
+two_arrays_bytes =
+    0 ∷ 0 ∷ 0 ∷ 4 ∷ 0 ∷ 0 ∷ 0 ∷ 3 ∷ 0 ∷ 0 ∷ 0 ∷ 0 ∷ 0 ∷ 0 ∷ 0 ∷ 5
+    ∷ 0 ∷ 0 ∷ 0 ∷ 0 ∷ 0 ∷ 0 ∷ 0 ∷ 3 ∷ 0 ∷ 0 ∷ 0 ∷ 2 ∷ 0 ∷ 0 ∷ 0 ∷ 0 ∷ 1
+    ∷ 1 ∷ 0 ∷ 0 ∷ 0 ∷ 2 ∷ 0 ∷ 0 ∷ 0 ∷ 2
+    ∷ 0 ∷ 0 ∷ 0 ∷ 0 ∷ 0 ∷ 0 ∷ 0 ∷ 1 ∷ 0 ∷ 0 ∷ 0 ∷ 1 ∷ 0 ∷ 0 ∷ 0 ∷ 1 ∷ 0 ∷ 0 ∷ 0 ∷ 1
+    ∷ 0 ∷ 0 ∷ 0 ∷ 1 ∷ 0 ∷ 0 ∷ 0 ∷ 7 ∷ 0 ∷ 0 ∷ 0 ∷ 1 ∷ 0 ∷ 0 ∷ 0 ∷ 1 ∷ 0 ∷ 0 ∷ 0 ∷ 0
+    ∷ 0 ∷ 0 ∷ 0 ∷ 0 ∷ 0 ∷ 0 ∷ 0 ∷ 2 ∷ 0 ∷ 0 ∷ 0 ∷ 3 ∷ 0 ∷ 0 ∷ 0 ∷ 2 ∷ 0 ∷ 0 ∷ 0 ∷ 3
+    ∷ 0 ∷ 0 ∷ 0 ∷ 2 ∷ 0 ∷ 0 ∷ 0 ∷ 8 ∷ 0 ∷ 0 ∷ 0 ∷ 2 ∷ 0 ∷ 0 ∷ 0 ∷ 11 ∷ 0 ∷ 0 ∷ 0 ∷ 1
+    ∷ 0 ∷ 0 ∷ 0 ∷ 1 ∷ 0 ∷ 0 ∷ 0 ∷ 1 ∷ []
+
+-- the superblock with all fields as small as they may be
+abbrev pub least_super : Super
+least_super = record {
+  generation = 1;
+  manifest = 6;
+  length = 29;
+  region = 0;
+  mem = 4;
+  changes_max = 1;
+  versions_max = 1;
+}
+
+-- the superblock with all fields that have a greatest value at that
+abbrev pub greatest_super : Super
+greatest_super = record {
+  generation = 18446744073709551615;
+  manifest = 4294967294;
+  length = 4294967295;
+  region = 1;
+  mem = 4096;
+  changes_max = 16777216;
+  versions_max = 16384;
+}
+
+-- a slot with this superblock
+abbrev pub slot_with : Super → Slot
+slot_with sb = record { format = 1; sb = sb }
+
+-- the slot of a superblock with this generation and region
+abbrev pub slot_of_generation : ℕ → ℕ → Slot
+slot_of_generation generation region =
+    slot_with (record least_super { generation = generation; region = region })
+
+-- a put at version 0 of a key of one byte
+abbrev pub put_of : ℕ → Change
+put_of key = Put 0 (key ∷ []) (49 ∷ [])
+
+-- a disk with puts of these keys in region 0 and in region 1, for regions of four changes
+abbrev pub with_puts : List ℕ → List ℕ → Image
+with_puts firsts seconds =
+    patch (patch (λ i. 0) 8192 (records_bytes (map put_of firsts)))
+    16384 (records_bytes (map put_of seconds))

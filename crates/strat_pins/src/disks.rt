@@ -1,0 +1,89 @@
+//! Manifests and disks at the bounds of what recovery takes. Each is the contract of a function that does
+//! nothing.
+
+#![tactic(auto, unfolding(strat_base::specs::Numbers::be, strat_base::specs::Numbers::number, strat_crash::specs::Image::window, strat_crash::specs::Image::over, strat_format::specs::SuperBlock::slot_of, strat_format::specs::SuperBlock::slot_in, strat_format::specs::SuperBlock::zeros, strat_format::specs::Manifest::all_pass))]
+
+ghost use Rattle.std.specs.Prelude.{◌≡◌, [], ◌∷◌, Some, Ok, true, false};
+ghost use Rattle.strat_base.specs.Samples.{says};
+ghost use Rattle.strat_format.specs.SuperBlock.{newest_in};
+ghost use Rattle.strat_recovery.specs.Bad.{fits_behind};
+ghost use Rattle.strat_recovery.specs.Disks.{new_super, chain_super, chain_manifest};
+ghost use Rattle.strat_recovery.specs.Opening.{belongs};
+ghost use Rattle.strat_pins.specs.Disks.{array_at, having, in_block_eight, led_by, after_two_changes, with_second_slot, in_two_blocks};
+
+/// Two arrays may be the same in all but their numbers, blocks and versions, and share none of these.
+pub fn arrays_share_no_number_block_or_version()
+    ensures ok { belongs chain_super
+        (in_block_eight (having (array_at 1 1 7 ∷ array_at 2 2 9 ∷ []))) ≡ true }
+    ensures number { belongs chain_super
+        (in_block_eight (having (array_at 1 1 7 ∷ array_at 1 2 9 ∷ []))) ≡ false }
+    ensures block { belongs chain_super
+        (in_block_eight (having (array_at 1 1 7 ∷ array_at 2 2 7 ∷ []))) ≡ false }
+    ensures chain { belongs chain_super
+        (in_block_eight (having (array_at 1 1 8 ∷ array_at 2 2 9 ∷ []))) ≡ false }
+    ensures version { belongs chain_super
+        (in_block_eight (having (array_at 1 1 7 ∷ array_at 2 1 9 ∷ []))) ≡ false }
+{}
+
+/// The first block after the journal may be used, and none before it.
+pub fn blocks_follow_the_journal()
+    ensures array { (belongs chain_super (in_block_eight (having (array_at 1 1 6 ∷ []))) ≡ true)
+        × (belongs chain_super (in_block_eight (having (array_at 1 1 5 ∷ []))) ≡ false) }
+    ensures chain { (belongs chain_super (record { manifest = having []; blocks = 6 ∷ [] }) ≡ true)
+        × (belongs chain_super (record { manifest = having []; blocks = 5 ∷ [] }) ≡ false) }
+{}
+
+/// Of three entries two are leads at least, and they lie in three blocks at most.
+pub fn arrays_are_filled()
+    ensures ok { belongs chain_super (in_block_eight (led_by 2 3)) ≡ true }
+    ensures leads { belongs chain_super (in_block_eight (led_by 1 3)) ≡ false }
+    ensures blocks { belongs chain_super (in_block_eight (led_by 2 4)) ≡ false }
+{}
+
+/// Each bound on what a manifest counts, met exactly and passed by one: for two changes there are at most
+/// three generations, 32,768 arrays and 67,108,864 written entries.
+pub fn manifests_belong_up_to_their_bounds()
+    ensures generation { (belongs
+        (record chain_super { generation = 3 }) (in_block_eight (after_two_changes 1 0))
+        ≡ true)
+        × (belongs (record chain_super { generation = 4 }) (in_block_eight (after_two_changes 1 0))
+        ≡ false) }
+    ensures next { (belongs chain_super (in_block_eight (after_two_changes 32769 0)) ≡ true)
+        × (belongs chain_super (in_block_eight (after_two_changes 32770 0)) ≡ false) }
+    ensures written { (belongs chain_super (in_block_eight (after_two_changes 1 67108864)) ≡ true)
+        × (belongs chain_super (in_block_eight (after_two_changes 1 67108865)) ≡ false) }
+    ensures changes { (belongs
+        (record chain_super { changes_max = 4 }) (in_block_eight chain_manifest) ≡ true)
+        × (belongs (record chain_super { changes_max = 3 }) (in_block_eight chain_manifest)
+        ≡ false) }
+    ensures versions { (belongs
+        (record chain_super { versions_max = 4 }) (in_block_eight chain_manifest) ≡ true)
+        × (belongs (record chain_super { versions_max = 3 }) (in_block_eight chain_manifest)
+        ≡ false) }
+    ensures updates { (belongs chain_super
+        (in_block_eight (record (led_by 2 3) { updates = 2 })) ≡ true)
+        × (belongs chain_super (in_block_eight (record (led_by 2 3) { updates = 1 })) ≡ false) }
+{}
+
+/// Of two open superblocks with one generation the first slot's is the newest.
+pub fn ties_of_superblocks_go_to_the_first_slot()
+    ensures tie { newest_in (with_second_slot 1) ≡ Ok (Some (0, new_super)) }
+    ensures newer { newest_in (with_second_slot 2)
+        ≡ Ok (Some (1, record new_super { generation = 2; region = 1 })) }
+{}
+
+/// Entries fit after earlier ones where they come after the last of them, their versions are there, and there
+/// are no more leads than the descriptor says.
+pub fn entries_fit_their_place()
+    ensures ok { fits_behind 2 in_two_blocks (says 97 0 49 ∷ [])
+        (says 98 0 49 ∷ says 99 1 49 ∷ []) ≡ true }
+    ensures order { (fits_behind 2 in_two_blocks (says 98 0 49 ∷ []) (says 97 0 49 ∷ []) ≡ false)
+        × (fits_behind 2 in_two_blocks (says 97 0 49 ∷ []) (says 97 0 49 ∷ []) ≡ false)
+        × (fits_behind 2 in_two_blocks (says 97 1 49 ∷ []) (says 97 0 49 ∷ []) ≡ true)
+        × (fits_behind 2 in_two_blocks (says 97 0 49 ∷ []) (says 97 1 49 ∷ []) ≡ false) }
+    ensures first { fits_behind 2 in_two_blocks [] (says 97 0 49 ∷ []) ≡ true }
+    ensures version { (fits_behind 1 in_two_blocks [] (says 97 0 49 ∷ []) ≡ true)
+        × (fits_behind 1 in_two_blocks [] (says 97 1 49 ∷ []) ≡ false) }
+    ensures leads { fits_behind 2 in_two_blocks (says 97 0 49 ∷ [])
+        (says 98 0 49 ∷ says 99 0 49 ∷ []) ≡ false }
+{}

@@ -1,0 +1,152 @@
+//! Values at the bounds of the formats: at each bound one that passes, and one past it that doesn't. Each is
+//! the contract of a function that does nothing.
+
+#![tactic(auto, unfolding(strat_base::specs::Numbers::be, strat_base::specs::Numbers::number, strat_base::specs::Change::change_in, strat_crash::specs::Image::window, strat_crash::specs::Image::over, strat_format::specs::Block::block_bytes, strat_format::specs::Manifest::all_pass, strat_format::specs::Manifest::manifest_bytes, strat_format::specs::Manifest::manifest_in, strat_format::specs::Manifest::read_manifest, strat_format::specs::Manifest::read_level, strat_format::specs::Manifest::read_array, strat_format::specs::Manifest::read_extent, strat_format::specs::Manifest::read_items, strat_format::specs::Manifest::read_number, strat_format::specs::Records::records))]
+
+ghost use Rattle.std.specs.Prelude.{◌≡◌, [], ◌∷◌, ◌++◌, map, replicate, Some, None, Ok, true, false};
+ghost use Rattle.strat_base.specs.Samples.{says, gone};
+ghost use Rattle.strat_format.specs.Block.{fits_block, block_bytes};
+ghost use Rattle.strat_format.specs.Manifest.{is_lawful_extent, is_lawful_array, is_lawful_level, is_lawful_manifest, manifest_bytes, manifest_in};
+ghost use Rattle.strat_pins.specs.Formats.{four_entries, from_block, two_leads, in_extents, for_versions, level_desc, with_arrays, second_extent_at, without_levels, two_arrays, two_arrays_bytes, least_super, greatest_super, slot_with, slot_of_generation, put_of, with_puts};
+ghost use Rattle.strat_format.specs.Records.{journal_of};
+ghost use Rattle.strat_format.specs.SuperBlock.{in_range, newer};
+
+/// The block of `a` with the value `1` at version 0, and of `b` gone from version 258 on.
+pub fn bytes_of_a_block_of_two()
+    ensures { block_bytes (says 0x61 0 0x31 ∷ gone 0x62 258 ∷ [])
+        ≡ (0 ∷ 2 ∷ 0 ∷ 6 ∷ 0 ∷ 16 ∷ 1 ∷ 0x61 ∷ 0 ∷ 0 ∷ 0 ∷ 0 ∷ 1 ∷ 0 ∷ 1 ∷ 0x31
+        ∷ 1 ∷ 0x62 ∷ 0 ∷ 0 ∷ 1 ∷ 2 ∷ 0 ∷ []) ++ replicate 4073 0 }
+{}
+
+/// Four entries may fill a block to its last byte. With one byte more they are no block.
+pub fn blocks_may_be_full()
+    ensures most { fits_block (four_entries 978) ≡ true }
+    ensures more { fits_block (four_entries 979) ≡ false }
+{}
+
+/// The manifest of one level with two arrays, as it is written and read.
+pub fn bytes_of_two_arrays()
+    ensures written { manifest_bytes two_arrays ≡ two_arrays_bytes }
+    ensures read { manifest_in two_arrays_bytes ≡ Some two_arrays }
+{}
+
+/// A manifest with extents that touch is not read, though one with the same extents apart is.
+pub fn touching_extents_are_not_read()
+    ensures apart { manifest_in (manifest_bytes (second_extent_at 9)) ≡ Some (second_extent_at 9) }
+    ensures touching { manifest_in (manifest_bytes (second_extent_at 8)) ≡ None }
+{}
+
+/// Extents have a block each and end at a block number. No extent goes on where the one before it ends.
+pub fn extents_do_not_touch()
+    ensures last { is_lawful_extent (from_block 4294967294 1) ≡ true }
+    ensures past { is_lawful_extent (from_block 4294967294 2) ≡ false }
+    ensures none { is_lawful_extent (from_block 7 0) ≡ false }
+    ensures apart { is_lawful_manifest (second_extent_at 9) ≡ true }
+    ensures touching { is_lawful_manifest (second_extent_at 8) ≡ false }
+{}
+
+/// The bounds of a descriptor: its number, its entries, its leads and least live ones, its extents, its tag.
+pub fn descriptors_are_lawful_up_to_their_bounds()
+    ensures ok { is_lawful_array 2 two_leads ≡ true }
+    ensures id { (is_lawful_array 2 (record two_leads { id = 0 }) ≡ false)
+        × (is_lawful_array 1 two_leads ≡ false) }
+    ensures entries { (is_lawful_array 2 (record two_leads { entries = 4294967295 }) ≡ true)
+        × (is_lawful_array 2 (record two_leads { entries = 4294967296 }) ≡ false) }
+    ensures none { is_lawful_array 2
+        (record two_leads { entries = 0; leads = 0; least = 0 }) ≡ false }
+    ensures leads { is_lawful_array 2 (record two_leads { leads = 3 }) ≡ false }
+    ensures least { is_lawful_array 2 (record two_leads { least = 3 }) ≡ false }
+    ensures extents { is_lawful_array 2 (in_extents []) ≡ false }
+    ensures empty { is_lawful_array 2 (in_extents (from_block 7 0 ∷ [])) ≡ false }
+    ensures versions { (is_lawful_array 2 (for_versions (0 ∷ 4294967295 ∷ [])) ≡ true)
+        × (is_lawful_array 2 (for_versions (0 ∷ 4294967296 ∷ [])) ≡ false)
+        × (is_lawful_array 2 (for_versions []) ≡ false) }
+    ensures rising { (is_lawful_array 2 (for_versions (1 ∷ 1 ∷ [])) ≡ false)
+        × (is_lawful_array 2 (for_versions (1 ∷ 0 ∷ [])) ≡ false) }
+{}
+
+/// The bounds of a level: numbers from 1 to 22, horizons from 1 to the number of versions, arrays by the
+/// first version of their tags.
+pub fn levels_are_lawful_up_to_their_bounds()
+    ensures least { is_lawful_level 3 2 (level_desc 1 1 (two_leads ∷ [])) ≡ true }
+    ensures most { is_lawful_level 3 2 (level_desc 22 3 (two_leads ∷ [])) ≡ true }
+    ensures number { (is_lawful_level 3 2 (level_desc 0 3 (two_leads ∷ [])) ≡ false)
+        × (is_lawful_level 3 2 (level_desc 23 3 (two_leads ∷ [])) ≡ false) }
+    ensures horizon { (is_lawful_level 3 2 (level_desc 1 0 (two_leads ∷ [])) ≡ false)
+        × (is_lawful_level 3 2 (level_desc 1 4 (two_leads ∷ [])) ≡ false) }
+    ensures arrays { (is_lawful_level 3 2 (level_desc 1 3 []) ≡ false)
+        × (is_lawful_level 3 1 (level_desc 1 3 (two_leads ∷ [])) ≡ false) }
+    ensures rising { (is_lawful_level 3 2
+        (level_desc 1 3 (two_leads ∷ for_versions (1 ∷ []) ∷ [])) ≡ true)
+        × (is_lawful_level 3 2 (level_desc 1 3 (two_leads ∷ for_versions (0 ∷ []) ∷ [])) ≡ false) }
+{}
+
+/// The bounds of a manifest's numbers, of its tree and of its levels.
+pub fn manifests_are_lawful_up_to_their_bounds()
+    ensures ok { is_lawful_manifest (with_arrays (two_leads ∷ [])) ≡ true }
+    ensures changes { (is_lawful_manifest (without_levels 4294967295) ≡ true)
+        × (is_lawful_manifest (without_levels 4294967296) ≡ false) }
+    ensures updates { is_lawful_manifest (record (without_levels 4) { updates = 5 }) ≡ false }
+    ensures written { (is_lawful_manifest
+        (record (without_levels 0) { written = 18446744073709551615 }) ≡ true)
+        × (is_lawful_manifest (record (without_levels 0) { written = 18446744073709551616 })
+        ≡ false) }
+    ensures next { (is_lawful_manifest
+        (record (without_levels 0) { next_array = 18446744073709551615 })
+        ≡ true)
+        × (is_lawful_manifest (record (without_levels 0) { next_array = 18446744073709551616 })
+        ≡ false)
+        × (is_lawful_manifest (record (without_levels 0) { next_array = 0 }) ≡ false) }
+    ensures older { (is_lawful_manifest (record (without_levels 0) { parents = 0 ∷ 1 ∷ [] }) ≡ true)
+        × (is_lawful_manifest (record (without_levels 0) { parents = 0 ∷ 2 ∷ [] }) ≡ false) }
+    ensures versions { (is_lawful_manifest
+        (record (without_levels 0) { parents = replicate 16383 0 }) ≡ true)
+        × (is_lawful_manifest (record (without_levels 0) { parents = replicate 16384 0 })
+        ≡ false) }
+    ensures horizon { is_lawful_manifest
+        (record (with_arrays (two_leads ∷ [])) { parents = 0 ∷ [] }) ≡ false }
+    ensures rising { is_lawful_manifest (record (with_arrays (two_leads ∷ [])) {
+      levels = level_desc 1 3 (two_leads ∷ []) ∷ level_desc 1 3 (two_leads ∷ []) ∷ [];
+    }) ≡ false }
+{}
+
+/// A superblock is good with all fields at their least, and with all at their greatest. It is not where one
+/// of them is past that.
+pub fn superblocks_are_good_up_to_their_bounds()
+    ensures least { in_range (slot_with least_super) ≡ true }
+    ensures most { in_range (slot_with greatest_super) ≡ true }
+    ensures format { (in_range (record (slot_with least_super) { format = 0 }) ≡ false)
+        × (in_range (record (slot_with least_super) { format = 2 }) ≡ false) }
+    ensures generation { in_range (slot_with (record least_super { generation = 0 })) ≡ false }
+    ensures manifest { (in_range (slot_with (record least_super { manifest = 5 })) ≡ false)
+        × (in_range (slot_with (record greatest_super { manifest = 4294967295 })) ≡ false) }
+    ensures length { in_range (slot_with (record least_super { length = 28 })) ≡ false }
+    ensures region { in_range (slot_with (record greatest_super { region = 2 })) ≡ false }
+    ensures mem { (in_range (slot_with (record least_super { mem = 3 })) ≡ false)
+        × (in_range (slot_with (record greatest_super { mem = 4097 })) ≡ false) }
+    ensures changes { (in_range (slot_with (record least_super { changes_max = 0 })) ≡ false)
+        × (in_range (slot_with (record greatest_super { changes_max = 16777217 })) ≡ false) }
+    ensures versions { (in_range (slot_with (record least_super { versions_max = 0 })) ≡ false)
+        × (in_range (slot_with (record greatest_super { versions_max = 16385 })) ≡ false) }
+{}
+
+/// Of two slots the one of greater generation is chosen, and the first of two that have the same one.
+pub fn ties_go_to_the_first_slot()
+    ensures tie { newer (Some (slot_of_generation 2 0)) (Some (slot_of_generation 2 1))
+        ≡ Some (0, slot_of_generation 2 0) }
+    ensures second { newer (Some (slot_of_generation 2 0)) (Some (slot_of_generation 3 1))
+        ≡ Some (1, slot_of_generation 3 1) }
+    ensures first { newer (Some (slot_of_generation 3 0)) (Some (slot_of_generation 2 1))
+        ≡ Some (0, slot_of_generation 3 0) }
+{}
+
+/// A journal goes on in the other region once its active one is full, and not before.
+pub fn full_regions_lead_to_the_other()
+    ensures full { journal_of (with_puts (97 ∷ 98 ∷ 99 ∷ 100 ∷ []) (101 ∷ [])) 4 0
+        ≡ Ok (map (λ key. record { change = put_of key; block = 2 }) (97 ∷ 98 ∷ 99 ∷ 100 ∷ [])
+        ++ record { change = put_of 101; block = 4 } ∷ []) }
+    ensures room { journal_of (with_puts (97 ∷ 98 ∷ 99 ∷ []) (101 ∷ [])) 4 0
+        ≡ Ok (map (λ key. record { change = put_of key; block = 2 }) (97 ∷ 98 ∷ 99 ∷ [])) }
+    ensures other { journal_of (with_puts (97 ∷ 98 ∷ 99 ∷ 100 ∷ []) (101 ∷ [])) 4 1
+        ≡ Ok (record { change = put_of 101; block = 4 } ∷ []) }
+{}
