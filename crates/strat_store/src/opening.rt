@@ -1,9 +1,9 @@
 //! Opening a store.
 
-ghost use Rattle.std.specs.Prelude.{◌≡◌, ◌≢◌, ◌≤◌, ◌⊎◌, ℕ, length, map, Some, None, Ok, Err, IfOk, IfErr, OnOk, IsErrOf, true, false};
-ghost use Rattle.strat_crash.specs.Faults.{CountsFaults, HasCause};
+ghost use Rattle.std.specs.Prelude.{◌≡◌, ◌≢◌, ◌≤◌, ◌⊎◌, ℕ, ◌+◌, length, map, Some, None, Ok, Err, IfOk, IfErr, OnOk, IsErrOf, true, false};
+ghost use Rattle.strat_crash.specs.Faults.{CountsFaults, HasCause, ReadsAtMost};
 ghost use Rattle.strat_crash.specs.Image.{Image};
-ghost use Rattle.strat_format.specs.Layout.{region_at, other_region};
+ghost use Rattle.strat_format.specs.Layout.{region_at, other_region, region_blocks};
 ghost use Rattle.strat_crash.specs.Moments.{Exposes, Since, Passes, TearsOnly, KeepsImages, IsDurable, OnlyReads};
 ghost use Rattle.strat_format.specs.SuperBlock.{IsLawful, newest_in};
 ghost use Rattle.strat_gate.specs.SuperView.{super_of};
@@ -169,6 +169,8 @@ fn read_store<D: Disk>(
     ensures none { IsErrOf result fault.NotAStore → ⊥ }
     ensures same { OnlyReads (D.view disk.old) (D.view disk.new) }
     ensures cause { HasCause fault.Device (D.faults disk.old) (D.faults disk.new) result }
+    ensures reads { ReadsAtMost (region_blocks sb.now.mem + 2)
+        (D.reads disk.old) (D.reads disk.new) }
 {
     read_manifest(disk, sb)?;
     let (journal, logged) = Journal::read(alloc, disk, sb)?;
@@ -183,6 +185,7 @@ fn sync_first<D: Disk>(disk: &mut D) -> Result<(), Failed>
     ensures images { KeepsImages (D.view disk.old) (D.view disk.new) }
     ensures time { Passes (D.view disk.old) (D.view disk.new) }
     ensures cause { CountsFaults (D.faults disk.old) (D.faults disk.new) result }
+    ensures reads { D.reads disk.new ≡ D.reads disk.old }
 {
     disk.sync()?;
     Ok(())
@@ -202,8 +205,10 @@ fn shut_other<D: Disk>(disk: &mut D, sb: &SuperBlock, journal: &Journal) -> Resu
         → Holds (D.view disk.new) journal.now (head_from (super_of sb.now) journal.now.list)) }
     ensures images { TearsOnly (D.view disk.old) (D.view disk.new)
         (region_at sb.now.mem (other_region sb.now.region)) 1 }
+    ensures same { journal.now.stale ≡ false → disk.new ≡ disk.old }
     ensures time { Passes (D.view disk.old) (D.view disk.new) }
     ensures cause { CountsFaults (D.faults disk.old) (D.faults disk.new) result }
+    ensures reads { ReadsAtMost 1 (D.reads disk.old) (D.reads disk.new) }
 {
     if journal.stale() {
         close_region(disk, sb.mem, 1 - sb.region)?;
@@ -232,6 +237,9 @@ impl Store {
             → IsUnchanged (D.view disk.old) (D.view disk.new)) }
         ensures time { Passes (D.view disk.old) (D.view disk.new) }
         ensures cause { HasCause fault.Device (D.faults disk.old) (D.faults disk.new) result }
+        ensures reads { ReadsAtMost 1294 (D.reads disk.old) (D.reads disk.new)
+            × IfOk result (λ s. ReadsAtMost (region_blocks s.log.mem + 5)
+            (D.reads disk.old) (D.reads disk.new)) }
     {
         sync_first(disk)?;
         let Some((_, sb)) = newest(disk)? else {
