@@ -1,5 +1,7 @@
 pub mod BadLemmas
 pub mod HeadLemmas
 pub mod OpeningLemmas
+pub mod RowLemmas
 pub mod StateTableLemmas
+pub mod TableOverLemmas
 pub mod TextLemmas

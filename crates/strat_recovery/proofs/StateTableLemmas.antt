@@ -1,23 +1,20 @@
 -- A state with one more change means the table after that change.
-use Rattle.std.proofs.Common.{◌≡◌, ◌≢◌, ◌<◌, ◌≤◌, ◌+◌, ℕ, zero, suc, Bool, true, false, if◌then◌else◌, eqb, ltb, get_or, not, ◌&&◌, List, [], ◌∷◌, ◌++◌, length, map, Option, Some, None, refl, sym, ap, ◌∙◌, arith, length-append}
-use Rattle.std.specs.Map.{remove_entry}
-use Rattle.std.specs.BTreeMap.{insert_entry}
-use Rattle.std.specs.Ordering.{is_eq}
-use Rattle.std.proofs.lemmas.Bool.{ltb-true, eq-eqb, ne_eqb, and_parts, not-true, cond-true, cond-false}
-use Rattle.strat_base.specs.Order.{key_cmp}
+use Rattle.std.proofs.Common.{◌≡◌, ◌<◌, ◌+◌, ℕ, Bool, true, false, if◌then◌else◌, eqb, ltb, not, ◌&&◌, List, [], ◌∷◌, ◌++◌, length, Option, Some, None, refl, sym, ap, ◌∙◌, arith, length-append}
+use Rattle.std.proofs.lemmas.Bool.{ltb-true, and_parts, not-true}
 use Rattle.strat_base.specs.Tree.{Parents, has_child, with_child}
 use Rattle.strat_base.specs.Change.{Change}
 use Rattle.strat_base.specs.Change as change
 use Rattle.strat_base.specs.Entries.{Entry}
-use Rattle.strat_state.specs.State.{State, journal_updates, versions_of, map_at, updates_of, changes_of, appended}
+use Rattle.strat_state.specs.State.{State, journal_updates, versions_of, sources, map_at, updates_of, changes_of, appended}
 use Rattle.std.specs.Option.{option_and_then}
 use Rattle.strat_state.specs.Reading.{read_at}
 use Rattle.strat_state.specs.Sound.{accepts_change, IsSound, Takes}
 use Rattle.strat_state.proofs.MapLemmas.{value_in-lookup}
 use Rattle.strat_state.proofs.SoundLemmas.{sound_tree, read_decides}
 use Rattle.strat_base.specs.Tree
-use Rattle.strat_state.proofs.StepLemmas.{updates-appended}
-use Rattle.strat_state.proofs.StepMaps.{map_value, put_sound, put_versions, put_map, delete_sound, delete_versions, delete_map, clone_sound, clone_versions, clone_map, clone_map_new}
+use Rattle.strat_state.proofs.StepLemmas.{versions-appended, updates-appended, sources-appended}
+use Rattle.strat_state.proofs.ValueLemmas.{map_value}
+use Rattle.strat_state.proofs.StepMaps.{known_sources, put_sound, delete_sound, clone_sound, clone_versions, clone_sources}
 use Rattle.strat_model.specs.Pairs.{Pairs, value_of}
 use Rattle.strat_model.specs.Pairs as pairs
 use Rattle.strat_model.specs.Table.{Row, Table, bare}
@@ -26,60 +23,23 @@ use Rattle.strat_model.specs.declared.replies.Refusal.TheVariants as why
 use Rattle.strat_model.specs.declared.replies.Refusal.{Refusal}
 use Rattle.strat_model.specs.Answer.{plain, accepts}
 use Rattle.strat_model.specs.Request.{Put, Delete, Clone}
-use Rattle.strat_model.specs.Step.{Outcome, refuses, step, update, clone, has_row, is_frozen, no_row, pairs_at, with_pairs}
-use Rattle.strat_recovery.specs.StateTable.{rows_from, table_of, request_for, answer_for}
+use Rattle.strat_model.specs.Step.{Outcome, refuses, step, update, clone, has_row, is_frozen, pairs_at, with_pairs}
+use Rattle.strat_recovery.specs.TableOver.{rows_from, rows_over}
+use Rattle.strat_recovery.specs.StateTable.{table_of, request_for, answer_for}
+use Rattle.strat_recovery.proofs.RowLemmas.{length-rows, parents-rows, pairs_over, put_rows, delete_rows, clone_rows}
 
-pub length-rows_from : (s : State) (v : ℕ) (parents : Parents) → length (rows_from s v parents) ≡ length parents
-length-rows_from s v [] = refl
-length-rows_from s v (p ∷ parents) = ap suc (length-rows_from s (suc v) parents)
-
-pub parents-rows_from : (s : State) (v : ℕ) (parents : Parents) → map (λ row. row.parent) (rows_from s v parents) ≡ parents
-parents-rows_from s v [] = refl
-parents-rows_from s v (p ∷ parents) = ap (λ (x : Parents). p ∷ x) (parents-rows_from s (suc v) parents)
-
--- the row of a version
-row_at : (s : State) (v i : ℕ) (parents : Parents) → i < length parents → (get_or (rows_from s v parents) i no_row).pairs ≡ map_at s (v + i)
-row_at s v i [] lt = absurd (omega arith)
-row_at s v zero (p ∷ parents) lt = ap (map_at s) (omega arith)
-row_at s v (suc i) (p ∷ parents) lt = row_at s (suc v) i parents (omega arith) ∙ ap (map_at s) (omega arith)
-
--- rows of two states whose maps agree from a version on
-rows_same : (s other : State) (v : ℕ) (parents : Parents) → ((u : ℕ) → v ≤ u → u < v + length parents → map_at other u ≡ map_at s u) → rows_from other v parents ≡ rows_from s v parents
-rows_same s other v [] same = refl
-rows_same s other v (p ∷ parents) same =
-    λ i. record { parent = p; pairs = same v (omega arith) (omega arith) i } ∷ rows_same s other (suc v) parents (λ u le lt. same u (omega arith) (omega arith)) i
-
--- rows of two states whose maps differ at one version
-rows_set : (s other : State) (v i : ℕ) (parents : Parents) (new : Pairs) → i < length parents → map_at other (v + i) ≡ new → ((u : ℕ) → u ≢ v + i → map_at other u ≡ map_at s u)
-    → with_pairs (rows_from s v parents) i new ≡ rows_from other v parents
-rows_set s other v i [] new lt here same = absurd (omega arith)
-rows_set s other v zero (p ∷ parents) new lt here same =
-    let at : new ≡ map_at other v = sym here ∙ ap (map_at other) (omega arith) in
-    λ j. record { parent = p; pairs = at j } ∷ sym (rows_same s other (suc v) parents (λ u le below. same u (λ e. omega arith))) j
-rows_set s other v (suc i) (p ∷ parents) new lt here same =
-    λ j. record { parent = p; pairs = sym (same v (λ e. omega arith)) j }
-    ∷ rows_set s other (suc v) i parents new (omega arith) (ap (map_at other) (omega arith) ∙ here) (λ u apart. same u (λ e. apart (omega arith))) j
-
-rows_push : (s : State) (v : ℕ) (parents : Parents) (q : Option ℕ) → rows_from s v (parents ++ q ∷ []) ≡ rows_from s v parents ++ record { parent = q; pairs = map_at s (v + length parents) } ∷ []
-rows_push s v [] q = ap (λ (n : ℕ). the_row q (map_at s n) ∷ []) (omega arith)
-  where
-    the_row : Option ℕ → Pairs → Row
-    the_row q m = record { parent = q; pairs = m }
-rows_push s v (p ∷ parents) q =
-    ap (λ (x : List Row). the_row p (map_at s v) ∷ x) (rows_push s (suc v) parents q ∙ ap (λ (n : ℕ). rows_from s (suc v) parents ++ the_row q (map_at s n) ∷ []) (omega arith))
-  where
-    the_row : Option ℕ → Pairs → Row
-    the_row q m = record { parent = q; pairs = m }
+pub length-rows_from : (s : State) (v : ℕ) (parents : Parents) → length (rows_from (map_at s) v parents) ≡ length parents
+length-rows_from s v parents = length-rows (map_at s) v parents
 
 module _ (s : State) where
   known_same : (v : ℕ) → has_row (table_of s) v ≡ Tree.is_known (versions_of s) v
   known_same v = ap (λ (n : ℕ). ltb v n) (length-rows_from s 0 (versions_of s))
 
   frozen_same : (v : ℕ) → is_frozen (table_of s) v ≡ has_child (versions_of s) v
-  frozen_same v = ap (λ (p : Parents). has_child p v) (parents-rows_from s 0 (versions_of s))
+  frozen_same v = ap (λ (p : Parents). has_child p v) (parents-rows (map_at s) 0 (versions_of s))
 
   pub pairs_same : (v : ℕ) → v < length (versions_of s) → pairs_at (table_of s) v ≡ map_at s v
-  pairs_same v lt = row_at s 0 v (versions_of s) lt ∙ ap (map_at s) (omega arith)
+  pairs_same v lt = pairs_over (versions_of s) (sources s) v lt
 
 -- an update that is accepted
 module _ (t : Table) (v : ℕ) (new : Pairs) where
@@ -134,25 +94,21 @@ module _ (s : State) where
         let inner = and_parts (Tree.is_known (versions_of s) v) (not (has_child (versions_of s) v)) outer.0 in
         (inner.0, not-true (has_child (versions_of s) v) inner.1, not-true (eqb (changes_of s) s.changes_max) outer.1)
 
-    put_rows : with_pairs (rows_from s 0 (versions_of s)) v (pairs.set key value (pairs_at (table_of s) v)) ≡ rows_from (appended s (change.Put v key value)) 0 (versions_of (appended s (change.Put v key value)))
+    put_now : with_pairs (rows_over (versions_of s) (sources s)) v (pairs.set key value (pairs_at (table_of s) v)) ≡ (table_of (appended s (change.Put v key value))).rows
     unfolding put_parts
-    put_rows =
-        let new : State = appended s (change.Put v key value) in
+    put_now =
         let known = ltb-true v (length (versions_of s)) put_parts.0 in
-        let maps = put_map s takes.sound v key value takes.accepted takes.room in
-        ap (λ (m : Pairs). with_pairs (rows_from s 0 (versions_of s)) v (pairs.set key value m)) (pairs_same s v known)
-        ∙ rows_set s new 0 v (versions_of s) (pairs.set key value (map_at s v)) known
-        (ap (map_at new) (omega arith) ∙ maps v ∙ cond-true (eqb v v) (insert_entry key_cmp (map_at s v) key value) (map_at s v) (eq-eqb v v refl))
-        (λ u apart. maps u ∙ cond-false (eqb u v) (insert_entry key_cmp (map_at s u) key value) (map_at s u) (ne_eqb u v (λ e. apart (omega arith))))
-        ∙ ap (rows_from new 0) (sym (put_versions s takes.sound v key value takes.accepted takes.room))
+        ap (λ (m : Pairs). with_pairs (rows_over (versions_of s) (sources s)) v (pairs.set key value m)) (pairs_same s v known)
+        ∙ put_rows (versions_of s) (sound_tree s takes.sound) (sources s) v key known put_parts.1 value
+        ∙ sym (λ i. rows_over (versions-appended s (change.Put v key value) i) (sources-appended s (change.Put v key value) (record { key = key; version = v; value = Some value }) refl i))
 
     pub put_steps : step (table_of s) (Put v key value) ≡ record { answer = plain reply.Done; table = table_of (appended s (change.Put v key value)) }
-    unfolding put_parts put_rows table_with
+    unfolding put_parts put_now table_with
     put_steps =
         let new : State = appended s (change.Put v key value) in
         let updates : updates_of s + 1 ≡ updates_of new = omega (arith, ap (λ (x : List Entry). length x) (updates-appended s (change.Put v key value)), length-append (journal_updates s) (record { key = key; version = v; value = Some value } ∷ [])) in
         update_made (table_of s) v (pairs.set key value (pairs_at (table_of s) v)) (known_same s v ∙ put_parts.0) (frozen_same s v ∙ put_parts.1) put_parts.2
-        ∙ (λ i. record { answer = plain reply.Done; table = table_with (put_rows i) (updates i) (sym (counts_push (change.Put v key value)) i) })
+        ∙ (λ i. record { answer = plain reply.Done; table = table_with (put_now i) (updates i) (sym (counts_push (change.Put v key value)) i) })
 
   module _ (v : ℕ) (key : List ℕ) (takes : Takes s (change.Delete v key)) where
     delete_parts : (Tree.is_known (versions_of s) v ≡ true) × (has_child (versions_of s) v ≡ false) × (eqb (changes_of s) s.changes_max ≡ false)
@@ -161,25 +117,21 @@ module _ (s : State) where
         let inner = and_parts (Tree.is_known (versions_of s) v) (not (has_child (versions_of s) v)) outer.0 in
         (inner.0, not-true (has_child (versions_of s) v) inner.1, not-true (eqb (changes_of s) s.changes_max) outer.1)
 
-    delete_rows : with_pairs (rows_from s 0 (versions_of s)) v (pairs.unset key (pairs_at (table_of s) v)) ≡ rows_from (appended s (change.Delete v key)) 0 (versions_of (appended s (change.Delete v key)))
+    delete_now : with_pairs (rows_over (versions_of s) (sources s)) v (pairs.unset key (pairs_at (table_of s) v)) ≡ (table_of (appended s (change.Delete v key))).rows
     unfolding delete_parts
-    delete_rows =
-        let new : State = appended s (change.Delete v key) in
+    delete_now =
         let known = ltb-true v (length (versions_of s)) delete_parts.0 in
-        let maps = delete_map s takes.sound v key takes.accepted takes.room in
-        ap (λ (m : Pairs). with_pairs (rows_from s 0 (versions_of s)) v (pairs.unset key m)) (pairs_same s v known)
-        ∙ rows_set s new 0 v (versions_of s) (pairs.unset key (map_at s v)) known
-        (ap (map_at new) (omega arith) ∙ maps v ∙ cond-true (eqb v v) (remove_entry (λ k. is_eq (key_cmp key k)) (map_at s v)) (map_at s v) (eq-eqb v v refl))
-        (λ u apart. maps u ∙ cond-false (eqb u v) (remove_entry (λ k. is_eq (key_cmp key k)) (map_at s u)) (map_at s u) (ne_eqb u v (λ e. apart (omega arith))))
-        ∙ ap (rows_from new 0) (sym (delete_versions s takes.sound v key takes.accepted takes.room))
+        ap (λ (m : Pairs). with_pairs (rows_over (versions_of s) (sources s)) v (pairs.unset key m)) (pairs_same s v known)
+        ∙ delete_rows (versions_of s) (sound_tree s takes.sound) (sources s) v key known delete_parts.1
+        ∙ sym (λ i. rows_over (versions-appended s (change.Delete v key) i) (sources-appended s (change.Delete v key) (record { key = key; version = v; value = None }) refl i))
 
     pub delete_steps : step (table_of s) (Delete v key) ≡ record { answer = plain reply.Done; table = table_of (appended s (change.Delete v key)) }
-    unfolding delete_parts delete_rows table_with
+    unfolding delete_parts delete_now table_with
     delete_steps =
         let new : State = appended s (change.Delete v key) in
         let updates : updates_of s + 1 ≡ updates_of new = omega (arith, ap (λ (x : List Entry). length x) (updates-appended s (change.Delete v key)), length-append (journal_updates s) (record { key = key; version = v; value = None } ∷ [])) in
         update_made (table_of s) v (pairs.unset key (pairs_at (table_of s) v)) (known_same s v ∙ delete_parts.0) (frozen_same s v ∙ delete_parts.1) delete_parts.2
-        ∙ (λ i. record { answer = plain reply.Done; table = table_with (delete_rows i) (updates i) (sym (counts_push (change.Delete v key)) i) })
+        ∙ (λ i. record { answer = plain reply.Done; table = table_with (delete_now i) (updates i) (sym (counts_push (change.Delete v key)) i) })
 
   module _ (p : ℕ) (takes : Takes s (change.Clone p)) where
     clone_parts : (Tree.is_known (versions_of s) p ≡ true) × (eqb (length (versions_of s)) s.versions_max ≡ false) × (eqb (changes_of s) s.changes_max ≡ false)
@@ -191,24 +143,21 @@ module _ (s : State) where
     the_row : Pairs → Row
     the_row m = record { parent = Some p; pairs = m }
 
-    clone_rows : rows_from s 0 (versions_of s) ++ record { parent = Some p; pairs = pairs_at (table_of s) p } ∷ [] ≡ rows_from (appended s (change.Clone p)) 0 (versions_of (appended s (change.Clone p)))
+    clone_now : rows_over (versions_of s) (sources s) ++ record { parent = Some p; pairs = pairs_at (table_of s) p } ∷ [] ≡ (table_of (appended s (change.Clone p))).rows
     unfolding clone_parts the_row
-    clone_rows =
-        let new : State = appended s (change.Clone p) in
+    clone_now =
         let known = ltb-true p (length (versions_of s)) clone_parts.0 in
-        let last : pairs_at (table_of s) p ≡ map_at new (0 + length (versions_of s)) =
-        pairs_same s p known ∙ sym (clone_map_new s takes.sound p takes.accepted takes.room) ∙ ap (map_at new) (omega arith) in
-        (λ i. sym (rows_same s new 0 (versions_of s) (λ u le lt. clone_map s takes.sound p takes.accepted takes.room u (omega arith))) i ++ the_row (last i) ∷ [])
-        ∙ sym (rows_push new 0 (versions_of s) (Some p))
-        ∙ ap (rows_from new 0) (sym (clone_versions s takes.sound p takes.accepted takes.room))
+        ap (λ (m : Pairs). rows_over (versions_of s) (sources s) ++ the_row m ∷ []) (pairs_same s p known)
+        ∙ clone_rows (versions_of s) (sound_tree s takes.sound) (sources s) p known (known_sources s takes.sound)
+        ∙ sym (λ i. rows_over (clone_versions s takes.sound p takes.accepted takes.room i) (clone_sources s takes.sound p takes.accepted takes.room i))
 
     pub clone_steps : step (table_of s) (Clone p) ≡ record { answer = plain (reply.Made (length (versions_of s))); table = table_of (appended s (change.Clone p)) }
-    unfolding clone_parts clone_rows table_with
+    unfolding clone_parts clone_now table_with
     clone_steps =
         let new : State = appended s (change.Clone p) in
         let updates : updates_of s ≡ updates_of new = omega (arith, ap (λ (x : List Entry). length x) (updates-appended s (change.Clone p)), length-append (journal_updates s) []) in
         clone_made (table_of s) p (known_same s p ∙ clone_parts.0) (ap (λ (n : ℕ). eqb n s.versions_max) (length-rows_from s 0 (versions_of s)) ∙ clone_parts.1) clone_parts.2
-        ∙ (λ i. record { answer = plain (reply.Made (length-rows_from s 0 (versions_of s) i)); table = table_with (clone_rows i) (updates i) (sym (counts_push (change.Clone p)) i) })
+        ∙ (λ i. record { answer = plain (reply.Made (length-rows_from s 0 (versions_of s) i)); table = table_with (clone_now i) (updates i) (sym (counts_push (change.Clone p)) i) })
 
   -- the step takes a change exactly where the state accepts it
   pub accepts_same : (c : Change) → accepts (step (table_of s) (request_for c)).answer.reply ≡ accepts_change s c
@@ -278,5 +227,5 @@ stays_sound s (change.Clone p) takes = clone_sound s takes.sound p takes.accepte
 pub read_same : (s : State) (v : ℕ) (key : List ℕ) → IsSound s → v < length (versions_of s) → value_of (pairs_at (table_of s) v) key ≡ option_and_then (λ e. e.value) (read_at s v key)
 read_same s v key sound known =
     ap (λ (m : Pairs). value_of m key) (pairs_same s v known)
-    ∙ value_in-lookup key (map_at s v) ∙ map_value s v (sound_tree s sound) key
+    ∙ value_in-lookup key (map_at s v) ∙ map_value (versions_of s) (sources s) v (sound_tree s sound) key
     ∙ sym (ap (λ (o : Option Entry). option_and_then (λ e. e.value) o) (read_decides s sound key v known))

@@ -5,4 +5,5 @@ pub mod Opened
 pub mod Opening
 pub mod Settings
 pub mod StateTable
+pub mod TableOver
 pub mod Texts

@@ -1,26 +1,20 @@
 -- The table that a state of the store means.
-use Rattle.std.specs.Prelude.{ℕ, suc, List, [], ◌∷◌, length}
-use Rattle.strat_base.specs.Tree.{Parents}
+use Rattle.std.specs.Prelude.{[], length}
 use Rattle.strat_base.specs.Change.{Change}
 use Rattle.strat_base.specs.Change as change
-use Rattle.strat_state.specs.State.{State, versions_of, map_at, updates_of, changes_of}
+use Rattle.strat_state.specs.State.{State, versions_of, sources, updates_of, changes_of}
 use Rattle.strat_model.specs.Request.{Request, Put, Delete, Clone}
-use Rattle.strat_model.specs.Table.{Row, Table}
+use Rattle.strat_model.specs.Table.{Table}
 use Rattle.strat_model.specs.declared.replies.Reply.TheVariants as reply
 use Rattle.strat_model.specs.Answer.{Answer, plain}
-
--- a row for each of these versions, which are numbered from v on
-abbrev pub rows_from : State → ℕ → Parents → List Row
-rows_from s v [] = []
-rows_from s v (parent ∷ parents) =
-    record { parent = parent; pairs = map_at s v } ∷ rows_from s (suc v) parents
+use Rattle.strat_recovery.specs.TableOver.{rows_over}
 
 -- the table of a state: its versions with their maps, what was accepted, and no cursors
 abbrev pub table_of : State → Table
 table_of s = record {
   changes_max = s.changes_max;
   versions_max = s.versions_max;
-  rows = rows_from s 0 (versions_of s);
+  rows = rows_over (versions_of s) (sources s);
   updates = updates_of s;
   changes = changes_of s;
   cursors = [];

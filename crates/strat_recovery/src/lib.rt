@@ -4,4 +4,5 @@
 
 pub mod opening;
 pub mod state_laws;
+pub mod table_laws;
 pub mod texts;

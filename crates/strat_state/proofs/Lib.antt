@@ -1,10 +1,13 @@
 pub mod AppendedLemmas
 pub mod BreachLemmas
+pub mod GroupLemmas
 pub mod LevelLemmas
 pub mod LiveLemmas
 pub mod MapLemmas
 pub mod ReadingLemmas
+pub mod SettingLemmas
 pub mod SoundLemmas
 pub mod SpaceLemmas
 pub mod StepLemmas
 pub mod StepMaps
+pub mod ValueLemmas

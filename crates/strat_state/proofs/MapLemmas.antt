@@ -47,7 +47,7 @@ value_in-insert pairs key value q =
     ap (find key_cmp q) (insert_put pairs key value) ∙ find-put key_cmp nat_list_cmp_total q key value pairs
     ∙ ap (λ (b : Bool). cond b (Some value) (value_in q pairs)) (is_eq-slice_cmp q key)
 
-same_key : (x y : List ℕ) → key_cmp x y ≡ Equal → x ≡ y
+pub same_key : (x y : List ℕ) → key_cmp x y ≡ Equal → x ≡ y
 same_key x y e = slice_cmp-IsAntisymmetric nat_cmp-IsAntisymmetric x y e
 
 -- two maps in order with the same values are one

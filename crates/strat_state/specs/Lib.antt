@@ -2,7 +2,9 @@ pub mod Breach
 pub mod Broken
 pub mod Level
 pub mod Live
+pub mod Maps
 pub mod Reading
+pub mod Setting
 pub mod Sound
 pub mod State
 pub mod Worked

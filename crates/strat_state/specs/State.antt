@@ -1,12 +1,9 @@
 -- The state of a store, as its disk says it, and what it says of keys at versions.
-use Rattle.std.specs.Prelude.{ℕ, ◌+◌, ◌*◌, ◌-◌, ◌^◌, ◌==◌, nat_le, ◌||◌, Bool, true, List, [], ◌∷◌, ◌++◌, length, reverse, sum_by, map, flat_map, filter_map, find, fold, Option, Some, None, unwrap_or, option_and_then, IsTrue}
+use Rattle.std.specs.Prelude.{ℕ, ◌+◌, ◌*◌, ◌-◌, ◌^◌, ◌==◌, nat_le, ◌||◌, Bool, true, List, [], ◌∷◌, ◌++◌, length, reverse, sum_by, map, flat_map, filter_map, find, fold, Option, Some, None, unwrap_or, IsTrue}
 use Rattle.std.specs.List.{list_all, range_with_len}
-use Rattle.std.specs.Option.{option_map_or}
-use Rattle.std.specs.BTreeMap.{insert_entry}
-use Rattle.strat_base.specs.Order.{key_cmp}
 use Rattle.strat_base.specs.Tree.{Parents, with_child}
 use Rattle.strat_base.specs.Entries.{Entry}
-use Rattle.strat_state.specs.Live.{deciding}
+use Rattle.strat_state.specs.Maps.{value_over, map_over}
 use Rattle.strat_state.specs.Level.{Level, level_leads, density, lead_fraction}
 use Rattle.strat_base.specs.Change.{Change, Put, Delete, Clone}
 
@@ -70,16 +67,11 @@ sources s = reverse (journal_updates s) ++ flat_map level_leads s.levels
 
 -- the value of a key at a version: the first entry of the nearest version on its path with one
 abbrev pub value_at : State → ℕ → List ℕ → Option (List ℕ)
-value_at s v key = option_and_then (λ e. e.value) (deciding (versions_of s) (sources s) key v)
-
--- a map with the value that a state gives a key at a version, if it gives one
-abbrev pub with_value : State → ℕ → List (List ℕ × List ℕ) → List ℕ → List (List ℕ × List ℕ)
-with_value s v pairs key =
-    option_map_or (λ value. insert_entry key_cmp pairs key value) (value_at s v key) pairs
+value_at s v key = value_over (versions_of s) (sources s) v key
 
 -- the map of a version: each key that a state speaks of, with its value there
 abbrev pub map_at : State → ℕ → List (List ℕ × List ℕ)
-map_at s v = fold (λ pairs e. with_value s v pairs e.key) [] (sources s)
+map_at s v = map_over (versions_of s) (sources s) v
 
 -- how many updates were accepted
 abbrev pub updates_of : State → ℕ

@@ -3,5 +3,6 @@
 #![tactic(auto)]
 
 pub mod broken;
+pub mod entry_laws;
 pub mod laws;
 pub mod worked;

@@ -1,0 +1,5 @@
+pub mod ChunkView
+pub mod ArenaView
+pub mod Chunks
+pub mod ArenaFields
+pub mod PoolView

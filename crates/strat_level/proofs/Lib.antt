@@ -1,0 +1,4 @@
+pub mod PlaceLemmas
+pub mod RangeLemmas
+pub mod ItemLemmas
+pub mod PutLemmas

@@ -1,0 +1,4 @@
+pub mod Places
+pub mod Memtable
+pub mod ViewFields
+pub mod ZeroFields

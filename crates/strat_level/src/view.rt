@@ -1,0 +1,102 @@
+//! The items of level 0 as of one moment.
+
+ghost use Rattle.std.specs.List.{find, insert, slice_get};
+ghost use Rattle.std.specs.Prelude.{◌≡◌, ◌<◌, ◌≤◌, ◌+◌, length, slice_set, option_and_then, IfSome, IfOk, IfErr, MatchResult, vec_capacity};
+ghost use Rattle.strat_arena.specs.PoolView.{arena_at, shares_at, count_shared, SameBeside};
+ghost use Rattle.strat_base.specs.Entries.{is_of};
+ghost use Rattle.strat_level.specs.Memtable.{entries_held, ListStands};
+ghost use Rattle.strat_state.specs.Live.{live};
+
+use crate::search::key_range;
+use std::marker::Model;
+use strat_arena::{ArenaPool, Item};
+use strat_base::Version;
+use strat_live::live_in;
+use strat_tree::Tree;
+
+/// Items in the order of their entries, at most one for each key and version. Their keys and values
+/// lie in an arena of a pool.
+#[derive(Drop)]
+pub struct ZeroView {
+    arena: u32,
+    items: Vec<Item>,
+}
+
+impl Model for ZeroView {
+    ghost use Rattle.strat_level.specs.Memtable.{ItemList};
+
+    ghost Value = { ItemList };
+
+    ghost use Rattle.strat_level.specs.ViewFields.{list_seen};
+
+    ghost view = { list_seen };
+}
+
+impl ZeroView {
+    /// These items in an arena.
+    pub(crate) fn new(arena: u32, items: Vec<Item>) -> ZeroView
+        ensures ok { result
+            ≡ record { arena = arena; items = items.items; capacity = vec_capacity items } }
+    {
+        ZeroView { arena, items }
+    }
+
+    /// The items, by key, and of one key the greatest version first. O(1).
+    pub fn items(&self) -> &[Item]
+        ensures ok { result.now ≡ self.now.items }
+    {
+        &self.items
+    }
+
+    /// The number of the arena of the items. O(1).
+    pub fn arena(&self) -> u32
+        ensures ok { result ≡ self.now.arena }
+    {
+        self.arena
+    }
+
+    /// The place of the item of a key that is live at v. O(log items) comparisons of keys, and
+    /// O(log versions_max) for each item of the key at v or an older version until one is found.
+    pub fn find(&self, pool: &ArenaPool, tree: &Tree, key: &[u8], v: Version) -> Option<usize>
+        requires kept { ListStands pool.now self.now }
+        requires fits { v < length tree.now.parents }
+        ensures found { IfSome result (λ i. i < length self.now.items) }
+        ensures ok { option_and_then (λ i. slice_get (entries_held pool.now self.now) i) result
+            ≡ find (is_of key.now) (live tree.now.parents (entries_held pool.now self.now) v) }
+    {
+        // The count's clauses say that the parents are those of a tree.
+        let _versions = tree.count();
+        let (from, to) = key_range(pool, self.arena, &self.items, key, v);
+        let place = live_in(&self.items[from..to], tree, v)?;
+        Some(from + place)
+    }
+
+    /// Gives the share in the arena back.
+    pub fn release(self, pool: &mut ArenaPool)
+        requires { ListStands pool.old self }
+        ensures ok { shares_at pool.new self.arena + 1 ≡ shares_at pool.old self.arena }
+        ensures kept { 0 < shares_at pool.new self.arena
+            → arena_at pool.new self.arena ≡ arena_at pool.old self.arena }
+        ensures same { SameBeside pool.old pool.new self.arena }
+    {
+        pool.release(self.arena);
+    }
+
+    /// Puts an item at the place where its key and version were found, or in between where they
+    /// belong. It takes no memory.
+    pub(crate) fn put_at(&mut self, place: Result<usize, usize>, item: Item)
+        requires fits { MatchResult place (λ i. i < length self.old.items)
+            (λ i. i ≤ length self.old.items) }
+        requires room { length self.old.items < self.old.capacity }
+        ensures ok { IfOk place (λ i. self.new.items ≡ slice_set self.old.items i item) }
+        ensures err { IfErr place (λ i. self.new.items ≡ insert self.old.items i item) }
+        ensures len { length self.new.items ≤ length self.old.items + 1 }
+        ensures room { self.old.capacity ≤ self.new.capacity }
+        ensures same { self.new.arena ≡ self.old.arena }
+    {
+        match place {
+            Ok(i) => self.items[i] = item,
+            Err(i) => self.items.insert(i, item).unwrap(),
+        }
+    }
+}

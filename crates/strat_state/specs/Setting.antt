@@ -1,0 +1,14 @@
+-- Entries in order, and one more that is set among them.
+use Rattle.std.specs.Prelude.{List, [], ◌∷◌}
+use Rattle.std.specs.Ordering.{match_ordering}
+use Rattle.strat_base.specs.Order.{entry_cmp}
+use Rattle.strat_base.specs.Entries.{Entry}
+
+-- entries in order with one in its place, instead of the one of its key and version if there is one
+abbrev pub set_entry : Entry → List Entry → List Entry
+set_entry e [] = e ∷ []
+set_entry e (d ∷ entries) = match_ordering
+    (entry_cmp e.key e.version d.key d.version)
+    (e ∷ d ∷ entries)
+    (e ∷ entries)
+    (d ∷ set_entry e entries)
