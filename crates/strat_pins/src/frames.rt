@@ -8,7 +8,7 @@ ghost use Rattle.strat_model.specs.declared.replies.Refusal.TheVariants as why;
 ghost use Rattle.strat_model.specs.declared.replies.Reply.TheVariants as reply;
 ghost use Rattle.strat_model.specs.Answer.{plain};
 ghost use Rattle.strat_model.specs.Request.{Put, Delete, Get, Clone, Scan, Info, OpenCursor, NextPairs, CloseCursor, Stat};
-ghost use Rattle.strat_model.specs.Spelling.{command_bytes, command_body, size_refusal, is_built, FitsParent, FitsReply, is_given, reply_body, tag_of};
+ghost use Rattle.strat_model.specs.Spelling.{command_bytes, command_body, size_refusal, is_built, FitsFields, FitsParent, FitsReply, is_given, reply_body, tag_of};
 
 /// A key has 1 to 255 bytes.
 pub fn keys_have_1_to_255_bytes()
@@ -113,16 +113,34 @@ pub fn bytes_of_replies()
         ≡ 0 ∷ 0 ∷ 0 ∷ 1 ∷ 34 ∷ 0 ∷ 0 ∷ 0 ∷ 7 ∷ [] }
 {}
 
+/// The greatest numbers of commands: four bytes for a version, eight for a cursor, two for a limit.
+pub fn numbers_of_commands_fit_their_fields()
+    ensures version { FitsFields (Clone 4294967295) × (¬ FitsFields (Clone 4294967296))
+        × FitsFields (Info 4294967295) × (¬ FitsFields (Info 4294967296)) }
+    ensures key { FitsFields (Put 4294967295 [] []) × (¬ FitsFields (Put 4294967296 [] []))
+        × FitsFields (Delete 4294967295 []) × (¬ FitsFields (Delete 4294967296 []))
+        × FitsFields (Get 4294967295 []) × (¬ FitsFields (Get 4294967296 [])) }
+    ensures range { FitsFields (Scan 4294967295 [] [] 65535)
+        × (¬ FitsFields (Scan 4294967296 [] [] 1)) × (¬ FitsFields (Scan 0 [] [] 65536))
+        × FitsFields (OpenCursor 4294967295 [] []) × (¬ FitsFields (OpenCursor 4294967296 [] [])) }
+    ensures cursor { FitsFields (NextPairs 18446744073709551615 65535)
+        × (¬ FitsFields (NextPairs 18446744073709551616 1)) × (¬ FitsFields (NextPairs 1 65536))
+        × FitsFields (CloseCursor 18446744073709551615)
+        × (¬ FitsFields (CloseCursor 18446744073709551616)) }
+{}
+
 /// The greatest numbers of replies. The greatest number of a parent is one less, since it stands for none.
 pub fn numbers_of_replies_fit_their_fields()
-    ensures made { FitsReply (reply.Made 4294967295) × ¬ FitsReply (reply.Made 4294967296) }
+    ensures made { FitsReply (reply.Made 4294967295) × (¬ FitsReply (reply.Made 4294967296)) }
     ensures none { FitsParent None }
-    ensures parent { FitsParent (Some 4294967294) × ¬ FitsParent (Some 4294967295) }
+    ensures parent { FitsParent (Some 4294967294) × (¬ FitsParent (Some 4294967295)) }
     ensures depth { FitsReply (reply.Info None 4294967295 true)
-        × ¬ FitsReply (reply.Info None 4294967296 true) }
+        × (¬ FitsReply (reply.Info None 4294967296 true)) }
     ensures stat { FitsReply (reply.Stat 4294967295 4294967295 4294967295 4294967295)
-        × ¬ FitsReply (reply.Stat 4294967296 0 0 0) × ¬ FitsReply (reply.Stat 0 4294967296 0 0)
-        × ¬ FitsReply (reply.Stat 0 0 4294967296 0) × ¬ FitsReply (reply.Stat 0 0 0 4294967296) }
+        × (¬ FitsReply (reply.Stat 4294967296 0 0 0))
+        × (¬ FitsReply (reply.Stat 0 4294967296 0 0))
+        × (¬ FitsReply (reply.Stat 0 0 4294967296 0))
+        × (¬ FitsReply (reply.Stat 0 0 0 4294967296)) }
     ensures block { FitsReply (reply.Refused (why.Damaged 4294967295))
-        × ¬ FitsReply (reply.Refused (why.Damaged 4294967296)) }
+        × (¬ FitsReply (reply.Refused (why.Damaged 4294967296))) }
 {}
