@@ -31,8 +31,8 @@ fn row(alloc: Global, store: &MemDisk, input: &[u8], output: &[u8], ended: Ended
     }
 }
 
-// Nothing, a stream, another opcode, a short body and one without fields, which are no commands, and a
-// frame that is too long, whatever follows.
+// Nothing, a stream, an opcode that is not there, a short body and one without fields, which are no commands,
+// and a frame that is too long, whatever follows.
 #[test]
 fn streams_are_answered(rt: HostRuntime) {
     let Some(store) = small_store(rt.alloc()) else {
@@ -45,7 +45,7 @@ fn streams_are_answered(rt: HostRuntime) {
         row(
             rt.alloc(),
             &store,
-            b"\x00\x00\x00\x05\x00\x00\x00\x01\x0a",
+            b"\x00\x00\x00\x05\x00\x00\x00\x01\x0b",
             b"\x00\x00\x00\x05\x00\x00\x00\x01\x16",
             Ended::Done
         )

@@ -4,7 +4,6 @@ use Rattle.strat_model.specs.declared.replies.Refusal.{Refusal}
 use Rattle.strat_model.specs.Command.{request_of}
 use Rattle.strat_model.specs.Spelling.{Spells, reply_body}
 use Rattle.strat_model.specs.Stream.{frame}
-use Rattle.strat_frame.specs.Faults.{IsFaulty}
 use Rattle.strat_model.specs.Answer.{as_told}
 use Rattle.strat_serve.proofs.AnswerLemmas.{answered, told_faulty}
 use Rattle.strat_store.proofs.StandLemmas.{stays}
