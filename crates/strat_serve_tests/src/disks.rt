@@ -378,7 +378,7 @@ fn the_largest_put_is_kept_and_no_larger_one(rt: HostRuntime) {
             rt.alloc(),
             &mut disk,
             long_key,
-            b"\x00\x00\x00\x05\x00\x00\x00\x02\x16"
+            b"\x00\x00\x00\x05\x00\x00\x00\x02\x17"
         )
     );
     let long_value: (&[u8], usize, &[u8], usize) = (
@@ -392,7 +392,7 @@ fn the_largest_put_is_kept_and_no_larger_one(rt: HostRuntime) {
             rt.alloc(),
             &mut disk,
             long_value,
-            b"\x00\x00\x00\x05\x00\x00\x00\x03\x16"
+            b"\x00\x00\x00\x05\x00\x00\x00\x03\x18"
         )
     );
     let no_key: (&[u8], usize, &[u8], usize) = (
@@ -406,7 +406,7 @@ fn the_largest_put_is_kept_and_no_larger_one(rt: HostRuntime) {
             rt.alloc(),
             &mut disk,
             no_key,
-            b"\x00\x00\x00\x05\x00\x00\x00\x04\x16"
+            b"\x00\x00\x00\x05\x00\x00\x00\x04\x17"
         )
     );
     assert!(rt; finds_the_largest(rt.alloc(), &mut disk));

@@ -1,7 +1,6 @@
 -- What one change more in a journal makes of a store's head.
 use Rattle.std.proofs.Common.{◌≡◌, ◌<◌, ℕ, suc, ◌+◌, true, eqb, min, not, inl, inr, List, [], ◌∷◌, ◌++◌, length, Some, Ok, sym, ap, ◌∙◌, subst, arith, length-append, true≢false}
 use Rattle.std.specs.Prelude.{fold}
-use Rattle.std.specs.List.{list_all}
 use Rattle.std.proofs.lemmas.Bool.{and_parts, and_from, eq-eqb, ne_eqb, not-true, cases_eq}
 use Rattle.strat_base.specs.Change.{Change, Put, Delete, Clone}
 use Rattle.strat_crash.specs.Image.{Image, Outside}

@@ -1,5 +1,5 @@
 -- What an image shows whose head was found.
-use Rattle.std.proofs.Common.{◌≡◌, ◌≤◌, ◌<◌, ◌+◌, ◌-◌, ◌*◌, ℕ, suc, Bool, true, false, cond, eqb, leb, ltb, not, ◌&&◌, inl, inr, List, [], ◌∷◌, length, Option, Some, None, Ok, Err, find, refl, sym, ap, ◌∙◌, subst, arith}
+use Rattle.std.proofs.Common.{◌≡◌, ◌≤◌, ◌<◌, ◌+◌, ◌-◌, ◌*◌, ℕ, suc, Bool, true, false, cond, eqb, leb, ltb, not, ◌&&◌, inl, inr, List, [], ◌∷◌, length, Option, Some, None, Ok, Err, refl, sym, ap, ◌∙◌, subst, arith}
 use Rattle.std.specs.Prelude.{min, bytes_eq, option_and_then}
 use Rattle.std.proofs.Math.Nat.{min-eq_left, min_comm}
 use Rattle.std.proofs.lemmas.Bool.{and_parts, and_from, eqb-true, ne_eqb, leb-true, le-leb, ltb-true, cases_lt}

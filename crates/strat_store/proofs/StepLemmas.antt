@@ -1,6 +1,6 @@
 -- What a command does to a table, and which change follows in the journal of a head.
-use Rattle.std.proofs.Common.{◌≡◌, ◌≢◌, ◌<◌, ℕ, ◌+◌, Bool, true, false, if◌then◌else◌, ◌^◌, eqb, ltb, not, inl, inr, List, [], ◌∷◌, ◌++◌, length, Some, None, Ok, refl, sym, ap, ◌∙◌, subst, true≢false}
-use Rattle.std.proofs.lemmas.Bool.{eq-eqb, and_from, lt-ltb}
+use Rattle.std.proofs.Common.{◌≡◌, ◌≢◌, ◌<◌, ℕ, ◌+◌, Bool, true, false, if◌then◌else◌, eqb, not, inl, inr, [], ◌∷◌, ◌++◌, length, Some, None, Ok, refl, sym, ap, ◌∙◌, subst, true≢false}
+use Rattle.std.proofs.lemmas.Bool.{eq-eqb}
 use Rattle.strat_base.specs.Change.{Change}
 use Rattle.strat_base.specs.Change as change
 use Rattle.strat_crash.specs.Image.{Image}
@@ -13,7 +13,7 @@ use Rattle.strat_recovery.specs.Head.{Head}
 use Rattle.strat_model.specs.Pairs.{Pairs, set, unset}
 use Rattle.strat_model.specs.Plain.{IsStep, IsStepOrShort}
 use Rattle.strat_model.specs.Request.{Request, Put, Delete, Get, Clone, Scan, Info, OpenCursor, NextPairs, CloseCursor, Stat}
-use Rattle.strat_model.specs.Spelling.{is_taken, has_lawful_sizes}
+use Rattle.strat_model.specs.Spelling.{is_built}
 use Rattle.strat_recovery.specs.StateTable.{request_for}
 use Rattle.strat_model.specs.Step.{Outcome, replies_with, refuses, step, has_row, is_frozen, pairs_at, with_pairs}
 use Rattle.strat_model.specs.Table.{Table}
@@ -158,25 +158,9 @@ table_after f h r c found follows room asks =
     sym (steps_to (limited (state_now h)) c (record { sound = limited_sound f h found; accepted = follows; room = room }))
     ∙ ap (λ (x : Request). (step (table_now h) x).table) asks
 
--- a command that is taken so far has nothing to do with cursors
-pub takes_keep : (r : Request) → is_taken r ≡ true → keeps_cursors r ≡ true
-takes_keep (OpenCursor v lo hi) taken = absurd (true≢false (sym taken))
-takes_keep (NextPairs n limit) taken = absurd (true≢false (sym taken))
-takes_keep (CloseCursor n) taken = absurd (true≢false (sym taken))
-takes_keep _ taken = refl
-
--- and has sizes as they may be
-pub takes_lawful : (r : Request) → is_taken r ≡ true → has_lawful_sizes r ≡ true
-takes_lawful (Put v key value) taken = taken
-takes_lawful (Get v key) taken = taken
-takes_lawful _ taken = absurd (true≢false (sym taken))
-
--- a change of lawful sizes at a version that fits its field is lawful
-pub lawful_put : (v : ℕ) (key value : List ℕ) → v < 2 ^ 32 → has_lawful_sizes (Put v key value) ≡ true → change.is_lawful (change.Put v key value) ≡ true
-lawful_put v key value fits sizes = and_from (ltb v (2 ^ 32)) _ (lt-ltb v (2 ^ 32) fits) sizes
-
-pub lawful_delete : (v : ℕ) (key : List ℕ) → v < 2 ^ 32 → has_lawful_sizes (Delete v key) ≡ true → change.is_lawful (change.Delete v key) ≡ true
-lawful_delete v key fits sizes = and_from (ltb v (2 ^ 32)) _ (lt-ltb v (2 ^ 32) fits) sizes
-
-pub lawful_clone : (v : ℕ) → v < 2 ^ 32 → change.is_lawful (change.Clone v) ≡ true
-lawful_clone v fits = lt-ltb v (2 ^ 32) fits
+-- a command that is built has nothing to do with cursors
+pub built_keeps : (r : Request) → is_built r ≡ true → keeps_cursors r ≡ true
+built_keeps (OpenCursor v lo hi) built = absurd (true≢false (sym built))
+built_keeps (NextPairs n limit) built = absurd (true≢false (sym built))
+built_keeps (CloseCursor n) built = absurd (true≢false (sym built))
+built_keeps _ built = refl

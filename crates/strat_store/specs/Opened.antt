@@ -1,7 +1,7 @@
 -- What recovery finds, as long as stores keep all that they took in one journal region. It finds
 -- less than the general recovery does (`Opening` of strat_recovery), whose manifests and journals
 -- are of any kind: what it finds the general one finds too.
-use Rattle.std.specs.Prelude.{◌≡◌, ◌≤◌, ◌<◌, ◌⊎◌, ℕ, ◌*◌, ◌==◌, ◌&&◌, min, Bool, true, List, [], ◌∷◌, ◌++◌, bytes_eq, Option, Some, None, Ok, IsTrue}
+use Rattle.std.specs.Prelude.{◌≡◌, ◌≤◌, ◌<◌, ◌⊎◌, ℕ, ◌*◌, ◌==◌, ◌&&◌, min, Bool, List, [], ◌∷◌, ◌++◌, bytes_eq, Option, Some, None, Ok, IsTrue}
 use Rattle.std.specs.List.{AllByRecursion}
 use Rattle.strat_base.specs.declared.limits.TheConstants.{BLOCK}
 use Rattle.strat_format.specs.Chain.{link_bytes}

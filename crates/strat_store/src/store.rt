@@ -12,7 +12,7 @@ ghost use Rattle.strat_crash.specs.Moments.{Since, Passes, TearsOnly};
 ghost use Rattle.strat_model.specs.Answer.{as_told, accepts};
 ghost use Rattle.strat_model.specs.Command.{request_of};
 ghost use Rattle.strat_recovery.specs.Head.{Head};
-ghost use Rattle.strat_model.specs.Spelling.{is_taken};
+ghost use Rattle.strat_model.specs.Spelling.{is_built, has_lawful_sizes};
 ghost use Rattle.strat_model.specs.declared.replies.Refusal.TheVariants as why;
 ghost use Rattle.strat_model.specs.declared.replies.Reply.TheVariants as reply;
 ghost use Rattle.strat_store.specs.Opened.{recover_now, head_with, MayFollow};
@@ -123,10 +123,10 @@ impl Store {
 
     /// Carries out one command. The pairs of its answer are in `out`, from which all others are
     /// gone. A change is durable before it is answered: two writes and two syncs, whatever the size
-    /// of the store. A look-up and a change take linear time in the pairs of the version. The
-    /// refusal `NoMemory` comes for a put alone, and leaves store and disk as they were. After the
-    /// refusal `DeviceFault`, and no other, the store is spent: whether the change is there the
-    /// next opening tells.
+    /// of the store. A look-up and a change take linear time in the pairs of the version, an update
+    /// and an `Info` in the number of versions too. The refusal `NoMemory` comes for a put or a clone
+    /// alone, and leaves store and disk as they were. After the refusal `DeviceFault`, and no other,
+    /// the store is spent: whether the change is there the next opening tells.
     pub fn apply<D: Disk>(
         &mut self,
         disk: &mut D,
@@ -134,7 +134,8 @@ impl Store {
         out: &mut PairBuf,
     ) -> Reply
         requires kept { self.old.spent ≡ false }
-        requires fits { is_taken (request_of command.now) ≡ true }
+        requires fits { (is_built (request_of command.now) ≡ true)
+            × (has_lawful_sizes (request_of command.now) ≡ true) }
         ensures ok { IsApplied self.old (request_of command.now) (as_told result out.new) self.new }
         ensures trail { StandsOn (D.view disk.old) self.old
             → Moves (D.view disk.old) (D.view disk.new) self.old self.new }

@@ -1,9 +1,6 @@
-use Rattle.std.proofs.Common.{◌≡◌, ◌≤◌, ◌<◌, ◌≢◌, ℕ, List, [], ◌++◌, take, length, false, Err, refl, sym, ap, subst, ◌∙◌, length-take, inl, inr, arith}
-use Rattle.strat_base.specs.Numbers.{AreBytes}
+use Rattle.std.proofs.Common.{◌≡◌, ◌≤◌, ◌<◌, ℕ, List, [], ◌++◌, take, length, false, Err, refl, sym, ap, subst, ◌∙◌, length-take, inl, inr, arith}
 use Rattle.strat_crash.proofs.MomentLemmas.{passes_trans}
-use Rattle.strat_frame.specs.Deframing.{Deframing}
 use Rattle.strat_model.specs.declared.ended.Ended.{Ended}
-use Rattle.strat_model.specs.Stream.{frame}
 use Rattle.strat_store.specs.declared.opening.AttachFault.{AttachFault}
 use Rattle.strat_serve.specs.Session.{IsAnswered, Took, Served}
 use Rattle.strat_serve.specs.World.{World, world}

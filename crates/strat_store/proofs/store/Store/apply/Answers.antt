@@ -1,5 +1,5 @@
 use Rattle.std.proofs.Common.{refl, sym, true}
-use Rattle.strat_store.proofs.StepLemmas.{step_of, step_accepts, call_kept_none, call_kept, takes_keep}
+use Rattle.strat_store.proofs.StepLemmas.{step_of, step_accepts, call_kept_none, call_kept, built_keeps}
 use Rattle.strat_store.proofs.StandLemmas.{stays}
 use Rattle.strat_store.proofs.StoreLemmas.{ready_same, ready_after, breaks, moves}
 use Rattle.strat_store.proofs.store.Store.apply.Goals as goal
@@ -9,7 +9,7 @@ returns-in_default-clause-trail g c =
     let s = c.self.inside in
     let going = rw (← c.self.view_is) at c.requires.kept in
     rw (← c.self.view_is)
-    (stays _ (record { table = s.table; log = s.journal; spent = s.spent }) _ (call_kept_none s.table _ _ _ _ c.step-reply.ensures.ok (takes_keep _ c.requires.fits) c.in_default.ensures) refl going)
+    (stays _ (record { table = s.table; log = s.journal; spent = s.spent }) _ (call_kept_none s.table _ _ _ _ c.step-reply.ensures.ok (built_keeps _ c.requires.fits.0) c.in_default.ensures) refl going)
 
 pub invariant_of-self-then-not-accepts : goal.invariant_of-self-then-not-accepts
 invariant_of-self-then-not-accepts g c going =
