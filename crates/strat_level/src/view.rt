@@ -1,9 +1,10 @@
 //! The items of level 0 as of one moment.
 
 ghost use Rattle.std.specs.List.{find, insert, slice_get};
-ghost use Rattle.std.specs.Prelude.{◌≡◌, ◌<◌, ◌≤◌, ◌+◌, length, slice_set, option_and_then, IfSome, IfOk, IfErr, MatchResult, vec_capacity};
+ghost use Rattle.std.specs.Option.{option_copied};
+ghost use Rattle.std.specs.Prelude.{◌≡◌, ◌<◌, ◌≤◌, ◌+◌, length, slice_set, slice_index_or, option_and_then, IfSome, IfOk, IfErr, MatchResult, vec_capacity};
 ghost use Rattle.strat_arena.specs.PoolView.{arena_at, shares_at, count_shared, SameBeside};
-ghost use Rattle.strat_base.specs.Entries.{is_of};
+ghost use Rattle.strat_base.specs.Entries.{Entry, is_of};
 ghost use Rattle.strat_level.specs.Memtable.{entries_held, ListStands};
 ghost use Rattle.strat_state.specs.Live.{live};
 
@@ -69,6 +70,21 @@ impl ZeroView {
         let (from, to) = key_range(pool, self.arena, &self.items, key, v);
         let place = live_in(&self.items[from..to], tree, v)?;
         Some(from + place)
+    }
+
+    /// What the item at a place says of its key: its value, or `None` where the key is gone. O(1).
+    pub fn value<'a>(&self, pool: &'a ArenaPool, place: usize) -> Option<&'a [u8]>
+        requires kept { ListStands pool.now self.now }
+        requires fits { place < length self.now.items }
+        ensures ok { (d : Entry) → option_copied result
+            ≡ (slice_index_or (entries_held pool.now self.now) place d).value }
+    {
+        let item = self.items[place];
+        if item.gone {
+            None
+        } else {
+            Some(pool.value(self.arena, item.slot))
+        }
     }
 
     /// Gives the share in the arena back.

@@ -1,9 +1,10 @@
 //! Level 0, which takes each change of the journal as an entry.
 
 ghost use Rattle.std.specs.List.{find, slice_get};
-ghost use Rattle.std.specs.Prelude.{◌≡◌, ◌<◌, ◌≤◌, ◌+◌, ◌-◌, ◌^◌, [], length, option_and_then, IfOk, IfSome, OnOk, OnErr, IsTrue};
+ghost use Rattle.std.specs.Option.{option_copied};
+ghost use Rattle.std.specs.Prelude.{slice_index_or, ◌≡◌, ◌<◌, ◌≤◌, ◌+◌, ◌-◌, ◌^◌, [], length, option_and_then, IfOk, IfSome, OnOk, OnErr, IsTrue};
 ghost use Rattle.strat_arena.specs.PoolView.{arena_at, shares_at, count_shared, SameBeside};
-ghost use Rattle.strat_base.specs.Entries.{is_of};
+ghost use Rattle.strat_base.specs.Entries.{Entry, is_of};
 ghost use Rattle.strat_base.specs.EntryBytes.{fits_fields, is_markable};
 ghost use Rattle.strat_base.specs.EntryView.{val_of};
 ghost use Rattle.strat_level.specs.Memtable.{ItemList, said_by, entries_held, ListStands, MemtableStands};
@@ -91,10 +92,10 @@ impl Zero {
         ensures kept { MemtableStands pool.new self.new }
         ensures found { (self.new.list.arena ≡ self.old.list.arena)
             × (shares_at pool.new self.new.list.arena ≡ shares_at pool.old self.old.list.arena) }
-        ensures same { SameBeside pool.old pool.new self.old.list.arena }
+        ensures same { SameBeside pool.old pool.new self.old.list.arena
+            × ((list : ItemList) → ListStands pool.old list → ListStands pool.new list
+            × (entries_held pool.new list ≡ entries_held pool.old list)) }
         ensures len { count_shared pool.new ≡ count_shared pool.old }
-        ensures reads { (list : ItemList) → ListStands pool.old list → ListStands pool.new list
-            × (entries_held pool.new list ≡ entries_held pool.old list) }
     {
         let arena = self.list.arena();
         let (value, gone) = stored(val);
@@ -142,6 +143,23 @@ impl Zero {
             (live tree.now.parents (entries_held pool.now self.now.list) v) }
     {
         self.list.find(pool, tree, key, v)
+    }
+
+    /// What the item at a place says of its key: its value, or `None` where the key is gone. O(1).
+    pub fn value<'a>(&self, pool: &'a ArenaPool, place: usize) -> Option<&'a [u8]>
+        requires kept { ListStands pool.now self.now.list }
+        requires fits { place < length self.now.list.items }
+        ensures ok { (d : Entry) → option_copied result
+            ≡ (slice_index_or (entries_held pool.now self.now.list) place d).value }
+    {
+        self.list.value(pool, place)
+    }
+
+    /// The items alone, for a reader. O(1).
+    pub fn view(&self) -> &ZeroView
+        ensures ok { result.now ≡ self.now.list }
+    {
+        &self.list
     }
 
     /// Gives the share in the arena back.

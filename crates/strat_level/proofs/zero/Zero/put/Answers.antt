@@ -8,14 +8,16 @@ use Rattle.strat_level.specs.Memtable.{ItemList, Memtable, entries_held, ListSta
 use Rattle.strat_level.proofs.PutLemmas.{others_stand, own_put, own_pushed, own_makes, put_stands, room_left, size_fits}
 use Rattle.strat_level.proofs.zero.Zero.put.Goals as goal
 
-pub returns-clause-reads : goal.returns-clause-reads
-returns-clause-reads c =
-    others_stand c.args.pool.now c.push-slot.new.self c.arena-arena.result (record { key = c.args.key.now; value = c.stored-gone.result.0.now })
-    (record { pairs = c.push-slot.ensures.ok; shares = c.push-slot.ensures.kept.0; beside = c.push-slot.ensures.same })
-
 -- the list before, as its fields have it
 list_is : (c : goal.After-self-1) → c.self.inside.list ≡ c.args.self.now.list
 list_is c = ap (λ (m : Memtable). m.list) c.self.view_is
+
+pub returns-clause-same : goal.returns-clause-same
+returns-clause-same c = (
+  (λ m apart. c.push-slot.ensures.same m (λ e. apart (e ∙ c.arena-arena.ensures.ok ∙ ap (λ (l : ItemList). l.arena) (list_is c)))),
+  others_stand c.args.pool.now c.push-slot.new.self c.arena-arena.result (record { key = c.args.key.now; value = c.stored-gone.result.0.now })
+      (record { pairs = c.push-slot.ensures.ok; shares = c.push-slot.ensures.kept.0; beside = c.push-slot.ensures.same }),
+)
 
 stands : (c : goal.After-self-1) → ListStands c.args.pool.now c.self.inside.list
 stands c = subst (λ (l : ItemList). ListStands c.args.pool.now l) (sym (list_is c)) c.requires.kept.list
