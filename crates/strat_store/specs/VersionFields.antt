@@ -1,5 +1,5 @@
 -- The fields of the table of an open store.
-use Rattle.std.specs.Prelude.{◌≡◌, ◌≤◌, ◌+◌, [], IsTrue}
+use Rattle.std.specs.Prelude.{◌≡◌, ◌≤◌, ◌+◌, [], length, IsTrue}
 use Rattle.std.specs.List.{list_all}
 use Rattle.strat_base.specs.EntryBytes.{fits_fields}
 use Rattle.strat_level.specs.Memtable.{entries_held, MemtableStands}
@@ -29,3 +29,4 @@ pub record IsHeld (a : Inside) : Type 0 where
   pub changes : a.changes ≤ a.changes_max
   pub updates : a.updates ≤ a.changes
   pub versions : a.tree.versions_max ≡ a.versions_max
+  pub few : length a.tree.parents ≤ a.versions_max

@@ -1,13 +1,15 @@
 //! The table of an open store in memory: the tree of its versions, and level 0 with what each of
 //! them says of keys. No map is ever copied, and no change takes memory.
 
-ghost use Rattle.std.specs.Prelude.{◌≡◌, ◌≤◌, [], true, IfOk, Some, None};
+ghost use Rattle.std.specs.Prelude.{◌≡◌, ◌≤◌, [], length, true, IfOk, IfSome};
+ghost use Rattle.std.specs.Option.{option_copied};
 ghost use Rattle.strat_base.specs.declared.limits.TheConstants.{VERSIONS_MAX};
 ghost use Rattle.strat_model.specs.Command.{request_of};
 ghost use Rattle.strat_model.specs.Plain.{IsStep, update_refusal, clone_refusal};
 ghost use Rattle.strat_model.specs.Request.{Put, Delete, Get, Clone, Info, Stat};
 ghost use Rattle.strat_model.specs.Spelling.{is_built, has_lawful_sizes};
-ghost use Rattle.strat_model.specs.Step.{has_row, is_frozen};
+ghost use Rattle.strat_model.specs.Pairs.{value_of};
+ghost use Rattle.strat_model.specs.Step.{has_row, is_frozen, pairs_at};
 ghost use Rattle.strat_model.specs.Table.{fresh};
 
 use std::alloc::Global;
@@ -152,7 +154,11 @@ impl VersionTable {
     }
 
     /// The value of a key at a version that is there.
-    fn value_at(&self, version: Version, key: &[u8]) -> Option<&[u8]> {
+    fn value_at(&self, version: Version, key: &[u8]) -> Option<&[u8]>
+        requires found { has_row self.now version ≡ true }
+        ensures ok { option_copied result ≡ value_of (pairs_at self.now version) key.now }
+        ensures fits { IfSome result (λ value. length value.now ≤ 1024) }
+    {
         let place = self.zero.find(&self.pool, &self.tree, key, version)?;
         self.zero.value(&self.pool, place)
     }
