@@ -166,19 +166,19 @@ no_refusal body tag other_tag request cause is refused =
           none-some cause (sym is.sizes ∙ ap size_refusal same.1 ∙ m.size)
     ]
 
--- two answers to one body at one position are the same, but for want of memory
+-- two answers to one body at one position are the same, but for want of memory, which changes nothing
 pub one_answer : (mem : ℕ) (at : Position) (body : List ℕ) (response other : Response) (after others : Position) → Answers mem at body response after → Answers mem at body other others
-    → ((response ≡ other) × (after ≡ others)) ⊎ (response.answer ≡ refusal why.NoMemory) ⊎ (other.answer ≡ refusal why.NoMemory)
+    → ((response ≡ other) × (after ≡ others)) ⊎ ((response.answer ≡ refusal why.NoMemory) × (after ≡ at)) ⊎ ((other.answer ≡ refusal why.NoMemory) × (others ≡ at))
 one_answer mem at body response other after others (inl x) (inl y) =
     let same = one_refusal body response.tag other.tag x.cause y.cause x.refused y.refused in
     let told : response.answer ≡ other.answer = x.answer ∙ ap (λ (r : Refusal). refusal r) same.1 ∙ sym y.answer in
     inl (λ j. record { tag = same.0 j; answer = told j }, x.same ∙ sym y.same)
 one_answer mem at body response other after others (inl x) (inr (inl y)) = absurd (no_refusal body other.tag response.tag y.request x.cause y.spelled x.refused)
-one_answer mem at body response other after others (inl x) (inr (inr y)) = inr (inr y.answer)
+one_answer mem at body response other after others (inl x) (inr (inr y)) = inr (inr (y.answer, y.same))
 one_answer mem at body response other after others (inr (inl x)) (inl y) = absurd (no_refusal body response.tag other.tag x.request y.cause x.spelled y.refused)
 one_answer mem at body response other after others (inr (inl x)) (inr (inl y)) =
     let same = one_form body response.tag other.tag x.request y.request x.spelled.form y.spelled.form in
     let told : response.answer ≡ other.answer = x.answer ∙ ap (λ (r : Request). (step at.table r).answer) same.1 ∙ sym y.answer in
     inl (λ j. record { tag = same.0 j; answer = told j }, x.place ∙ ap (position_after mem at) same.1 ∙ sym y.place)
-one_answer mem at body response other after others (inr (inl x)) (inr (inr y)) = inr (inr y.answer)
-one_answer mem at body response other after others (inr (inr x)) b = inr (inl x.answer)
+one_answer mem at body response other after others (inr (inl x)) (inr (inr y)) = inr (inr (y.answer, y.same))
+one_answer mem at body response other after others (inr (inr x)) b = inr (inl (x.answer, x.same))

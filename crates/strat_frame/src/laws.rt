@@ -26,13 +26,15 @@ pub fn bodies_are_refused_for_one_reason()
         → Spells body tag request → IsRefusedAs body other_tag cause → ⊥ }
 {}
 
-/// Two answers that a body may get at one position are the same, but for want of memory.
+/// Two answers that a body may get at one position are the same, but for want of memory, which changes
+/// nothing.
 pub fn bodies_have_one_answer()
     ensures { (mem : ℕ) (at : Position) (body : List ℕ)
         (response other : Response) (after others : Position)
         → Answers mem at body response after → Answers mem at body other others
         → ((response ≡ other) × (after ≡ others))
-        ⊎ (response.answer ≡ refusal why.NoMemory) ⊎ (other.answer ≡ refusal why.NoMemory) }
+        ⊎ ((response.answer ≡ refusal why.NoMemory) × (after ≡ at))
+        ⊎ ((other.answer ≡ refusal why.NoMemory) × (others ≡ at)) }
 {}
 
 /// A body is that of one reply and tag.

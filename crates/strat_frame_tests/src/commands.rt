@@ -176,80 +176,97 @@ const BODIES: [(&str, u32, Command<'static>); 9] = [
 
 /// Whether a body is read as a command under this tag.
 fn is_read(body: &[u8], tag: u32, command: Command<'_>) -> bool {
-    parse_command(body) == Ok((tag, command))
+    match parse_command(body) {
+        Ok((read_tag, read)) => read_tag == tag && read == command,
+        Err(_) => false,
+    }
+}
+
+/// Whether each of these bodies is read as its command under its tag.
+fn are_read(alloc: Global, bodies: &[(&str, u32, Command<'_>)]) -> Result<bool, NoMemory> {
+    for (digits, tag, command) in bodies {
+        let body = hex(alloc, digits)?;
+        if !is_read(&body, *tag, *command) {
+            return Ok(false);
+        }
+    }
+    Ok(true)
 }
 
 #[test]
 fn bodies_are_read_as_commands(rt: HostRuntime) -> Result<(), Fail> {
-    for (body, tag, command) in BODIES {
-        assert!(rt; is_read(&hex(rt.alloc(), body)?, tag, command));
-    }
+    assert!(rt; are_read(rt.alloc(), &BODIES)?);
     Ok(())
 }
 
-// Bodies that are no command, the tags of their replies, and the first that is wrong with them. A field too
-// few or a byte too many comes before any size, a key before a value. A scan and the commands of cursors are
-// not built.
-const FAULTS: [(&str, u32, BodyFault); 31] = [
-    ("", 0, BodyFault::Malformed),
-    ("aabbcc", 0, BodyFault::Malformed),
-    ("00000009", 9, BodyFault::Malformed),
-    ("00000001 00", 1, BodyFault::Malformed),
-    ("00000001 0b", 1, BodyFault::Malformed),
-    ("00000001 ff", 1, BodyFault::Malformed),
-    ("00000001 01", 1, BodyFault::Malformed),
-    ("00000004 01 00000000 0001 61", 4, BodyFault::Malformed),
-    (
-        "00000004 01 00000000 0001 61 0001 31 00",
-        4,
-        BodyFault::Malformed,
-    ),
-    (
-        "00000004 01 00000000 0001 61 0002 31",
-        4,
-        BodyFault::Malformed,
-    ),
-    (
-        "00000004 01 00000000 0000 0001 31 00",
-        4,
-        BodyFault::Malformed,
-    ),
-    ("00000002 02 00000000", 2, BodyFault::Malformed),
-    ("00000002 02 00000000 0001 61 00", 2, BodyFault::Malformed),
-    ("00000003 03 00000000 0001", 3, BodyFault::Malformed),
-    ("00000003 03 00000000 0001 61 00", 3, BodyFault::Malformed),
-    ("00000003 03 00000000 0000 00", 3, BodyFault::Malformed),
-    ("00000001 04", 1, BodyFault::Malformed),
-    ("00000001 04 000000", 1, BodyFault::Malformed),
-    ("00000001 04 00000000 00", 1, BodyFault::Malformed),
-    (
-        "0000000a 05 00000000 0000 0000 0002",
-        10,
-        BodyFault::Malformed,
-    ),
-    ("00000001 06 000000", 1, BodyFault::Malformed),
-    ("00000001 06 00000000 00", 1, BodyFault::Malformed),
-    ("00000001 07 00000000 0000 0000", 1, BodyFault::Malformed),
-    ("00000002 08 0000000000000001 0100", 2, BodyFault::Malformed),
-    ("00000004 09 0000000000000001", 4, BodyFault::Malformed),
-    ("00000001 0a 00", 1, BodyFault::Malformed),
-    ("00000004 01 00000005 0000 0000", 4, BodyFault::KeySize),
-    ("00000004 01 00000000 0000 0001 31", 4, BodyFault::KeySize),
-    ("00000002 02 00000000 0000", 2, BodyFault::KeySize),
-    ("00000003 03 00000000 0000", 3, BodyFault::KeySize),
-    ("ffffffff 03 ffffffff 0000", 4294967295, BodyFault::KeySize),
+// Bodies that do not have the form of a command, and the tags of their replies. A field too few or a byte too
+// many comes before any size. A scan and the commands of cursors are not built.
+const MALFORMED: [(&str, u32); 26] = [
+    ("", 0),
+    ("aabbcc", 0),
+    ("00000009", 9),
+    ("00000001 00", 1),
+    ("00000001 0b", 1),
+    ("00000001 ff", 1),
+    ("00000001 01", 1),
+    ("00000004 01 00000000 0001 61", 4),
+    ("00000004 01 00000000 0001 61 0001 31 00", 4),
+    ("00000004 01 00000000 0001 61 0002 31", 4),
+    ("00000004 01 00000000 0000 0001 31 00", 4),
+    ("00000002 02 00000000", 2),
+    ("00000002 02 00000000 0001 61 00", 2),
+    ("00000003 03 00000000 0001", 3),
+    ("00000003 03 00000000 0001 61 00", 3),
+    ("00000003 03 00000000 0000 00", 3),
+    ("00000001 04", 1),
+    ("00000001 04 000000", 1),
+    ("00000001 04 00000000 00", 1),
+    ("0000000a 05 00000000 0000 0000 0002", 10),
+    ("00000001 06 000000", 1),
+    ("00000001 06 00000000 00", 1),
+    ("00000001 07 00000000 0000 0000", 1),
+    ("00000002 08 0000000000000001 0100", 2),
+    ("00000004 09 0000000000000001", 4),
+    ("00000001 0a 00", 1),
+];
+
+// Bodies with a key of no byte, whatever their version and their value.
+const NO_KEYS: [(&str, u32); 5] = [
+    ("00000004 01 00000005 0000 0000", 4),
+    ("00000004 01 00000000 0000 0001 31", 4),
+    ("00000002 02 00000000 0000", 2),
+    ("00000003 03 00000000 0000", 3),
+    ("ffffffff 03 ffffffff 0000", 4294967295),
 ];
 
 /// Whether this is the first that is wrong with a body, and its reply has this tag.
 fn is_refused(body: &[u8], tag: u32, fault: BodyFault) -> bool {
-    parse_command(body) == Err((tag, fault))
+    match parse_command(body) {
+        Ok(_) => false,
+        Err((refused_tag, refused)) => refused_tag == tag && refused == fault,
+    }
+}
+
+/// Whether this is the first that is wrong with each of these bodies.
+fn are_refused(alloc: Global, bodies: &[(&str, u32)], fault: BodyFault) -> Result<bool, NoMemory> {
+    for (digits, tag) in bodies {
+        let body = hex(alloc, digits)?;
+        if !is_refused(&body, *tag, fault) {
+            return Ok(false);
+        }
+    }
+    Ok(true)
 }
 
 #[test]
-fn other_bodies_are_refused_for_the_first_fault(rt: HostRuntime) -> Result<(), Fail> {
-    for (body, tag, fault) in FAULTS {
-        assert!(rt; is_refused(&hex(rt.alloc(), body)?, tag, fault));
-    }
+fn bodies_of_another_form_are_malformed(rt: HostRuntime) -> Result<(), Fail> {
+    assert!(rt; are_refused(rt.alloc(), &MALFORMED, BodyFault::Malformed)?);
+    Ok(())
+}
+
+#[test]
+fn a_key_has_a_byte(rt: HostRuntime) -> Result<(), Fail> {
+    assert!(rt; are_refused(rt.alloc(), &NO_KEYS, BodyFault::KeySize)?);
     Ok(())
 }
 
@@ -304,11 +321,21 @@ const SIZES: [(u16, u16, BodyFault); 5] = [
     (256, 1025, BodyFault::KeySize),
 ];
 
+/// Whether a put of these sizes is refused for this.
+fn is_refused_for_sizes(
+    alloc: Global,
+    key_len: u16,
+    value_len: u16,
+    fault: BodyFault,
+) -> Result<bool, NoMemory> {
+    let body = large_put(alloc, "00000007 01 00000000", key_len, value_len)?;
+    Ok(is_refused(&body, 7, fault))
+}
+
 #[test]
 fn sizes_of_puts_are_told_the_key_first(rt: HostRuntime) -> Result<(), Fail> {
-    for (key_len, value_len, fault) in SIZES {
-        let body = large_put(rt.alloc(), "00000007 01 00000000", key_len, value_len)?;
-        assert!(rt; is_refused(&body, 7, fault));
+    for (key_len, value_len, fault) in &SIZES {
+        assert!(rt; is_refused_for_sizes(rt.alloc(), *key_len, *value_len, *fault)?);
     }
     Ok(())
 }
