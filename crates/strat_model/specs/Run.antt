@@ -1,5 +1,5 @@
 -- A run answers the bodies of a stream in order.
-use Rattle.std.specs.Prelude.{◌≡◌, ℕ, ◌+◌, nat_lt, if◌then◌else◌, Bool, true, false, List, [], ◌∷◌, ◌++◌, map, Option, Some, None, IfSome, ◌⊎◌}
+use Rattle.std.specs.Prelude.{◌≡◌, ◌≤◌, ℕ, ◌+◌, nat_lt, if◌then◌else◌, Bool, true, false, List, [], ◌∷◌, ◌++◌, map, Option, Some, None, IfSome, ◌⊎◌}
 use Rattle.std.specs.List.{flat_map}
 use Rattle.strat_model.specs.declared.replies.Refusal.{Refusal}
 use Rattle.strat_model.specs.declared.replies.Refusal.TheVariants as why
@@ -75,13 +75,15 @@ pub record AnswersByTable (mem : ℕ) (at : Position) (body : List ℕ) (respons
   pub answer : response.answer ≡ (step at.table request).answer
   pub place : after ≡ position_after mem at request
 
--- a command that the table accepts is refused because memory ran out, and changes nothing
-pub record AnswersNoMemory (at : Position) (body : List ℕ) (response : Response)
+-- a command that the table accepts is refused because memory ran out, and changes nothing; a
+-- change only where the journal is full
+pub record AnswersNoMemory (mem : ℕ) (at : Position) (body : List ℕ) (response : Response)
     (after : Position) : Type 0 where
   pub request : Request
   pub spelled : Spells body response.tag request
   pub takes : takes_memory request ≡ true
   pub accepted : accepts (step at.table request).answer.reply ≡ true
+  pub full : is_change request ≡ true → mem ≤ at.fill
   pub answer : response.answer ≡ refusal why.NoMemory
   pub same : after ≡ at
 
@@ -89,7 +91,7 @@ pub record AnswersNoMemory (at : Position) (body : List ℕ) (response : Respons
 abbrev pub Answers : ℕ → Position → List ℕ → Response → Position → Type 0
 Answers mem at body response after =
     AnswersNoCommand at body response after ⊎ AnswersByTable mem at body response after
-    ⊎ AnswersNoMemory at body response after
+    ⊎ AnswersNoMemory mem at body response after
 
 -- a body with its response, and the position at which it was answered
 pub record Exchange : Type 0 where

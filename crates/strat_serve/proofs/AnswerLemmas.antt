@@ -24,15 +24,7 @@ answered old new body tag request r pairs bytes spelled (inl is) sent_bytes = re
     going = is.going;
   });
 }
-answered old new body tag request r pairs bytes spelled (inr (inl is)) sent_bytes = record {
-  response = record { tag = tag; answer = as_told r pairs };
-  spelled = sent_bytes;
-  how = inl (record {
-    answers = inr (inr (record { request = request; spelled = spelled; takes = is.takes; accepted = is.accepted; answer = is.answer_is; same = is.same }));
-    going = is.going;
-  });
-}
-answered old new body tag request r pairs bytes spelled (inr (inr is)) sent_bytes = record {
+answered old new body tag request r pairs bytes spelled (inr is) sent_bytes = record {
   response = record { tag = tag; answer = as_told r pairs };
   spelled = sent_bytes;
   how = inr (record {

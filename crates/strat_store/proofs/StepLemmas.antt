@@ -11,7 +11,7 @@ use Rattle.strat_model.specs.declared.replies.Refusal.TheVariants as why
 use Rattle.strat_model.specs.Answer.{Answer, plain, accepts}
 use Rattle.strat_recovery.specs.Head.{Head}
 use Rattle.strat_model.specs.Pairs.{Pairs, set, unset}
-use Rattle.strat_model.specs.Plain.{IsStep, IsStepOrShort}
+use Rattle.strat_model.specs.Plain.{IsStep}
 use Rattle.strat_model.specs.Request.{Request, Put, Delete, Get, Clone, Scan, Info, OpenCursor, NextPairs, CloseCursor, Stat}
 use Rattle.strat_model.specs.Spelling.{is_built}
 use Rattle.strat_recovery.specs.StateTable.{request_for}
@@ -127,24 +127,17 @@ refused_kept t r c asked e =
     let same = asked_for r c asked in
     subst (λ (x : Request). (step t x).table ≡ t) same (change_refused t c (ap (λ (x : Request). accepts (step t x).answer.reply) same ∙ e))
 
--- a call of a table that is no refusal is a step
-pub step_of : (t : Table) (r : Request) (exposed : Reply) (pairs : Pairs) (after : Table) → IsStepOrShort t r exposed pairs after → accepts exposed ≡ true → IsStep t r exposed pairs after
-step_of t r exposed pairs after (inl is) e = is
-step_of t r exposed pairs after (inr short) e = absurd (true≢false (sym e ∙ ap (λ (a : Answer). accepts a.reply) short.answer))
-
--- the step of such a call is no refusal either
+-- a step is a refusal where its answer is
 pub step_accepts : (t : Table) (r : Request) (exposed : Reply) (pairs : Pairs) (after : Table) (b : Bool) → IsStep t r exposed pairs after → accepts exposed ≡ b → accepts (step t r).answer.reply ≡ b
 step_accepts t r exposed pairs after b is e = sym (ap (λ (a : Answer). accepts a.reply) is.answer) ∙ e
 
--- a call that asks for no change leaves the table as it was
-pub call_kept_none : (t : Table) (r : Request) (exposed : Reply) (pairs : Pairs) (after : Table) → IsStepOrShort t r exposed pairs after → keeps_cursors r ≡ true → change_asked r ≡ None → after ≡ t
-call_kept_none t r exposed pairs after (inl is) keeps none = is.table ∙ asks_none t r keeps none
-call_kept_none t r exposed pairs after (inr short) keeps none = short.same
+-- a step that asks for no change leaves the table as it was
+pub call_kept_none : (t : Table) (r : Request) (exposed : Reply) (pairs : Pairs) (after : Table) → IsStep t r exposed pairs after → keeps_cursors r ≡ true → change_asked r ≡ None → after ≡ t
+call_kept_none t r exposed pairs after is keeps none = is.table ∙ asks_none t r keeps none
 
 -- so does one for a change that is refused
-pub call_kept : (t : Table) (r : Request) (c : Change) (exposed : Reply) (pairs : Pairs) (after : Table) → IsStepOrShort t r exposed pairs after → change_asked r ≡ Some c → accepts exposed ≡ false → after ≡ t
-call_kept t r c exposed pairs after (inl is) asked e = is.table ∙ refused_kept t r c asked (step_accepts t r exposed pairs after false is e)
-call_kept t r c exposed pairs after (inr short) asked e = short.same
+pub call_kept : (t : Table) (r : Request) (c : Change) (exposed : Reply) (pairs : Pairs) (after : Table) → IsStep t r exposed pairs after → change_asked r ≡ Some c → accepts exposed ≡ false → after ≡ t
+call_kept t r c exposed pairs after is asked e = is.table ∙ refused_kept t r c asked (step_accepts t r exposed pairs after false is e)
 
 -- the change that a command asks of a head's table may follow in its journal
 pub may_follow : (h : Head) (r : Request) (c : Change) → change_asked r ≡ Some c → accepts (step (table_now h) r).answer.reply ≡ true → MayFollow h c
@@ -164,3 +157,9 @@ built_keeps (OpenCursor v lo hi) built = absurd (true≢false (sym built))
 built_keeps (NextPairs n limit) built = absurd (true≢false (sym built))
 built_keeps (CloseCursor n) built = absurd (true≢false (sym built))
 built_keeps _ built = refl
+
+-- a command that asks for a change is built
+pub request_built : (c : Change) → is_built (request_for c) ≡ true
+request_built (change.Put v key value) = refl
+request_built (change.Delete v key) = refl
+request_built (change.Clone v) = refl

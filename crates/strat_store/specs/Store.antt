@@ -13,7 +13,7 @@ use Rattle.strat_model.specs.declared.replies.Refusal.TheVariants as why
 use Rattle.strat_model.specs.Answer.{Answer, refusal, accepts}
 use Rattle.strat_recovery.specs.Head.{Head}
 use Rattle.strat_model.specs.Request.{Request, Put, Delete, Clone, OpenCursor, NextPairs, CloseCursor}
-use Rattle.strat_model.specs.Run.{Position, position_after, takes_memory, reaches_disk}
+use Rattle.strat_model.specs.Run.{Position, position_after, reaches_disk}
 use Rattle.strat_model.specs.Step.{step}
 use Rattle.strat_model.specs.Table.{Table, bare}
 use Rattle.strat_store.specs.Opened.{recover_now, recover_head_now, head_from, table_now, Shows, SameButJournal, Opens}
@@ -103,15 +103,6 @@ pub record IsCarriedOut (old : Attached) (request : Request) (answer : Answer) (
   pub place : position_of new ≡ position_after old.log.mem (position_of old) request
   pub going : new.spent ≡ false
 
--- a command that the table accepts found no memory, and changed nothing
-pub record LacksMemory (old : Attached) (request : Request) (answer : Answer) (new : Attached)
-    : Type 0 where
-  pub takes : takes_memory request ≡ true
-  pub accepted : accepts (step old.table request).answer.reply ≡ true
-  pub answer_is : answer ≡ refusal why.NoMemory
-  pub same : position_of new ≡ position_of old
-  pub going : new.spent ≡ false
-
 -- a command that the table accepts met a fault of the device, and the store is not to be used
 -- again
 pub record IsBroken (old : Attached) (request : Request) (answer : Answer) (new : Attached)
@@ -125,8 +116,7 @@ pub record IsBroken (old : Attached) (request : Request) (answer : Answer) (new 
 -- how a store may answer a command, and what it is then
 abbrev pub IsApplied : Attached → Request → Answer → Attached → Type 0
 IsApplied old request answer new =
-    IsCarriedOut old request answer new
-    ⊎ (LacksMemory old request answer new ⊎ IsBroken old request answer new)
+    IsCarriedOut old request answer new ⊎ IsBroken old request answer new
 
 -- while a store goes from one table to another the images of its disk do so too, and nothing is
 -- torn but the journal, and that only where the table changed; where the store did not break it

@@ -1,5 +1,5 @@
 use Rattle.std.proofs.Common.{refl, sym, true}
-use Rattle.strat_store.proofs.StepLemmas.{step_of, step_accepts, call_kept_none, call_kept, built_keeps}
+use Rattle.strat_store.proofs.StepLemmas.{step_accepts, call_kept_none, call_kept, built_keeps}
 use Rattle.strat_store.proofs.StandLemmas.{stays}
 use Rattle.strat_store.proofs.StoreLemmas.{ready_same, ready_after, breaks, moves}
 use Rattle.strat_store.proofs.store.Store.apply.Goals as goal
@@ -27,7 +27,7 @@ pub returns-in_default-log_change-clause-trail : goal.returns-in_default-log_cha
 returns-in_default-log_change-clause-trail g c =
     let s = c.self.inside in
     let going = rw (← c.self.view_is) at c.requires.kept in
-    let is = step_of s.table _ _ _ _ c.step-reply.ensures.ok (sym c.if-not-accepts.ensures) in
+    let is = c.step-reply.ensures.ok in
     let accepted = step_accepts s.table _ _ _ _ true is (sym c.if-not-accepts.ensures) in
     rw (← c.self.view_is)
     (breaks s.table s.journal s.spent _ _ c.in-Some.ensures accepted (c.self.invariant going) c.step-reply.ensures.kept
@@ -37,7 +37,7 @@ pub invariant_of-self-2 : goal.invariant_of-self-2
 invariant_of-self-2 g c _ =
     let s = c.self.inside in
     let going = rw (← c.self.view_is) at c.requires.kept in
-    let is = step_of s.table _ _ _ _ c.step-reply.ensures.ok (sym c.if-not-accepts.ensures) in
+    let is = c.step-reply.ensures.ok in
     let accepted = step_accepts s.table _ _ _ _ true is (sym c.if-not-accepts.ensures) in
     ready_after s.table s.journal s.spent _ _ c.in-Some.ensures accepted (c.self.invariant going) c.step-reply.ensures.kept
     c.step-reply.new.self c.log_change.new.journal is.table c.in-Ok.ensures.ok
@@ -46,7 +46,7 @@ pub returns-clause-trail : goal.returns-clause-trail
 returns-clause-trail g c =
     let s = c.self.inside in
     let going = rw (← c.self.view_is) at c.requires.kept in
-    let is = step_of s.table _ _ _ _ c.step-reply.ensures.ok (sym c.if-not-accepts.ensures) in
+    let is = c.step-reply.ensures.ok in
     let accepted = step_accepts s.table _ _ _ _ true is (sym c.if-not-accepts.ensures) in
     rw (← c.self.view_is)
     (λ stands. moves s.table s.journal s.spent _ _ c.in-Some.ensures accepted (c.self.invariant going) c.step-reply.ensures.kept
