@@ -2,7 +2,8 @@
 
 ghost use Rattle.std.specs.List.{find, insert, slice_get};
 ghost use Rattle.std.specs.Option.{option_copied};
-ghost use Rattle.std.specs.Prelude.{◌≡◌, ◌<◌, ◌≤◌, ◌+◌, length, slice_set, slice_index_or, option_and_then, IfSome, IfOk, IfErr, MatchResult, vec_capacity};
+ghost use Rattle.std.specs.Prelude.{◌≡◌, ◌<◌, ◌≤◌, ◌+◌, length, slice_set, slice_index_or, option_and_then, IfSome, IfOk, IfErr, MatchResult, vec_capacity, if◌then◌else◌, ◌==◌};
+ghost use Rattle.strat_arena.specs.ArenaView.{no_arena};
 ghost use Rattle.strat_arena.specs.PoolView.{arena_at, shares_at, count_shared, SameBeside};
 ghost use Rattle.strat_base.specs.Entries.{Entry, is_of};
 ghost use Rattle.strat_level.specs.Memtable.{entries_held, ListStands};
@@ -93,6 +94,10 @@ impl ZeroView {
         ensures ok { shares_at pool.new self.arena + 1 ≡ shares_at pool.old self.arena }
         ensures kept { 0 < shares_at pool.new self.arena
             → arena_at pool.new self.arena ≡ arena_at pool.old self.arena }
+        ensures none { shares_at pool.new self.arena ≡ 0
+            → arena_at pool.new self.arena ≡ no_arena }
+        ensures len { count_shared pool.new + 1 ≡ count_shared pool.old
+            + (if shares_at pool.new self.arena == 0 then 0 else 1) }
         ensures same { SameBeside pool.old pool.new self.arena }
     {
         pool.release(self.arena);

@@ -2,7 +2,8 @@
 
 ghost use Rattle.std.specs.List.{find, slice_get};
 ghost use Rattle.std.specs.Option.{option_copied};
-ghost use Rattle.std.specs.Prelude.{slice_index_or, ◌≡◌, ◌<◌, ◌≤◌, ◌+◌, ◌-◌, ◌^◌, [], length, option_and_then, IfOk, IfSome, OnOk, OnErr, IsTrue};
+ghost use Rattle.std.specs.Prelude.{slice_index_or, ◌≡◌, ◌<◌, ◌≤◌, ◌+◌, ◌-◌, ◌^◌, [], length, option_and_then, IfOk, IfSome, OnOk, OnErr, IsTrue, if◌then◌else◌, ◌==◌};
+ghost use Rattle.strat_arena.specs.ArenaView.{no_arena};
 ghost use Rattle.strat_arena.specs.PoolView.{arena_at, shares_at, count_shared, SameBeside};
 ghost use Rattle.strat_base.specs.Entries.{Entry, is_of};
 ghost use Rattle.strat_base.specs.EntryBytes.{fits_fields, is_markable};
@@ -55,7 +56,7 @@ fn stored(val: Val<'_>) -> (&[u8], bool)
 
 impl Zero {
     /// Level 0 without entries, with an arena of its own in the pool and room for `mem` puts of the
-    /// largest pairs, 1,279 bytes each and 16 for each item. Nothing else takes memory.
+    /// largest pairs, 1,323 bytes for each. No later call takes memory.
     pub fn new(alloc: Global, pool: &mut ArenaPool, mem: u32) -> Result<Zero, NoMemory>
         requires fits { (4 ≤ mem) × (mem ≤ 4096) }
         requires room { count_shared pool.old < 2 ^ 32 - 1 }
@@ -168,6 +169,10 @@ impl Zero {
         ensures ok { shares_at pool.new self.list.arena + 1 ≡ shares_at pool.old self.list.arena }
         ensures kept { 0 < shares_at pool.new self.list.arena
             → arena_at pool.new self.list.arena ≡ arena_at pool.old self.list.arena }
+        ensures none { shares_at pool.new self.list.arena ≡ 0
+            → arena_at pool.new self.list.arena ≡ no_arena }
+        ensures len { count_shared pool.new + 1 ≡ count_shared pool.old
+            + (if shares_at pool.new self.list.arena == 0 then 0 else 1) }
         ensures same { SameBeside pool.old pool.new self.list.arena }
     {
         self.list.release(pool)

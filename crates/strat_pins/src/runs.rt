@@ -1,9 +1,9 @@
 //! Which commands change a store, take memory or reach the disk, and how many changes a journal holds after one
 //! more. Each is the contract of a function that does nothing.
 
-ghost use Rattle.std.specs.Prelude.{◌≡◌, [], ◌∷◌, true, false};
+ghost use Rattle.std.specs.Prelude.{◌≡◌, ◌≤◌, ℕ, List, [], ◌∷◌, true, false};
 ghost use Rattle.strat_model.specs.Request.{Put, Delete, Get, Clone, Scan, Info, OpenCursor, NextPairs, CloseCursor, Stat};
-ghost use Rattle.strat_model.specs.Run.{is_change, takes_memory, reaches_disk, fill_after, position_after};
+ghost use Rattle.strat_model.specs.Run.{is_change, takes_memory, reaches_disk, fill_after, position_after, Position, Response, AnswersNoMemory};
 ghost use Rattle.strat_model.specs.Table.{fresh};
 
 /// A put, a delete and a clone change a store.
@@ -23,6 +23,13 @@ pub fn four_commands_take_memory()
     ensures none { (takes_memory (Get 0 []) ≡ false) × (takes_memory (Scan 0 [] [] 1) ≡ false)
         × (takes_memory (Info 0) ≡ false) × (takes_memory (NextPairs 1 1) ≡ false)
         × (takes_memory (CloseCursor 1) ≡ false) × (takes_memory Stat ≡ false) }
+{}
+
+/// No change is refused for want of memory while the journal has room.
+pub fn changes_want_no_memory_below_a_full_journal()
+    ensures { (mem : ℕ) (at after : Position) (body : List ℕ) (response : Response)
+        (no : AnswersNoMemory mem at body response after)
+        → is_change no.request ≡ true → mem ≤ at.fill }
 {}
 
 /// The disk may fail at a change and at what reads pairs.

@@ -226,6 +226,8 @@ impl Store {
     /// store will ever need: 3.9 KB for each change that a region has room for and 70 bytes for each
     /// version that there may be, and while it recovers 2.6 KB for each change and 0.3 MB more; of
     /// that at most 5.3 KB for each change are touched. Each change is one insertion into level 0.
+    /// That no block after the first closed gate is read is tested; the clause bounds the reads by
+    /// the whole region.
     /// After an error other than `Device` the disk is as it was; after that one too, or its last
     /// step failed, which shuts that gate.
     pub fn attach<D: Disk>(alloc: Global, disk: &mut D) -> Result<Store, AttachFault>
