@@ -6,9 +6,11 @@ compares the built program with it.
 
 import struct
 
-PUT, GET = 1, 3
-DONE, FOUND, ABSENT = 0, 1, 2
-UNKNOWN_VERSION, CHANGE_LIMIT, MALFORMED, FRAME_TOO_LONG, DEVICE_FAULT = 16, 20, 22, 26, 33
+PUT, DELETE, GET, CLONE, INFO, STAT = 1, 2, 3, 4, 6, 10
+DONE, FOUND, ABSENT, MADE, PLACE, COUNTS = 0, 1, 2, 4, 5, 7
+UNKNOWN_VERSION, FROZEN, VERSION_LIMIT, CHANGE_LIMIT = 16, 17, 19, 20
+MALFORMED, KEY_SIZE, VALUE_SIZE, FRAME_TOO_LONG, DEVICE_FAULT = 22, 23, 24, 26, 33
+NO_PARENT = 2 ** 32 - 1
 BODY_MAX, KEY_MAX, VALUE_MAX = 2048, 255, 1024
 
 # How a run ends
@@ -35,8 +37,24 @@ def put(tag, key, value, version=0):
     return frame(struct.pack(">IBI", tag, PUT, version) + sized(key) + sized(value))
 
 
+def delete(tag, key, version=0):
+    return frame(struct.pack(">IBI", tag, DELETE, version) + sized(key))
+
+
 def get(tag, key, version=0):
     return frame(struct.pack(">IBI", tag, GET, version) + sized(key))
+
+
+def clone(tag, version=0):
+    return frame(struct.pack(">IBI", tag, CLONE, version))
+
+
+def info(tag, version=0):
+    return frame(struct.pack(">IBI", tag, INFO, version))
+
+
+def stat(tag):
+    return frame(struct.pack(">IB", tag, STAT))
 
 
 def reply(tag, status, fields=b""):
@@ -85,47 +103,98 @@ def manifest_block():
     return (struct.pack(">I", 0) + MANIFEST).ljust(BLOCK, b"\0")
 
 
-def record(key, value):
+def record(key, value, version=0):
     """A put as the journal has it, with its open gate."""
-    return struct.pack(">BBIB", OPEN, 1, 0, len(key)) + key + sized(value)
+    return struct.pack(">BBIB", OPEN, 1, version, len(key)) + key + sized(value)
+
+
+def record_of(change):
+    """A change as the journal has it, with its open gate."""
+    kind, version, *fields = change
+    if kind == PUT:
+        return record(*fields, version)
+    if kind == DELETE:
+        return struct.pack(">BBIB", OPEN, 2, version, len(fields[0])) + fields[0]
+    return struct.pack(">BBI", OPEN, 3, version)
 
 
 class Store:
-    """A store of one version: its limits, and the puts in its journal in their order."""
+    """A store: its limits, its versions with their parents and pairs, and the changes in its journal in their order."""
 
     def __init__(self, mem, changes_max, versions_max):
         self.limits = (mem, changes_max, versions_max)
-        self.puts = []
-        self.pairs = {}
+        self.changes = []
+        self.parents = [None]
+        self.pairs = [{}]
 
-    def is_full(self):
-        mem, changes_max, _ = self.limits
-        return len(self.puts) == min(mem, changes_max)
+    def refusal(self, kind, version):
+        """The status by which a change of a version is refused, or None."""
+        mem, changes_max, versions_max = self.limits
+        if version >= len(self.parents):
+            return UNKNOWN_VERSION
+        if kind == CLONE and len(self.parents) == versions_max:
+            return VERSION_LIMIT
+        if kind != CLONE and version in self.parents:
+            return FROZEN
+        return CHANGE_LIMIT if len(self.changes) == min(mem, changes_max) else None
 
-    def add(self, key, value):
-        self.puts.append((key, value))
-        self.pairs[key] = value
+    def make(self, change):
+        """Makes a change that isn't refused."""
+        kind, version, *fields = change
+        self.changes.append(change)
+        if kind == PUT:
+            self.pairs[version][fields[0]] = fields[1]
+        elif kind == DELETE:
+            self.pairs[version].pop(fields[0], None)
+        else:
+            self.parents.append(version)
+            self.pairs.append(dict(self.pairs[version]))
+
+    def depth(self, version):
+        return 0 if self.parents[version] is None else 1 + self.depth(self.parents[version])
+
+    def place(self, version):
+        """The fields of a reply that tells a version's place in the tree."""
+        parent = self.parents[version]
+        return struct.pack(">IIB", NO_PARENT if parent is None else parent, self.depth(version),
+                           version in self.parents)
+
+    def counts(self):
+        """The fields of a reply that tells how much the store holds."""
+        updates = sum(kind != CLONE for kind, *_ in self.changes)
+        return struct.pack(">IIII", len(self.parents), updates, len(self.changes), 0)
 
     def answer(self, body):
         """The reply to one body, which may change the store."""
         tag = tag_of(body)
         opcode = body[4] if len(body) > 4 else 0
-        fields = fields_of(body, {PUT: 2, GET: 1}[opcode]) if opcode in (PUT, GET) else None
+        if opcode == STAT and len(body) == 5:
+            return reply(tag, COUNTS, self.counts())
+        parts_of = {PUT: 2, DELETE: 1, GET: 1, CLONE: 0, INFO: 0}
+        fields = fields_of(body, parts_of[opcode]) if opcode in parts_of else None
         if fields is None:
             return reply(tag, MALFORMED)
-        version, (key, *values) = fields
-        if not 1 <= len(key) <= KEY_MAX or any(len(value) > VALUE_MAX for value in values):
-            return reply(tag, MALFORMED)
-        if version != 0:
+        version, parts = fields
+        if parts and not 1 <= len(parts[0]) <= KEY_MAX:
+            return reply(tag, KEY_SIZE)
+        if any(len(value) > VALUE_MAX for value in parts[1:]):
+            return reply(tag, VALUE_SIZE)
+        if opcode in (GET, INFO):
+            return self.look(tag, opcode, version, *parts)
+        refusal = self.refusal(opcode, version)
+        if refusal is not None:
+            return reply(tag, refusal)
+        self.make((opcode, version, *parts))
+        return reply(tag, MADE, struct.pack(">I", len(self.parents) - 1)) if opcode == CLONE else reply(tag, DONE)
+
+    def look(self, tag, opcode, version, *parts):
+        """The reply to a command that changes nothing."""
+        if version >= len(self.parents):
             return reply(tag, UNKNOWN_VERSION)
-        if opcode == PUT:
-            if self.is_full():
-                return reply(tag, CHANGE_LIMIT)
-            self.add(key, values[0])
-            return reply(tag, DONE)
-        if key in self.pairs:
-            return reply(tag, FOUND, sized(self.pairs[key]))
-        return reply(tag, ABSENT)
+        if opcode == INFO:
+            return reply(tag, PLACE, self.place(version))
+        value = self.pairs[version].get(*parts)
+        return reply(tag, ABSENT) if value is None else reply(tag, FOUND, sized(value))
 
     def serve(self, data):
         """What a run writes for these bytes, and its status."""
@@ -150,7 +219,7 @@ class Store:
         first = first_free(mem)
         data = bytearray(BLOCK * (first + 1))
         struct.pack_into(HEAD, data, 0, OPEN, MAGIC, 1, 1, first, len(MANIFEST), 0, mem, changes_max, versions_max)
-        journal = b"".join(record(key, value) for key, value in self.puts)
+        journal = b"".join(record_of(change) for change in self.changes)
         data[2 * BLOCK:2 * BLOCK + len(journal)] = journal
         data[first * BLOCK:] = manifest_block()
         return bytes(data)
@@ -177,17 +246,26 @@ def opened(data):
     size = region_blocks(mem) * BLOCK
     active, other = (2 * BLOCK + size * number for number in (region, 1 - region))
     place, end = active, active + size
-    while len(store.puts) < mem and place < end and at(place, 1)[0] == OPEN:
-        kind, version, key_size = struct.unpack(">BIB", at(place + 1, 6))
-        key = at(place + 7, key_size)
-        value_size = struct.unpack(">H", at(place + 7 + key_size, 2))[0]
-        whole = record(key, at(place + 9 + key_size, value_size))
-        if (kind, version) != (1, 0) or key_size == 0 or value_size > VALUE_MAX or place + len(whole) > end:
+    while len(store.changes) < mem and place < end and at(place, 1)[0] == OPEN:
+        change = change_at(lambda offset, length: at(place + offset, length))
+        if change is None or place + len(record_of(change)) > end or store.refusal(*change[:2]) is not None:
             return DAMAGED, None
-        if len(store.puts) == changes_max:
-            return DAMAGED, None
-        store.add(key, whole[9 + key_size:])
-        place += len(whole)
-    if len(store.puts) == mem and at(other, 1)[0] == OPEN:
+        store.make(change)
+        place += len(record_of(change))
+    if len(store.changes) == mem and at(other, 1)[0] == OPEN:
         return DAMAGED, None
     return ENDED, store
+
+
+def change_at(at):
+    """The change behind a gate, of which `at` gives the bytes from an offset on, or None where none stands there."""
+    kind, version, key_size = struct.unpack(">BIB", at(1, 6))
+    if kind == 3:
+        return CLONE, version
+    if kind not in (1, 2) or key_size == 0:
+        return None
+    key = at(7, key_size)
+    if kind == 2:
+        return DELETE, version, key
+    value_size = struct.unpack(">H", at(7 + key_size, 2))[0]
+    return None if value_size > VALUE_MAX else (PUT, version, key, at(9 + key_size, value_size))

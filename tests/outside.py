@@ -25,7 +25,7 @@ import threading
 import time
 
 import model
-from model import Store, bodies_of, frame, get, put, reply, sized, tag_of
+from model import Store, bodies_of, clone, delete, frame, get, info, put, reply, sized, stat, tag_of
 
 TOP = pathlib.Path(__file__).resolve().parent.parent
 LAUNCHER = str(TOP / "castle")
@@ -190,7 +190,7 @@ def a_put_is_found_and_another_key_is_absent(folder):
 
 
 def an_opcode_that_is_not_there_is_malformed(folder):
-    in_every_cutting(folder, "opcode 10", hexed("00000005 00000001 0a"), (hexed("00000005 00000001 16"), 0))
+    in_every_cutting(folder, "opcode 11", hexed("00000005 00000001 0b"), (hexed("00000005 00000001 16"), 0))
 
 
 def a_short_body_is_malformed_and_the_run_goes_on(folder):
@@ -200,7 +200,8 @@ def a_short_body_is_malformed_and_the_run_goes_on(folder):
 
 
 def a_body_that_is_not_just_its_fields_is_malformed(folder):
-    for whole in (PUT_A[4:], GET_A[4:]):
+    for whole in (PUT_A, GET_A, delete(1, b"a"), clone(2), info(3), stat(4)):
+        whole = whole[4:]
         bodies = [whole[:length] for length in range(len(whole))] + [whole + b"\0", whole + whole]
         data = b"".join(frame(body) for body in bodies)
         want = b"".join(reply(tag_of(body), model.MALFORMED) for body in bodies) + reply(8, model.ABSENT)
@@ -229,13 +230,66 @@ def another_version_is_unknown(folder):
 def the_largest_key_and_value_are_taken_and_no_larger(folder):
     key, value = b"k" * model.KEY_MAX, b"v" * model.VALUE_MAX
     data = put(1, key, value) + get(2, key) + put(3, key + b"k", b"") + put(4, key, value + b"v") + put(5, b"", b"")
-    malformed = b"".join(reply(tag, model.MALFORMED) for tag in (3, 4, 5))
+    refused = reply(3, model.KEY_SIZE) + reply(4, model.VALUE_SIZE) + reply(5, model.KEY_SIZE)
     store = StoreFile(folder)
-    store.expect_served("sizes", [data], (reply(1, model.DONE) + reply(2, model.FOUND, sized(value)) + malformed, 0))
+    store.expect_served("sizes", [data], (reply(1, model.DONE) + reply(2, model.FOUND, sized(value)) + refused, 0))
     store.expect_served("sizes, again", [get(2, key)], (reply(2, model.FOUND, sized(value)), 0))
+    data = put(6, b"", value + b"v") + put(7, b"", b"", version=5) + delete(8, key + b"k") + get(9, b"", version=5)
+    want = b"".join(reply(tag, model.KEY_SIZE) for tag in (6, 7, 8, 9))
+    store.expect_served("the size of a key, then that of a value, then the version", [data], (want, 0))
     longest = frame(struct.pack(">IB", 6, model.PUT) + bytes(model.BODY_MAX - 5))
     want = reply(6, model.MALFORMED) + reply(8, model.ABSENT)
     StoreFile(folder).expect_served("a body of 2,048 bytes", [longest, GET_A], (want, 0))
+
+
+def a_clone_has_its_own_pairs_and_its_parent_is_frozen(folder):
+    data = PUT_A + clone(1) + put(2, b"b", b"1") + put(3, b"a", b"2", version=1) + get(4, b"a") + get(5, b"a", version=1)
+    want = (reply(7, model.DONE) + hexed("00000009 00000001 04 00000001") + reply(2, model.FROZEN)
+            + reply(3, model.DONE) + reply(4, model.FOUND, sized(b"1")) + reply(5, model.FOUND, sized(b"2")))
+    in_every_cutting(folder, "a clone", data, (want, 0))
+
+
+def a_deleted_key_is_absent_where_it_was_deleted(folder):
+    data = PUT_A + clone(1) + delete(2, b"a", version=1) + delete(3, b"b", version=1) + get(4, b"a", version=1) + GET_A
+    want = (reply(7, model.DONE) + reply(1, model.MADE, b"\0\0\0\1") + reply(2, model.DONE) + reply(3, model.DONE)
+            + reply(4, model.ABSENT) + reply(8, model.FOUND, sized(b"1")))
+    store = StoreFile(folder)
+    store.expect_served("deletes", [data], (want, 0))
+    store.expect_served("deletes, again", [get(4, b"a", version=1) + GET_A], (want[-21:], 0))
+
+
+def the_tree_and_the_counts_are_told(folder):
+    store = StoreFile(folder)
+    want = hexed("0000000e 00000006 05 ffffffff 00000000 00  00000015 0000000b 07 00000001 00000000 00000000 00000000")
+    store.expect_served("a new store", [info(6) + stat(11)], (want, 0))
+    want = hexed("0000000e 00000006 05 ffffffff 00000000 01  0000000e 00000006 05 00000000 00000001 00")
+    store.expect_served("a clone", [clone(1), info(6) + info(6, 1)], (reply(1, model.MADE, b"\0\0\0\1") + want, 0))
+    store.expect_served("a clone, again", [info(6) + info(6, 1)], (want, 0))
+    want = hexed("00000015 0000000c 07 00000002 00000000 00000001 00000000") + reply(7, model.UNKNOWN_VERSION)
+    store.expect_served("counts", [stat(12) + info(7, 2)], (want, 0))
+
+
+def the_first_of_several_refusals_is_told(folder):
+    store = StoreFile(folder, 4, 2, 2)
+    data = PUT_A + clone(1) + put(2, b"a", b"2", version=1) + clone(3, 1) + put(4, b"a", b"2") + delete(5, b"a")
+    statuses = (model.CHANGE_LIMIT, model.VERSION_LIMIT, model.FROZEN, model.FROZEN)
+    want = reply(7, model.DONE) + reply(1, model.MADE, b"\0\0\0\1")
+    want += b"".join(reply(tag, status) for tag, status in enumerate(statuses, 2))
+    store.expect_served("a full store", [data], (want, 0))
+
+
+def versions_are_as_the_model_has_them(folder):
+    chance = random.Random(11)
+    for turn in range(10):
+        store = StoreFile(folder, 300, 1000, 40)
+        for run in range(3):
+            frames = []
+            for tag in range(150):
+                version, key = chance.randrange(chance.choice((1, 4, 12, 41))), b"%d" % chance.randrange(6)
+                frames.append(chance.choice((
+                    put(tag, key, chance.randbytes(chance.randrange(9)), version), delete(tag, key, version),
+                    get(tag, key, version), clone(tag, version), info(tag, version), stat(tag))))
+            store.expect_served(f"turn {turn}, run {run}", [b"".join(frames)])
 
 
 def the_last_value_of_a_key_counts(folder):
@@ -633,7 +687,7 @@ def a_killed_run_loses_nothing_that_it_acknowledged(folder):
         answered = kill_amid_puts(store.path, frames, chance.randrange(9 * 300), chance.random() / 500)
         status, store.model = model.opened(bytes_of(store.path))
         expect(f"turn {turn}, the file", status, 0)
-        kept = store.model.puts
+        kept = [change[2:] for change in store.model.changes]
         if kept != pairs[:len(kept)] or len(kept) < answered:
             raise Wrong(f"turn {turn}: {len(kept)} puts are kept, which aren't the first that were sent, "
                         f"or fewer than the {answered} that were acknowledged")
@@ -862,7 +916,7 @@ def a_full_device_is_a_device_fault(folder):
     got = run(["serve", store.path], input=b"".join(puts), preexec_fn=lambda: limited(most))
     expect("puts", got, (want, 5, complaint(5)))
     status, store.model = model.opened(bytes_of(store.path))
-    expect("kept", (status, store.model.puts), (0, [(b"0", b"value"), (b"1", b"value")]))
+    expect("kept", (status, store.model.changes), (0, [(model.PUT, 0, key, b"value") for key in (b"0", b"1")]))
     out, status = store.model.serve(b"".join(puts))
     expect("again", serve(store.path, [b"".join(puts)]), (out, status, b""))
 
@@ -877,6 +931,11 @@ CHECKS = [
     a_frame_that_is_cut_off_is_not_answered,
     another_version_is_unknown,
     the_largest_key_and_value_are_taken_and_no_larger,
+    a_clone_has_its_own_pairs_and_its_parent_is_frozen,
+    a_deleted_key_is_absent_where_it_was_deleted,
+    the_tree_and_the_counts_are_told,
+    the_first_of_several_refusals_is_told,
+    versions_are_as_the_model_has_them,
     the_last_value_of_a_key_counts,
     each_reply_comes_before_the_next_frame_is_sent,
     thousands_of_frames_are_answered_as_the_model_does,

@@ -1,11 +1,10 @@
 -- Pairs stay where they are while chunks are added and bytes appended.
-use Rattle.std.proofs.Common.{◌≡◌, ◌<◌, ◌≤◌, ℕ, suc, ◌+◌, ◌-◌, List, [], ◌∷◌, ◌++◌, length, get_or, set, take, drop, map, inl, inr, refl, sym, ap, ◌∙◌, append_assoc, arith, length-append, length-drop, slice_range}
-use Rattle.std.proofs.lemmas.Bool.{cases_eq, cases_lt}
-use Rattle.std.proofs.lemmas.List.{append-nil, length-set, length_push, get_or-set_same, get_or-set_other, get_or_append_left, get_or_push, take-append-le, drop-append-le, take_at, drop_at, take_all, map_push}
+use Rattle.std.proofs.Common.{◌≡◌, ◌<◌, ◌≤◌, ℕ, suc, ◌-◌, List, [], ◌∷◌, ◌++◌, length, get_or, set, take, drop, map, inl, inr, refl, sym, ap, ◌∙◌, arith, length-append, length-drop, slice_range}
+use Rattle.std.proofs.lemmas.Bool.{cases_eq}
+use Rattle.std.proofs.lemmas.List.{append-nil, length-set, length_push, get_or-set_same, get_or-set_other, get_or_append_left, take-append-le, drop-append-le}
 use Rattle.strat_arena.specs.declared.arena.PairPlace.{PairPlace}
 use Rattle.strat_arena.specs.ChunkView.{ChunkView}
-use Rattle.strat_arena.specs.ArenaView.{KeyValue}
-use Rattle.strat_arena.specs.Chunks.{chunk_at, newest, pair_at, LiesWithin, HasSpace, Extends}
+use Rattle.strat_arena.specs.Chunks.{chunk_at, pair_at, LiesWithin, Extends}
 
 -- a part within the bytes, whatever follows them
 part_stays : (bytes more : List ℕ) (from to : ℕ) → from ≤ to → to ≤ length bytes → slice_range (bytes ++ more) from to ≡ slice_range bytes from to

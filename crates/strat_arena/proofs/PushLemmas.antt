@@ -1,11 +1,11 @@
 -- What an arena's fields say after a pair was copied behind the bytes of its newest chunk.
-use Rattle.std.proofs.Common.{◌≡◌, ◌<◌, ◌≤◌, ℕ, suc, ◌+◌, ◌-◌, List, [], ◌∷◌, ◌++◌, length, get_or, set, take, drop, map, inl, inr, refl, sym, ap, ◌∙◌, subst, append_assoc, arith, length-append, length-set, slice_range}
+use Rattle.std.proofs.Common.{◌≡◌, ◌<◌, ℕ, ◌+◌, ◌-◌, List, [], ◌∷◌, ◌++◌, length, get_or, set, take, drop, map, inl, inr, refl, sym, ap, ◌∙◌, subst, append_assoc, arith, length-append, length-set, slice_range}
 use Rattle.std.proofs.lemmas.Bool.{cases_lt}
 use Rattle.std.proofs.lemmas.List.{length_push, get_or-set_same, get_or_append_left, get_or_push, take_at, drop_at, take_all, map_push}
 use Rattle.std.proofs.lemmas.List.Sums.{sum_by_push}
 use Rattle.strat_arena.specs.declared.arena.PairPlace.{PairPlace}
 use Rattle.strat_arena.specs.ChunkView.{ChunkView}
-use Rattle.strat_arena.specs.ArenaView.{KeyValue, pair_size, total_size}
+use Rattle.strat_arena.specs.ArenaView.{pair_size, total_size}
 use Rattle.strat_arena.specs.Chunks.{chunk_at, newest, pair_at, LiesWithin, HasSpace, Extends}
 use Rattle.strat_arena.proofs.ChunkLemmas.{pairs_kept, place_kept, extends_set}
 

@@ -1,26 +1,61 @@
 //! A piece of memory of fixed size that is filled from its beginning.
 
 ghost use Rattle.std.specs.Prelude.{◌≡◌, ◌+◌, ◌≤◌, ◌<◌, ◌^◌, [], ◌++◌, length, slice_range, IfOk};
+ghost use Rattle.strat_arena.specs.Filled.{with_bytes};
 
+use crate::raw::{Address, Cells, Lease, allocate, deallocate};
 use std::alloc::{AllocError, Global};
 use std::marker::Model;
 
 /// Bytes that never move, up to a number that is fixed when the chunk is made.
-#[derive(Drop)]
 pub(crate) struct Chunk {
-    bytes: Vec<u8>,
+    alloc: Global,
+    start: Address,
+    cells: Cells,
+    lease: Lease<Global>,
     capacity: usize,
+    written: usize,
 }
 
 impl Model for Chunk {
-    ghost use Rattle.std.specs.Prelude.{◌≤◌, length, vec_capacity};
     ghost use Rattle.strat_arena.specs.ChunkView.{ChunkView};
 
     ghost Value = { ChunkView };
 
-    ghost view = { λ c. record { bytes = c.bytes.items; capacity = c.capacity } };
+    ghost use Rattle.strat_arena.specs.ChunkFields.{chunk_of, IsChunk};
 
-    ghost invariant = { λ c. (length c.bytes.items ≤ c.capacity) × (c.capacity ≤ vec_capacity c.bytes) };
+    ghost view = { chunk_of };
+
+    ghost invariant = { IsChunk };
+}
+
+impl Drop for Chunk {
+    fn drop(self) {
+        let Chunk {
+            alloc,
+            start,
+            cells,
+            lease,
+            capacity,
+            written: _,
+        } = self;
+        deallocate(&alloc, start, capacity, cells, lease);
+    }
+}
+
+/// Copies bytes into the cells from an index on.
+fn write_all(cells: &mut Cells, start: Address, from: usize, piece: &[u8])
+    requires { (start.ptr ≡ cells.old.at)
+        × (from + length piece.now ≤ length cells.old.slots)
+        × (length cells.old.slots < 2 ^ 64) }
+    ensures same { cells.new.at ≡ cells.old.at }
+    ensures ok { cells.new.slots ≡ with_bytes cells.old.slots from piece.now }
+{
+    let mut at = from;
+    for byte in piece {
+        cells.write(start, at, *byte);
+        at += 1;
+    }
 }
 
 impl Chunk {
@@ -28,9 +63,17 @@ impl Chunk {
     pub(crate) fn new(alloc: Global, capacity: usize) -> Result<Chunk, AllocError>
         ensures ok { IfOk result (λ c. c ≡ record { bytes = []; capacity = capacity }) }
     {
+        if capacity >= 1 << 63 {
+            return Err(AllocError);
+        }
+        let (start, cells, lease) = allocate(&alloc, capacity)?;
         Ok(Chunk {
-            bytes: Vec::with_capacity(alloc, capacity)?,
+            alloc,
+            start,
+            cells,
+            lease,
             capacity,
+            written: 0,
         })
     }
 
@@ -41,7 +84,7 @@ impl Chunk {
         ensures fits { self.now.capacity < 2 ^ 64 }
     {
         let _capacity = self.capacity;
-        self.bytes.len()
+        self.written
     }
 
     /// Copies bytes behind those that are there.
@@ -50,7 +93,9 @@ impl Chunk {
         ensures ok { self.new.bytes ≡ self.old.bytes ++ piece.now }
         ensures same { self.new.capacity ≡ self.old.capacity }
     {
-        self.bytes.extend_from_slice(piece).unwrap();
+        let _capacity = self.capacity;
+        write_all(&mut self.cells, self.start, self.written, piece);
+        self.written += piece.len();
     }
 
     /// The bytes from `start` up to `end`. O(1).
@@ -58,7 +103,8 @@ impl Chunk {
         requires { (start ≤ end) × (end ≤ length self.now.bytes) }
         ensures { result.now ≡ slice_range self.now.bytes start end }
     {
-        &self.bytes[start..end]
+        let bytes = self.cells.front(self.start, self.written);
+        &bytes[start..end]
     }
 
     /// Forgets all bytes and keeps the memory.
@@ -67,6 +113,6 @@ impl Chunk {
         ensures fits { self.old.capacity < 2 ^ 64 }
     {
         let _capacity = self.capacity;
-        self.bytes.clear();
+        self.written = 0;
     }
 }

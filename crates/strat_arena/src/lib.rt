@@ -5,6 +5,7 @@ mod arena;
 mod chunk;
 mod items;
 mod pool;
+mod raw;
 
 pub use arena::Arena;
 pub use items::{Item, Slot};

@@ -1,5 +1,5 @@
 -- How the calls on a disk compose: what holds of every image since the first of them.
-use Rattle.std.proofs.Common.{◌≡◌, ◌≤◌, ℕ, ◌+◌, inl, inr, ◌⊎◌, List, length, Option, Some, None, IfSome, Result, IsErr, sym, subst, arith}
+use Rattle.std.proofs.Common.{◌≡◌, ◌≤◌, ℕ, ◌+◌, inl, inr, ◌⊎◌, List, length, Option, Some, None, IfSome, Result, IsErr, refl, sym, ◌∙◌, subst, arith}
 use Rattle.std.proofs.lemmas.Result.{IfOk-from_err}
 use Rattle.std.proofs.lemmas.Bool.{cases_lt}
 use Rattle.strat_crash.specs.Image.{Image, Outside, patch}
@@ -58,6 +58,17 @@ now_since_start old mid c passes left = since_earlier mid old.moment mid.moment 
 pub leaves_trans : (old mid new : DiskView) → Passes old mid → Passes mid new → KeepsImages old mid → KeepsImages mid new → KeepsImages old new
 leaves_trans old mid new first second a b = record {
   each = each_then mid new old.moment (λ c. Images old c) second a.each (λ c since. a.each c (now_since_start old mid c first (b.each c since)));
+}
+
+-- calls that only read, none of them and one after the other
+pub reads_refl : (v : DiskView) → OnlyReads v v
+reads_refl v = record { same = refl; images = leaves_refl v; time = passes_refl v }
+
+pub reads_trans : {old mid new : DiskView} → OnlyReads old mid → OnlyReads mid new → OnlyReads old new
+reads_trans {old} {mid} {new} a b = record {
+  same = b.same ∙ a.same;
+  images = leaves_trans old mid new a.time b.time a.images b.images;
+  time = passes_trans a.time b.time;
 }
 
 -- leaving the images alone tears no range

@@ -1,3 +1,4 @@
 pub mod FrameLemmas
 pub mod FieldLemmas
+pub mod CommandLemmas
 pub mod ReplyLemmas

@@ -1,12 +1,12 @@
 -- What is wrong with a body that is no command.
-use Rattle.std.specs.Prelude.{ℕ, List}
-use Rattle.strat_model.specs.Spelling.{IsMalformed}
 use Rattle.strat_frame.specs.declared.commands.BodyFault.{BodyFault}
 use Rattle.strat_frame.specs.declared.commands.BodyFault.TheVariants as fault
+use Rattle.strat_model.specs.declared.replies.Refusal.{Refusal}
+use Rattle.strat_model.specs.declared.replies.Refusal.TheVariants as why
 
--- a body under this tag has this fault; so far an unlawful size is refused as malformed
-abbrev pub IsFaulty : BodyFault → List ℕ → ℕ → Type 0
-IsFaulty fault.Malformed body tag = IsMalformed body tag
-IsFaulty fault.KeySize body tag = ⊥
-IsFaulty fault.ValueSize body tag = ⊥
-IsFaulty fault.ScanSize body tag = ⊥
+-- the refusal that tells a body's fault
+abbrev pub refusal_for : BodyFault → Refusal
+refusal_for fault.Malformed = why.Malformed
+refusal_for fault.KeySize = why.KeySize
+refusal_for fault.ValueSize = why.ValueSize
+refusal_for fault.ScanSize = why.ScanSize

@@ -1,50 +1,61 @@
 -- Reading the fields of a body from left to right.
-use Rattle.std.specs.Prelude.{ℕ, ◌==◌, nat_le, if◌then◌else◌, List, [], ◌∷◌, length, take, drop, Option, Some, None}
+use Rattle.std.specs.Prelude.{ℕ, ◌==◌, nat_le, if◌then◌else◌, Bool, true, false, List, [], ◌∷◌, length, take, drop, Option, Some, None}
 use Rattle.std.specs.Option.{option_and_then, option_map}
 use Rattle.strat_base.specs.Numbers.{number}
-use Rattle.strat_model.specs.Request.{Request, Put, Get}
+use Rattle.strat_model.specs.Request.{Request, Put, Delete, Get, Clone, Info, Stat}
 use Rattle.strat_base.specs.Sizes.{is_value}
 use Rattle.strat_model.specs.declared.replies.Reply.{Reply}
 use Rattle.strat_model.specs.declared.replies.Reply.TheVariants as reply
+use Rattle.strat_model.specs.declared.replies.Refusal.{Refusal}
 use Rattle.strat_model.specs.declared.replies.Refusal.TheVariants as why
 use Rattle.strat_model.specs.Answer.{Answer, plain}
-use Rattle.strat_model.specs.Spelling.{is_taken}
 
--- a number of k bytes, and what follows it
-abbrev pub number_then : ℕ → List ℕ → Option (ℕ × List ℕ)
+-- how a field is read: its value, and what follows it, where the bytes begin with one
+abbrev pub Reader : Type 0 → Type 0
+Reader A = List ℕ → Option (A × List ℕ)
+
+-- a number of k bytes
+abbrev pub number_then : ℕ → Reader ℕ
 number_then k bytes = if nat_le k (length bytes) then Some (number k bytes, drop k bytes) else None
 
--- as many bytes as a length in front of them says, and what follows them
-unfoldable pub counted_then : List ℕ → Option (List ℕ × List ℕ)
+-- as many bytes as a length in front of them says
+unfoldable pub counted_then : Reader (List ℕ)
 counted_then bytes = option_and_then
     (λ n. if nat_le n.0 (length n.1) then Some (take n.0 n.1, drop n.0 n.1) else None)
     (number_then 2 bytes)
 
--- a command, where it is taken and nothing follows its fields
-unfoldable pub whole : Request → List ℕ → Option Request
-whole request rest =
-    if length rest == 0 then (if is_taken request then Some request else None) else None
+-- two fields, one after the other
+unfoldable pub both : {A B : Type 0} → Reader A → Reader B → Reader (A × B)
+both first second bytes =
+    option_and_then (λ a.
+    option_and_then (λ b. Some ((a.0, b.0), b.1)) (second a.1)) (first bytes)
 
--- the fields of a put
-unfoldable pub put_in : List ℕ → Option Request
-put_in fields =
-    option_and_then (λ version.
-    option_and_then (λ key.
-    option_and_then (λ value. whole (Put version.0 key.0 value.0) value.1)
-    (counted_then key.1)) (counted_then version.1)) (number_then 4 fields)
+-- fields behind which nothing follows
+unfoldable pub all_of : {A : Type 0} → Reader A → List ℕ → Option A
+all_of read bytes =
+    option_and_then (λ x. if length x.1 == 0 then Some x.0 else None) (read bytes)
 
--- the fields of a look-up
-unfoldable pub get_in : List ℕ → Option Request
-get_in fields =
-    option_and_then (λ version.
-    option_and_then (λ key. whole (Get version.0 key.0) key.1)
-    (counted_then version.1)) (number_then 4 fields)
+-- a number in four bytes and no others
+unfoldable pub sole_number : List ℕ → Option ℕ
+sole_number = all_of (number_then 4)
 
--- the fields after an opcode
+-- a version and a key
+unfoldable pub version_key_in : List ℕ → Option (ℕ × List ℕ)
+version_key_in = all_of (both (number_then 4) counted_then)
+
+-- a version, a key and a value
+unfoldable pub version_pair_in : List ℕ → Option ((ℕ × List ℕ) × List ℕ)
+version_pair_in = all_of (both (both (number_then 4) counted_then) counted_then)
+
+-- the command of an opcode and its fields
 unfoldable pub request_in : ℕ → List ℕ → Option Request
 request_in opcode fields =
-    if opcode == 1 then put_in fields else
-    if opcode == 3 then get_in fields else None
+    if opcode == 1 then option_map (λ x. Put x.0.0 x.0.1 x.1) (version_pair_in fields) else
+    if opcode == 2 then option_map (λ x. Delete x.0 x.1) (version_key_in fields) else
+    if opcode == 3 then option_map (λ x. Get x.0 x.1) (version_key_in fields) else
+    if opcode == 4 then option_map Clone (sole_number fields) else
+    if opcode == 6 then option_map Info (sole_number fields) else
+    if opcode == 10 then (if length fields == 0 then Some Stat else None) else None
 
 -- a tag and a command, all of the bytes
 unfoldable pub command_in : List ℕ → Option (ℕ × Request)
@@ -54,31 +65,72 @@ command_in body =
     option_and_then (λ request. Some (tag.0, request))
     (request_in opcode.0 opcode.1)) (number_then 1 tag.1)) (number_then 4 body)
 
+-- a refusal without fields, by its status byte
+unfoldable pub refusal_in : ℕ → Option Refusal
+refusal_in status =
+    if status == 16 then Some why.UnknownVersion else
+    if status == 17 then Some why.Frozen else
+    if status == 19 then Some why.VersionLimit else
+    if status == 20 then Some why.ChangeLimit else
+    if status == 22 then Some why.Malformed else
+    if status == 23 then Some why.KeySize else
+    if status == 24 then Some why.ValueSize else
+    if status == 26 then Some why.FrameTooLong else
+    if status == 32 then Some why.NoMemory else
+    if status == 33 then Some why.DeviceFault else None
+
 -- a reply without fields, by its status byte
 unfoldable pub simple_reply : ℕ → Option Reply
 simple_reply status =
     if status == 0 then Some reply.Done else
-    if status == 2 then Some reply.Absent else
-    if status == 16 then Some (reply.Refused why.UnknownVersion) else
-    if status == 20 then Some (reply.Refused why.ChangeLimit) else
-    if status == 22 then Some (reply.Refused why.Malformed) else
-    if status == 26 then Some (reply.Refused why.FrameTooLong) else
-    if status == 32 then Some (reply.Refused why.NoMemory) else None
+    if status == 2 then Some reply.Absent else option_map reply.Refused (refusal_in status)
+
+-- a parent by its number, or none where it is the greatest
+abbrev pub parent_for : ℕ → Option ℕ
+parent_for n = if n == 4294967295 then None else Some n
+
+-- a parent, if there is one
+unfoldable pub parent_then : Reader (Option ℕ)
+parent_then bytes = option_map (λ n. (parent_for n.0, n.1)) (number_then 4 bytes)
+
+-- a yes or no in one byte
+unfoldable pub flag_then : Reader Bool
+flag_then bytes = option_and_then
+    (λ n. if n.0 == 0 then Some (false, n.1) else if n.0 == 1 then Some (true, n.1) else None)
+    (number_then 1 bytes)
+
+-- a version's place in the tree
+unfoldable pub info_in : List ℕ → Option ((Option ℕ × ℕ) × Bool)
+info_in = all_of (both (both parent_then (number_then 4)) flag_then)
+
+-- the numbers of a store
+unfoldable pub stat_in : List ℕ → Option (((ℕ × ℕ) × ℕ) × ℕ)
+stat_in = all_of
+    (both (both (both (number_then 4) (number_then 4)) (number_then 4)) (number_then 4))
+
+-- a reply without pairs, by its status byte and fields
+unfoldable pub plain_reply_in : ℕ → List ℕ → Option Reply
+plain_reply_in status fields =
+    if status == 4 then option_map (λ n. reply.Made n) (sole_number fields) else
+    if status == 5 then option_map (λ x. reply.Info x.0.0 x.0.1 x.1) (info_in fields) else
+    if status == 7 then
+    option_map (λ x. reply.Stat x.0.0.0 x.0.0.1 x.0.1 x.1) (stat_in fields) else
+    if status == 34 then
+    option_map (λ n. reply.Refused (why.Damaged n)) (sole_number fields) else
+    if length fields == 0 then simple_reply status else None
 
 -- the value of a reply to a look-up, all of the fields
 unfoldable pub reply_value_in : List ℕ → Option (List ℕ)
 reply_value_in fields = option_and_then
-    (λ value. if length value.1 == 0
-    then (if is_value value.0 then Some value.0 else None) else None)
-    (counted_then fields)
+    (λ value. if is_value value then Some value else None) (all_of counted_then fields)
 
--- a status byte and its fields, all of the bytes
+-- a reply with its pairs, by its status byte and fields
 unfoldable pub answer_in : ℕ → List ℕ → Option Answer
 answer_in status fields =
     if status == 1 then
     option_map (λ value. record { reply = reply.Found; pairs = (63 ∷ [], value) ∷ [] })
     (reply_value_in fields)
-    else if length fields == 0 then option_map plain (simple_reply status) else None
+    else option_map plain (plain_reply_in status fields)
 
 -- a tag and a reply, all of the bytes
 unfoldable pub reply_in : List ℕ → Option (ℕ × Answer)

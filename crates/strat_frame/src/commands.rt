@@ -3,15 +3,16 @@
 ghost use Rattle.std.specs.Prelude.{◌≡◌, ◌+◌, ◌^◌, ◌<◌, ◌≤◌, [], ◌∷◌, ◌++◌, length, IfOk, IfErr, true};
 ghost use Rattle.strat_base.specs.Numbers.{be};
 ghost use Rattle.strat_model.specs.Command.{request_of};
-ghost use Rattle.strat_model.specs.Spelling.{Spells, counted, command_bytes, command_body, has_lawful_sizes};
+ghost use Rattle.strat_model.specs.Spelling.{Spells, IsRefusedAs, tag_of, counted, command_bytes, command_body, has_lawful_sizes};
 ghost use Rattle.strat_model.specs.Stream.{frame};
 ghost use Rattle.strat_base.specs.Finds.{Finds};
-ghost use Rattle.strat_frame.specs.Fields.{put_in, get_in, request_in, command_in};
-ghost use Rattle.strat_frame.specs.Faults.{IsFaulty};
+ghost use Rattle.strat_frame.specs.Fields.{request_in, command_in};
+ghost use Rattle.strat_frame.specs.Faults.{refusal_for};
 
 use crate::buffer::{OutBuf, REPLY_MAX};
-use crate::fields::{counted_bytes_then, u8_then, u32_then};
-use strat_base::{get_u32, key_ok, value_ok};
+use crate::fields::{sole_u32, u8_then, u32_then, version_and_key, version_and_pair};
+use crate::sizes::size_fault;
+use strat_base::get_u32;
 use strat_model::Command;
 
 /// What is wrong with a body.
@@ -27,17 +28,12 @@ pub enum BodyFault {
     ScanSize,
 }
 
-/// The fields of a put.
-#[tactic(auto, unfolding(crate::specs::Fields::put_in, crate::specs::Fields::whole))]
+/// The command of opcode 1, by its fields.
+#[tactic(auto, unfolding(crate::specs::Fields::request_in))]
 fn put_of(fields: &[u8]) -> Option<Command<'_>>
-    ensures { Finds request_of result (put_in fields.now) }
+    ensures { Finds request_of result (request_in 1 fields.now) }
 {
-    let (version, rest) = u32_then(fields)?;
-    let (key, rest) = counted_bytes_then(rest)?;
-    let (value, rest) = counted_bytes_then(rest)?;
-    if !rest.is_empty() || !key_ok(key) || !value_ok(value) {
-        return None;
-    }
+    let (version, key, value) = version_and_pair(fields)?;
     Some(Command::Put {
         version,
         key,
@@ -45,27 +41,65 @@ fn put_of(fields: &[u8]) -> Option<Command<'_>>
     })
 }
 
-/// The fields of a look-up.
-#[tactic(auto, unfolding(crate::specs::Fields::get_in, crate::specs::Fields::whole))]
-fn get_of(fields: &[u8]) -> Option<Command<'_>>
-    ensures { Finds request_of result (get_in fields.now) }
+/// The command of opcode 2, by its fields.
+#[tactic(auto, unfolding(crate::specs::Fields::request_in))]
+fn delete_of(fields: &[u8]) -> Option<Command<'_>>
+    ensures { Finds request_of result (request_in 2 fields.now) }
 {
-    let (version, rest) = u32_then(fields)?;
-    let (key, rest) = counted_bytes_then(rest)?;
-    if !rest.is_empty() || !key_ok(key) {
-        return None;
-    }
+    let (version, key) = version_and_key(fields)?;
+    Some(Command::Delete { version, key })
+}
+
+/// The command of opcode 3, by its fields.
+#[tactic(auto, unfolding(crate::specs::Fields::request_in))]
+fn get_of(fields: &[u8]) -> Option<Command<'_>>
+    ensures { Finds request_of result (request_in 3 fields.now) }
+{
+    let (version, key) = version_and_key(fields)?;
     Some(Command::Get { version, key })
 }
 
-/// The fields after an opcode.
+/// The command of opcode 4, by its fields.
+#[tactic(auto, unfolding(crate::specs::Fields::request_in))]
+fn clone_of(fields: &[u8]) -> Option<Command<'_>>
+    ensures { Finds request_of result (request_in 4 fields.now) }
+{
+    let version = sole_u32(fields)?;
+    Some(Command::Clone { version })
+}
+
+/// The command of opcode 6, by its fields.
+#[tactic(auto, unfolding(crate::specs::Fields::request_in))]
+fn info_of(fields: &[u8]) -> Option<Command<'_>>
+    ensures { Finds request_of result (request_in 6 fields.now) }
+{
+    let version = sole_u32(fields)?;
+    Some(Command::Info { version })
+}
+
+/// The command of opcode 10, by its fields.
+#[tactic(auto, unfolding(crate::specs::Fields::request_in))]
+fn stat_of(fields: &[u8]) -> Option<Command<'_>>
+    ensures { Finds request_of result (request_in 10 fields.now) }
+{
+    if !fields.is_empty() {
+        return None;
+    }
+    Some(Command::Stat)
+}
+
+/// The command of an opcode, by its fields.
 #[tactic(auto, unfolding(crate::specs::Fields::request_in))]
 fn request_for(opcode: u8, fields: &[u8]) -> Option<Command<'_>>
     ensures { Finds request_of result (request_in opcode fields.now) }
 {
     match opcode {
         1 => put_of(fields),
+        2 => delete_of(fields),
         3 => get_of(fields),
+        4 => clone_of(fields),
+        6 => info_of(fields),
+        10 => stat_of(fields),
         _ => None,
     }
 }
@@ -81,16 +115,27 @@ fn command_of(body: &[u8]) -> Option<(u32, Command<'_>)>
     Some((tag, command))
 }
 
-/// The tag and the command of a body, or the tag that its reply has and what is wrong with the body. Reads
+/// The tag of a body: its first four bytes, or 0 where it has fewer.
+fn tag_of(body: &[u8]) -> u32
+    ensures { result ≡ tag_of body.now }
+{
+    get_u32(body, 0).unwrap_or(0)
+}
+
+/// The tag and the command of a body, or the tag that its reply has and the first that is wrong with the
+/// body: it has the form of no command, or a key, a value or a limit is of a size that none may be. Reads
 /// each byte at most once and copies none.
 pub fn parse_command(body: &[u8]) -> Result<(u32, Command<'_>), (u32, BodyFault)>
     ensures ok { IfOk result (λ r. Spells body.now r.0 (request_of r.1)) }
     ensures fits { IfOk result (λ r. has_lawful_sizes (request_of r.1) ≡ true) }
-    ensures err { IfErr result (λ e. IsFaulty e.1 body.now e.0) }
+    ensures err { IfErr result (λ e. IsRefusedAs body.now e.0 (refusal_for e.1)) }
 {
-    match command_of(body) {
-        Some((tag, command)) => Ok((tag, command)),
-        None => Err((get_u32(body, 0).unwrap_or(0), BodyFault::Malformed)),
+    let Some((tag, command)) = command_of(body) else {
+        return Err((tag_of(body), BodyFault::Malformed));
+    };
+    match size_fault(&command) {
+        None => Ok((tag, command)),
+        Some(fault) => Err((tag, fault)),
     }
 }
 

@@ -2,7 +2,7 @@
 
 ghost use Rattle.std.specs.Prelude.{◌≡◌};
 ghost use Rattle.strat_base.specs.Finds.{Finds};
-ghost use Rattle.strat_frame.specs.Fields.{number_then, counted_then};
+ghost use Rattle.strat_frame.specs.Fields.{number_then, counted_then, sole_number, version_key_in, version_pair_in, parent_for, parent_then, flag_then};
 
 use strat_base::{get_u8, get_u16, get_u32};
 
@@ -42,4 +42,69 @@ pub(crate) fn counted_bytes_then(bytes: &[u8]) -> Option<(&[u8], &[u8])>
         return None;
     }
     Some(rest.split_at(n))
+}
+
+/// A number in four bytes, and nothing behind it.
+#[tactic(auto, unfolding(crate::specs::Fields::sole_number, crate::specs::Fields::all_of))]
+pub(crate) fn sole_u32(fields: &[u8]) -> Option<u32>
+    ensures { result ≡ sole_number fields.now }
+{
+    let (n, rest) = u32_then(fields)?;
+    if rest.is_empty() { Some(n) } else { None }
+}
+
+/// A version and a key, and nothing behind them.
+#[tactic(auto, unfolding(crate::specs::Fields::version_key_in, crate::specs::Fields::all_of, crate::specs::Fields::both))]
+pub(crate) fn version_and_key(fields: &[u8]) -> Option<(u32, &[u8])>
+    ensures { Finds (λ x. (x.0, x.1.now)) result (version_key_in fields.now) }
+{
+    let (version, rest) = u32_then(fields)?;
+    let (key, rest) = counted_bytes_then(rest)?;
+    if !rest.is_empty() {
+        return None;
+    }
+    Some((version, key))
+}
+
+/// A version, a key and a value, and nothing behind them.
+#[tactic(auto, unfolding(crate::specs::Fields::version_pair_in, crate::specs::Fields::all_of, crate::specs::Fields::both))]
+pub(crate) fn version_and_pair(fields: &[u8]) -> Option<(u32, &[u8], &[u8])>
+    ensures { Finds (λ x. ((x.0, x.1.now), x.2.now)) result (version_pair_in fields.now) }
+{
+    let (version, rest) = u32_then(fields)?;
+    let (key, rest) = counted_bytes_then(rest)?;
+    let (value, rest) = counted_bytes_then(rest)?;
+    if !rest.is_empty() {
+        return None;
+    }
+    Some((version, key, value))
+}
+
+/// A parent by its number, or none where it is the greatest.
+fn parent_for(n: u32) -> Option<u32>
+    ensures { result ≡ parent_for n }
+{
+    if n == u32::MAX { None } else { Some(n) }
+}
+
+/// A parent's number, or the greatest number where there is none.
+#[tactic(auto, unfolding(crate::specs::Fields::parent_then))]
+pub(crate) fn parent_then(bytes: &[u8]) -> Option<(Option<u32>, &[u8])>
+    ensures { Finds (λ x. (x.0, x.1.now)) result (parent_then bytes.now) }
+{
+    let (n, rest) = u32_then(bytes)?;
+    Some((parent_for(n), rest))
+}
+
+/// A yes or no in one byte.
+#[tactic(auto, unfolding(crate::specs::Fields::flag_then))]
+pub(crate) fn flag_then(bytes: &[u8]) -> Option<(bool, &[u8])>
+    ensures { Finds (λ x. (x.0, x.1.now)) result (flag_then bytes.now) }
+{
+    let (n, rest) = u8_then(bytes)?;
+    match n {
+        0 => Some((false, rest)),
+        1 => Some((true, rest)),
+        _ => None,
+    }
 }

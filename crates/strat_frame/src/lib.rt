@@ -19,6 +19,7 @@ mod deframer;
 mod fields;
 pub mod laws;
 mod replies;
+mod sizes;
 
 pub use buffer::OutBuf;
 pub use commands::{BodyFault, parse_command, write_command};

@@ -6,10 +6,10 @@ ghost use Rattle.strat_model.specs.Spelling.{status_byte, flag, parent_bytes, pa
 ghost use Rattle.strat_model.specs.Spelling.{reply_body, SpellsReply};
 ghost use Rattle.strat_model.specs.Stream.{frame};
 ghost use Rattle.strat_base.specs.Finds.{Finds};
-ghost use Rattle.strat_frame.specs.Fields.{simple_reply, reply_value_in, answer_in, reply_in};
+ghost use Rattle.strat_frame.specs.Fields.{refusal_in, simple_reply, plain_reply_in, reply_value_in, answer_in, reply_in};
 
 use crate::buffer::{OutBuf, REPLY_MAX};
-use crate::fields::{counted_bytes_then, u8_then, u32_then};
+use crate::fields::{counted_bytes_then, flag_then, parent_then, sole_u32, u8_then, u32_then};
 use strat_base::limits::VALUE_MAX;
 use strat_base::{PairBuf, value_ok};
 use strat_model::{Refusal, Reply};
@@ -139,6 +139,26 @@ pub fn write_reply(tag: u32, reply: &Reply, pairs: &PairBuf, out: &mut OutBuf)
     out.end();
 }
 
+/// A refusal without fields, by its status byte.
+#[tactic(auto, unfolding(crate::specs::Fields::refusal_in))]
+fn refusal_of(status: u8) -> Option<Refusal>
+    ensures { result ≡ refusal_in status }
+{
+    match status {
+        16 => Some(Refusal::UnknownVersion),
+        17 => Some(Refusal::Frozen),
+        19 => Some(Refusal::VersionLimit),
+        20 => Some(Refusal::ChangeLimit),
+        22 => Some(Refusal::Malformed),
+        23 => Some(Refusal::KeySize),
+        24 => Some(Refusal::ValueSize),
+        26 => Some(Refusal::FrameTooLong),
+        32 => Some(Refusal::NoMemory),
+        33 => Some(Refusal::DeviceFault),
+        _ => None,
+    }
+}
+
 /// A reply without fields, by its status byte.
 #[tactic(auto, unfolding(crate::specs::Fields::simple_reply))]
 fn simple_of(status: u8) -> Option<Reply>
@@ -147,17 +167,90 @@ fn simple_of(status: u8) -> Option<Reply>
     match status {
         0 => Some(Reply::Done),
         2 => Some(Reply::Absent),
-        16 => Some(Reply::Refused(Refusal::UnknownVersion)),
-        20 => Some(Reply::Refused(Refusal::ChangeLimit)),
-        22 => Some(Reply::Refused(Refusal::Malformed)),
-        26 => Some(Reply::Refused(Refusal::FrameTooLong)),
-        32 => Some(Reply::Refused(Refusal::NoMemory)),
-        _ => None,
+        _ => {
+            let refusal = refusal_of(status)?;
+            Some(Reply::Refused(refusal))
+        }
+    }
+}
+
+/// A version's place in the tree, and nothing behind it.
+#[tactic(auto, unfolding(crate::specs::Fields::plain_reply_in, crate::specs::Fields::info_in, crate::specs::Fields::all_of, crate::specs::Fields::both))]
+fn info_of(fields: &[u8]) -> Option<Reply>
+    ensures { result ≡ plain_reply_in 5 fields.now }
+{
+    let (parent, rest) = parent_then(fields)?;
+    let (depth, rest) = u32_then(rest)?;
+    let (frozen, rest) = flag_then(rest)?;
+    if !rest.is_empty() {
+        return None;
+    }
+    Some(Reply::Info {
+        parent,
+        depth,
+        frozen,
+    })
+}
+
+/// The numbers of a store, and nothing behind them.
+#[tactic(auto, unfolding(crate::specs::Fields::plain_reply_in, crate::specs::Fields::stat_in, crate::specs::Fields::all_of, crate::specs::Fields::both))]
+fn stat_of(fields: &[u8]) -> Option<Reply>
+    ensures { result ≡ plain_reply_in 7 fields.now }
+{
+    let (versions, rest) = u32_then(fields)?;
+    let (updates, rest) = u32_then(rest)?;
+    let (changes, rest) = u32_then(rest)?;
+    let (cursors, rest) = u32_then(rest)?;
+    if !rest.is_empty() {
+        return None;
+    }
+    Some(Reply::Stat {
+        versions,
+        updates,
+        changes,
+        cursors,
+    })
+}
+
+/// The new version, and nothing behind it.
+#[tactic(auto, unfolding(crate::specs::Fields::plain_reply_in))]
+fn made_of(fields: &[u8]) -> Option<Reply>
+    ensures { result ≡ plain_reply_in 4 fields.now }
+{
+    let version = sole_u32(fields)?;
+    Some(Reply::Made { version })
+}
+
+/// The block that is damaged, and nothing behind it.
+#[tactic(auto, unfolding(crate::specs::Fields::plain_reply_in))]
+fn damaged_of(fields: &[u8]) -> Option<Reply>
+    ensures { result ≡ plain_reply_in 34 fields.now }
+{
+    let block = sole_u32(fields)?;
+    Some(Reply::Refused(Refusal::Damaged { block }))
+}
+
+/// A reply without pairs, by its status byte and fields.
+#[tactic(auto, unfolding(crate::specs::Fields::plain_reply_in))]
+fn plain_of(status: u8, fields: &[u8]) -> Option<Reply>
+    ensures { result ≡ plain_reply_in status fields.now }
+{
+    match status {
+        4 => made_of(fields),
+        5 => info_of(fields),
+        7 => stat_of(fields),
+        34 => damaged_of(fields),
+        _ => {
+            if !fields.is_empty() {
+                return None;
+            }
+            simple_of(status)
+        }
     }
 }
 
 /// The value of a reply to a look-up, all of the fields.
-#[tactic(auto, unfolding(crate::specs::Fields::reply_value_in))]
+#[tactic(auto, unfolding(crate::specs::Fields::reply_value_in, crate::specs::Fields::all_of))]
 fn value_of(fields: &[u8]) -> Option<&[u8]>
     ensures ok { Finds (λ x. x.now) result (reply_value_in fields.now) }
     ensures fits { IfSome result (λ x. length x.now ≤ VALUE_MAX) }
@@ -180,10 +273,7 @@ fn answer_of(status: u8, fields: &[u8], pairs: &mut PairBuf) -> Option<Reply>
         pairs.push(b"?", value);
         return Some(Reply::Found);
     }
-    if !fields.is_empty() {
-        return None;
-    }
-    simple_of(status)
+    plain_of(status, fields)
 }
 
 /// A tag and a reply, all of the bytes.
@@ -198,7 +288,7 @@ fn reply_of(body: &[u8], pairs: &mut PairBuf) -> Option<(u32, Reply)>
     Some((tag, reply))
 }
 
-/// The tag and the reply of a body, of those that are given so far; the value of `Found` stands in `pairs`
+/// The tag and the reply of a body, of those that there are so far; the value of `Found` stands in `pairs`
 /// under the key `?`. Nothing is said of the pairs where no reply has this body. Takes no memory.
 pub fn parse_reply(body: &[u8], pairs: &mut PairBuf) -> Option<(u32, Reply)>
     ensures found { IfSome result (λ r. SpellsReply body.now r.0 (as_told r.1 pairs.new)) }

@@ -137,73 +137,169 @@ fn commands_are_written_field_by_field(rt: HostRuntime) -> Result<(), Fail> {
     Ok(())
 }
 
+// Bodies, their tags and their commands.
+const BODIES: [(&str, u32, Command<'static>); 9] = [
+    ("00000007 01 00000000 0001 61 0001 31", 7, PUT),
+    (
+        "ffffffff 01 00000201 0002 6162 0000",
+        4294967295,
+        PUT_NOTHING,
+    ),
+    (
+        "00000001 02 00000000 0001 61",
+        1,
+        Command::Delete {
+            version: 0,
+            key: b"a",
+        },
+    ),
+    (
+        "00000008 03 00000000 0001 61",
+        8,
+        Command::Get {
+            version: 0,
+            key: b"a",
+        },
+    ),
+    ("00000001 04 00000000", 1, Command::Clone { version: 0 }),
+    ("00000002 04 00000102", 2, Command::Clone { version: 258 }),
+    ("00000006 06 00000000", 6, Command::Info { version: 0 }),
+    (
+        "00000004 06 ffffffff",
+        4,
+        Command::Info {
+            version: 4294967295,
+        },
+    ),
+    ("0000000b 0a", 11, Command::Stat),
+];
+
+/// Whether a body is read as a command under this tag.
+fn is_read(body: &[u8], tag: u32, command: Command<'_>) -> bool {
+    match parse_command(body) {
+        Ok((read_tag, read)) => read_tag == tag && read == command,
+        Err(_) => false,
+    }
+}
+
+/// Whether each of these bodies is read as its command under its tag.
+fn are_read(alloc: Global, bodies: &[(&str, u32, Command<'_>)]) -> Result<bool, NoMemory> {
+    for (digits, tag, command) in bodies {
+        let body = hex(alloc, digits)?;
+        if !is_read(&body, *tag, *command) {
+            return Ok(false);
+        }
+    }
+    Ok(true)
+}
+
 #[test]
 fn bodies_are_read_as_commands(rt: HostRuntime) -> Result<(), Fail> {
-    let get = Command::Get {
-        version: 0,
-        key: b"a",
-    };
-    for (body, tag, command) in [
-        ("00000007 01 00000000 0001 61 0001 31", 7, PUT),
-        ("00000008 03 00000000 0001 61", 8, get),
-        (
-            "ffffffff 01 00000201 0002 6162 0000",
-            4294967295,
-            PUT_NOTHING,
-        ),
-    ] {
-        assert!(rt; parse_command(&hex(rt.alloc(), body)?) == Ok((tag, command)));
-    }
+    assert!(rt; are_read(rt.alloc(), &BODIES)?);
     Ok(())
 }
 
-/// Whether a body is refused under this tag.
-fn is_malformed(body: &[u8], tag: u32) -> bool {
-    parse_command(body) == Err((tag, BodyFault::Malformed))
+// Bodies that do not have the form of a command, and the tags of their replies. A field too few or a byte too
+// many comes before any size. A scan and the commands of cursors are not built.
+const MALFORMED: [(&str, u32); 26] = [
+    ("", 0),
+    ("aabbcc", 0),
+    ("00000009", 9),
+    ("00000001 00", 1),
+    ("00000001 0b", 1),
+    ("00000001 ff", 1),
+    ("00000001 01", 1),
+    ("00000004 01 00000000 0001 61", 4),
+    ("00000004 01 00000000 0001 61 0001 31 00", 4),
+    ("00000004 01 00000000 0001 61 0002 31", 4),
+    ("00000004 01 00000000 0000 0001 31 00", 4),
+    ("00000002 02 00000000", 2),
+    ("00000002 02 00000000 0001 61 00", 2),
+    ("00000003 03 00000000 0001", 3),
+    ("00000003 03 00000000 0001 61 00", 3),
+    ("00000003 03 00000000 0000 00", 3),
+    ("00000001 04", 1),
+    ("00000001 04 000000", 1),
+    ("00000001 04 00000000 00", 1),
+    ("0000000a 05 00000000 0000 0000 0002", 10),
+    ("00000001 06 000000", 1),
+    ("00000001 06 00000000 00", 1),
+    ("00000001 07 00000000 0000 0000", 1),
+    ("00000002 08 0000000000000001 0100", 2),
+    ("00000004 09 0000000000000001", 4),
+    ("00000001 0a 00", 1),
+];
+
+// Bodies with a key of no byte, whatever their version and their value.
+const NO_KEYS: [(&str, u32); 5] = [
+    ("00000004 01 00000005 0000 0000", 4),
+    ("00000004 01 00000000 0000 0001 31", 4),
+    ("00000002 02 00000000 0000", 2),
+    ("00000003 03 00000000 0000", 3),
+    ("ffffffff 03 ffffffff 0000", 4294967295),
+];
+
+/// Whether this is the first that is wrong with a body, and its reply has this tag.
+fn is_refused(body: &[u8], tag: u32, fault: BodyFault) -> bool {
+    match parse_command(body) {
+        Ok(_) => false,
+        Err((refused_tag, refused)) => refused_tag == tag && refused == fault,
+    }
+}
+
+/// Whether this is the first that is wrong with each of these bodies.
+fn are_refused(alloc: Global, bodies: &[(&str, u32)], fault: BodyFault) -> Result<bool, NoMemory> {
+    for (digits, tag) in bodies {
+        let body = hex(alloc, digits)?;
+        if !is_refused(&body, *tag, fault) {
+            return Ok(false);
+        }
+    }
+    Ok(true)
 }
 
 #[test]
-fn other_bodies_are_malformed(rt: HostRuntime) -> Result<(), Fail> {
-    for (body, tag) in [
-        ("", 0),
-        ("aabbcc", 0),
-        ("00000009", 9),
-        ("00000001 0a", 1),
-        ("00000001 00", 1),
-        ("00000001 ff", 1),
-        ("00000001 04 00000000", 1),
-        ("00000002 02 00000000 0001 61", 2),
-        ("00000003 03 00000000 0001", 3),
-        ("00000003 03 00000000 0001 61 00", 3),
-        ("00000003 03 00000000 0000", 3),
-        ("00000004 01 00000000 0001 61 0001 31 00", 4),
-        ("00000004 01 00000000 0001 61 0002 31", 4),
-        ("00000004 01 00000000 0000 0001 31", 4),
-    ] {
-        assert!(rt; is_malformed(&hex(rt.alloc(), body)?, tag));
+fn bodies_of_another_form_are_malformed(rt: HostRuntime) -> Result<(), Fail> {
+    assert!(rt; are_refused(rt.alloc(), &MALFORMED, BodyFault::Malformed)?);
+    Ok(())
+}
+
+#[test]
+fn a_key_has_a_byte(rt: HostRuntime) -> Result<(), Fail> {
+    assert!(rt; are_refused(rt.alloc(), &NO_KEYS, BodyFault::KeySize)?);
+    Ok(())
+}
+
+/// Adds a length in two bytes, and so many equal bytes.
+fn push_counted(bytes: &mut Vec<u8>, len: u16, byte: u8) -> Result<(), NoMemory> {
+    bytes.extend_from_slice(&len.to_be_bytes())?;
+    for _ in 0..len {
+        bytes.push(byte)?;
     }
     Ok(())
 }
 
-/// These digits, a key of 255 bytes, and a value of so many bytes.
-fn large_put(alloc: Global, front: &str, value_len: u16) -> Result<Vec<u8>, NoMemory> {
+/// These digits, a key and a value of so many bytes.
+fn large_put(
+    alloc: Global,
+    front: &str,
+    key_len: u16,
+    value_len: u16,
+) -> Result<Vec<u8>, NoMemory> {
     let mut bytes = hex(alloc, front)?;
-    bytes.extend_from_slice(&[0x6b; 255])?;
-    bytes.extend_from_slice(&value_len.to_be_bytes())?;
-    for _ in 0..value_len {
-        bytes.push(0x76)?;
-    }
+    push_counted(&mut bytes, key_len, 0x6b)?;
+    push_counted(&mut bytes, value_len, 0x76)?;
     Ok(bytes)
 }
 
 /// Whether a body has as many bytes as the largest put, and is read as it.
 fn is_largest(body: &[u8]) -> bool {
-    body.len() == 1292 && parse_command(body) == Ok((7, LARGEST))
+    body.len() == 1292 && is_read(body, 7, LARGEST)
 }
 
 #[test]
 fn the_largest_put_is_read(rt: HostRuntime) -> Result<(), Fail> {
-    let body = large_put(rt.alloc(), "00000007 01 00000000 00ff", 1024)?;
+    let body = large_put(rt.alloc(), "00000007 01 00000000", 255, 1024)?;
     assert!(rt; is_largest(&body));
     Ok(())
 }
@@ -211,14 +307,43 @@ fn the_largest_put_is_read(rt: HostRuntime) -> Result<(), Fail> {
 #[test]
 fn the_largest_put_is_written(rt: HostRuntime) -> Result<(), Fail> {
     let mut out = OutBuf::new(rt.alloc())?;
-    let frame = large_put(rt.alloc(), "0000050c 00000007 01 00000000 00ff", 1024)?;
+    let frame = large_put(rt.alloc(), "0000050c 00000007 01 00000000", 255, 1024)?;
     assert!(rt; is_written(&mut out, 7, &LARGEST, &frame));
     Ok(())
 }
 
+// Sizes of keys and values, and what a put of them is refused for. The key is told before the value.
+const SIZES: [(u16, u16, BodyFault); 5] = [
+    (256, 0, BodyFault::KeySize),
+    (255, 1025, BodyFault::ValueSize),
+    (1, 1025, BodyFault::ValueSize),
+    (0, 1025, BodyFault::KeySize),
+    (256, 1025, BodyFault::KeySize),
+];
+
+/// Whether a put of these sizes is refused for this.
+fn is_refused_for_sizes(
+    alloc: Global,
+    key_len: u16,
+    value_len: u16,
+    fault: BodyFault,
+) -> Result<bool, NoMemory> {
+    let body = large_put(alloc, "00000007 01 00000000", key_len, value_len)?;
+    Ok(is_refused(&body, 7, fault))
+}
+
 #[test]
-fn no_larger_put_is_read(rt: HostRuntime) -> Result<(), Fail> {
-    let body = large_put(rt.alloc(), "00000007 01 00000000 00ff", 1025)?;
-    assert!(rt; is_malformed(&body, 7));
+fn sizes_of_puts_are_told_the_key_first(rt: HostRuntime) -> Result<(), Fail> {
+    for (key_len, value_len, fault) in &SIZES {
+        assert!(rt; is_refused_for_sizes(rt.alloc(), *key_len, *value_len, *fault)?);
+    }
+    Ok(())
+}
+
+#[test]
+fn an_unlawful_put_with_a_byte_behind_it_is_malformed(rt: HostRuntime) -> Result<(), Fail> {
+    let mut body = large_put(rt.alloc(), "00000007 01 00000000", 256, 1025)?;
+    body.push(0)?;
+    assert!(rt; is_refused(&body, 7, BodyFault::Malformed));
     Ok(())
 }

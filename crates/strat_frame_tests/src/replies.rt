@@ -199,15 +199,75 @@ fn are_digits_of(
 }
 
 // Bodies and their replies.
-const BODIES: [(&str, Reply); 8] = [
+const BODIES: [(&str, Reply); 22] = [
     ("00000007 00", Reply::Done),
     ("00000007 01 0001 31", Reply::Found),
     ("00000007 02", Reply::Absent),
+    ("00000007 04 00000001", Reply::Made { version: 1 }),
+    (
+        "00000007 05 ffffffff 00000000 00",
+        Reply::Info {
+            parent: None,
+            depth: 0,
+            frozen: false,
+        },
+    ),
+    (
+        "00000007 05 00000000 00000001 01",
+        Reply::Info {
+            parent: Some(0),
+            depth: 1,
+            frozen: true,
+        },
+    ),
+    (
+        "00000007 05 fffffffe ffffffff 01",
+        Reply::Info {
+            parent: Some(4294967294),
+            depth: 4294967295,
+            frozen: true,
+        },
+    ),
+    (
+        "00000007 07 00000001 00000000 00000000 00000000",
+        Reply::Stat {
+            versions: 1,
+            updates: 0,
+            changes: 0,
+            cursors: 0,
+        },
+    ),
+    (
+        "00000007 07 00000001 00000002 00000003 00000004",
+        Reply::Stat {
+            versions: 1,
+            updates: 2,
+            changes: 3,
+            cursors: 4,
+        },
+    ),
     ("00000007 10", Reply::Refused(Refusal::UnknownVersion)),
+    ("00000007 11", Reply::Refused(Refusal::Frozen)),
+    ("00000007 13", Reply::Refused(Refusal::VersionLimit)),
     ("00000007 14", Reply::Refused(Refusal::ChangeLimit)),
     ("00000007 16", Reply::Refused(Refusal::Malformed)),
+    ("00000007 17", Reply::Refused(Refusal::KeySize)),
+    ("00000007 18", Reply::Refused(Refusal::ValueSize)),
     ("00000007 1a", Reply::Refused(Refusal::FrameTooLong)),
     ("00000007 20", Reply::Refused(Refusal::NoMemory)),
+    ("00000007 21", Reply::Refused(Refusal::DeviceFault)),
+    (
+        "00000007 22 00000000",
+        Reply::Refused(Refusal::Damaged { block: 0 }),
+    ),
+    (
+        "00000007 22 00000007",
+        Reply::Refused(Refusal::Damaged { block: 7 }),
+    ),
+    (
+        "00000007 22 ffffffff",
+        Reply::Refused(Refusal::Damaged { block: 4294967295 }),
+    ),
 ];
 
 /// Whether the bodies of the replies are read.
@@ -233,27 +293,50 @@ fn is_no_reply(alloc: Global, pairs: &mut PairBuf, digits: &str) -> Result<bool,
     Ok(parse_reply(&body, pairs).is_none())
 }
 
+// Bodies that are no reply: with a field too few or a byte too many, a flag that is neither 0 nor 1, or the
+// status of no reply that is given so far.
+const NO_REPLIES: [&str; 26] = [
+    "",
+    "00000007",
+    "000007 00",
+    "00000007 00 00",
+    "00000007 01",
+    "00000007 01 0001",
+    "00000007 01 0001 31 00",
+    "00000007 02 0001 31",
+    "00000007 03 00 0000",
+    "00000007 04",
+    "00000007 04 00000001 00",
+    "00000007 05 ffffffff 00000000",
+    "00000007 05 ffffffff 00000000 02",
+    "00000007 05 ffffffff 00000000 00 00",
+    "00000007 06 0000000000000001",
+    "00000007 07 00000001 00000002 00000003",
+    "00000007 07 00000001 00000002 00000003 00000004 00",
+    "00000007 11 00",
+    "00000007 12",
+    "00000007 15",
+    "00000007 19",
+    "00000007 1b",
+    "00000007 21 00000007",
+    "00000007 22",
+    "00000007 22 00000007 00",
+    "00000007 23",
+];
+
+/// Whether none of these digits are the body of a reply.
+fn are_no_replies(alloc: Global, pairs: &mut PairBuf, bodies: &[&str]) -> Result<bool, NoMemory> {
+    for digits in bodies {
+        if !is_no_reply(alloc, pairs, digits)? {
+            return Ok(false);
+        }
+    }
+    Ok(true)
+}
+
 #[test]
 fn other_bodies_are_no_reply(rt: HostRuntime) -> Result<(), Fail> {
     let mut pairs = PairBuf::new(rt.alloc())?;
-    for body in [
-        "",
-        "00000007",
-        "000007 00",
-        "00000007 00 00",
-        "00000007 01",
-        "00000007 01 0001",
-        "00000007 01 0001 31 00",
-        "00000007 02 0001 31",
-        "00000007 03 00 0000",
-        "00000007 04 00000001",
-        "00000007 05 ffffffff 00000000 00",
-        "00000007 06 0000000000000001",
-        "00000007 11",
-        "00000007 1b",
-        "00000007 22 00000007",
-    ] {
-        assert!(rt; is_no_reply(rt.alloc(), &mut pairs, body)?);
-    }
+    assert!(rt; are_no_replies(rt.alloc(), &mut pairs, &NO_REPLIES)?);
     Ok(())
 }

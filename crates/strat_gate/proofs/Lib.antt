@@ -1,3 +1,2 @@
 pub mod LayingLemmas
 pub mod RaisingLemmas
-pub mod ReadingLemmas

@@ -55,6 +55,7 @@ pub fn gate_ensure_shut<D: Disk>(disk: &mut D, at: u64) -> Result<(), Failed>
     ensures images { TearsOnly (D.view disk.old) (D.view disk.new) at 1 }
     ensures time { Passes (D.view disk.old) (D.view disk.new) }
     ensures cause { CountsFaults (D.faults disk.old) (D.faults disk.new) result }
+    ensures reads { ReadsAtMost 1 (D.reads disk.old) (D.reads disk.new) }
 {
     if gate_up(disk, at)? {
         gate_shut(disk, at)?;

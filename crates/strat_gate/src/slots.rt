@@ -1,6 +1,6 @@
 //! The two slots of a store's superblocks, blocks 0 and 1: the newest is read from them, and the next is laid into the other.
 ghost use Rattle.std.specs.Prelude.{◌≡◌, ◌≤◌, ◌<◌, ◌*◌, ◌+◌, ◌^◌, ◌∷◌, ℕ, Some, IfSome, IfOk, IfErr, OnOk, length};
-ghost use Rattle.strat_crash.specs.Faults.{CountsFaults, HasCause};
+ghost use Rattle.strat_crash.specs.Faults.{CountsFaults, HasCause, ReadsAtMost};
 ghost use Rattle.strat_crash.specs.Image.{Image, patch};
 ghost use Rattle.strat_crash.specs.Moments.{Exposes, Images, Since, Passes, TearsOnly, OnlyReads, IsDurable, WritesThrough};
 ghost use Rattle.strat_format.specs.SuperBlock.{IsLawful, body, slot_in, newer, verdict, newest_in};
@@ -25,6 +25,7 @@ pub fn newest<D: Disk>(disk: &mut D) -> Result<Option<(u8, SuperBlock)>, Fault>
         → (f : Image) → Exposes (D.view disk.old) f → newest_in f ≡ Err block) }
     ensures cause { HasCause Device (D.faults disk.old) (D.faults disk.new) result }
     ensures same { OnlyReads (D.view disk.old) (D.view disk.new) }
+    ensures reads { ReadsAtMost 2 (D.reads disk.old) (D.reads disk.new) }
 {
     let Ok(first) = read_slot(disk, 0) else {
         return Err(Fault::Device);
@@ -41,6 +42,7 @@ fn read_slot<D: Disk>(disk: &mut D, at: u64) -> Result<Option<(u16, SuperBlock)>
         → slot_in f at ≡ slot_seen r) }
     ensures same { OnlyReads (D.view disk.old) (D.view disk.new) }
     ensures cause { CountsFaults (D.faults disk.old) (D.faults disk.new) result }
+    ensures reads { ReadsAtMost 1 (D.reads disk.old) (D.reads disk.new) }
 {
     let mut bytes = [0; 40];
     disk.read_at(at, &mut bytes)?;

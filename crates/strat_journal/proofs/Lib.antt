@@ -6,4 +6,4 @@ pub mod TextLemmas
 pub mod RegionReaderLemmas
 pub mod ReadLemmas
 pub mod ClosingLemmas
-pub mod NowLemmas
+pub mod AloneLemmas

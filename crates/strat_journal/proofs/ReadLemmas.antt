@@ -1,4 +1,5 @@
 -- How the records of a region are read one after the other.
+use Rattle.strat_crash.proofs.MomentLemmas.{reads_refl, reads_trans}
 use Rattle.std.proofs.Common.{map, ◌≡◌, ◌≢◌, ◌≤◌, ◌<◌, ◌+◌, ◌-◌, ◌*◌, ℕ, suc, List, [], ◌∷◌, ◌++◌, length, take, Some, None, Result, Ok, Err, Bool, true, refl, sym, ap, ◌∙◌, subst, arith, length-append, append_assoc}
 use Rattle.std.proofs.lemmas.Bool.{eqb-true, eq-eqb, and_from}
 use Rattle.std.proofs.lemmas.List.{append-nil, map-append}
@@ -14,7 +15,6 @@ use Rattle.strat_journal.specs.Records.{logged_of}
 use Rattle.strat_journal.proofs.LaidLemmas.{joined, records_bytes-append, all_lawful-append}
 use Rattle.strat_journal.specs.RegionReader.{ReadSoFar, MatchesImage, ReadsOn, EndsRecord, AreRecords, Stored, StoredNone}
 use Rattle.strat_journal.proofs.RecordLemmas.{open_gate, shut_gate}
-use Rattle.strat_gate.proofs.ReadingLemmas.{reads_refl, reads_trans}
 
 -- the records from a place on that are still to be read
 abbrev pub left : Image → ℕ → ℕ → ℕ → ℕ → Result (List Logged) ℕ

@@ -9,8 +9,7 @@ use Rattle.strat_crash.specs.Moments.{DiskView, OnlyReads}
 use Rattle.strat_base.specs.Numbers.{AreBytes}
 use Rattle.strat_base.specs.Change.{Change, change_bytes, change_in, BeginsWithChange}
 use Rattle.strat_crash.proofs.ImageLemmas.{length-window, window_at, window_split}
-use Rattle.strat_crash.proofs.MomentLemmas.{at_told}
-use Rattle.strat_gate.proofs.ReadingLemmas.{reads_trans}
+use Rattle.strat_crash.proofs.MomentLemmas.{at_told, reads_trans}
 use Rattle.strat_base.proofs.NumberLemmas.{AreBytes-take}
 use Rattle.strat_base.proofs.ChangeLemmas.{change_in-bytes, change_in-some, length-change_bytes}
 use Rattle.strat_base.proofs.TreeLemmas.{option_cases}

@@ -6,8 +6,8 @@ use Rattle.strat_crash.specs.Image.{Image, patch}
 use Rattle.strat_format.specs.Layout.{region_at, other_region, open_flag}
 use Rattle.strat_crash.specs.Moments.{DiskView, Exposes, Images, IsDurable}
 use Rattle.strat_journal.specs.declared.journal.Logged.{Logged}
-use Rattle.strat_format.specs.Records.{records_bytes}
-use Rattle.strat_journal.specs.Records.{logged_of, journal_changes, recover_journal_now}
+use Rattle.strat_format.specs.Records.{records_bytes, journal_in_one}
+use Rattle.strat_journal.specs.Records.{logged_of, journal_changes}
 
 -- what a journal holds: how many changes a region takes, the active region, whether the other one is to be
 -- shut, the changes that are durable, and those that become so together
@@ -101,6 +101,6 @@ IsStale f mem active count = (count < mem) × (f (region_at mem (other_region ac
 
 -- these records and this journal are what recovery reads of an image
 pub record RecoversTo (f : Image) (mem active : ℕ) (logged : List Logged) (log : Log) : Type 0 where
-  pub records : recover_journal_now f mem active ≡ Ok (map logged_of logged)
+  pub records : journal_in_one f mem active ≡ Ok (map logged_of logged)
   pub changes : journal_changes f mem active ≡ Ok log.list
   pub stale : IsTrue log.stale ↔ IsStale f mem active (length log.list)

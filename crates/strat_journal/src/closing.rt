@@ -1,7 +1,7 @@
 //! Closing a region before the journal goes on in the other one.
 
 ghost use Rattle.std.specs.Prelude.{◌≡◌, ◌≢◌, ◌≤◌, ◌<◌, ℕ, List, length, Some, Ok, OnOk};
-ghost use Rattle.strat_crash.specs.Faults.{CountsFaults};
+ghost use Rattle.strat_crash.specs.Faults.{CountsFaults, ReadsAtMost};
 ghost use Rattle.strat_crash.specs.Image.{Image};
 ghost use Rattle.strat_format.specs.Layout as places;
 ghost use Rattle.strat_crash.specs.Moments.{Exposes, Images, Since, Passes, TearsOnly, IsDurable};
@@ -31,6 +31,7 @@ pub fn close_region<D: Disk>(disk: &mut D, mem: u32, region: u8) -> Result<(), F
     ensures images { TearsOnly (D.view disk.old) (D.view disk.new) (places.region_at mem region) 1 }
     ensures time { Passes (D.view disk.old) (D.view disk.new) }
     ensures cause { CountsFaults (D.faults disk.old) (D.faults disk.new) result }
+    ensures reads { ReadsAtMost 1 (D.reads disk.old) (D.reads disk.new) }
 {
     gate_ensure_shut(disk, region_at(mem, region))?;
     Ok(())

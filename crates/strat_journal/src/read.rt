@@ -1,7 +1,6 @@
 //! Reading a journal at recovery.
 
-ghost use Rattle.std.specs.Prelude.{◌≡◌, ◌≢◌, ◌≤◌, ℕ, ◌+◌, not, find, length, map, Some, Ok, Err, IfOk, IfErr, OnOk, IsErrOf, IsTrue, ◌↔◌, vec_len};
-ghost use Rattle.std.specs.Option.{option_copied};
+ghost use Rattle.std.specs.Prelude.{◌≡◌, ◌≢◌, ◌≤◌, ℕ, ◌+◌, length, map, Ok, Err, IfOk, IfErr, OnOk, IsErrOf, IsTrue, ◌↔◌, vec_len};
 ghost use Rattle.strat_crash.specs.Image.{Image};
 ghost use Rattle.strat_format.specs.Layout as places;
 ghost use Rattle.strat_crash.specs.Moments.{Exposes, OnlyReads};
@@ -10,16 +9,15 @@ ghost use Rattle.strat_base.specs.declared.failures.Trouble.TheVariants.{Damaged
 ghost use Rattle.strat_gate.specs.SuperView.{super_of};
 ghost use Rattle.strat_journal.specs.Log.{Restores, RecoversTo};
 ghost use Rattle.strat_journal.specs.RegionReader.{AreRecords};
-ghost use Rattle.strat_format.specs.Records.{region_records};
-ghost use Rattle.strat_journal.specs.Records.{logged_of, alone_then, recover_journal_now};
-ghost use Rattle.strat_journal.specs.Records.{is_plain as plain_change};
+ghost use Rattle.strat_format.specs.Records.{region_records, journal_in_one};
+ghost use Rattle.strat_journal.specs.Records.{logged_of, alone_or};
 ghost use Rattle.strat_crash.specs.Faults.{HasCause, ReadsAtMost};
 ghost use Rattle.strat_format.specs.Layout.{IsRegion, is_open};
 
 use crate::journal::{Journal, Logged};
 use crate::region_reader::RegionReader;
 use std::alloc::Global;
-use strat_base::{Change, OwnedChange, Trouble};
+use strat_base::Trouble;
 use strat_disk::Disk;
 use strat_format::{region_at, region_first};
 use strat_gate::{SuperBlock, gate_up};
@@ -56,27 +54,6 @@ fn read_region<D: Disk>(
     Ok((logged, reader.into_front(at)))
 }
 
-/// Whether a change is one that stores take so far: a put at version 0.
-fn is_plain(change: &OwnedChange) -> bool
-    ensures { result ≡ plain_change change.now }
-{
-    match change.as_change() {
-        Change::Put {
-            version,
-            key: _,
-            value: _,
-        } => version == 0,
-        Change::Delete { version: _, key: _ } | Change::Clone { version: _ } => false,
-    }
-}
-
-/// The first record that is not plain.
-fn first_other(logged: &[Logged]) -> Option<&Logged>
-    ensures { option_copied result ≡ find (λ l. not (plain_change l.change)) logged.now }
-{
-    logged.iter().find(|l| !is_plain(&l.change))
-}
-
 /// Whether records are as many as a region takes and others may follow in the other region.
 fn goes_on(len: usize, mem: u32, others: bool) -> bool
     ensures { IsTrue result ↔ (IsTrue others × (len ≡ mem)) }
@@ -84,22 +61,19 @@ fn goes_on(len: usize, mem: u32, others: bool) -> bool
     others && len == mem as usize
 }
 
-/// Tests what holds as long as stores have one version and use one region at a time.
-fn require_plain(logged: &[Logged], mem: u32, others: bool, block: u32) -> Result<(), Trouble>
-    ensures ok { OnOk result (alone_then mem others block (map logged_of logged.now)
+/// Tests that so many records are all of the journal, as long as stores use one region at a time.
+fn require_alone(logged: &[Logged], mem: u32, others: bool, block: u32) -> Result<(), Trouble>
+    ensures ok { OnOk result (alone_or mem others block (map logged_of logged.now)
         ≡ Ok (map logged_of logged.now)) }
     ensures room { OnOk result (IsTrue others → length logged.now ≢ mem) }
     ensures damaged { IfErr result
         (λ e. (b : ℕ) × (e ≡ Damaged b) ×
-        (alone_then mem others block (map logged_of logged.now) ≡ Err b)) }
+        (alone_or mem others block (map logged_of logged.now) ≡ Err b)) }
 {
     if goes_on(logged.len(), mem, others) {
         return Err(Trouble::Damaged { block });
     }
-    match first_other(logged) {
-        Some(other) => Err(Trouble::Damaged { block: other.block }),
-        None => Ok(()),
-    }
+    Ok(())
 }
 
 /// What recovery reads of a journal, and whether the other region's first gate is open.
@@ -111,12 +85,12 @@ fn read_records<D: Disk>(
 ) -> Result<(Vec<Logged>, Vec<u8>, bool), Trouble>
     requires fits { IsRegion mem region }
     ensures found { IfOk result (λ r. (f : Image) → Exposes (D.view disk.old) f
-        → (recover_journal_now f mem region ≡ Ok (map logged_of r.0.items))
+        → (journal_in_one f mem region ≡ Ok (map logged_of r.0.items))
         × (r.2 ≡ is_open (f (places.region_at mem (places.other_region region))))) }
     ensures len { IfOk result (λ r. (vec_len r.0 ≤ mem) × (IsTrue r.2 → vec_len r.0 ≢ mem)) }
     ensures kept { IfOk result (λ r. AreRecords r.1.items r.0.items) }
     ensures damaged { (b : ℕ) → IsErrOf result (Damaged b) → (f : Image)
-        → Exposes (D.view disk.old) f → recover_journal_now f mem region ≡ Err b }
+        → Exposes (D.view disk.old) f → journal_in_one f mem region ≡ Err b }
     ensures same { OnlyReads (D.view disk.old) (D.view disk.new) }
     ensures cause { HasCause Device (D.faults disk.old) (D.faults disk.new) result }
     ensures reads { ReadsAtMost (places.region_blocks mem + 1)
@@ -124,7 +98,7 @@ fn read_records<D: Disk>(
 {
     let (logged, bytes) = read_region(alloc, disk, mem, region)?;
     let others = gate_up(disk, region_at(mem, 1 - region))?;
-    require_plain(&logged, mem, others, region_first(mem, 1 - region))?;
+    require_alone(&logged, mem, others, region_first(mem, 1 - region))?;
     Ok((logged, bytes, others))
 }
 
@@ -143,7 +117,7 @@ impl Journal {
             → RecoversTo f sb.now.mem sb.now.region r.1.items r.0) }
         ensures damaged { (b : ℕ) → IsErrOf result (Damaged b) → (f : Image)
             → Exposes (D.view disk.old) f
-            → recover_journal_now f sb.now.mem sb.now.region ≡ Err b }
+            → journal_in_one f sb.now.mem sb.now.region ≡ Err b }
         ensures same { OnlyReads (D.view disk.old) (D.view disk.new) }
         ensures cause { HasCause Device (D.faults disk.old) (D.faults disk.new) result }
         ensures reads { ReadsAtMost (places.region_blocks sb.now.mem + 1)

@@ -2,3 +2,4 @@ pub mod PlainLemmas
 pub mod MapLemmas
 pub mod TableLemmas
 pub mod StreamLemmas
+pub mod SpellingLemmas

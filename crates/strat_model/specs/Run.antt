@@ -1,12 +1,13 @@
 -- A run answers the bodies of a stream in order.
-use Rattle.std.specs.Prelude.{◌≡◌, ℕ, ◌+◌, nat_lt, if◌then◌else◌, Bool, true, false, List, [], ◌∷◌, ◌++◌, map, Option, Some, None, IfSome, ◌⊎◌}
+use Rattle.std.specs.Prelude.{◌≡◌, ◌≤◌, ℕ, ◌+◌, nat_lt, if◌then◌else◌, Bool, true, false, List, [], ◌∷◌, ◌++◌, map, Option, Some, None, IfSome, ◌⊎◌}
 use Rattle.std.specs.List.{flat_map}
+use Rattle.strat_model.specs.declared.replies.Refusal.{Refusal}
 use Rattle.strat_model.specs.declared.replies.Refusal.TheVariants as why
 use Rattle.strat_model.specs.Request.{Request, Put, Delete, Get, Clone, Scan, OpenCursor, NextPairs}
 use Rattle.strat_model.specs.Table.{Table, bare}
 use Rattle.strat_model.specs.Answer.{Answer, refusal, accepts}
 use Rattle.strat_model.specs.Step.{step}
-use Rattle.strat_model.specs.Spelling.{Spells, IsMalformed, reply_body}
+use Rattle.strat_model.specs.Spelling.{Spells, IsRefusedAs, reply_body}
 use Rattle.strat_model.specs.Stream.{frame}
 
 -- a command that changes a version or the tree
@@ -58,11 +59,12 @@ position_after mem at request =
           else at.fill;
     }
 
--- a body that is no command is refused as malformed, and changes nothing
-pub record AnswersMalformed (at : Position) (body : List ℕ) (response : Response)
+-- a body that is no command is refused for what is wrong with it, and changes nothing
+pub record AnswersNoCommand (at : Position) (body : List ℕ) (response : Response)
     (after : Position) : Type 0 where
-  pub malformed : IsMalformed body response.tag
-  pub answer : response.answer ≡ refusal why.Malformed
+  pub cause : Refusal
+  pub refused : IsRefusedAs body response.tag cause
+  pub answer : response.answer ≡ refusal cause
   pub same : after ≡ at
 
 -- a command is carried out as the step of the table says
@@ -73,21 +75,23 @@ pub record AnswersByTable (mem : ℕ) (at : Position) (body : List ℕ) (respons
   pub answer : response.answer ≡ (step at.table request).answer
   pub place : after ≡ position_after mem at request
 
--- a command that the table accepts is refused because memory ran out, and changes nothing
-pub record AnswersNoMemory (at : Position) (body : List ℕ) (response : Response)
+-- a command that the table accepts is refused because memory ran out, and changes nothing; a
+-- change only where the journal is full
+pub record AnswersNoMemory (mem : ℕ) (at : Position) (body : List ℕ) (response : Response)
     (after : Position) : Type 0 where
   pub request : Request
   pub spelled : Spells body response.tag request
   pub takes : takes_memory request ≡ true
   pub accepted : accepts (step at.table request).answer.reply ≡ true
+  pub full : is_change request ≡ true → mem ≤ at.fill
   pub answer : response.answer ≡ refusal why.NoMemory
   pub same : after ≡ at
 
 -- how one body may be answered, and the position after it
 abbrev pub Answers : ℕ → Position → List ℕ → Response → Position → Type 0
 Answers mem at body response after =
-    AnswersMalformed at body response after ⊎ AnswersByTable mem at body response after
-    ⊎ AnswersNoMemory at body response after
+    AnswersNoCommand at body response after ⊎ AnswersByTable mem at body response after
+    ⊎ AnswersNoMemory mem at body response after
 
 -- a body with its response, and the position at which it was answered
 pub record Exchange : Type 0 where

@@ -1,11 +1,12 @@
 -- The bytes of commands and replies. A body begins with the tag by which a client knows its reply.
-use Rattle.std.specs.Prelude.{◌≡◌, ◌<◌, ℕ, ◌^◌, ◌&&◌, Bool, true, false, nat_le, if◌then◌else◌, List, [], ◌∷◌, ◌++◌, length, Option, Some, None}
+use Rattle.std.specs.Prelude.{◌≡◌, ◌<◌, ℕ, ◌^◌, ◌&&◌, Bool, true, false, not, nat_le, if◌then◌else◌, List, [], ◌∷◌, ◌++◌, length, Option, Some, None}
 use Rattle.std.specs.List.{flat_map}
 use Rattle.strat_base.specs.Numbers.{be, number}
 use Rattle.strat_base.specs.Sizes.{is_key, is_value}
 use Rattle.strat_base.specs.declared.limits.TheConstants.{KEY_MAX, PAIRS_MAX}
 use Rattle.strat_model.specs.declared.replies.Reply.{Reply}
 use Rattle.strat_model.specs.declared.replies.Reply.TheVariants as reply
+use Rattle.strat_model.specs.declared.replies.Refusal.{Refusal}
 use Rattle.strat_model.specs.declared.replies.Refusal.TheVariants as why
 use Rattle.strat_model.specs.Pairs.{Pairs}
 use Rattle.strat_model.specs.Request.{Request, Put, Delete, Get, Clone, Scan, Info, OpenCursor, NextPairs, CloseCursor, Stat}
@@ -54,40 +55,97 @@ has_lawful_sizes (NextPairs cursor limit) = is_limit limit
 has_lawful_sizes (CloseCursor cursor) = true
 has_lawful_sizes Stat = true
 
--- a command that is taken so far, with sizes as they may be
-abbrev pub is_taken : Request → Bool
-is_taken (Put version key value) = has_lawful_sizes (Put version key value)
-is_taken (Get version key) = has_lawful_sizes (Get version key)
-is_taken _ = false
+-- the keys and bounds of a command have sizes as they may be
+abbrev pub has_lawful_keys : Request → Bool
+has_lawful_keys (Put version key value) = is_key key
+has_lawful_keys (Delete version key) = is_key key
+has_lawful_keys (Get version key) = is_key key
+has_lawful_keys (Scan version lo hi limit) = is_bound lo && is_bound hi
+has_lawful_keys (OpenCursor version lo hi) = is_bound lo && is_bound hi
+has_lawful_keys _ = true
 
--- the numbers of a command fit their fields
+-- so has its value
+abbrev pub has_lawful_value : Request → Bool
+has_lawful_value (Put version key value) = is_value value
+has_lawful_value _ = true
+
+-- and as many pairs may be asked for as it asks for
+abbrev pub has_lawful_limit : Request → Bool
+has_lawful_limit (Scan version lo hi limit) = is_limit limit
+has_lawful_limit (NextPairs cursor limit) = is_limit limit
+has_lawful_limit _ = true
+
+-- why a command is refused for its sizes, if it is: first for a key or a bound, then for a value, then
+-- for a limit
+abbrev pub size_refusal : Request → Option Refusal
+size_refusal request =
+    if not (has_lawful_keys request) then Some why.KeySize else
+    if not (has_lawful_value request) then Some why.ValueSize else
+    if not (has_lawful_limit request) then Some why.ScanSize else None
+
+-- a command that is built
+abbrev pub is_built : Request → Bool
+is_built (Put version key value) = true
+is_built (Delete version key) = true
+is_built (Get version key) = true
+is_built (Clone version) = true
+is_built (Info version) = true
+is_built Stat = true
+is_built _ = false
+
+-- the length of these bytes fits its field
+abbrev pub FitsCount : List ℕ → Type 0
+FitsCount bytes = length bytes < 2 ^ 16
+
+-- the numbers of a command and the lengths of its bytes fit their fields
 abbrev pub FitsFields : Request → Type 0
-FitsFields (Put version key value) = version < 2 ^ 32
-FitsFields (Delete version key) = version < 2 ^ 32
-FitsFields (Get version key) = version < 2 ^ 32
+FitsFields (Put version key value) = (version < 2 ^ 32) × FitsCount key × FitsCount value
+FitsFields (Delete version key) = (version < 2 ^ 32) × FitsCount key
+FitsFields (Get version key) = (version < 2 ^ 32) × FitsCount key
 FitsFields (Clone version) = version < 2 ^ 32
-FitsFields (Scan version lo hi limit) = (version < 2 ^ 32) × (limit < 2 ^ 16)
+FitsFields (Scan version lo hi limit) =
+    (version < 2 ^ 32) × FitsCount lo × FitsCount hi × (limit < 2 ^ 16)
 FitsFields (Info version) = version < 2 ^ 32
-FitsFields (OpenCursor version lo hi) = version < 2 ^ 32
+FitsFields (OpenCursor version lo hi) = (version < 2 ^ 32) × FitsCount lo × FitsCount hi
 FitsFields (NextPairs cursor limit) = (cursor < 2 ^ 64) × (limit < 2 ^ 16)
 FitsFields (CloseCursor cursor) = cursor < 2 ^ 64
 FitsFields Stat = Unit {0}
 
--- a body is a command that is taken
-pub record Spells (body : List ℕ) (tag : ℕ) (request : Request) : Type 0 where
+-- a body has the form of a command that is built: a tag, its opcode and just its fields, whatever the
+-- sizes of these
+pub record HasForm (body : List ℕ) (tag : ℕ) (request : Request) : Type 0 where
   pub text : body ≡ command_body tag request
   pub tag_fits : tag < 2 ^ 32
   pub fits : FitsFields request
-  pub taken : is_taken request ≡ true
+  pub built : is_built request ≡ true
+
+-- a body is a command: it has its form, and no size of it is refused
+pub record Spells (body : List ℕ) (tag : ℕ) (request : Request) : Type 0 where
+  pub form : HasForm body tag request
+  pub sizes : size_refusal request ≡ None
 
 -- the tag of a body: its first four bytes, or 0 where it has fewer
 abbrev pub tag_of : List ℕ → ℕ
 tag_of body = if nat_le 4 (length body) then number 4 body else 0
 
--- a body is no command that is taken
+-- a body has the form of no command, and this is the tag of its reply
 pub record IsMalformed (body : List ℕ) (tag : ℕ) : Type 0 where
   pub tag_is : tag ≡ tag_of body
-  pub none : (other : ℕ) (request : Request) → Spells body other request → ⊥
+  pub none : (other : ℕ) (request : Request) → HasForm body other request → ⊥
+
+-- a body has the form of a command under this tag, with a size that is refused so
+pub record HasUnlawfulSize (body : List ℕ) (tag : ℕ) (refused : Refusal) : Type 0 where
+  pub request : Request
+  pub form : HasForm body tag request
+  pub size : size_refusal request ≡ Some refused
+
+-- a body that is no command is refused so, under this tag
+abbrev pub IsRefusedAs : List ℕ → ℕ → Refusal → Type 0
+IsRefusedAs body tag why.Malformed = IsMalformed body tag
+IsRefusedAs body tag why.KeySize = HasUnlawfulSize body tag why.KeySize
+IsRefusedAs body tag why.ValueSize = HasUnlawfulSize body tag why.ValueSize
+IsRefusedAs body tag why.ScanSize = HasUnlawfulSize body tag why.ScanSize
+IsRefusedAs body tag _ = ⊥
 
 -- the byte by which a reply is known
 abbrev pub status_byte : Reply → ℕ
@@ -149,27 +207,52 @@ reply_fields _ pairs = []
 abbrev pub reply_body : ℕ → Answer → List ℕ
 reply_body tag a = be 4 tag ++ status_byte a.reply ∷ reply_fields a.reply a.pairs
 
--- a reply that is given so far
+-- a reply that there is so far
 abbrev pub is_given : Reply → Bool
 is_given reply.Done = true
 is_given reply.Found = true
 is_given reply.Absent = true
+is_given (reply.Made version) = true
+is_given (reply.Info parent depth frozen) = true
+is_given (reply.Stat versions updates changes cursors) = true
 is_given (reply.Refused why.UnknownVersion) = true
+is_given (reply.Refused why.Frozen) = true
+is_given (reply.Refused why.VersionLimit) = true
 is_given (reply.Refused why.ChangeLimit) = true
 is_given (reply.Refused why.Malformed) = true
+is_given (reply.Refused why.KeySize) = true
+is_given (reply.Refused why.ValueSize) = true
 is_given (reply.Refused why.FrameTooLong) = true
 is_given (reply.Refused why.NoMemory) = true
+is_given (reply.Refused why.DeviceFault) = true
+is_given (reply.Refused (why.Damaged block)) = true
 is_given _ = false
 
--- the pairs of a reply as a client reads it, with a question mark for the key that was asked for
-abbrev pub FitsReply : Reply → Pairs → Type 0
-FitsReply reply.Found pairs =
-    (value : List ℕ) × (pairs ≡ (63 ∷ [], value) ∷ []) × (is_value value ≡ true)
-FitsReply _ pairs = pairs ≡ []
+-- a parent's number fits its field, in which the greatest number stands for none
+abbrev pub FitsParent : Option ℕ → Type 0
+FitsParent None = Unit {0}
+FitsParent (Some parent) = parent < 4294967295
 
--- a body is a reply that is given
+-- the numbers of a reply fit their fields
+abbrev pub FitsReply : Reply → Type 0
+FitsReply (reply.Made version) = version < 2 ^ 32
+FitsReply (reply.Info parent depth frozen) = FitsParent parent × (depth < 2 ^ 32)
+FitsReply (reply.Opened cursor) = cursor < 2 ^ 64
+FitsReply (reply.Stat versions updates changes cursors) =
+    (versions < 2 ^ 32) × (updates < 2 ^ 32) × (changes < 2 ^ 32) × (cursors < 2 ^ 32)
+FitsReply (reply.Refused (why.Damaged block)) = block < 2 ^ 32
+FitsReply _ = Unit {0}
+
+-- the pairs of a reply as a client reads it, with a question mark for the key that was asked for
+abbrev pub FitsPairs : Reply → Pairs → Type 0
+FitsPairs reply.Found pairs =
+    (value : List ℕ) × (pairs ≡ (63 ∷ [], value) ∷ []) × (is_value value ≡ true)
+FitsPairs _ pairs = pairs ≡ []
+
+-- a body is a reply that there is
 pub record SpellsReply (body : List ℕ) (tag : ℕ) (a : Answer) : Type 0 where
   pub text : body ≡ reply_body tag a
   pub tag_fits : tag < 2 ^ 32
   pub given : is_given a.reply ≡ true
-  pub pairs_fit : FitsReply a.reply a.pairs
+  pub fits : FitsReply a.reply
+  pub pairs_fit : FitsPairs a.reply a.pairs

@@ -1,7 +1,7 @@
 //! Examples that the definitions compute, and laws that they have. Each is a call that does nothing, and
 //! its clause is what it says.
 
-ghost use Rattle.std.specs.Prelude.{◌≡◌, ◌≢◌, ◌<◌, ◌≤◌, ℕ, List, length, Some, None, true};
+ghost use Rattle.std.specs.Prelude.{◌≡◌, ◌≢◌, ◌<◌, ◌≤◌, ◌↔◌, ℕ, List, length, Some, None, true};
 ghost use Rattle.strat_base.specs.declared.limits.TheConstants.{CHANGES_MAX, VERSIONS_MAX};
 ghost use Rattle.strat_model.specs.Pairs.{Pairs, value_of, set, unset};
 ghost use Rattle.strat_model.specs.Request.{Request, Clone};
@@ -9,7 +9,9 @@ ghost use Rattle.strat_model.specs.Table.{Table, fresh};
 ghost use Rattle.strat_model.specs.Answer.{accepts};
 ghost use Rattle.strat_model.specs.Step.{step, pairs_at, is_frozen};
 ghost use Rattle.strat_model.specs.Kept.{IsMap, IsTable, updated};
+ghost use Rattle.strat_model.specs.Spelling.{has_lawful_sizes, size_refusal, HasForm, IsRefusedAs};
 ghost use Rattle.strat_model.specs.Stream.{Splits};
+ghost use Rattle.strat_model.specs.declared.replies.Refusal.{Refusal};
 ghost use Rattle.strat_model.specs.Examples.{answers, branching, branched, scanning, scanned, growing, grown, filling, filled, paging, paged, staging, staged};
 
 /// A clone has a map of its own, and its parent takes no more updates.
@@ -91,4 +93,13 @@ pub fn streams_have_one_reading()
     ensures { (stream : List ℕ) (bodies others : List (List ℕ)) (rest others_rest : List ℕ)
         → Splits stream bodies rest → Splits stream others others_rest
         → (bodies ≡ others) × (rest ≡ others_rest) }
+{}
+
+/// A command is refused for its sizes exactly where one of them is unlawful.
+pub fn unlawful_sizes_are_refused()
+    ensures none { (request : Request)
+        → size_refusal request ≡ None ↔ has_lawful_sizes request ≡ true }
+    ensures err { (body : List ℕ) (tag : ℕ) (request : Request) (cause : Refusal)
+        → HasForm body tag request → size_refusal request ≡ Some cause
+        → IsRefusedAs body tag cause }
 {}

@@ -5,6 +5,7 @@
 
 pub mod disks;
 pub mod formats;
+pub mod frames;
 pub mod limits;
 pub mod scans;
 pub mod states;

@@ -65,7 +65,7 @@ pub fresh_over : (changes_max versions_max : ℕ) → IsTableOver (None ∷ []) 
 fresh_over changes_max versions_max = record { tree = tree_from_test (None ∷ []) refl; known = refl; rows = refl }
 
 module _ (parents : Parents) (entries : List Entry) (t : Table) (over : IsTableOver parents entries t) where
-  length_over : length t.rows ≡ length parents
+  pub length_over : length t.rows ≡ length parents
   length_over = ap (λ (x : List Row). length x) over.rows ∙ length-rows (map_over parents entries) 0 parents
 
   parents_over : parents_of t ≡ parents
@@ -134,7 +134,7 @@ module _ (parents : Parents) (entries : List Entry) (t : Table) (over : IsTableO
       ∙ clone_same t (is_known parents p) (eqb (length parents) t.versions_max) (eqb t.changes t.changes_max) (length parents) (t.rows ++ child_row p (pairs_at t p) ∷ []) (rows_over (with_child parents p) entries)
       (λ known. (λ i. over.rows i ++ child_row p (map_over_is p known i) ∷ []) ∙ clone_rows parents over.tree entries p (ltb-true p (length parents) known) entry_known)
 
-  value_is_over : (v : ℕ) (key : List ℕ) → is_known parents v ≡ true → value_of (pairs_at t v) key ≡ value_over parents entries v key
+  pub value_is_over : (v : ℕ) (key : List ℕ) → is_known parents v ≡ true → value_of (pairs_at t v) key ≡ value_over parents entries v key
   value_is_over v key known =
       ap (λ (m : Pairs). value_of m key) (map_over_is v known) ∙ value_in-lookup key (map_over parents entries v) ∙ map_value parents entries v over.tree key
 

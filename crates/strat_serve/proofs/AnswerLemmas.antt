@@ -1,17 +1,15 @@
 -- One body, answered.
 use Rattle.std.proofs.Common.{◌≡◌, ℕ, false, List, [], refl, sym, inl, inr}
 use Rattle.strat_frame.specs.declared.commands.BodyFault.{BodyFault}
-use Rattle.strat_frame.specs.declared.commands.BodyFault.TheVariants as fault
-use Rattle.strat_frame.specs.Faults.{IsFaulty}
+use Rattle.strat_frame.specs.Faults.{refusal_for}
 use Rattle.strat_model.specs.Answer.{as_told}
 use Rattle.strat_model.specs.declared.replies.Reply.{Reply}
 use Rattle.strat_model.specs.declared.replies.Reply.TheVariants as reply
 use Rattle.strat_model.specs.Pairs.{Pairs}
 use Rattle.strat_model.specs.Request.{Request}
-use Rattle.strat_model.specs.Spelling.{Spells, reply_body}
+use Rattle.strat_model.specs.Spelling.{Spells, IsRefusedAs, reply_body}
 use Rattle.strat_model.specs.Stream.{frame}
 use Rattle.strat_model.specs.Run.{position_after}
-use Rattle.strat_serve.specs.Refusals.{refusal_for}
 use Rattle.strat_serve.specs.Session.{IsAnswered}
 use Rattle.strat_store.specs.Store.{Attached, position_of, IsApplied}
 
@@ -26,15 +24,7 @@ answered old new body tag request r pairs bytes spelled (inl is) sent_bytes = re
     going = is.going;
   });
 }
-answered old new body tag request r pairs bytes spelled (inr (inl is)) sent_bytes = record {
-  response = record { tag = tag; answer = as_told r pairs };
-  spelled = sent_bytes;
-  how = inl (record {
-    answers = inr (inr (record { request = request; spelled = spelled; takes = is.takes; accepted = is.accepted; answer = is.answer_is; same = is.same }));
-    going = is.going;
-  });
-}
-answered old new body tag request r pairs bytes spelled (inr (inr is)) sent_bytes = record {
+answered old new body tag request r pairs bytes spelled (inr is) sent_bytes = record {
   response = record { tag = tag; answer = as_told r pairs };
   spelled = sent_bytes;
   how = inr (record {
@@ -48,15 +38,12 @@ answered old new body tag request r pairs bytes spelled (inr (inr is)) sent_byte
 
 -- a body that is no command
 pub told_faulty : (s : Attached) (body : List ℕ) (tag : ℕ) (f : BodyFault) (pairs : Pairs) (bytes : List ℕ) → s.spent ≡ false
-    → IsFaulty f body tag → pairs ≡ [] → bytes ≡ frame (reply_body tag (as_told (reply.Refused (refusal_for f)) pairs)) → IsAnswered s body s bytes
-told_faulty s body tag fault.Malformed pairs bytes going is none sent_bytes = record {
-  response = record { tag = tag; answer = as_told (reply.Refused (refusal_for fault.Malformed)) pairs };
+    → IsRefusedAs body tag (refusal_for f) → pairs ≡ [] → bytes ≡ frame (reply_body tag (as_told (reply.Refused (refusal_for f)) pairs)) → IsAnswered s body s bytes
+told_faulty s body tag f pairs bytes going is none sent_bytes = record {
+  response = record { tag = tag; answer = as_told (reply.Refused (refusal_for f)) pairs };
   spelled = sent_bytes;
   how = inl (record {
-    answers = inl (record { malformed = is; answer = λ j. as_told (reply.Refused (refusal_for fault.Malformed)) (none j); same = refl });
+    answers = inl (record { cause = refusal_for f; refused = is; answer = λ j. as_told (reply.Refused (refusal_for f)) (none j); same = refl });
     going = going;
   });
 }
-told_faulty s body tag fault.KeySize pairs bytes going is none sent_bytes = absurd is
-told_faulty s body tag fault.ValueSize pairs bytes going is none sent_bytes = absurd is
-told_faulty s body tag fault.ScanSize pairs bytes going is none sent_bytes = absurd is

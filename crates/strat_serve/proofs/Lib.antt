@@ -1,4 +1,5 @@
 pub mod AnswerLemmas
+pub mod BeginLemmas
 pub mod GiveUpLemmas
 pub mod ProgressLemmas
 pub mod SendLemmas

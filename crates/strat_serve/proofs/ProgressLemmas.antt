@@ -5,7 +5,7 @@ use Rattle.std.specs.List.{flat_map, AllByRecursion}
 use Rattle.std.proofs.lemmas.List.{append-nil, length-map, map-append, take-append-drop, take-append-le}
 use Rattle.std.proofs.lemmas.List.Concat.{flat_map-append}
 use Rattle.strat_crash.specs.Image.{Image}
-use Rattle.strat_crash.specs.Moments.{DiskView, Images, Since, Passes}
+use Rattle.strat_crash.specs.Moments.{DiskView, Images, Since, Passes, KeepsImages}
 use Rattle.strat_crash.specs.Trail.{Trail}
 use Rattle.strat_io.specs.Streams.{Appends, Gives}
 use Rattle.strat_io.proofs.StreamLemmas.{appends_then}
@@ -169,13 +169,14 @@ tables_before xs = map (λ (x : Exchange). bare x.at.table) xs
 pub follows_more : (before mid now : DiskView) (f : Image) (mem : ℕ) (old new : Attached) (xs : List Exchange) (n : ℕ) → Passes mid now
     → Follows before mid f mem (tables_before xs ++ bare old.table ∷ []) (length xs) → mem ≡ old.log.mem
     → Trail Shows now mid.moment (bare old.table ∷ bare new.table ∷ []) n → ((c : Image) → Since now mid.moment c → (d : Image) × Images mid d × SameButJournal old.log.mem d c)
-    → Follows before now f mem (tables_before xs ++ bare old.table ∷ bare new.table ∷ []) (length xs + n)
-follows_more before mid now f mem old new xs n passes so_far same more journal =
+    → (bare new.table ≡ bare old.table → KeepsImages mid now) → Follows before now f mem (tables_before xs ++ bare old.table ∷ bare new.table ∷ []) (length xs + n)
+follows_more before mid now f mem old new xs n passes so_far same more journal still =
     let len : length (tables_before xs) ≡ length xs = length-map xs (λ (x : Exchange). bare x.at.table) in
     subst (λ (k : ℕ). Follows before now f mem (tables_before xs ++ bare old.table ∷ bare new.table ∷ []) (k + n)) len
     (follows_on before mid now f mem (tables_before xs) (bare new.table ∷ []) (bare old.table) n passes
     (subst (λ (k : ℕ). Follows before mid f mem (tables_before xs ++ bare old.table ∷ []) k) (sym len) so_far) more
-    (subst (λ (m : ℕ). (c : Image) → Since now mid.moment c → (d : Image) × Images mid d × SameButJournal m d c) (sym same) journal))
+    (subst (λ (m : ℕ). (c : Image) → Since now mid.moment c → (d : Image) × Images mid d × SameButJournal m d c) (sym same) journal)
+    (λ alike. still alike.0))
 
 -- where a store goes on the images show its table after the answer
 moves_on : (before now : DiskView) (old new : Attached) → new.spent ≡ false → Moves before now old new → Trail Shows now before.moment (bare old.table ∷ bare new.table ∷ []) 1
@@ -231,7 +232,7 @@ module _ (start old new : Attached) (count : ℕ) (held rest body : List ℕ) (r
       stands = λ f e. (done.moves (p.stands f e)).stands is.going;
       follows = λ f e.
           let moves = done.moves (p.stands f e) in
-          let joined = follows_more before.disk mid.disk now.disk f start.log.mem old new p.exchanges 1 done.passes (p.follows f e) (sym p.mem) (moves_on mid.disk now.disk old new is.going moves) moves.journal in
+          let joined = follows_more before.disk mid.disk now.disk f start.log.mem old new p.exchanges 1 done.passes (p.follows f e) (sym p.mem) (moves_on mid.disk now.disk old new is.going moves) moves.journal moves.quiet in
           let len : length p.exchanges + 1 ≡ length (p.exchanges ++ latest ∷ []) = sym (length-append p.exchanges (latest ∷ [])) in
           let earlier : tables_before (p.exchanges ++ latest ∷ []) ≡ tables_before p.exchanges ++ bare old.table ∷ [] = map-append (λ (x : Exchange). bare x.at.table) p.exchanges (latest ∷ []) in
           let list : tables_before p.exchanges ++ bare old.table ∷ bare new.table ∷ [] ≡ tables_before (p.exchanges ++ latest ∷ []) ++ bare new.table ∷ [] =

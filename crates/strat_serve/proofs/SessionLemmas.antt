@@ -287,7 +287,7 @@ module _ (start old new : Attached) (count budget : ℕ) (held rest body : List 
       let moves = done.moves (p.stands f e) in
       let last : Trail Shows now.disk mid.disk.moment (bare old.table ∷ bare new.table ∷ []) 0 =
       subst (λ b. Trail Shows now.disk mid.disk.moment (bare old.table ∷ bare new.table ∷ []) (if b then 0 else 1)) is.spent moves.trail in
-      let joined = follows_more before.disk mid.disk now.disk f start.log.mem old new p.exchanges 0 done.passes (p.follows f e) (sym p.mem) last moves.journal in
+      let joined = follows_more before.disk mid.disk now.disk f start.log.mem old new p.exchanges 0 done.passes (p.follows f e) (sym p.mem) last moves.journal moves.quiet in
       let same : length p.exchanges + 0 ≡ length p.exchanges = omega arith in
       subst (λ (t : Table). Follows before.disk now.disk f start.log.mem (tables_before p.exchanges ++ bare old.table ∷ bare t ∷ []) (length p.exchanges)) (sym is.table)
       (subst (λ (n : ℕ). Follows before.disk now.disk f start.log.mem (tables_before p.exchanges ++ bare old.table ∷ bare new.table ∷ []) n) same joined)

@@ -3,8 +3,8 @@
 ghost use Rattle.std.specs.Prelude.{◌≡◌, OnOk, OnErr, IfOk, [], false};
 ghost use Rattle.strat_crash.specs.Faults.{CountsFaults};
 ghost use Rattle.strat_crash.specs.Moments.{Passes};
+ghost use Rattle.strat_frame.specs.Faults.{refusal_for};
 ghost use Rattle.strat_io.specs.Streams.{Appends};
-ghost use Rattle.strat_serve.specs.Refusals.{refusal_for};
 ghost use Rattle.strat_serve.specs.Session.{IsAnswered, SendsPrefix, too_long_bytes};
 ghost use Rattle.strat_store.specs.Store.{StandsOn, Moves, BreaksByFault};
 

@@ -2,6 +2,7 @@
 #![tactic(auto)]
 
 mod answering;
+pub mod laws;
 mod serving;
 
 pub use serving::serve;

@@ -1,17 +1,18 @@
 //! The serving run.
 
-ghost use Rattle.std.specs.Prelude.{◌≡◌, ◌≢◌, ◌<◌, ◌≤◌, ℕ, length, take, [], IfOk, OnErr, false};
+ghost use Rattle.std.specs.Prelude.{◌≡◌, ◌≢◌, ◌<◌, ◌≤◌, ◌+◌, ℕ, length, take, [], IfOk, IfSome, IfNone, OnOk, OnErr, false};
 ghost use Rattle.strat_crash.specs.Faults.{CountsFaults};
 ghost use Rattle.strat_crash.specs.Moments.{Passes};
+ghost use Rattle.strat_io.specs.Streams.{Appends};
 ghost use Rattle.strat_store.specs.Causes.{ended_for};
-ghost use Rattle.strat_serve.specs.Session.{Took, IsAtEnd, RunOutcome, RefusesFor, IsGivenUp, EndHasCause};
+ghost use Rattle.strat_serve.specs.Session.{Took, IsAtEnd, SendsPrefix, RunOutcome, RefusesFor, IsGivenUp, EndHasCause};
 ghost use Rattle.strat_serve.specs.World.{world};
 
 use crate::answering::{Buffers, answer, refuse_long};
 use std::alloc::Global;
 use strat_base::Failed;
 use strat_disk::Disk;
-use strat_frame::Next;
+use strat_frame::{Next, OutBuf};
 use strat_io::{Sink, Source, put_all};
 use strat_model::Ended;
 use strat_store::{AttachFault, Store};
@@ -43,6 +44,29 @@ fn read_piece<S: Source>(source: &mut S, piece: &mut [u8], most: usize) -> Resul
 {
     let n = source.read(&mut piece[..most])?;
     Ok(n)
+}
+
+/// How many bytes may be read next, or none where as many were taken as the budget has.
+fn most_next(budget: u64, taken: u64) -> Option<usize>
+    requires room { taken ≤ budget }
+    ensures none { IfNone result (taken ≡ budget) }
+    ensures fits { IfSome result (λ n. (0 < n) × (n ≤ 4096) × (taken + n ≤ budget)) }
+{
+    if taken == budget {
+        return None;
+    }
+    Some((budget - taken).min(PIECE as u64) as usize)
+}
+
+/// Sends a reply.
+#[tactic(auto, using(crate::proofs::SendLemmas::sends_prefix))]
+fn send<K: Sink>(sink: &mut K, out: &OutBuf) -> Result<(), Failed>
+    ensures ok { OnOk result (Appends (K.held sink.old) (K.held sink.new) out.now) }
+    ensures err { OnErr result (SendsPrefix (K.held sink.old) (K.held sink.new) out.now) }
+    ensures cause { CountsFaults (K.faults sink.old) (K.faults sink.new) result }
+{
+    put_all(sink, out.bytes())?;
+    Ok(())
 }
 
 /// How a run ends whose input has ended: within a frame where bytes of one are held.
@@ -103,7 +127,7 @@ pub fn serve<S: Source, K: Sink, D: Disk>(
                     &mut buffers.pairs,
                     &mut buffers.out,
                 );
-                let Ok(()) = put_all(sink, buffers.out.bytes()) else {
+                let Ok(()) = send(sink, &buffers.out) else {
                     return Ended::Sink;
                 };
                 if store.is_spent() {
@@ -111,10 +135,9 @@ pub fn serve<S: Source, K: Sink, D: Disk>(
                 }
             }
             Next::NotYet => {
-                if taken == budget {
+                let Some(most) = most_next(budget, taken) else {
                     return Ended::Budget;
-                }
-                let most = (budget - taken).min(PIECE as u64) as usize;
+                };
                 let Ok(n) = read_piece(source, &mut piece, most) else {
                     return Ended::Source;
                 };

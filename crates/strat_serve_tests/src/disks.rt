@@ -186,14 +186,25 @@ fn ends_altered(alloc: Global, disk: &mut MemDisk, change: (u64, u8), ended: End
         && gives(alloc, disk, b"", b"", ended)
 }
 
-/// The same of a small store after these puts.
-fn is_named(alloc: Global, puts: &[u8], change: (u64, u8), ended: Ended) -> bool {
-    match small_store(alloc) {
+/// The same of a store after these puts, all of which it took.
+fn is_named_in(
+    store: Option<MemDisk>,
+    alloc: Global,
+    puts: &[u8],
+    change: (u64, u8),
+    ended: Ended,
+) -> bool {
+    match store {
         Some(mut disk) => {
-            run(alloc, &mut disk, puts).is_some() && ends_altered(alloc, &mut disk, change, ended)
+            is_done(alloc, &mut disk, puts) && ends_altered(alloc, &mut disk, change, ended)
         }
         None => false,
     }
+}
+
+/// The same of a small store.
+fn is_named(alloc: Global, puts: &[u8], change: (u64, u8), ended: Ended) -> bool {
+    is_named_in(small_store(alloc), alloc, puts, change, ended)
 }
 
 // The gate and the text of the slot; its manifest's block, its region and its most versions out of range; the other slot
@@ -229,13 +240,27 @@ fn altered_manifests_are_named_and_left(rt: HostRuntime) {
     }
 }
 
-// A deletion, a clone, and a put at another version, which the table refuses; the other region open after a full one;
-// the gate of the last record closed.
+// The only put made a deletion or a clone, which the table takes, and a put at a version that is not there, which it
+// refuses, as it refuses a clone past the limit; the other region open after a full one; the gate of the last record
+// closed.
 #[test]
 fn altered_records_are_named_and_left(rt: HostRuntime) {
-    for (at, byte) in [(8193, 2), (8193, 3), (8197, 1)] {
-        assert!(rt; is_named(rt.alloc(), PUT, (at, byte), Ended::Damaged { block: 2 }));
+    for (at, byte, ended) in [
+        (8193, 2, Ended::Done),
+        (8193, 3, Ended::Done),
+        (8197, 1, Ended::Damaged { block: 2 }),
+    ] {
+        assert!(rt; is_named(rt.alloc(), PUT, (at, byte), ended));
     }
+    assert!(rt;
+        is_named_in(
+            new_store(rt.alloc(), 4, 100, 1),
+            rt.alloc(),
+            PUT,
+            (8193, 3),
+            Ended::Damaged { block: 2 }
+        )
+    );
     assert!(rt; is_named(rt.alloc(), PUTS, (16384, 0xa7), Ended::Damaged { block: 4 }));
     assert!(rt; is_named(rt.alloc(), PUTS, (8225, 0), Ended::Done));
 }
@@ -250,7 +275,7 @@ fn a_disk_with_nothing_is_no_store(rt: HostRuntime) -> Result<(), Fail> {
 
 /// Whether an opening shuts the region that is not active, where its first gate stands open.
 fn shuts_the_other(alloc: Global, disk: &mut MemDisk) -> bool {
-    if run(alloc, disk, PUT).is_none() || disk.bytes().len() != 28672 {
+    if !is_done(alloc, disk, PUT) || disk.bytes().len() != 28672 {
         return false;
     }
     let Ok(before) = disk.crash(0) else {
@@ -353,7 +378,7 @@ fn the_largest_put_is_kept_and_no_larger_one(rt: HostRuntime) {
             rt.alloc(),
             &mut disk,
             long_key,
-            b"\x00\x00\x00\x05\x00\x00\x00\x02\x16"
+            b"\x00\x00\x00\x05\x00\x00\x00\x02\x17"
         )
     );
     let long_value: (&[u8], usize, &[u8], usize) = (
@@ -367,7 +392,7 @@ fn the_largest_put_is_kept_and_no_larger_one(rt: HostRuntime) {
             rt.alloc(),
             &mut disk,
             long_value,
-            b"\x00\x00\x00\x05\x00\x00\x00\x03\x16"
+            b"\x00\x00\x00\x05\x00\x00\x00\x03\x18"
         )
     );
     let no_key: (&[u8], usize, &[u8], usize) = (
@@ -381,7 +406,7 @@ fn the_largest_put_is_kept_and_no_larger_one(rt: HostRuntime) {
             rt.alloc(),
             &mut disk,
             no_key,
-            b"\x00\x00\x00\x05\x00\x00\x00\x04\x16"
+            b"\x00\x00\x00\x05\x00\x00\x00\x04\x17"
         )
     );
     assert!(rt; finds_the_largest(rt.alloc(), &mut disk));

@@ -1,24 +1,16 @@
 -- What an opening leaves of a disk that it read, and that it may have written to last.
-use Rattle.std.proofs.Common.{◌≡◌, ℕ, Option, Some, Result, Ok, Err, IfSome, IfErr, ◌≢◌, sym, ap, ◌∙◌, subst}
+use Rattle.std.proofs.Common.{◌≡◌, ℕ, Option, Some, Result, Ok, Err, IfErr, ◌≢◌, sym, ap, ◌∙◌}
 use Rattle.strat_format.specs.Damage.{Read, and_then}
 use Rattle.strat_crash.specs.Image.{Image}
-use Rattle.strat_crash.specs.Moments.{DiskView, Images, KeepsImages, IsDurable, OnlyReads}
+use Rattle.strat_crash.specs.Moments.{DiskView, KeepsImages, OnlyReads}
 use Rattle.strat_format.specs.SuperBlock.{Super, newest_in}
 use Rattle.strat_base.specs.declared.failures.Fault.{Fault}
 use Rattle.strat_base.specs.declared.failures.Fault.TheVariants as fault
-use Rattle.strat_crash.proofs.MomentLemmas.{now_since_start, settled_at}
 use Rattle.strat_recovery.specs.Head.{Head}
 use Rattle.strat_store.specs.declared.opening.AttachFault.{AttachFault}
 use Rattle.strat_store.specs.declared.opening.AttachFault.TheVariants.{Device, Damaged}
 use Rattle.strat_store.specs.Causes.{of_fault}
 use Rattle.strat_store.specs.Opened.{recover_head_now, recover_slot_now, recover_now}
-
--- a disk that was only read is settled where it was so
-pub settled_looks : (old new : DiskView) (f : Image) → old.content ≡ Some f → IsDurable old → OnlyReads old new → IsDurable new
-settled_looks old new f exposed settled looks =
-    let each : (c : Image) → Images new c → c ≡ f =
-    λ c left. settled_at old f exposed settled c (looks.images.each c (now_since_start old new c looks.time left)) in
-    subst (λ (o : Option Image). IfSome o (λ g. (c : Image) → Images new c → c ≡ g)) (sym (looks.same ∙ exposed)) each
 
 -- a disk that was only read is as it was, whatever the outcome
 pub looks_kept : {T : Type 0} (r : Result T AttachFault) (old new : DiskView) → OnlyReads old new → IfErr r (λ e. e ≢ Device → (new.content ≡ old.content) × KeepsImages old new)

@@ -1,7 +1,6 @@
 -- What one change more in a journal makes of a store's head.
 use Rattle.std.proofs.Common.{◌≡◌, ◌<◌, ℕ, suc, ◌+◌, true, eqb, min, not, inl, inr, List, [], ◌∷◌, ◌++◌, length, Some, Ok, sym, ap, ◌∙◌, subst, arith, length-append, true≢false}
 use Rattle.std.specs.Prelude.{fold}
-use Rattle.std.specs.List.{list_all}
 use Rattle.std.proofs.lemmas.Bool.{and_parts, and_from, eq-eqb, ne_eqb, not-true, cases_eq}
 use Rattle.strat_base.specs.Change.{Change, Put, Delete, Clone}
 use Rattle.strat_crash.specs.Image.{Image, Outside}
@@ -10,19 +9,12 @@ use Rattle.strat_recovery.specs.Opened.{parents_in}
 use Rattle.strat_state.specs.Sound.{is_accepted, are_accepted}
 use Rattle.strat_state.specs.State.{tree_after}
 use Rattle.strat_base.specs.Tree.{Parents}
-use Rattle.strat_journal.specs.Records.{journal_changes, is_plain}
+use Rattle.strat_journal.specs.Records.{journal_changes}
 use Rattle.strat_recovery.specs.Head.{Head}
 use Rattle.strat_store.specs.Opened.{recover_now, head_with, MayFollow, SameButJournal}
 use Rattle.strat_store.proofs.OpenedLemmas.{Parts, parts_of, few_now, fits_of, head_is}
 use Rattle.strat_store.proofs.HeadSameLemmas.{same_but, Changes, changes_behind, head_of_changes}
 use Rattle.strat_format.specs.Manifest.{new_manifest}
-
--- a plain change more
-plain_push : (journal : List Change) (change : Change) → list_all is_plain journal ≡ true → is_plain change ≡ true → list_all is_plain (journal ++ change ∷ []) ≡ true
-plain_push [] change all last = and_from (is_plain change) true last (λ i. true)
-plain_push (d ∷ journal) change all last =
-    let parts = and_parts (is_plain d) (list_all is_plain journal) all in
-    and_from (is_plain d) (list_all is_plain (journal ++ change ∷ [])) parts.0 (plain_push journal change parts.1 last)
 
 -- a change more that is accepted
 accepted_push : (changes_max versions_max : ℕ) (parents : Parents) (n : ℕ) (journal : List Change) (c : Change) → are_accepted changes_max versions_max parents n journal ≡ true
@@ -72,7 +64,7 @@ module _ (f : Image) (h : Head) (found : recover_now f ≡ Ok (Some h)) (c : Ima
   pub same_head : journal_changes c h.sb.mem h.sb.region ≡ Ok h.journal → recover_now c ≡ Ok (Some h)
   same_head e =
       let old = head_changes f h found in
-      head_of_changes f c parts.slot h.sb h.journal parts.newest parts.behind.block differs (record { read = e; few = old.few; plain = old.plain; accepted = old.accepted })
+      head_of_changes f c parts.slot h.sb h.journal parts.newest parts.behind.block differs (record { read = e; few = old.few; accepted = old.accepted })
       ∙ (λ i. Ok (Some (head_is h parts.manifest i)))
 
   -- it has the head with a change where its journal has that change more
@@ -83,9 +75,8 @@ module _ (f : Image) (h : Head) (found : recover_now f ≡ Ok (Some h)) (c : Ima
       head_of_changes f c parts.slot h.sb (h.journal ++ change ∷ []) parts.newest parts.behind.block differs (record {
         read = e;
         few = omega (arith, length-append h.journal (change ∷ []));
-        plain = plain_push h.journal change old.plain follows.plain;
         accepted =
             accepted_push h.sb.changes_max h.sb.versions_max (parents_in new_manifest) 0 h.journal change old.accepted
-            (accepted_wider h.sb.changes_max h.sb.versions_max h.sb.mem (fold tree_after (parents_in new_manifest) h.journal) (0 + length h.journal) change (omega arith) follows.accepted);
+            (accepted_wider h.sb.changes_max h.sb.versions_max h.sb.mem (fold tree_after (parents_in new_manifest) h.journal) (0 + length h.journal) change (omega arith) follows);
       })
       ∙ (λ i. Ok (Some (head_is (head_with h change) parts.manifest i)))

@@ -14,8 +14,8 @@ use Rattle.strat_base.proofs.EntryLemmas.{same_bytes}
 use Rattle.strat_crash.proofs.MomentLemmas.{now_since_start, at_told, settled_at}
 use Rattle.strat_format.proofs.SuperBlockLemmas.{slot_closed}
 use Rattle.strat_gate.specs.Laying.{LaysOver, OldOrNew}
-use Rattle.strat_journal.proofs.NowLemmas.{empty}
-use Rattle.strat_journal.specs.Records.{recover_journal_now}
+use Rattle.strat_journal.proofs.AloneLemmas.{empty}
+use Rattle.strat_format.specs.Records.{journal_in_one}
 use Rattle.strat_store.specs.Format.{IsNewDisk, IsShut, IsNewStore, IsNoneOrNew, super_for, head_for}
 use Rattle.strat_store.specs.Opened.{new_block, has_new_manifest, accepted_now, head_from, recover_slot_now, recover_now}
 use Rattle.strat_store.proofs.OpenedLemmas.{reads_now}
@@ -86,7 +86,7 @@ module _ (mem changes_max versions_max : ℕ) (some : 0 < mem) (v : DiskView) (p
       let same : SameIn (4096 * first_free mem) 4096 p.content c = outside_same_above 0 4096 (4096 * first_free mem) 4096 (omega arith) out in
       let block : window c (4096 * first_free mem) 4096 ≡ new_block = window_same p.content c (4096 * first_free mem) 4096 same ∙ p.block in
       let has : has_new_manifest c sb ≡ true = same_bytes (window c (4096 * first_free mem) 4096) new_block block in
-      let none : recover_journal_now c mem 0 ≡ Ok [] = empty c mem 0 some (λ up. p.active (sym (out.above (region_at mem 0) (omega arith)) ∙ up)) in
+      let none : journal_in_one c mem 0 ≡ Ok [] = empty c mem 0 some (λ up. p.active (sym (out.above (region_at mem 0) (omega arith)) ∙ up)) in
       let found : recover_now c ≡ Ok (Some (head_for mem changes_max versions_max)) =
       ap (λ (r : Read (Option (ℕ × Super))). and_then r (recover_slot_now c)) newest
       ∙ (λ j. and_then (and_then (passed_or sb.manifest (has j) new_manifest) (λ _. and_then (none j) (λ logged.

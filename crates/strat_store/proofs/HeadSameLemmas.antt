@@ -1,7 +1,6 @@
 -- Images that differ in the journal alone have the same store behind the journal.
-use Rattle.std.proofs.Common.{◌≡◌, ◌≤◌, ◌<◌, ◌+◌, ◌*◌, ℕ, zero, suc, Bool, true, false, cond, eqb, not, ◌&&◌, List, [], ◌∷◌, length, map, find, Option, Some, None, Ok, Err, refl, sym, ap, ◌∙◌, arith}
+use Rattle.std.proofs.Common.{◌≡◌, ◌≤◌, ◌<◌, ◌+◌, ◌*◌, ℕ, zero, suc, Bool, true, false, cond, eqb, ◌&&◌, List, [], ◌∷◌, length, map, Some, Ok, Err, refl, sym, ap, ◌∙◌, arith}
 use Rattle.std.specs.Prelude.{bytes_eq}
-use Rattle.std.specs.List.{list_all}
 use Rattle.std.proofs.lemmas.Bool.{and_parts, and_from, cond-true}
 use Rattle.std.proofs.lemmas.List.{length-map}
 use Rattle.strat_base.specs.declared.limits.TheConstants.{BLOCK}
@@ -18,8 +17,8 @@ use Rattle.strat_base.specs.Tree.{Parents}
 use Rattle.strat_format.proofs.DamageLemmas.{and_then_ok, put_first_ok}
 use Rattle.strat_crash.proofs.ImageLemmas.{window_same}
 use Rattle.strat_format.proofs.SuperBlockLemmas.{slot_same}
-use Rattle.strat_journal.specs.Records.{is_plain, plain_or, plain_records, changes_in_order, journal_changes, recover_journal_now}
-use Rattle.strat_journal.proofs.NowLemmas.{narrow, wide}
+use Rattle.strat_journal.specs.Records.{changes_in_order, journal_changes}
+use Rattle.strat_journal.proofs.AloneLemmas.{narrow, wide}
 use Rattle.strat_recovery.specs.Opening.{accepted_in}
 use Rattle.strat_store.specs.Opened.{new_block, has_new_manifest, accepted_now, head_from, recover_now, SameButJournal}
 use Rattle.strat_store.proofs.OpenedLemmas.{Behind, fits_of, head_from_parts}
@@ -66,7 +65,7 @@ manifest_same f c sb from same =
 
 -- an image that differs in the journal has a head with the changes that are read there
 pub head_same : (f c : Image) (slot : ℕ) (sb : Super) (journal : List Change) (logged : List Logged) → newest_in f ≡ Ok (Some (slot, sb)) → has_new_manifest f sb ≡ true
-    → SameButJournal sb.mem f c → recover_journal_now c sb.mem sb.region ≡ Ok logged → accepted_now sb logged ≡ Ok journal → recover_now c ≡ Ok (Some (head_from sb journal))
+    → SameButJournal sb.mem f c → journal_in_one c sb.mem sb.region ≡ Ok logged → accepted_now sb logged ≡ Ok journal → recover_now c ≡ Ok (Some (head_from sb journal))
 head_same f c slot sb journal logged newest block same read accepted =
     let fits = fits_of f slot sb newest in
     head_from_parts c slot sb journal (newest_same f c same.front ∙ newest)
@@ -107,40 +106,10 @@ accepted_from changes_max versions_max parents n (l ∷ logged) e =
     cond-true (is_accepted changes_max versions_max parents n l.change) (put_first l.change (accepted_in changes_max versions_max (tree_after parents l.change) (suc n) logged)) (Err l.block) parts.0
     ∙ ap (λ (r : Read (List Change)). put_first l.change r) (accepted_from changes_max versions_max (tree_after parents l.change) (suc n) logged parts.1)
 
--- where no other record is found all of them are plain
-all_plain : (logged : List Logged) → find (λ (l : Logged). not (is_plain l.change)) logged ≡ None → list_all (λ (l : Logged). is_plain l.change) logged ≡ true
-all_plain [] e = refl
-all_plain (l ∷ logged) e = by_test (is_plain l.change) refl (all_plain logged) e
-  where
-    by_test : (b : Bool) → is_plain l.change ≡ b → (find (λ (x : Logged). not (is_plain x.change)) logged ≡ None → list_all (λ (x : Logged). is_plain x.change) logged ≡ true)
-        → cond (not b) (Some l) (find (λ (x : Logged). not (is_plain x.change)) logged) ≡ None
-        → (is_plain l.change && list_all (λ (x : Logged). is_plain x.change) logged) ≡ true
-    by_test true is rest e = and_from (is_plain l.change) (list_all (λ (x : Logged). is_plain x.change) logged) is (rest e)
-    by_test false is rest e = absurd (cc)
-
--- a journal that is read has plain records
-pub read_plain : (c : Image) (mem active : ℕ) (logged : List Logged) → recover_journal_now c mem active ≡ Ok logged → list_all (λ (l : Logged). is_plain l.change) logged ≡ true
-read_plain c mem active logged e =
-    let found = and_then_ok (journal_in_one c mem active) plain_records logged e in
-    by_find found.0 (find (λ (l : Logged). not (is_plain l.change)) found.0) refl found.2
-  where
-    by_find : (xs : List Logged) (o : Option Logged) → find (λ (l : Logged). not (is_plain l.change)) xs ≡ o → plain_or xs o ≡ Ok logged
-        → list_all (λ (l : Logged). is_plain l.change) logged ≡ true
-    by_find xs None none e =
-        let same : xs ≡ logged = cc in
-        ap (list_all (λ (l : Logged). is_plain l.change)) (sym same) ∙ all_plain xs none
-    by_find xs (Some l) some e = absurd (cc)
-
--- records are plain where their changes are
-plain_mapped : (logged : List Logged) → list_all (λ (l : Logged). is_plain l.change) logged ≡ list_all is_plain (map (λ (l : Logged). l.change) logged)
-plain_mapped [] = refl
-plain_mapped (l ∷ logged) = ap (λ (b : Bool). is_plain l.change && b) (plain_mapped logged)
-
--- the changes of a head's journal are plain, each accepted in its turn, and no more than a region takes
+-- the changes of a head's journal are each accepted in their turn, and no more than a region takes
 pub record Changes (c : Image) (sb : Super) (journal : List Change) : Type 0 where
   pub read : journal_changes c sb.mem sb.region ≡ Ok journal
   pub few : length journal ≤ sb.mem
-  pub plain : list_all is_plain journal ≡ true
   pub accepted : are_accepted sb.changes_max sb.versions_max (parents_in new_manifest) 0 journal ≡ true
 
 -- an image that differs in the journal has a head with the changes that stand there
@@ -152,8 +121,7 @@ head_of_changes f c slot sb journal newest block same changes =
     let is : map (λ (l : Logged). l.change) found.0 ≡ journal = cc in
     let fits = fits_of f slot sb newest in
     let few : length found.0 ≤ sb.mem = omega (arith, changes.few, ap length is, length-map found.0 (λ (l : Logged). l.change)) in
-    let all : list_all (λ (l : Logged). is_plain l.change) found.0 ≡ true = plain_mapped found.0 ∙ ap (list_all is_plain) is ∙ changes.plain in
-    let read : recover_journal_now c sb.mem sb.region ≡ Ok found.0 = wide c sb.mem sb.region found.0 (omega (arith, fits.mem_least)) found.1 few all in
+    let read : journal_in_one c sb.mem sb.region ≡ Ok found.0 = wide c sb.mem sb.region found.0 (omega (arith, fits.mem_least)) found.1 few in
     let each : are_accepted sb.changes_max sb.versions_max (parents_in new_manifest) 0 (map (λ (l : Logged). l.change) found.0) ≡ true =
     ap (are_accepted sb.changes_max sb.versions_max (parents_in new_manifest) 0) is ∙ changes.accepted in
     head_same f c slot sb journal found.0 newest block same read
@@ -166,6 +134,5 @@ changes_behind c sb journal behind few =
     record {
       read = ap changes_in_order (narrow c sb.mem sb.region behind.logged behind.read) ∙ ap (λ (j : List Change). Ok j) parts.1;
       few = few;
-      plain = ap (list_all is_plain) (sym parts.1) ∙ sym (plain_mapped behind.logged) ∙ read_plain c sb.mem sb.region behind.logged behind.read;
       accepted = parts.0;
     }

@@ -12,4 +12,5 @@ pub mod StaleLemmas
 pub mod StandLemmas
 pub mod StepLemmas
 pub mod StoreLemmas
+pub mod VersionLemmas
 pub mod OtherLemmas

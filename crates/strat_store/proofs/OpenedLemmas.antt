@@ -1,5 +1,5 @@
 -- What an image shows whose head was found.
-use Rattle.std.proofs.Common.{◌≡◌, ◌≤◌, ◌<◌, ◌+◌, ◌-◌, ◌*◌, ℕ, suc, Bool, true, false, cond, eqb, leb, ltb, not, ◌&&◌, inl, inr, List, [], ◌∷◌, length, Option, Some, None, Ok, Err, find, refl, sym, ap, ◌∙◌, subst, arith}
+use Rattle.std.proofs.Common.{◌≡◌, ◌≤◌, ◌<◌, ◌+◌, ◌-◌, ◌*◌, ℕ, suc, Bool, true, false, cond, eqb, leb, ltb, not, ◌&&◌, inl, inr, List, [], ◌∷◌, length, Option, Some, None, Ok, Err, refl, sym, ap, ◌∙◌, subst, arith}
 use Rattle.std.specs.Prelude.{min, bytes_eq, option_and_then}
 use Rattle.std.proofs.Math.Nat.{min-eq_left, min_comm}
 use Rattle.std.proofs.lemmas.Bool.{and_parts, and_from, eqb-true, ne_eqb, leb-true, le-leb, ltb-true, cases_lt}
@@ -21,7 +21,6 @@ use Rattle.strat_base.specs.Tree.{Parents, is_known, has_child}
 use Rattle.strat_format.proofs.ChainLemmas.{chain_read}
 use Rattle.strat_format.proofs.DamageLemmas.{and_then_ok, passed_ok}
 use Rattle.strat_base.proofs.EntryLemmas.{bytes_same}
-use Rattle.strat_journal.specs.Records.{is_plain, plain_or, plain_records, recover_journal_now}
 use Rattle.strat_recovery.specs.Head.{Head}
 use Rattle.strat_recovery.specs.Opening as model
 use Rattle.strat_recovery.specs.Opening.{belongs, recover_manifest, accepted_in, recover_journal, opened, state_of, reads_as}
@@ -33,7 +32,7 @@ use Rattle.strat_format.specs.Layout.{first_free}
 pub record Behind (c : Image) (sb : Super) (journal : List Change) : Type 0 where
   pub block : has_new_manifest c sb ≡ true
   pub logged : List Logged
-  pub read : recover_journal_now c sb.mem sb.region ≡ Ok logged
+  pub read : journal_in_one c sb.mem sb.region ≡ Ok logged
   pub accepted : accepted_now sb logged ≡ Ok journal
 
 -- a head that is found comes of these parts
@@ -46,9 +45,9 @@ pub record Parts (c : Image) (h : Head) : Type 0 where
 -- the parts of a head behind a superblock
 pub behind_of : (c : Image) (sb : Super) (h : Head) → recover_head_now c sb ≡ Ok h → Behind c sb h.journal × (head_from sb h.journal ≡ h)
 behind_of c sb h e =
-    let first = and_then_ok (recover_manifest_now c sb) (λ _. and_then (recover_journal_now c sb.mem sb.region) (λ logged. and_then (accepted_now sb logged) (λ journal. Ok (head_from sb journal)))) h e in
+    let first = and_then_ok (recover_manifest_now c sb) (λ _. and_then (journal_in_one c sb.mem sb.region) (λ logged. and_then (accepted_now sb logged) (λ journal. Ok (head_from sb journal)))) h e in
     let passed = passed_ok sb.manifest (has_new_manifest c sb) new_manifest first.0 first.1 in
-    let second = and_then_ok (recover_journal_now c sb.mem sb.region) (λ logged. and_then (accepted_now sb logged) (λ journal. Ok (head_from sb journal))) h first.2 in
+    let second = and_then_ok (journal_in_one c sb.mem sb.region) (λ logged. and_then (accepted_now sb logged) (λ journal. Ok (head_from sb journal))) h first.2 in
     let third = and_then_ok (accepted_now sb second.0) (λ journal. Ok (head_from sb journal)) h second.2 in
     let last : Ok (head_from sb third.0) ≡ Ok h = third.2 in
     let same : head_from sb third.0 ≡ h = cc in
@@ -60,7 +59,7 @@ behind_of c sb h e =
 -- and what they make
 pub behind_from : (c : Image) (sb : Super) (journal : List Change) → Behind c sb journal → recover_head_now c sb ≡ Ok (head_from sb journal)
 behind_from c sb journal b =
-    ap (λ (test : Bool). and_then (passed_or sb.manifest test new_manifest) (λ _. and_then (recover_journal_now c sb.mem sb.region) (λ logged. and_then (accepted_now sb logged) (λ j. Ok (head_from sb j))))) b.block
+    ap (λ (test : Bool). and_then (passed_or sb.manifest test new_manifest) (λ _. and_then (journal_in_one c sb.mem sb.region) (λ logged. and_then (accepted_now sb logged) (λ j. Ok (head_from sb j))))) b.block
     ∙ ap (λ (r : Read (List Logged)). and_then r (λ logged. and_then (accepted_now sb logged) (λ j. Ok (head_from sb j)))) b.read
     ∙ ap (λ (r : Read (List Change)). and_then r (λ j. Ok (head_from sb j))) b.accepted
 
@@ -196,23 +195,11 @@ module _ (c : Image) (sb : Super) (block : has_new_manifest c sb ≡ true) where
         ap (λ (r : Read Chained). and_then r (λ found. passed_or sb.manifest (belongs sb found) found.manifest)) found_chain
         ∙ ap (λ (test : Bool). passed_or sb.manifest test new_manifest) it_belongs
 
--- plain_records records are all of them
-plain_same : (logged xs : List Logged) (o : Option Logged) → plain_or logged o ≡ Ok xs → logged ≡ xs
-plain_same logged xs None e = cc
-plain_same logged xs (Some l) e = absurd (cc)
-
--- a journal of plain_records records is one that one region holds
-in_one : (c : Image) (mem active : ℕ) (logged : List Logged) → recover_journal_now c mem active ≡ Ok logged → journal_in_one c mem active ≡ Ok logged
-in_one c mem active logged e =
-    let found = and_then_ok (journal_in_one c mem active) plain_records logged e in
-    let same : found.0 ≡ logged = plain_same found.0 logged (find (λ (l : Logged). not (is_plain l.change)) found.0) found.2 in
-    found.1 ∙ ap (λ (xs : List Logged). Ok xs) same
-
 -- an opening finds the head
 module _ (c : Image) (slot : ℕ) (sb : Super) (journal : List Change) (newest : newest_in c ≡ Ok (Some (slot, sb))) (behind : Behind c sb journal) where
   journal_found : recover_journal c sb new_manifest ≡ Ok journal
   journal_found =
-      ap (λ (r : Read (List Logged)). and_then r (accepted_in sb.changes_max sb.versions_max (parents_in new_manifest) new_manifest.changes)) (in_one c sb.mem sb.region behind.logged behind.read)
+      ap (λ (r : Read (List Logged)). and_then r (accepted_in sb.changes_max sb.versions_max (parents_in new_manifest) new_manifest.changes)) behind.read
       ∙ behind.accepted
 
   head_found : model.recover c ≡ Ok (Some (head_from sb journal))

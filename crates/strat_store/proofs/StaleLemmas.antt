@@ -1,21 +1,22 @@
 -- A store stays as it is while the region that is not active is shut.
-use Rattle.std.proofs.Common.{◌≡◌, ◌≤◌, ◌<◌, ◌+◌, ◌*◌, ◌/◌, ℕ, inl, inr, List, [], ◌∷◌, length, Some, Ok, refl, sym, ap, ◌∙◌, subst, arith}
+use Rattle.std.proofs.Common.{◌≡◌, ◌≤◌, ◌<◌, ◌+◌, ◌*◌, ◌/◌, ℕ, false, ◌⊎◌, inl, inr, List, [], ◌∷◌, length, Some, Ok, refl, sym, ap, ◌∙◌, subst, arith}
 use Rattle.std.specs.Prelude.{IsTrue}
+use Rattle.std.proofs.lemmas.Bool.{cases_Bool}
 use Rattle.std.proofs.lemmas.List.{length-map}
 use Rattle.strat_crash.specs.Image.{Image, Outside, patch}
 use Rattle.strat_format.specs.Layout.{region_at, other_region}
-use Rattle.strat_crash.specs.Moments.{DiskView, Images, Since, TearsOnly, IsDurable}
+use Rattle.strat_crash.specs.Moments.{DiskView, Images, Since, TearsOnly, KeepsImages, IsDurable}
 use Rattle.strat_format.specs.Records.{Logged, journal_of}
 use Rattle.strat_format.specs.SuperBlock.{Super}
 use Rattle.strat_crash.proofs.MomentLemmas.{settled_at}
 use Rattle.strat_gate.specs.Gates.{EndsShut}
 use Rattle.strat_journal.specs.Log.{Log}
-use Rattle.strat_journal.proofs.NowLemmas.{narrow, wide}
+use Rattle.strat_journal.proofs.AloneLemmas.{narrow, wide}
 use Rattle.strat_gate.proofs.RaisingLemmas.{patched_first}
-use Rattle.strat_store.specs.Opened.{recover_now, head_from}
+use Rattle.strat_store.specs.Opened.{recover_now, head_from, DiffersInGate}
 use Rattle.strat_store.specs.Store.{Holds, IsLogFor, IsOpenedBy}
 use Rattle.strat_store.proofs.OpenedLemmas.{Behind, behind_of, fits_of, head_from_parts}
-use Rattle.strat_store.proofs.HeadSameLemmas.{same_but, head_same, accepted_parts, read_plain}
+use Rattle.strat_store.proofs.HeadSameLemmas.{same_but, head_same, accepted_parts}
 use Rattle.strat_recovery.specs.Opened.{parents_in}
 use Rattle.strat_format.specs.Manifest.{new_manifest}
 
@@ -54,11 +55,27 @@ module _ (old : DiskView) (f : Image) (sb : Super) (log : Log) (exposed : old.co
       λ d left. ap (λ (e : Image). journal_of e sb.mem (other_region (other_region sb.region))) (settled_at old f exposed settled d left)
       ∙ ap (journal_of f sb.mem) back ∙ narrow f sb.mem sb.region behind.logged behind.read in
       let there : journal_of c sb.mem sb.region ≡ Ok behind.logged = ap (journal_of c sb.mem) (sym back) ∙ kept behind.logged few given c since in
-      let read = wide c sb.mem sb.region behind.logged (omega (arith, fits.mem_least)) there (omega (arith, few)) (read_plain f sb.mem sb.region behind.logged behind.read) in
+      let read = wide c sb.mem sb.region behind.logged (omega (arith, fits.mem_least)) there (omega (arith, few)) in
       let torn = tears.each c since in
       let out : Outside (region_at sb.mem (other_region sb.region)) 1 f c = subst (λ (d : Image). Outside (region_at sb.mem (other_region sb.region)) 1 d c) (settled_at old f exposed settled torn.0 torn.1) torn.2 in
       let same = same_but f c sb.mem (other_region sb.region) (region_at sb.mem (other_region sb.region)) 1 (omega arith) (omega arith) (first_within sb.mem (region_at sb.mem (other_region sb.region))) out in
       head_same f c opened.slot sb log.list behind.logged opened.newest behind.block same read behind.accepted
+
+  -- nothing is written where that gate reads closed
+  pub still_quiet : (new : DiskView) → (log.stale ≡ false → KeepsImages old new) → TearsOnly old new (region_at sb.mem (other_region sb.region)) 1
+      → (c : Image) → Since new old.moment c → (c ≡ f) ⊎ DiffersInGate f c
+  still_quiet new still tears c since = elim (cases_Bool log.stale) [
+    | inr calm ↦ inl (settled_at old f exposed settled c ((still calm).each c since))
+    | inl stale ↦
+        let torn = tears.each c since in
+        inr (record {
+          slot = opened.slot;
+          sb = sb;
+          newest = opened.newest;
+          opened = (opened.read.stale.0 stale).1;
+          outside = subst (λ (d : Image). Outside (region_at sb.mem (other_region sb.region)) 1 d c) (settled_at old f exposed settled torn.0 torn.1) torn.2;
+        })
+  ]
 
   -- once the gate is shut the disk holds the store
   pub holds_shut : (new : DiskView) → IsLogFor sb log → IsTrue log.stale → EndsShut f (region_at sb.mem (other_region sb.region)) old new

@@ -4,7 +4,7 @@ use Rattle.std.specs.Prelude.{if◌then◌else◌, Ok}
 use Rattle.strat_crash.specs.Image.{Image}
 use Rattle.strat_crash.specs.Moments.{DiskView, Images}
 use Rattle.strat_crash.specs.Trail.{Trail}
-use Rattle.strat_crash.proofs.MomentLemmas.{since_now}
+use Rattle.strat_crash.proofs.MomentLemmas.{since_now, leaves_refl}
 use Rattle.strat_crash.proofs.TrailLemmas.{trail_of_two}
 use Rattle.strat_journal.specs.Log.{Log}
 use Rattle.strat_recovery.specs.Head.{Head}
@@ -39,5 +39,6 @@ stays v old new table log going stands =
           (λ c since. inl (stands_shows v old stands c (since_now v c since)))
           (λ c left. stands_shows v new after c left));
       journal = λ c since. (c, since_now v c since, same_journal_refl old.log.mem c);
+      quiet = λ _. leaves_refl v;
       stands = λ _. after;
     }

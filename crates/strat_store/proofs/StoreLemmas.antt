@@ -9,7 +9,6 @@ use Rattle.strat_journal.specs.Log.{Log}
 use Rattle.strat_model.specs.Answer.{accepts}
 use Rattle.strat_recovery.specs.Head.{Head}
 use Rattle.strat_model.specs.Request.{Request}
-use Rattle.strat_model.specs.Spelling.{is_taken}
 use Rattle.strat_model.specs.Step.{step}
 use Rattle.strat_model.specs.Table.{Table, bare}
 use Rattle.strat_store.specs.Opened.{recover_now, table_now, head_with, MayFollow, Shows, SameButJournal}
@@ -24,13 +23,13 @@ pub ready_same : (t after : Table) (log : Log) (spent : Bool) → after ≡ t �
 ready_same t after log spent same ready = subst (λ (x : Table). IsReady (record { table = x; log = log; spent = spent })) (sym same) ready
 
 -- a change that the table accepts, while it is made durable
-module _ (t : Table) (log : Log) (spent : Bool) (r : Request) (c : Change) (taken : is_taken r ≡ true) (asked : change_asked r ≡ Some c) (accepted : accepts (step t r).answer.reply ≡ true)
+module _ (t : Table) (log : Log) (spent : Bool) (r : Request) (c : Change) (asked : change_asked r ≡ Some c) (accepted : accepts (step t r).answer.reply ≡ true)
     (ready : IsReady (record { table = t; log = log; spent = spent })) (within : t.changes ≤ t.changes_max) where
   abbrev old : Attached
   old = record { table = t; log = log; spent = spent }
 
   made : IsMade t r
-  made = is_made t r c taken asked accepted
+  made = is_made t r c asked accepted
 
   -- the journal has room for it
   has_room : length log.list < log.mem
@@ -54,13 +53,13 @@ module _ (t : Table) (log : Log) (spent : Bool) (r : Request) (c : Change) (take
 
     follows : MayFollow stands.head c
     follows =
-        may_follow content stands.head r c stands.holds.found taken asked
+        may_follow stands.head r c asked
         (ap (λ (x : Table). accepts (step x r).answer.reply) stands.table ∙ accepted)
 
     new_table : table_now (head_with stands.head c) ≡ after
     new_table =
         table_after content stands.head r c stands.holds.found follows
-        (omega (arith, has_room, stands.holds.mem, ap (λ (cs : List Change). length cs) stands.holds.list)) (asked_for r c taken asked)
+        (omega (arith, has_room, stands.holds.mem, ap (λ (cs : List Change). length cs) stands.holds.list)) (asked_for r c asked)
         ∙ ap (λ (x : Table). (step x r).table) stands.table ∙ sym after_is
 
     either : (x : Image) → Since now before.moment x → Shows x (bare t) ⊎ Shows x (bare after)
@@ -77,11 +76,16 @@ module _ (t : Table) (log : Log) (spent : Bool) (r : Request) (c : Change) (take
         let few : log.active ≤ 1 = omega (arith, stands.holds.active, fits.region) in
         (torn.0, torn.1, same_but torn.0 x log.mem log.active (region_at log.mem log.active) (region_size log.mem) few (omega arith) (omega arith) torn.2)
 
+    -- the table is another one
+    differs : bare after ≡ bare t → ⊥
+    differs same = omega (arith, ap (λ (x : Table). x.changes) same, ap (λ (x : Table). x.changes) after_is, made.changes)
+
     -- where a fault came between, each image shows the table before or the one after
     pub breaks : Moves before now old (record { table = after; log = next; spent = true })
     breaks = record {
       trail = trail_of_either Shows now before.moment (bare t) (bare after) [] passes.later either;
       journal = journal;
+      quiet = λ same. absurd (differs same);
       stands = λ e. absurd (true≢false e);
     }
 
@@ -92,5 +96,6 @@ module _ (t : Table) (log : Log) (spent : Bool) (r : Request) (c : Change) (take
         record {
           trail = trail_of_two Shows now before.moment (bare t) (bare after) [] passes.later either (stands_shows now (record { table = after; log = next; spent = false }) there);
           journal = journal;
+          quiet = λ same. absurd (differs same);
           stands = λ _. there;
         }

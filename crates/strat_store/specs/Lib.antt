@@ -2,3 +2,4 @@ pub mod Causes
 pub mod Format
 pub mod Opened
 pub mod Store
+pub mod VersionFields

@@ -1,17 +1,18 @@
--- What recovery finds, as long as stores have one version and keep all that they took in one
--- journal region. It finds less than the general recovery does (`Opening` of strat_recovery),
--- whose manifests and journals are of any kind: what it finds the general one finds too.
-use Rattle.std.specs.Prelude.{◌≡◌, ◌≤◌, ◌<◌, ◌⊎◌, ℕ, ◌*◌, ◌==◌, ◌&&◌, min, Bool, true, List, [], ◌∷◌, ◌++◌, bytes_eq, Option, Some, None, Ok, IsTrue}
+-- What recovery finds, as long as stores keep all that they took in one journal region. It finds
+-- less than the general recovery does (`Opening` of strat_recovery), whose manifests and journals
+-- are of any kind: what it finds the general one finds too.
+use Rattle.std.specs.Prelude.{◌≡◌, ◌≤◌, ◌<◌, ◌⊎◌, ℕ, ◌*◌, ◌==◌, ◌&&◌, min, Bool, List, [], ◌∷◌, ◌++◌, bytes_eq, Option, Some, None, Ok, IsTrue}
+use Rattle.std.specs.List.{AllByRecursion}
 use Rattle.strat_base.specs.declared.limits.TheConstants.{BLOCK}
 use Rattle.strat_format.specs.Chain.{link_bytes}
-use Rattle.strat_base.specs.Change.{Change, is_lawful}
+use Rattle.strat_base.specs.Change.{Change}
 use Rattle.strat_format.specs.Damage.{Read, and_then, passed_or}
 use Rattle.strat_crash.specs.Image.{Image, Outside, window}
-use Rattle.strat_format.specs.Layout.{region_at, other_region, first_free, manifest_min}
+use Rattle.strat_format.specs.Layout.{region_at, other_region, first_free, manifest_min, open_flag}
 use Rattle.strat_format.specs.Manifest.{Manifest, manifest_bytes, new_manifest}
 use Rattle.strat_crash.specs.Moments.{DiskView, Exposes, Images, Since, KeepsImages}
 use Rattle.strat_recovery.specs.Opened.{parents_in}
-use Rattle.strat_format.specs.Records.{Logged}
+use Rattle.strat_format.specs.Records.{Logged, journal_in_one}
 use Rattle.strat_state.specs.Sound.{IsSound, accepts_change}
 use Rattle.strat_state.specs.State.{State, fresh_state}
 use Rattle.strat_format.specs.SuperBlock.{Super, newest_in}
@@ -20,7 +21,6 @@ use Rattle.strat_recovery.specs.Head.{Head}
 use Rattle.strat_recovery.specs.Opening.{accepted_in, reads_as}
 use Rattle.strat_recovery.specs.StateTable.{table_of}
 use Rattle.strat_model.specs.Table.{Table}
-use Rattle.strat_journal.specs.Records.{is_plain, recover_journal_now}
 
 -- the block of a new store's manifest: it is the last of its chain, and behind the manifest there
 -- are zeros
@@ -51,7 +51,7 @@ head_from sb journal = record { sb = sb; manifest = new_manifest; journal = jour
 abbrev pub recover_head_now : Image → Super → Read Head
 recover_head_now c sb =
     and_then (recover_manifest_now c sb) (λ _.
-    and_then (recover_journal_now c sb.mem sb.region) (λ logged.
+    and_then (journal_in_one c sb.mem sb.region) (λ logged.
     and_then (accepted_now sb logged) (λ journal. Ok (head_from sb journal))))
 
 -- the head of a store, where there is one
@@ -81,12 +81,9 @@ table_now h = table_of (limited (state_now h))
 abbrev pub head_with : Head → Change → Head
 head_with h change = record h { journal = h.journal ++ change ∷ [] }
 
--- a change may follow in the journal of a head: it is a put at version 0 of lawful sizes, and the
--- head's table takes it, so the journal has room
-pub record MayFollow (h : Head) (change : Change) : Type 0 where
-  pub plain : is_plain change ≡ true
-  pub accepted : IsTrue (accepts_change (limited (state_now h)) change)
-  pub lawful : IsTrue (is_lawful change)
+-- a change may follow in the journal of a head: the head's table takes it, so the journal has room
+abbrev pub MayFollow : Head → Change → Type 0
+MayFollow h change = IsTrue (accepts_change (limited (state_now h)) change)
 
 -- an image shows a table: an opening finds its head, it reads as a sound state, and that state
 -- means the table, with no more changes to come than the journal takes
@@ -110,6 +107,20 @@ pub record SameButJournal (mem : ℕ) (f c : Image) : Type 0 where
   pub front : (i : ℕ) → i < 8192 → c i ≡ f i
   pub rest : (i : ℕ) → BLOCK * first_free mem ≤ i → c i ≡ f i
 
+-- these tables are all the same
+abbrev pub AreAlike : List Table → Type 0
+AreAlike [] = Unit {0}
+AreAlike (t ∷ tables) = AllByRecursion (λ u. u ≡ t) tables
+
+-- an image differs from the content at one offset alone, the first gate of the region that is not
+-- active, which the content has open
+pub record DiffersInGate (f c : Image) : Type 0 where
+  pub slot : ℕ
+  pub sb : Super
+  pub newest : newest_in f ≡ Ok (Some (slot, sb))
+  pub opened : f (region_at sb.mem (other_region sb.region)) ≡ open_flag
+  pub outside : Outside (region_at sb.mem (other_region sb.region)) 1 f c
+
 -- a disk with this content was synced, and from then on followed tables
 pub record Follows (before now : DiskView) (f : Image) (mem : ℕ) (tables : List Table) (n : ℕ)
     : Type 0 where
@@ -126,18 +137,17 @@ pub record Follows (before now : DiskView) (f : Image) (mem : ℕ) (tables : Lis
   -- journal
   pub trail : Trail Shows now synced tables n
   pub journal : (c : Image) → Since now synced c → SameButJournal mem f c
+  -- as long as the tables stay the same each image is the content, but for one gate that was open
+  pub quiet : AreAlike tables → (c : Image) → Since now synced c → (c ≡ f) ⊎ DiffersInGate f c
   -- which says of now: each image shows a table at place n or behind it
   pub left : (c : Image) → Images now c → (i : ℕ) × (n ≤ i) × At tables i (Shows c)
 
 -- a disk with this content was opened as a store whose journal regions take so many changes: it
--- followed the one table that the content shows, and nothing changed but the first gate of the
--- region that is not active
+-- followed the one table that the content shows
 pub record Opens (before now : DiskView) (f : Image) (mem : ℕ) (t : Table) : Type 0 where
   pub shows : Shows f t
   pub mem_is : mem ≡ shows.head.sb.mem
   pub follows : Follows before now f mem (t ∷ []) 0
-  pub gate : (c : Image) → Since now follows.synced c
-      → Outside (region_at mem (other_region shows.head.sb.region)) 1 f c
 
 -- a disk is left as it was: it has the content of before, and a crash leaves only what it might
 -- have left before

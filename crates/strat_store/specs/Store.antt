@@ -5,15 +5,15 @@ use Rattle.strat_base.specs.Change as change
 use Rattle.strat_crash.specs.Faults.{Rose}
 use Rattle.strat_crash.specs.Image.{Image}
 use Rattle.strat_format.specs.Layout.{region_at, other_region, open_flag}
-use Rattle.strat_crash.specs.Moments.{DiskView, Exposes, Images, Since}
+use Rattle.strat_crash.specs.Moments.{DiskView, Exposes, Images, Since, KeepsImages}
 use Rattle.strat_crash.specs.Trail.{Trail}
 use Rattle.strat_format.specs.SuperBlock.{Super, newest_in}
 use Rattle.strat_journal.specs.Log.{Log, IsStale}
 use Rattle.strat_model.specs.declared.replies.Refusal.TheVariants as why
 use Rattle.strat_model.specs.Answer.{Answer, refusal, accepts}
 use Rattle.strat_recovery.specs.Head.{Head}
-use Rattle.strat_model.specs.Request.{Request, Put, Delete, Clone}
-use Rattle.strat_model.specs.Run.{Position, position_after, takes_memory, reaches_disk}
+use Rattle.strat_model.specs.Request.{Request, Put, Delete, Clone, OpenCursor, NextPairs, CloseCursor}
+use Rattle.strat_model.specs.Run.{Position, position_after, reaches_disk}
 use Rattle.strat_model.specs.Step.{step}
 use Rattle.strat_model.specs.Table.{Table, bare}
 use Rattle.strat_store.specs.Opened.{recover_now, recover_head_now, head_from, table_now, Shows, SameButJournal, Opens}
@@ -89,20 +89,18 @@ change_asked (Delete version key) = Some (change.Delete version key)
 change_asked (Clone version) = Some (change.Clone version)
 change_asked _ = None
 
+-- a command neither opens nor moves nor closes a cursor
+abbrev pub keeps_cursors : Request → Bool
+keeps_cursors (OpenCursor version lo hi) = false
+keeps_cursors (NextPairs cursor limit) = false
+keeps_cursors (CloseCursor cursor) = false
+keeps_cursors _ = true
+
 -- a command was answered as the table says
 pub record IsCarriedOut (old : Attached) (request : Request) (answer : Answer) (new : Attached)
     : Type 0 where
   pub answer_is : answer ≡ (step old.table request).answer
   pub place : position_of new ≡ position_after old.log.mem (position_of old) request
-  pub going : new.spent ≡ false
-
--- a command that the table accepts found no memory, and changed nothing
-pub record LacksMemory (old : Attached) (request : Request) (answer : Answer) (new : Attached)
-    : Type 0 where
-  pub takes : takes_memory request ≡ true
-  pub accepted : accepts (step old.table request).answer.reply ≡ true
-  pub answer_is : answer ≡ refusal why.NoMemory
-  pub same : position_of new ≡ position_of old
   pub going : new.spent ≡ false
 
 -- a command that the table accepts met a fault of the device, and the store is not to be used
@@ -118,16 +116,17 @@ pub record IsBroken (old : Attached) (request : Request) (answer : Answer) (new 
 -- how a store may answer a command, and what it is then
 abbrev pub IsApplied : Attached → Request → Answer → Attached → Type 0
 IsApplied old request answer new =
-    IsCarriedOut old request answer new
-    ⊎ (LacksMemory old request answer new ⊎ IsBroken old request answer new)
+    IsCarriedOut old request answer new ⊎ IsBroken old request answer new
 
 -- while a store goes from one table to another the images of its disk do so too, and nothing is
--- torn but the journal; where it did not break it stands on the disk again
+-- torn but the journal, and that only where the table changed; where the store did not break it
+-- stands on the disk again
 pub record Moves (before now : DiskView) (old new : Attached) : Type 0 where
   pub trail : Trail Shows now before.moment (bare old.table ∷ bare new.table ∷ [])
       (if new.spent then 0 else 1)
   pub journal : (c : Image) → Since now before.moment c
       → (d : Image) × Images before d × SameButJournal old.log.mem d c
+  pub quiet : bare new.table ≡ bare old.table → KeepsImages before now
   pub stands : new.spent ≡ false → StandsOn now new
 
 -- over a call a count of faults rises where the store broke in it, and stays where it did not

@@ -5,6 +5,7 @@ mod formatting;
 mod manifest;
 mod opening;
 mod store;
+mod versions;
 
 pub use formatting::{FormatFault, format};
 pub use opening::AttachFault;

@@ -2,7 +2,7 @@
 //! first array will be number 1, there is one version, and no level.
 
 ghost use Rattle.std.specs.Prelude.{◌≡◌, ◌≤◌, ◌*◌, ℕ, length, bytes_eq, Some, Ok, Err, OnOk, IsErrOf};
-ghost use Rattle.strat_crash.specs.Faults.{CountsFaults, HasCause};
+ghost use Rattle.strat_crash.specs.Faults.{CountsFaults, HasCause, ReadsAtMost};
 ghost use Rattle.strat_crash.specs.Image.{Image};
 ghost use Rattle.strat_crash.specs.Moments.{Exposes, WritesThrough, OnlyReads};
 ghost use Rattle.strat_format.specs.SuperBlock.{IsLawful, zeros};
@@ -57,6 +57,7 @@ pub fn read_manifest<D: Disk>(disk: &mut D, sb: &SuperBlock) -> Result<(), Fault
         → Exposes (D.view disk.old) f → recover_manifest_now f (super_of sb.now) ≡ Err block }
     ensures same { OnlyReads (D.view disk.old) (D.view disk.new) }
     ensures cause { HasCause Device (D.faults disk.old) (D.faults disk.new) result }
+    ensures reads { ReadsAtMost 1 (D.reads disk.old) (D.reads disk.new) }
 {
     let mut block = [0; BLOCK];
     if disk

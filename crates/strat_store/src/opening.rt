@@ -1,9 +1,9 @@
 //! Opening a store.
 
-ghost use Rattle.std.specs.Prelude.{◌≡◌, ◌≢◌, ◌≤◌, ◌⊎◌, ℕ, length, map, Some, None, Ok, Err, IfOk, IfErr, OnOk, IsErrOf, true, false};
-ghost use Rattle.strat_crash.specs.Faults.{CountsFaults, HasCause};
+ghost use Rattle.std.specs.Prelude.{◌≡◌, ◌≢◌, ◌≤◌, ◌⊎◌, ℕ, ◌+◌, length, map, Some, None, Ok, Err, IfOk, IfErr, OnOk, IsErrOf, true, false};
+ghost use Rattle.strat_crash.specs.Faults.{CountsFaults, HasCause, ReadsAtMost};
 ghost use Rattle.strat_crash.specs.Image.{Image};
-ghost use Rattle.strat_format.specs.Layout.{region_at, other_region};
+ghost use Rattle.strat_format.specs.Layout.{region_at, other_region, region_blocks};
 ghost use Rattle.strat_crash.specs.Moments.{Exposes, Since, Passes, TearsOnly, KeepsImages, IsDurable, OnlyReads};
 ghost use Rattle.strat_format.specs.SuperBlock.{IsLawful, newest_in};
 ghost use Rattle.strat_gate.specs.SuperView.{super_of};
@@ -21,12 +21,13 @@ ghost use Rattle.strat_store.specs.Store.{Holds, IsAttached, IsLogFor, IsRead, I
 
 use crate::manifest::read_manifest;
 use crate::store::Store;
+use crate::versions::VersionTable;
 use std::alloc::Global;
 use strat_base::{Change, Failed, Fault, NoMemory, PairBuf, Trouble};
 use strat_disk::Disk;
 use strat_gate::{SuperBlock, newest};
 use strat_journal::{Journal, Logged, close_region};
-use strat_model::{Command, PlainTable, Refusal, Reply};
+use strat_model::{Command, Reply};
 use thiserror::Error;
 
 /// Why a store could not be opened.
@@ -113,18 +114,17 @@ fn command_for<'a>(change: &Change<'a>) -> Command<'a>
 }
 
 /// Carries out the change of a record, or names its block where the table refuses it.
-fn redo(table: &mut PlainTable, pairs: &mut PairBuf, logged: &Logged) -> Result<(), Trouble>
-    requires { table.old.next_cursor ≡ 1 }
+#[tactic(auto, using(crate::proofs::StepLemmas::request_built))]
+fn redo(table: &mut VersionTable, pairs: &mut PairBuf, logged: &Logged) -> Result<(), Trouble>
     ensures ok { OnOk result
         ((accepts (step table.old (request_for logged.now.change)).answer.reply ≡ true)
         × (table.new ≡ (step table.old (request_for logged.now.change)).table)) }
     ensures damaged { (block : ℕ) → IsErrOf result (Damaged block)
         → (accepts (step table.old (request_for logged.now.change)).answer.reply ≡ false)
         × (logged.now.block ≡ block) }
-    ensures err { IsErrOf result Device → ⊥ }
+    ensures err { IfErr result (λ e. e ≡ Damaged logged.now.block) }
 {
     match table.step(&command_for(&logged.change.as_change()), pairs) {
-        Reply::Refused(Refusal::NoMemory) => Err(Trouble::NoMemory),
         Reply::Refused(_) => Err(Trouble::Damaged {
             block: logged.block,
         }),
@@ -133,8 +133,8 @@ fn redo(table: &mut PlainTable, pairs: &mut PairBuf, logged: &Logged) -> Result<
 }
 
 /// The table after a journal's changes, each of which the table has to accept in its turn. It takes
-/// the memory of the pairs, and linear time for each change.
-fn replay(alloc: Global, sb: &SuperBlock, logged: &[Logged]) -> Result<PlainTable, Trouble>
+/// all the memory that the table will ever need; each change is one insertion.
+fn replay(alloc: Global, sb: &SuperBlock, logged: &[Logged]) -> Result<VersionTable, Trouble>
     requires fits { IsLawful (super_of sb.now) }
     requires room { length logged.now ≤ sb.now.mem }
     ensures found { IfOk result (λ t. accepted_now (super_of sb.now) (map logged_of logged.now)
@@ -145,7 +145,8 @@ fn replay(alloc: Global, sb: &SuperBlock, logged: &[Logged]) -> Result<PlainTabl
         → accepted_now (super_of sb.now) (map logged_of logged.now) ≡ Err block }
     ensures err { IsErrOf result Device → ⊥ }
 {
-    let mut table = PlainTable::new(alloc, sb.changes_max.min(sb.mem), sb.versions_max)?;
+    let changes_max = sb.changes_max.min(sb.mem);
+    let mut table = VersionTable::new(alloc, sb.mem, changes_max, sb.versions_max)?;
     let mut pairs = PairBuf::new(alloc)?;
     for record in logged {
         redo(&mut table, &mut pairs, record)?;
@@ -158,7 +159,7 @@ fn read_store<D: Disk>(
     alloc: Global,
     disk: &mut D,
     sb: &SuperBlock,
-) -> Result<(Journal, PlainTable), AttachFault>
+) -> Result<(Journal, VersionTable), AttachFault>
     requires fits { IsLawful (super_of sb.now) }
     ensures found { IfOk result (λ r. (f : Image) → Exposes (D.view disk.old) f
         → IsRead f (super_of sb.now) r.0) }
@@ -169,6 +170,8 @@ fn read_store<D: Disk>(
     ensures none { IsErrOf result fault.NotAStore → ⊥ }
     ensures same { OnlyReads (D.view disk.old) (D.view disk.new) }
     ensures cause { HasCause fault.Device (D.faults disk.old) (D.faults disk.new) result }
+    ensures reads { ReadsAtMost (region_blocks sb.now.mem + 2)
+        (D.reads disk.old) (D.reads disk.new) }
 {
     read_manifest(disk, sb)?;
     let (journal, logged) = Journal::read(alloc, disk, sb)?;
@@ -183,6 +186,7 @@ fn sync_first<D: Disk>(disk: &mut D) -> Result<(), Failed>
     ensures images { KeepsImages (D.view disk.old) (D.view disk.new) }
     ensures time { Passes (D.view disk.old) (D.view disk.new) }
     ensures cause { CountsFaults (D.faults disk.old) (D.faults disk.new) result }
+    ensures reads { D.reads disk.new ≡ D.reads disk.old }
 {
     disk.sync()?;
     Ok(())
@@ -202,8 +206,10 @@ fn shut_other<D: Disk>(disk: &mut D, sb: &SuperBlock, journal: &Journal) -> Resu
         → Holds (D.view disk.new) journal.now (head_from (super_of sb.now) journal.now.list)) }
     ensures images { TearsOnly (D.view disk.old) (D.view disk.new)
         (region_at sb.now.mem (other_region sb.now.region)) 1 }
+    ensures same { journal.now.stale ≡ false → disk.new ≡ disk.old }
     ensures time { Passes (D.view disk.old) (D.view disk.new) }
     ensures cause { CountsFaults (D.faults disk.old) (D.faults disk.new) result }
+    ensures reads { ReadsAtMost 1 (D.reads disk.old) (D.reads disk.new) }
 {
     if journal.stale() {
         close_region(disk, sb.mem, 1 - sb.region)?;
@@ -232,6 +238,9 @@ impl Store {
             → IsUnchanged (D.view disk.old) (D.view disk.new)) }
         ensures time { Passes (D.view disk.old) (D.view disk.new) }
         ensures cause { HasCause fault.Device (D.faults disk.old) (D.faults disk.new) result }
+        ensures reads { ReadsAtMost 1294 (D.reads disk.old) (D.reads disk.new)
+            × IfOk result (λ s. ReadsAtMost (region_blocks s.log.mem + 5)
+            (D.reads disk.old) (D.reads disk.new)) }
     {
         sync_first(disk)?;
         let Some((_, sb)) = newest(disk)? else {

@@ -12,23 +12,24 @@ ghost use Rattle.strat_crash.specs.Moments.{Since, Passes, TearsOnly};
 ghost use Rattle.strat_model.specs.Answer.{as_told, accepts};
 ghost use Rattle.strat_model.specs.Command.{request_of};
 ghost use Rattle.strat_recovery.specs.Head.{Head};
-ghost use Rattle.strat_model.specs.Spelling.{is_taken};
+ghost use Rattle.strat_model.specs.Spelling.{is_built, has_lawful_sizes};
 ghost use Rattle.strat_model.specs.declared.replies.Refusal.TheVariants as why;
 ghost use Rattle.strat_model.specs.declared.replies.Reply.TheVariants as reply;
 ghost use Rattle.strat_store.specs.Opened.{recover_now, head_with, MayFollow};
 ghost use Rattle.strat_store.specs.Store.{IsReady, Holds, StandsOn, IsApplied, Moves, BreaksByFault, change_asked};
 
+use crate::versions::VersionTable;
 use std::marker::Model;
 use strat_base::{Change, Failed, PairBuf};
 use strat_disk::Disk;
 use strat_journal::Journal;
-use strat_model::{Command, PlainTable, Refusal, Reply};
+use strat_model::{Command, Refusal, Reply};
 
 /// An open store, seen as its table, its journal, and whether it is spent: after a fault of the
 /// device only another opening can tell what the disk holds.
 #[derive(Drop)]
 pub struct Store {
-    table: PlainTable,
+    table: VersionTable,
     journal: Journal,
     spent: bool,
 }
@@ -103,7 +104,7 @@ fn log_change<D: Disk>(
 
 impl Store {
     /// A store with this journal, all of whose changes are in the table.
-    pub fn new(journal: Journal, table: PlainTable) -> Store
+    pub(crate) fn new(journal: Journal, table: VersionTable) -> Store
         requires { IsReady (record { table = table; log = journal; spent = false }) }
         ensures { result ≡ record { table = table; log = journal; spent = false } }
     {
@@ -123,10 +124,10 @@ impl Store {
 
     /// Carries out one command. The pairs of its answer are in `out`, from which all others are
     /// gone. A change is durable before it is answered: two writes and two syncs, whatever the size
-    /// of the store. A look-up and a change take linear time in the pairs of the version. The
-    /// refusal `NoMemory` comes for a put alone, and leaves store and disk as they were. After the
-    /// refusal `DeviceFault`, and no other, the store is spent: whether the change is there the
-    /// next opening tells.
+    /// of the store. In memory an update is one insertion into level 0, a clone takes O(log V), and
+    /// a look-up is a binary search among the entries of level 0 and a walk over those of its key.
+    /// No command takes memory. After the refusal `DeviceFault`, and no other, the store is spent:
+    /// whether the change is there the next opening tells.
     pub fn apply<D: Disk>(
         &mut self,
         disk: &mut D,
@@ -134,7 +135,8 @@ impl Store {
         out: &mut PairBuf,
     ) -> Reply
         requires kept { self.old.spent ≡ false }
-        requires fits { is_taken (request_of command.now) ≡ true }
+        requires fits { (is_built (request_of command.now) ≡ true)
+            × (has_lawful_sizes (request_of command.now) ≡ true) }
         ensures ok { IsApplied self.old (request_of command.now) (as_told result out.new) self.new }
         ensures trail { StandsOn (D.view disk.old) self.old
             → Moves (D.view disk.old) (D.view disk.new) self.old self.new }

@@ -1,10 +1,9 @@
-use Rattle.std.proofs.Common.{◌∙◌, ap, subst, refl, List, ℕ}
+use Rattle.std.proofs.Common.{◌∙◌, ap, refl}
 use Rattle.strat_model.specs.declared.replies.Reply.TheVariants as reply
 use Rattle.strat_model.specs.declared.replies.Refusal.{Refusal}
 use Rattle.strat_model.specs.Command.{request_of}
-use Rattle.strat_model.specs.Spelling.{Spells, reply_body}
+use Rattle.strat_model.specs.Spelling.{reply_body}
 use Rattle.strat_model.specs.Stream.{frame}
-use Rattle.strat_frame.specs.Faults.{IsFaulty}
 use Rattle.strat_model.specs.Answer.{as_told}
 use Rattle.strat_serve.proofs.AnswerLemmas.{answered, told_faulty}
 use Rattle.strat_store.proofs.StandLemmas.{stays}

@@ -1,20 +1,16 @@
-use Rattle.std.proofs.Common.{◌≡◌, ◌≤◌, ◌<◌, ◌≢◌, ℕ, List, [], ◌++◌, take, length, false, Err, refl, sym, ap, subst, ◌∙◌, length-take, inl, inr, arith}
-use Rattle.strat_base.specs.Numbers.{AreBytes}
+use Rattle.std.proofs.Common.{◌≡◌, ◌≤◌, ◌<◌, ℕ, List, [], ◌++◌, take, length, false, Err, refl, sym, ap, subst, ◌∙◌, length-take, inl, inr, arith}
 use Rattle.strat_crash.proofs.MomentLemmas.{passes_trans}
-use Rattle.strat_frame.specs.Deframing.{Deframing}
-use Rattle.strat_io.specs.Streams.{Appends}
 use Rattle.strat_model.specs.declared.ended.Ended.{Ended}
-use Rattle.strat_model.specs.Stream.{frame}
 use Rattle.strat_store.specs.declared.opening.AttachFault.{AttachFault}
 use Rattle.strat_serve.specs.Session.{IsAnswered, Took, Served}
 use Rattle.strat_serve.specs.World.{World, world}
 use Rattle.strat_serve.proofs.GiveUpLemmas.{gave_up, ends_by_input}
 use Rattle.strat_serve.proofs.ProgressLemmas.{Answered, begins, reads, reads_none}
-use Rattle.strat_serve.proofs.SendLemmas.{frame_shrinks, sends_prefix}
+use Rattle.strat_serve.proofs.SendLemmas.{frame_shrinks}
 use Rattle.strat_serve.proofs.SessionLemmas.{goes_on, ends_unsent, ends_broken, ends_long, ends_long_cut, ends_at_end, ends_budget, ends_source}
 use Rattle.strat_serve.proofs.serving.serve.Given.{Over}
 use Rattle.strat_serve.proofs.serving.serve.Goals as goal
-use Rattle.strat_serve.proofs.serving.serve.Goals.{After-put_all, in-Ok-refuse_long, in-Err-refuse_long}
+use Rattle.strat_serve.proofs.serving.serve.Goals.{After-send, in-Ok-refuse_long, in-Err-refuse_long}
 
 -- what a source, a sink and a disk show
 abbrev shown : (g : Over) → g.row.S.Denot → g.row.K.Denot → g.row.D.Denot → World
@@ -37,8 +33,8 @@ loop-store-init g c = record {
 }
 
 -- a body was answered, and its reply handed on
-answered : (g : Over) (c : After-put_all g) → Answered c.loop-store.store c.answer.new.store
-    (shown g c.loop-store.source c.loop-store.sink c.loop-store.disk) (shown g c.loop-store.source c.put_all.new.sink c.answer.new.disk)
+answered : (g : Over) (c : After-send g) → Answered c.loop-store.store c.answer.new.store
+    (shown g c.loop-store.source c.loop-store.sink c.loop-store.disk) (shown g c.loop-store.source c.send.new.sink c.answer.new.disk)
 answered g c = record {
   mem = c.answer.ensures.same;
   left = refl;
@@ -48,27 +44,26 @@ answered g c = record {
 }
 
 -- its body was answered
-body_answered : (g : Over) (c : After-put_all g) → IsAnswered c.loop-store.store c.next.new.self.body c.answer.new.store c.answer.new.out
+body_answered : (g : Over) (c : After-send g) → IsAnswered c.loop-store.store c.next.new.self.body c.answer.new.store c.answer.new.out
 body_answered g c = subst (λ (b : List ℕ). IsAnswered c.loop-store.store b c.answer.new.store c.answer.new.out) c.body.ensures c.answer.ensures.ok
 
-pub returns-in_default-put_all-clause-ok : goal.returns-in_default-put_all-clause-ok
-returns-in_default-put_all-clause-ok g c =
+pub returns-in_default-send-clause-ok : goal.returns-in_default-send-clause-ok
+returns-in_default-send-clause-ok g c =
     let s = c.loop-store in
-    let sent = (goal.at.returns-in_default-put_all-clause-ok g c).After-put_all in
-    let part = c.in_default-put_all.ensures.err in
+    let sent = (goal.at.returns-in_default-send-clause-ok g c).After-send in
     inr (ends_unsent c.in-Ok-attach.store s.store c.answer.new.store s.taken c.args.budget s.buffers.frames.held c.next.new.self.held c.next.new.self.body c.answer.new.out
-    (shown g c.args.source.now c.args.sink.now c.args.disk.now) (shown g s.source s.sink s.disk) (shown g s.source c.put_all.new.sink c.answer.new.disk)
+    (shown g c.args.source.now c.args.sink.now c.args.disk.now) (shown g s.source s.sink s.disk) (shown g s.source c.send.new.sink c.answer.new.disk)
     s.invariant.progress s.invariant.within (body_answered g sent) (answered g sent) c.in-Frame.ensures.ok.0 c.in-Frame.ensures.ok.1 c.in-Frame.ensures.fits
-    (sends_prefix part.0 c.bytes.result.now c.answer.new.out (g.K.Sink.held s.sink) (g.K.Sink.held c.put_all.new.sink) c.bytes.ensures part.1 part.2))
+    c.in_default-send.ensures.err)
 
 pub returns-then-is_spent-clause-ok : goal.returns-then-is_spent-clause-ok
 returns-then-is_spent-clause-ok g c =
     let s = c.loop-store in
-    let sent = (goal.at.returns-then-is_spent-clause-ok g c).After-put_all in
+    let sent = (goal.at.returns-then-is_spent-clause-ok g c).After-send in
     inr (ends_broken c.in-Ok-attach.store s.store c.answer.new.store s.taken c.args.budget s.buffers.frames.held c.next.new.self.held c.next.new.self.body c.answer.new.out
-    (shown g c.args.source.now c.args.sink.now c.args.disk.now) (shown g s.source s.sink s.disk) (shown g s.source c.put_all.new.sink c.answer.new.disk)
+    (shown g c.args.source.now c.args.sink.now c.args.disk.now) (shown g s.source s.sink s.disk) (shown g s.source c.send.new.sink c.answer.new.disk)
     s.invariant.progress s.invariant.within (body_answered g sent) (answered g sent) c.in-Frame.ensures.ok.0 c.in-Frame.ensures.ok.1 c.in-Frame.ensures.fits
-    (sym c.is_spent.ensures ∙ c.if-is_spent.true) (subst (λ (x : List ℕ). Appends (g.K.Sink.held s.sink) (g.K.Sink.held c.put_all.new.sink) x) c.bytes.ensures c.in-Ok-put_all.ensures.ok))
+    (sym c.is_spent.ensures ∙ c.if-is_spent.true) c.in-Ok-send.ensures.ok)
 
 pub loop-store-smaller-else-is_spent : goal.loop-store-smaller-else-is_spent
 loop-store-smaller-else-is_spent g c =
@@ -79,25 +74,25 @@ loop-store-smaller-else-is_spent g c =
 pub loop-store-preserved-else-is_spent : goal.loop-store-preserved-else-is_spent
 loop-store-preserved-else-is_spent g c =
     let s = c.loop-store in
-    let sent = (goal.at.loop-store-preserved-else-is_spent g c).After-put_all in
+    let sent = (goal.at.loop-store-preserved-else-is_spent g c).After-send in
     let going : c.answer.new.store.spent ≡ false = sym c.is_spent.ensures ∙ c.if-is_spent.false in
     record {
       progress = goes_on c.in-Ok-attach.store s.store c.answer.new.store s.taken c.args.budget s.buffers.frames.held c.next.new.self.held c.next.new.self.body c.answer.new.out
-          (shown g c.args.source.now c.args.sink.now c.args.disk.now) (shown g s.source s.sink s.disk) (shown g s.source c.put_all.new.sink c.answer.new.disk)
+          (shown g c.args.source.now c.args.sink.now c.args.disk.now) (shown g s.source s.sink s.disk) (shown g s.source c.send.new.sink c.answer.new.disk)
           s.invariant.progress s.invariant.within (body_answered g sent) (answered g sent) c.in-Frame.ensures.ok.0 c.in-Frame.ensures.ok.1 c.in-Frame.ensures.fits
-          going (subst (λ (x : List ℕ). Appends (g.K.Sink.held s.sink) (g.K.Sink.held c.put_all.new.sink) x) c.bytes.ensures c.in-Ok-put_all.ensures.ok);
+          going c.in-Ok-send.ensures.ok;
       time = passes_trans s.invariant.time c.answer.ensures.time;
       within = s.invariant.within;
       source_same = s.invariant.source_same;
-      sink_same = c.in-Ok-put_all.ensures.cause.ok ∙ s.invariant.sink_same;
+      sink_same = c.in-Ok-send.ensures.cause.ok ∙ s.invariant.sink_same;
       disk_same = c.answer.ensures.cause.same going ∙ s.invariant.disk_same;
     }
 
-pub returns-then-taken-budget-clause-ok : goal.returns-then-taken-budget-clause-ok
-returns-then-taken-budget-clause-ok g c =
+pub returns-in_default-most_next-clause-ok : goal.returns-in_default-most_next-clause-ok
+returns-in_default-most_next-clause-ok g c =
     let s = c.loop-store in
     inr (ends_budget c.in-Ok-attach.store s.store s.taken c.args.budget s.buffers.frames.held (shown g c.args.source.now c.args.sink.now c.args.disk.now) (shown g s.source s.sink s.disk)
-    s.invariant.progress s.invariant.within c.in-NotYet.ensures.ok.0 c.if-taken-budget.true)
+    s.invariant.progress s.invariant.within c.in-NotYet.ensures.ok.0 c.in_default-most_next.ensures.none)
 
 pub returns-in_default-read_piece-clause-ok : goal.returns-in_default-read_piece-clause-ok
 returns-in_default-read_piece-clause-ok g c =
@@ -118,9 +113,8 @@ returns-then-n-eq0-clause-ok g c =
     s.invariant.progress took in
     let same : length c.next.new.self.held ≡ length s.buffers.frames.held = ap length c.in-NotYet.ensures.ok.1 in
     let within : s.taken ≤ c.args.budget = s.invariant.within in
-    let not_all : s.taken ≢ c.args.budget = c.if-taken-budget.false in
-    let less : s.taken < c.args.budget = omega arith in
-    let room : 0 < c.min-most.result = omega arith in
+    let room : 0 < c.in-Some.most = c.in-Some.ensures.fits.0 in
+    let less : s.taken < c.args.budget = omega (arith, room, c.in-Some.ensures.fits.2) in
     inr (ends_at_end c.in-Ok-attach.store s.store s.taken c.args.budget s.buffers.frames.held before (shown g c.read_piece.new.source s.sink s.disk)
     p within c.in-NotYet.ensures.ok.0 less c.at_end.result (λ e. c.at_end.ensures.none (c.held.ensures.ok ∙ same ∙ e)) (λ e. c.at_end.ensures.end (λ f. e (sym same ∙ sym c.held.ensures.ok ∙ f)))
     (c.in-Ok-read_piece.ensures.end none room))
@@ -133,13 +127,13 @@ loop-store-preserved g c =
     let s = c.loop-store in
     let n = c.in-Ok-read_piece.n in
     let piece = take n c.read_piece.new.piece in
-    let len : length piece ≡ n = omega (arith, length-take n c.read_piece.new.piece, c.read_piece.auto.piece, c.in-Ok-read_piece.ensures.fits) in
+    let len : length piece ≡ n = omega (arith, length-take n c.read_piece.new.piece, c.read_piece.auto.piece, c.in-Ok-read_piece.ensures.fits, c.in-Some.ensures.fits.1) in
     let fed : c.feed.new.self.held ≡ s.buffers.frames.held ++ piece = c.feed.ensures ∙ ap (λ (x : List ℕ). x ++ piece) c.in-NotYet.ensures.ok.1 in
     record {
       progress = reads c.in-Ok-attach.store s.store s.taken n s.buffers.frames.held piece c.feed.new.self.held (shown g c.args.source.now c.args.sink.now c.args.disk.now) (shown g s.source s.sink s.disk)
           (g.S.Source.left c.read_piece.new.source) (g.S.Source.faults c.read_piece.new.source) s.invariant.progress c.in-Ok-read_piece.ensures.ok len fed;
       time = s.invariant.time;
-      within = omega (arith, c.in-Ok-read_piece.ensures.fits);
+      within = omega (arith, c.in-Ok-read_piece.ensures.fits, c.in-Some.ensures.fits.2);
       source_same = c.in-Ok-read_piece.ensures.cause.ok ∙ s.invariant.source_same;
       sink_same = s.invariant.sink_same;
       disk_same = s.invariant.disk_same;

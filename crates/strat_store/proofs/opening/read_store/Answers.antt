@@ -1,5 +1,5 @@
+use Rattle.strat_crash.proofs.MomentLemmas.{reads_trans}
 use Rattle.std.proofs.Common.{refl, ◌∙◌}
-use Rattle.strat_gate.proofs.ReadingLemmas.{reads_trans}
 use Rattle.strat_store.proofs.opening.read_store.Goals as goal
 
 pub returns-in_err-journal-clause-same : goal.returns-in_err-journal-clause-same

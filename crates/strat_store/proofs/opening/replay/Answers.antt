@@ -18,11 +18,8 @@ pub loop-record-init : goal.loop-record-init
 loop-record-init c =
     let few : length (map logged_of c.args.logged.now) ≤ c.args.sb.now.mem = omega (arith, length-map c.args.logged.now logged_of, c.requires.room) in
     let new : fresh (min c.args.sb.now.changes_max c.args.sb.now.mem) c.args.sb.now.versions_max ≡ c.in_ok-table.table =
-    ap (λ (n : ℕ). fresh n c.args.sb.now.versions_max) (sym c.min.ensures) ∙ sym c.in_ok-table.ensures.ok in
+    ap (λ (n : ℕ). fresh n c.args.sb.now.versions_max) (sym c.min-changes_max.ensures) ∙ sym c.in_ok-table.ensures.ok in
     subst (λ (t : Table). IsReplayed (super_of c.args.sb.now) (map logged_of c.args.logged.now) 0 t) new (replayed_none (super_of c.args.sb.now) (map logged_of c.args.logged.now) few)
-
-pub redo-requires : goal.redo-requires
-redo-requires c = ap (λ (t : Table). t.next_cursor) c.loop-record.invariant.table
 
 pub returns-in_err-redo-clause-damaged : goal.returns-in_err-redo-clause-damaged
 returns-in_err-redo-clause-damaged c = λ block damaged.

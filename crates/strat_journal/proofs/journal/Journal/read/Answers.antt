@@ -3,7 +3,7 @@ use Rattle.std.proofs.lemmas.List.{length-map}
 use Rattle.strat_journal.specs.declared.journal.Logged.{Logged}
 use Rattle.strat_journal.specs.Log.{Log}
 use Rattle.strat_journal.proofs.ReadLemmas.{stale_is}
-use Rattle.strat_journal.proofs.NowLemmas.{changes_now}
+use Rattle.strat_journal.proofs.AloneLemmas.{changes_now}
 use Rattle.strat_journal.proofs.journal.Journal.read.Goals as goal
 
 pub returns-clause-found : goal.returns-clause-found

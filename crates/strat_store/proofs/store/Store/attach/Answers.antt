@@ -1,18 +1,17 @@
 use Rattle.std.proofs.Common.{◌≡◌, ℕ, inl, inr, Some, Ok, sym, ap, ◌∙◌, subst}
 use Rattle.std.proofs.lemmas.Result.{err_from_is_err_and}
 use Rattle.strat_crash.specs.Image.{Image}
-use Rattle.strat_crash.specs.Moments.{Images, IsDurable, OnlyReads}
+use Rattle.strat_crash.specs.Moments.{Images, KeepsImages, IsDurable, OnlyReads}
 use Rattle.strat_format.specs.SuperBlock.{newest_in}
-use Rattle.strat_crash.proofs.MomentLemmas.{at_told}
+use Rattle.strat_crash.proofs.MomentLemmas.{at_told, leaves_refl, reads_keep_durable, reads_trans}
 use Rattle.strat_gate.specs.SuperView.{super_of, seen}
-use Rattle.strat_gate.proofs.ReadingLemmas.{reads_trans}
 use Rattle.strat_journal.proofs.ReadLemmas.{same_err}
 use Rattle.strat_model.specs.Table.{bare}
 use Rattle.strat_store.specs.Opened.{head_from, Opens}
 use Rattle.strat_store.specs.Store.{Attached, StandsOn, OpensFrom, IsOpenedBy}
-use Rattle.strat_store.proofs.AttachLemmas.{settled_looks, looks_kept, damaged_now, newest_damaged, damage_is}
+use Rattle.strat_store.proofs.AttachLemmas.{looks_kept, damaged_now, newest_damaged, damage_is}
 use Rattle.strat_store.proofs.FollowLemmas.{opens_by}
-use Rattle.strat_store.proofs.StaleLemmas.{found_now}
+use Rattle.strat_store.proofs.StaleLemmas.{found_now, still_quiet}
 use Rattle.strat_store.proofs.store.Store.attach.Given.{Over}
 use Rattle.strat_store.proofs.store.Store.attach.Goals as goal
 use Rattle.strat_store.proofs.store.Store.attach.Goals.{After-newest, After-read_store, In_ok-journal, After-shut_other, After-new}
@@ -34,9 +33,8 @@ store_looks : (g : Over) (c : After-read_store g) → OnlyReads (g.D.Disk.view c
 store_looks g c = reads_trans (synced g (goal.at.After-read_store g c).After-newest) (read_looks g c)
 
 -- then it is settled
-store_settled : (g : Over) (c : After-read_store g) (f : Image) → (g.D.Disk.view c.args.disk.now).content ≡ Some f → IsDurable (g.D.Disk.view c.read_store.new.disk)
-store_settled g c f exposed =
-    settled_looks (g.D.Disk.view c.sync_first.new.disk) (g.D.Disk.view c.read_store.new.disk) f (c.sync_first.ensures.same ∙ exposed) c.in_ok-sync_first.ensures.ok (read_looks g c)
+store_settled : (g : Over) (c : After-read_store g) → IsDurable (g.D.Disk.view c.read_store.new.disk)
+store_settled g c = reads_keep_durable (g.D.Disk.view c.sync_first.new.disk) (g.D.Disk.view c.read_store.new.disk) (read_looks g c) c.in_ok-sync_first.ensures.ok
 
 -- the store that was read is that of the content
 opened_by : (g : Over) (c : In_ok-journal g) (f : Image) → (g.D.Disk.view c.args.disk.now).content ≡ Some f → IsOpenedBy f (super_of c.in-Some.sb) c.in_ok-journal.journal
@@ -53,12 +51,15 @@ opens g c f exposed =
     let before : After-read_store g = (goal.at.After-shut_other g c).After-read_store in
     let there : (g.D.Disk.view c.read_store.new.disk).content ≡ Some f = (store_looks g before).same ∙ exposed in
     let opened = opened_by g (goal.at.After-shut_other g c).In_ok-journal f exposed in
-    let settled = store_settled g before f exposed in
+    let settled = store_settled g before in
     opens_by _ (g.D.Disk.view c.sync_first.new.disk) (g.D.Disk.view c.read_store.new.disk) _ f (head_from (super_of c.in-Some.sb) c.in_ok-journal.journal.list) c.in_ok-journal.table exposed
     (synced g (goal.at.After-read_store g before).After-newest) c.in_ok-sync_first.ensures.ok
     (at_told _ (λ (d : Image). Images (g.D.Disk.view c.sync_first.new.disk) d) f (c.sync_first.ensures.same ∙ exposed) (g.met.D.Disk.leaves_content c.sync_first.new.disk)) (read_looks g before) c.shut_other.ensures.time
     (found_now (g.D.Disk.view c.read_store.new.disk) f (super_of c.in-Some.sb) c.in_ok-journal.journal there settled opened) (sym c.in_ok-journal.ensures.ok)
     (c.shut_other.ensures.trail f there settled opened) c.shut_other.ensures.images
+    (still_quiet (g.D.Disk.view c.read_store.new.disk) f (super_of c.in-Some.sb) c.in_ok-journal.journal there settled opened (g.D.Disk.view c.shut_other.new.disk)
+    (λ calm. subst (λ (d : g.row.D.Denot). KeepsImages (g.D.Disk.view c.read_store.new.disk) (g.D.Disk.view d)) (sym (c.shut_other.ensures.same calm)) (leaves_refl (g.D.Disk.view c.read_store.new.disk)))
+    c.shut_other.ensures.images)
 
 pub returns-in_err-sb-clause-err : goal.returns-in_err-sb-clause-err
 returns-in_err-sb-clause-err g c = λ failed f exposed.
@@ -107,7 +108,7 @@ stands g c f exposed =
     let opened = opened_by g (goal.at.After-new g c).In_ok-journal f exposed in
     subst (λ (s : Attached). StandsOn (g.D.Disk.view c.shut_other.new.disk) s) (sym c.new.ensures) (record {
       head = head_from (super_of c.in-Some.sb) c.in_ok-journal.journal.list;
-      holds = c.in_ok-shut_other.ensures.kept f ((store_looks g before).same ∙ exposed) (store_settled g before f exposed) opened;
+      holds = c.in_ok-shut_other.ensures.kept f ((store_looks g before).same ∙ exposed) (store_settled g before) opened;
       table = sym c.in_ok-journal.ensures.ok;
     })
 
@@ -118,7 +119,7 @@ found g c f exposed =
     let opened = opened_by g (goal.at.After-new g c).In_ok-journal f exposed in
     subst (λ (s : Attached). OpensFrom f s) (sym c.new.ensures) (record {
       head = head_from (super_of c.in-Some.sb) c.in_ok-journal.journal.list;
-      found = found_now (g.D.Disk.view c.read_store.new.disk) f (super_of c.in-Some.sb) c.in_ok-journal.journal ((store_looks g before).same ∙ exposed) (store_settled g before f exposed) opened;
+      found = found_now (g.D.Disk.view c.read_store.new.disk) f (super_of c.in-Some.sb) c.in_ok-journal.journal ((store_looks g before).same ∙ exposed) (store_settled g before) opened;
       table = sym c.in_ok-journal.ensures.ok;
       mem = c.in_ok-journal.ensures.kept.mem;
       list = λ i. c.in_ok-journal.journal.list;
