@@ -652,6 +652,40 @@ def thousands_of_puts_are_kept(folder):
     store.expect_served("4,000 puts, again", [b"".join(get(i, b"key/%d" % i) for i in range(1600))], deadline=120)
 
 
+def peak_of(path, data, replies):
+    """Most bytes of memory that a serving run had until so many replies to these frames were read."""
+    child = start(path)
+    guard = threading.Timer(DEADLINE, child.kill)
+    guard.start()
+    writer = threading.Thread(target=lambda: [child.stdin.write(data[i:i + 4096]) for i in range(0, len(data), 4096)])
+    writer.start()
+    try:
+        for _ in range(replies):
+            read_exactly(child.stdout, int.from_bytes(read_exactly(child.stdout, 4), "big"))
+        status = pathlib.Path(f"/proc/{child.pid}/status").read_text()
+        return int(re.search(r"^VmHWM:\s+(\d+) kB$", status, re.M)[1]) * 1024
+    finally:
+        guard.cancel()
+        child.kill()
+        child.wait()
+        writer.join()
+        close(child)
+
+
+def a_served_store_takes_the_memory_that_is_said(folder):
+    if not os.path.exists("/proc/self/status"):
+        raise Skipped("no /proc here")
+    mem, versions = 4096, 16384
+    store = StoreFile(folder, mem, 2 ** 24, versions)
+    puts = b"".join(put(i, struct.pack(">I", i) + bytes(251), bytes(1024)) for i in range(mem))
+    # while it serves, and while it recovers what it served
+    peak_of(store.path, puts, mem)
+    peak = peak_of(store.path, get(1, bytes(255)), 1)
+    said = 1_300_000 + 5_300 * mem
+    if abs(peak - said) > said // 10:
+        raise Wrong(f"a full store takes {peak:,} bytes, said are {said:,}")
+
+
 def kill_amid_puts(path, frames, replies, pause):
     """Sends the frames to a run that is killed after so many bytes of replies and a pause; how many it answered."""
     child = start(path)
@@ -959,6 +993,7 @@ CHECKS = [
     a_second_run_has_what_the_first_acknowledged,
     a_full_store_takes_no_put,
     thousands_of_puts_are_kept,
+    a_served_store_takes_the_memory_that_is_said,
     a_killed_run_loses_nothing_that_it_acknowledged,
     a_store_cut_short_is_refused_by_name,
     a_store_overwritten_with_noise_is_refused_by_name,

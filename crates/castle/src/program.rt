@@ -20,10 +20,10 @@ const BUDGET: u64 = 1_099_511_627_776;
 /// Runs the subcommand that the program's arguments name, these without the program's own name, and
 /// answers its exit status. Nothing is read or written where they name none.
 ///
-/// Serving takes the memory for frames, replies and the journal at its start, 0.7 MB and 2.6 KB for
-/// each change that a journal region takes (0.3 MB and 5.3 KB for each while it recovers), and each
-/// put the memory of its pair. A get or a put looks through the pairs of the version, and a put
-/// makes two writes and two syncs.
+/// Serving takes all its memory at its start: 0.7 MB, 3.9 KB for each change that a journal region
+/// takes and 70 bytes for each version (0.3 MB and 2.6 KB for each change more while it recovers).
+/// A change makes two writes and two syncs and one insertion into level 0, a get a binary search
+/// there.
 pub fn run<S: Source, K: Sink, D: Disk>(
     alloc: Global,
     words: &[String],

@@ -9,8 +9,8 @@ use Rattle.strat_journal.specs.declared.journal.Logged.{Logged}
 use Rattle.strat_format.specs.Records.{records_bytes, journal_in_one}
 use Rattle.strat_journal.specs.Records.{logged_of, journal_changes}
 
--- what a journal holds: how many changes a region takes, the active region, whether the other one is to be
--- shut, the changes that are durable, and those that become so together
+-- what a journal holds: how many changes a region takes, the active region, whether the other one's first
+-- gate stood open when it was read, the changes that are durable, and those that become so together
 pub record Log : Type 0 where
   pub mem : ℕ
   pub active : ℕ

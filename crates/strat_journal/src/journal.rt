@@ -128,7 +128,8 @@ impl Journal {
         self.mem - self.count
     }
 
-    /// Whether the region that is not active is to be shut before the journal is added to.
+    /// Whether the first gate of the region that is not active stood open when the journal was read,
+    /// while the active one had room: then it is to be shut before the journal is added to.
     pub fn stale(&self) -> bool
         ensures { result ≡ self.now.stale }
     {

@@ -3,3 +3,4 @@ pub mod MapLemmas
 pub mod TableLemmas
 pub mod StreamLemmas
 pub mod SpellingLemmas
+pub mod RunLemmas

@@ -19,7 +19,7 @@ use Rattle.strat_model.specs.Kept.{IsMap, IsTable, updated}
 use Rattle.strat_model.proofs.MapLemmas.{set_keeps_map, unset_keeps_map, filter_keeps_map, drop_keeps_map}
 
 -- what holds of each side where it is chosen holds of the one that is chosen
-chosen : {A : Type 0} (P : A → Type 0) (b : Bool) (x y : A) → (b ≡ true → P x) → (b ≡ false → P y) → P (if b then x else y)
+pub chosen : {A : Type 0} (P : A → Type 0) (b : Bool) (x y : A) → (b ≡ true → P x) → (b ≡ false → P y) → P (if b then x else y)
 chosen P true x y at_x at_y = at_x refl
 chosen P false x y at_x at_y = at_y refl
 

@@ -6,12 +6,14 @@ ghost use Rattle.strat_base.specs.declared.limits.TheConstants.{CHANGES_MAX, VER
 ghost use Rattle.strat_model.specs.Pairs.{Pairs, value_of, set, unset};
 ghost use Rattle.strat_model.specs.Request.{Request, Clone};
 ghost use Rattle.strat_model.specs.Table.{Table, fresh};
-ghost use Rattle.strat_model.specs.Answer.{accepts};
+ghost use Rattle.strat_model.specs.Answer.{accepts, refusal};
 ghost use Rattle.strat_model.specs.Step.{step, pairs_at, is_frozen};
 ghost use Rattle.strat_model.specs.Kept.{IsMap, IsTable, updated};
-ghost use Rattle.strat_model.specs.Spelling.{has_lawful_sizes, size_refusal, HasForm, IsRefusedAs};
+ghost use Rattle.strat_model.specs.Run.{Position, Response, Answers, AnswersFault, takes_memory, reaches_disk, position_after};
+ghost use Rattle.strat_model.specs.Spelling.{has_lawful_sizes, size_refusal, HasForm, Spells, IsRefusedAs};
 ghost use Rattle.strat_model.specs.Stream.{Splits};
 ghost use Rattle.strat_model.specs.declared.replies.Refusal.{Refusal};
+ghost use Rattle.strat_model.specs.declared.replies.Refusal.TheVariants as why;
 ghost use Rattle.strat_model.specs.Examples.{answers, branching, branched, scanning, scanned, growing, grown, filling, filled, paging, paged, staging, staged};
 
 /// A clone has a map of its own, and its parent takes no more updates.
@@ -102,4 +104,21 @@ pub fn unlawful_sizes_are_refused()
     ensures err { (body : List ℕ) (tag : ℕ) (request : Request) (cause : Refusal)
         → HasForm body tag request → size_refusal request ≡ Some cause
         → IsRefusedAs body tag cause }
+{}
+
+/// Memory runs out for a command alone that takes some and that the table accepts, and changes nothing. A
+/// fault comes for a command alone that reaches the disk and that the table accepts.
+pub fn interruptions_have_causes()
+    ensures none { (mem : ℕ) (at : Position) (body : List ℕ) (response : Response)
+        (after : Position) → Answers mem at body response after
+        → response.answer ≡ refusal why.NoMemory
+        → (request : Request) × Spells body response.tag request
+        × (takes_memory request ≡ true)
+        × (accepts (step at.table request).answer.reply ≡ true) × (after ≡ at) }
+    ensures cause { (mem : ℕ) (at : Position) (body : List ℕ) (response : Response)
+        (done : Position) → AnswersFault mem at body response done
+        → (request : Request) × Spells body response.tag request
+        × (reaches_disk request ≡ true)
+        × (accepts (step at.table request).answer.reply ≡ true)
+        × (done ≡ position_after mem at request) }
 {}

@@ -36,7 +36,8 @@ pub enum Reply {
         changes: u32,
         cursors: u32,
     },
-    /// Nothing was changed, for this reason.
+    /// Refused for this reason. Nothing was changed, except where the device failed: then the next
+    /// opening tells.
     Refused(Refusal),
 }
 
@@ -51,7 +52,8 @@ pub enum Refusal {
     UnknownCursor,
     /// The store has all the versions that it was made for.
     VersionLimit,
-    /// The store has taken all the changes that it was made for.
+    /// The store has taken all the changes that it was made for, or, as long as there are no levels, as
+    /// many as its journal has room for.
     ChangeLimit,
     /// All cursors are in use.
     CursorLimit,

@@ -7,5 +7,6 @@ pub mod disks;
 pub mod formats;
 pub mod frames;
 pub mod limits;
+pub mod runs;
 pub mod scans;
 pub mod states;

@@ -25,8 +25,8 @@ pub struct Buffers {
 }
 
 impl Buffers {
-    /// Empty buffers, with all the memory that frames, pairs and replies of a run need: about 350
-    /// KB.
+    /// Empty buffers, with all the memory that frames, pairs and replies of a run need: about 0.7
+    /// MB.
     pub fn new(alloc: Global) -> Result<Buffers, NoMemory>
         ensures ok { IfOk result (λ b. b.frames.held ≡ []) }
     {

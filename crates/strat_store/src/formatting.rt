@@ -40,7 +40,7 @@ fn shut_all<D: Disk>(disk: &mut D, mem: u32) -> Result<(), Failed>
 /// Why a store could not be made.
 #[derive(Clone, Copy, Debug, PartialEq, Eq, Error)]
 pub enum FormatFault {
-    /// Memory ran out, before the disk was touched.
+    /// Memory ran out, before the disk was touched. So far no formatting takes memory.
     #[error("out of memory")]
     NoMemory,
     /// The disk failed.

@@ -222,10 +222,12 @@ impl Store {
     /// the active journal region up to its first closed gate and one gate of the other region, each
     /// once, and shuts that gate where it reads open while the active region has room (no run of
     /// this program leaves it so): at most one read, one write and one sync more. Until the sync
-    /// succeeds a crash leaves only what it might have left before. It takes 5.3 KB for each change
-    /// that a region has room for and 0.3 MB at its height, and keeps 2.6 KB for each and the
-    /// pairs. Each change walks the pairs of its version. After an error other than `Device` the
-    /// disk is as it was; after that one too, or its last step failed, which shuts that gate.
+    /// succeeds a crash leaves only what it might have left before. It takes all the memory that the
+    /// store will ever need: 3.9 KB for each change that a region has room for and 70 bytes for each
+    /// version that there may be, and while it recovers 2.6 KB for each change and 0.3 MB more; of
+    /// that at most 5.3 KB for each change are touched. Each change is one insertion into level 0.
+    /// After an error other than `Device` the disk is as it was; after that one too, or its last
+    /// step failed, which shuts that gate.
     pub fn attach<D: Disk>(alloc: Global, disk: &mut D) -> Result<Store, AttachFault>
         ensures ok { IfOk result (λ s. IsAttached (D.view disk.old) (D.view disk.new) s) }
         ensures none { IsErrOf result fault.NotAStore → (f : Image)

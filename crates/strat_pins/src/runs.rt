@@ -1,0 +1,53 @@
+//! Which commands change a store, take memory or reach the disk, and how many changes a journal holds after one
+//! more. Each is the contract of a function that does nothing.
+
+ghost use Rattle.std.specs.Prelude.{◌≡◌, [], ◌∷◌, true, false};
+ghost use Rattle.strat_model.specs.Request.{Put, Delete, Get, Clone, Scan, Info, OpenCursor, NextPairs, CloseCursor, Stat};
+ghost use Rattle.strat_model.specs.Run.{is_change, takes_memory, reaches_disk, fill_after, position_after};
+ghost use Rattle.strat_model.specs.Table.{fresh};
+
+/// A put, a delete and a clone change a store.
+pub fn three_commands_are_changes()
+    ensures some { (is_change (Put 0 [] []) ≡ true) × (is_change (Delete 0 []) ≡ true)
+        × (is_change (Clone 0) ≡ true) }
+    ensures none { (is_change (Get 0 []) ≡ false) × (is_change (Scan 0 [] [] 1) ≡ false)
+        × (is_change (Info 0) ≡ false) × (is_change (OpenCursor 0 [] []) ≡ false)
+        × (is_change (NextPairs 1 1) ≡ false) × (is_change (CloseCursor 1) ≡ false)
+        × (is_change Stat ≡ false) }
+{}
+
+/// Memory may run out for these, and where a cursor is opened.
+pub fn four_commands_take_memory()
+    ensures some { (takes_memory (Put 0 [] []) ≡ true) × (takes_memory (Delete 0 []) ≡ true)
+        × (takes_memory (Clone 0) ≡ true) × (takes_memory (OpenCursor 0 [] []) ≡ true) }
+    ensures none { (takes_memory (Get 0 []) ≡ false) × (takes_memory (Scan 0 [] [] 1) ≡ false)
+        × (takes_memory (Info 0) ≡ false) × (takes_memory (NextPairs 1 1) ≡ false)
+        × (takes_memory (CloseCursor 1) ≡ false) × (takes_memory Stat ≡ false) }
+{}
+
+/// The disk may fail at a change and at what reads pairs.
+pub fn six_commands_reach_the_disk()
+    ensures some { (reaches_disk (Put 0 [] []) ≡ true) × (reaches_disk (Delete 0 []) ≡ true)
+        × (reaches_disk (Get 0 []) ≡ true) × (reaches_disk (Clone 0) ≡ true)
+        × (reaches_disk (Scan 0 [] [] 1) ≡ true) × (reaches_disk (NextPairs 1 1) ≡ true) }
+    ensures none { (reaches_disk (Info 0) ≡ false) × (reaches_disk (OpenCursor 0 [] []) ≡ false)
+        × (reaches_disk (CloseCursor 1) ≡ false) × (reaches_disk Stat ≡ false) }
+{}
+
+/// A journal for four changes holds one more up to the fourth, and begins anew with the fifth.
+pub fn a_full_journal_begins_anew()
+    ensures some { (fill_after 4 0 ≡ 1) × (fill_after 4 3 ≡ 4) }
+    ensures full { fill_after 4 4 ≡ 1 }
+{}
+
+/// A change that is accepted is one more in the journal. One that is refused is none, nor is a look-up.
+pub fn accepted_changes_are_journalled()
+    ensures put { (position_after 4 (record { table = fresh 2 2; fill = 2 })
+        (Put 0 (97 ∷ []) [])).fill ≡ 3 }
+    ensures clone { (position_after 4 (record { table = fresh 2 2; fill = 2 })
+        (Clone 0)).fill ≡ 3 }
+    ensures refused { (position_after 4 (record { table = fresh 2 2; fill = 2 })
+        (Put 1 (97 ∷ []) [])).fill ≡ 2 }
+    ensures get { (position_after 4 (record { table = fresh 2 2; fill = 2 })
+        (Get 0 (97 ∷ []))).fill ≡ 2 }
+{}
