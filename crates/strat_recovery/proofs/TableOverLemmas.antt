@@ -1,16 +1,22 @@
 -- What each command answers at the table of a tree and entries, and the table after it.
-use Rattle.std.proofs.Common.{◌≡◌, ◌<◌, ◌+◌, ℕ, Bool, true, false, if◌then◌else◌, eqb, ltb, not, inl, inr, List, [], ◌∷◌, ◌++◌, length, Some, None, refl, sym, ap, ◌∙◌, arith, length-append}
+use Rattle.std.proofs.Common.{◌≡◌, ◌<◌, ◌+◌, ℕ, Bool, true, false, if◌then◌else◌, eqb, ltb, not, inl, inr, List, [], ◌∷◌, ◌++◌, length, reverse, Some, None, refl, sym, ap, ◌∙◌, subst, arith, length-append, append-nil}
+use Rattle.std.specs.List.{find, flat_map}
 use Rattle.std.proofs.lemmas.Bool.{ltb-true, lt-ltb}
 use Rattle.strat_base.specs.Tree.{Parents, is_known, parent_of, depth, has_child, with_child}
-use Rattle.strat_base.specs.Entries.{Entry}
-use Rattle.strat_base.proofs.ListFacts.{Among, all_at, all_from}
+use Rattle.strat_base.specs.Entries.{Entry, is_at}
+use Rattle.strat_base.proofs.ListFacts.{Among, all_at, all_from, among_reverse}
 use Rattle.strat_base.proofs.TreeLemmas.{tree_grown}
 use Rattle.strat_state.specs.Maps.{value_over, map_over}
-use Rattle.strat_state.specs.Setting.{set_entry}
+use Rattle.strat_state.specs.Setting.{set_entry, set_all}
+use Rattle.strat_state.specs.Level.{Level, level_leads}
+use Rattle.strat_state.specs.State.{State, versions_of, journal_updates, sources}
+use Rattle.strat_state.specs.Sound.{IsSound}
 use Rattle.strat_state.proofs.MapLemmas.{value_in-lookup}
 use Rattle.strat_state.proofs.ValueLemmas.{map_value}
 use Rattle.strat_state.proofs.SettingLemmas.{find_set, set_among}
-use Rattle.strat_state.proofs.SoundLemmas.{tree_from_test}
+use Rattle.strat_state.proofs.SoundLemmas.{tree_from_test, sound_tree}
+use Rattle.strat_state.proofs.StepMaps.{known_sources}
+use Rattle.strat_state.proofs.UpdateLemmas.{all_among, all_found}
 use Rattle.strat_model.specs.Pairs.{Pairs, value_of, set, unset}
 use Rattle.strat_model.specs.Table.{Row, Table, fresh, parents_of}
 use Rattle.strat_model.specs.declared.replies.Reply.TheVariants as reply
@@ -18,6 +24,7 @@ use Rattle.strat_model.specs.declared.replies.Refusal.TheVariants as why
 use Rattle.strat_model.specs.Answer.{Answer, plain}
 use Rattle.strat_model.specs.Request.{Put, Delete, Get, Clone, Info, Stat}
 use Rattle.strat_model.specs.Step.{Outcome, refuses, replies_with, step, update, found, has_row, is_frozen, pairs_at, with_pairs}
+use Rattle.strat_recovery.specs.StateTable.{table_of}
 use Rattle.strat_recovery.specs.TableOver.{rows_over, IsTableOver, update_over, clone_over, get_over, info_over, stat_over}
 use Rattle.strat_recovery.proofs.RowLemmas.{length-rows, parents-rows, pairs_over, rows_found, put_rows, delete_rows, clone_rows}
 
@@ -141,3 +148,16 @@ module _ (parents : Parents) (entries : List Entry) (t : Table) (over : IsTableO
 
   pub stat_is_over : step t Stat ≡ stat_over parents t
   stat_is_over = ap (λ (n : ℕ). replies_with t (plain (reply.Stat n t.updates t.changes (length t.cursors)))) length_over
+
+-- a sound state without levels means the table of its versions and of what its updates leave
+pub state_over : (s : State) → IsSound s → s.levels ≡ [] → IsTableOver (versions_of s) (set_all (journal_updates s)) (table_of s)
+state_over s sound none =
+    let updates : List Entry = journal_updates s in
+    let all : sources s ≡ reverse updates = ap (λ (x : List Level). reverse updates ++ flat_map level_leads x) none ∙ append-nil (reverse updates) in
+    record {
+      tree = sound_tree s sound;
+      known = all_from (λ e. is_known (versions_of s) e.version) (set_all updates) (λ e among.
+          let here : Among e (sources s) = subst (Among e) (sym all) (among_reverse updates e (subst (Among e) (append-nil updates) (all_among updates e among))) in
+          lt-ltb e.version (length (versions_of s)) (known_sources s sound e here));
+      rows = rows_found (versions_of s) (sound_tree s sound) (set_all updates) (sources s) (λ key u. ap (find (is_at key u)) all ∙ sym (all_found key u updates));
+    }

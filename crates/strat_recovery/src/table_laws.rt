@@ -8,8 +8,11 @@ ghost use Rattle.strat_base.specs.Tree.{Parents, is_known, with_child};
 ghost use Rattle.strat_model.specs.Request.{Put, Delete, Get, Clone, Info, Stat};
 ghost use Rattle.strat_model.specs.Step.{step};
 ghost use Rattle.strat_model.specs.Table.{Table, fresh};
+ghost use Rattle.strat_recovery.specs.StateTable.{table_of};
 ghost use Rattle.strat_recovery.specs.TableOver.{rows_over, IsTableOver, update_over, clone_over, get_over, info_over, stat_over};
-ghost use Rattle.strat_state.specs.Setting.{set_entry};
+ghost use Rattle.strat_state.specs.Setting.{set_entry, set_all};
+ghost use Rattle.strat_state.specs.Sound.{IsSound};
+ghost use Rattle.strat_state.specs.State.{State, versions_of, journal_updates};
 
 /// A new table is that of version 0 alone and no entry.
 pub fn new_tables_are_over_no_entry()
@@ -48,4 +51,10 @@ pub fn changed_tables_are_over_changed_entries()
         → IsTableOver parents entries t → IsTrue (is_known parents p)
         → after.rows ≡ rows_over (with_child parents p) entries
         → IsTableOver (with_child parents p) entries after }
+{}
+
+/// A sound state without levels means the table of its versions and of what its updates leave.
+pub fn states_without_levels_mean_their_updates()
+    ensures { (s : State) → IsSound s → s.levels ≡ []
+        → IsTableOver (versions_of s) (set_all (journal_updates s)) (table_of s) }
 {}

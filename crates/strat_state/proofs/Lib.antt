@@ -10,4 +10,5 @@ pub mod SoundLemmas
 pub mod SpaceLemmas
 pub mod StepLemmas
 pub mod StepMaps
+pub mod UpdateLemmas
 pub mod ValueLemmas

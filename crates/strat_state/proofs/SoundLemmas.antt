@@ -51,7 +51,7 @@ among_back (y ∷ ys) x among =
     ]
 
 -- among the latest stands what is first from the end
-find-latest : (key : List ℕ) (u : ℕ) (entries : List Entry) → find (is_at key u) (latest entries) ≡ find (is_at key u) (reverse entries)
+pub find-latest : (key : List ℕ) (u : ℕ) (entries : List Entry) → find (is_at key u) (latest entries) ≡ find (is_at key u) (reverse entries)
 find-latest key u [] = refl
 find-latest key u (e ∷ entries) =
     let turned : find (is_at key u) (reverse (e ∷ entries)) ≡ option_or (find (is_at key u) (reverse entries)) (find (is_at key u) (e ∷ [])) =

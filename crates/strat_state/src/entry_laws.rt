@@ -5,13 +5,14 @@ ghost use Rattle.std.specs.BTreeMap.{insert_entry};
 ghost use Rattle.std.specs.List.{list_any, list_all};
 ghost use Rattle.std.specs.Map.{lookup, remove_entry};
 ghost use Rattle.std.specs.Ordering.{is_eq};
-ghost use Rattle.std.specs.Prelude.{◌≡◌, ◌==◌, if◌then◌else◌, ℕ, ◌+◌, ◌<◌, List, ◌∷◌, length, filter, find, Some, None, option_and_then, IsTrue, false};
-ghost use Rattle.strat_base.specs.Entries.{Entry, is_of, is_at, is_single, is_ascending};
+ghost use Rattle.std.specs.Prelude.{◌≡◌, ◌==◌, if◌then◌else◌, ℕ, ◌+◌, ◌<◌, List, [], ◌∷◌, ◌++◌, length, filter, find, Some, None, option_and_then, IsTrue, false};
+ghost use Rattle.strat_base.specs.Entries.{Entry, is_of, is_at, is_single, is_ascending, latest};
 ghost use Rattle.strat_base.specs.Order.{key_cmp};
 ghost use Rattle.strat_base.specs.Tree.{Parents, is_known, is_ancestor, has_child, with_child, IsTree};
 ghost use Rattle.strat_state.specs.Live.{live, deciding};
 ghost use Rattle.strat_state.specs.Maps.{map_over};
-ghost use Rattle.strat_state.specs.Setting.{set_entry};
+ghost use Rattle.strat_state.specs.Reading.{live_of};
+ghost use Rattle.strat_state.specs.Setting.{set_entry, set_all};
 
 /// Entries in order, one for each key and version, stay so when one is set among them, and every key
 /// and version is found as if that one stood in front.
@@ -23,6 +24,19 @@ pub fn setting_keeps_entries_in_order()
         ≡ length entries + (if list_any (is_at e.key e.version) entries then 0 else 1) }
     ensures found { (e : Entry) (entries : List Entry) (key : List ℕ) (u : ℕ)
         → find (is_at key u) (set_entry e entries) ≡ find (is_at key u) (e ∷ entries) }
+{}
+
+/// Updates that are set one after another leave the latest of each key and version, in order, and a key
+/// is read in them as in the latest updates of level 0.
+pub fn updates_leave_their_latest_in_order()
+    ensures kept { (updates : List Entry) → IsTrue (is_ascending (set_all updates)) }
+    ensures ok { (updates : List Entry) (e : Entry)
+        → set_all (updates ++ e ∷ []) ≡ set_entry e (set_all updates) }
+    ensures found { (updates : List Entry) (key : List ℕ) (u : ℕ)
+        → find (is_at key u) (set_all updates) ≡ find (is_at key u) (latest updates) }
+    ensures same { (parents : Parents) (updates : List Entry) (v : ℕ) (key : List ℕ)
+        → IsTree parents
+        → live_of parents (set_all updates) v key ≡ live_of parents (latest updates) v key }
 {}
 
 /// Among entries in order the first of a key at a version or an ancestor of it decides the key there,

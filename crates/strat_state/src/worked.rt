@@ -3,6 +3,9 @@
 #![tactic(auto, unfolding(strat_base::specs::Tree::climb, crate::specs::State::deep), using(crate::proofs::BreachLemmas::sound_from_none))]
 
 ghost use Rattle.std.specs.Prelude.{◌≡◌, ℕ, List, [], ◌∷◌, Some, None};
+ghost use Rattle.strat_base.specs.Samples.{says, gone};
+ghost use Rattle.strat_state.specs.Maps.{map_over};
+ghost use Rattle.strat_state.specs.Setting.{set_all};
 ghost use Rattle.strat_state.specs.Sound.{IsSound};
 ghost use Rattle.strat_state.specs.State.{value_at, map_at, densities, lead_fractions, stored, updates_of, changes_of, IsPaid};
 ghost use Rattle.strat_state.specs.Worked.{chain, fan, child_with_more, deleted_below};
@@ -50,4 +53,15 @@ pub fn deletion_below_a_value()
     ensures root { map_at deleted_below 0 ≡ (97 ∷ [], 49 ∷ []) ∷ [] }
     ensures child { map_at deleted_below 1 ≡ [] }
     ensures grandchild { map_at deleted_below 2 ≡ (122 ∷ [], 49 ∷ []) ∷ [] }
+{}
+
+/// Four updates of two keys: of one key the greater version stands first, and the later update of a
+/// key and a version takes the place of the earlier.
+pub fn updates_set_in_order()
+    ensures ok { set_all (says 98 0 49 ∷ says 97 0 49 ∷ says 97 1 50 ∷ gone 97 0 ∷ [])
+        ≡ says 97 1 50 ∷ gone 97 0 ∷ says 98 0 49 ∷ [] }
+    ensures root { map_over (None ∷ Some 0 ∷ []) (says 97 1 50 ∷ gone 97 0 ∷ says 98 0 49 ∷ []) 0
+        ≡ (98 ∷ [], 49 ∷ []) ∷ [] }
+    ensures child { map_over (None ∷ Some 0 ∷ []) (says 97 1 50 ∷ gone 97 0 ∷ says 98 0 49 ∷ []) 1
+        ≡ (97 ∷ [], 50 ∷ []) ∷ (98 ∷ [], 49 ∷ []) ∷ [] }
 {}
