@@ -3,6 +3,7 @@ pub mod Disks
 pub mod Head
 pub mod Opened
 pub mod Opening
+pub mod Passed
 pub mod Settings
 pub mod StateTable
 pub mod TableOver
