@@ -10,3 +10,4 @@ pub mod limits;
 pub mod runs;
 pub mod scans;
 pub mod states;
+pub mod workloads;

@@ -6,3 +6,4 @@ pub mod RowLemmas
 pub mod StateTableLemmas
 pub mod TableOverLemmas
 pub mod TextLemmas
+pub mod WorkloadLemmas

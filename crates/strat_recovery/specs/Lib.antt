@@ -8,3 +8,4 @@ pub mod Settings
 pub mod StateTable
 pub mod TableOver
 pub mod Texts
+pub mod Workload

@@ -6,3 +6,4 @@ pub mod opening;
 pub mod state_laws;
 pub mod table_laws;
 pub mod texts;
+pub mod workload_laws;
