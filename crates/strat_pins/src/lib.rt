@@ -7,6 +7,7 @@ pub mod disks;
 pub mod formats;
 pub mod frames;
 pub mod limits;
+pub mod look_ups;
 pub mod runs;
 pub mod scans;
 pub mod states;

@@ -1,3 +1,4 @@
+pub mod AskedLemmas
 pub mod BadLemmas
 pub mod HeadLemmas
 pub mod OpeningLemmas

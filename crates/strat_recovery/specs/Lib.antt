@@ -1,3 +1,4 @@
+pub mod Asked
 pub mod Bad
 pub mod Disks
 pub mod Head

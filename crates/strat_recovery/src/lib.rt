@@ -2,6 +2,7 @@
 //! definitions with their laws.
 #![tactic(auto)]
 
+pub mod asking;
 pub mod opening;
 pub mod state_laws;
 pub mod table_laws;
