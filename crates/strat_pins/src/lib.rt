@@ -3,6 +3,7 @@
 
 #![tactic(auto)]
 
+pub mod bad_disks;
 pub mod disks;
 pub mod formats;
 pub mod frames;

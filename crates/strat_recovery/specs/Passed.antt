@@ -36,7 +36,8 @@ pub record IsTestedLevel (next_array : ℕ) (level : Level) : Type 0 where
 -- a state is within its limits, and so are its counts, its arrays and its journal
 pub record PassesOpening (s : State) : Type 0 where
   pub limits : AreLimits s.mem s.changes_max s.versions_max
-  -- no more updates than changes: what is paid is bounded by changes, and what is written by updates
+  -- no more updates than changes: that a store stays paid (`IsPaid`) rests on this, since its bounds
+  -- are in changes, and a publication writes by updates
   pub few_updates : s.updates ≤ s.changes
   pub few_changes : changes_of s ≤ s.changes_max
   pub few_versions : length (versions_of s) ≤ s.versions_max
