@@ -1,3 +1,4 @@
+pub mod BadDisks
 pub mod Disks
 pub mod Formats
 pub mod States

@@ -3,10 +3,13 @@
 
 #![tactic(auto)]
 
+pub mod bad_disks;
 pub mod disks;
 pub mod formats;
 pub mod frames;
 pub mod limits;
+pub mod look_ups;
 pub mod runs;
 pub mod scans;
 pub mod states;
+pub mod workloads;

@@ -26,7 +26,7 @@ use Rattle.strat_recovery.specs.Bad.{block_on, IsUnread, begins_after, fits_behi
 use Rattle.strat_recovery.proofs.OpeningLemmas.{map_some, next_some, each_some}
 use Rattle.strat_recovery.proofs.HeadLemmas.{state_with}
 
-contained_at : {X : Type 0} (x : X) (xs : List X) (k : ℕ) → k < length xs → get_or xs k x ≡ x → Among x xs
+pub contained_at : {X : Type 0} (x : X) (xs : List X) (k : ℕ) → k < length xs → get_or xs k x ≡ x → Among x xs
 contained_at x [] k lt e = absurd (omega arith)
 contained_at x (y ∷ ys) zero lt e = inl (sym e)
 contained_at x (y ∷ ys) (suc k) lt e = inr (contained_at x ys k (omega arith) e)

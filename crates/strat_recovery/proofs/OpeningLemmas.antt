@@ -55,13 +55,13 @@ both_true : (a b : Bool) → a ≡ true → b ≡ true → a && b ≡ true
 both_true a b e f = (λ i. e i && b) ∙ f
 
 -- the tests of a manifest, and of a level
-abbrev manifest_tests : Manifest → List Bool
+abbrev pub manifest_tests : Manifest → List Bool
 manifest_tests m =
     ltb m.changes (2 ^ 32) ∷ leb m.updates m.changes ∷ ltb m.written (2 ^ 64) ∷ leb 1 m.next_array ∷ ltb m.next_array (2 ^ 64)
     ∷ leb (versions_in m) VERSIONS_MAX ∷ are_older 1 m.parents ∷ leb (length m.levels) LEVELS
     ∷ list_all (is_lawful_level (versions_in m) m.next_array) m.levels ∷ is_rising (map (λ level. level.number) m.levels) ∷ []
 
-abbrev level_tests : ℕ → ℕ → LevelDesc → List Bool
+abbrev pub level_tests : ℕ → ℕ → LevelDesc → List Bool
 level_tests versions next d =
     leb 1 d.number ∷ leb d.number LEVELS ∷ leb 1 d.horizon ∷ leb d.horizon versions
     ∷ is_counted d.arrays ∷ list_all (is_lawful_array next) d.arrays ∷ is_rising (map first_version d.arrays) ∷ []
@@ -145,7 +145,7 @@ cond_some true o y e = e
 cond_some false o y e = absurd (cc)
 
 -- a manifest that is read has a spelling
-lawful_read : (c : Image) (first n : ℕ) (blocks : List ℕ) (found : Chained) → manifest_in_chain c first n blocks ≡ Ok found → is_lawful_manifest found.manifest ≡ true
+pub lawful_read : (c : Image) (first n : ℕ) (blocks : List ℕ) (found : Chained) → manifest_in_chain c first n blocks ≡ Ok found → is_lawful_manifest found.manifest ≡ true
 lawful_read c first n blocks found e =
     let bytes : List ℕ = chained_bytes c blocks in
     let read = map_some (λ m. record { manifest = m; blocks = blocks }) (manifest_filled n bytes) found (found_ok first (option_map (λ m. record { manifest = m; blocks = blocks }) (manifest_filled n bytes)) found e) in
@@ -154,7 +154,7 @@ lawful_read c first n blocks found e =
     subst P read.2 (manifest_in-some read.0 (take n bytes) here).lawful
 
 module _ (c : Image) (sb : Super) (m : Manifest) (journal : List Change) (found : recover_manifest c sb ≡ Ok m) (changes : recover_journal c sb m ≡ Ok journal) where
-  lawful_found : is_lawful_manifest m ≡ true
+  pub lawful_found : is_lawful_manifest m ≡ true
   lawful_found =
       let test : Chained → Read Manifest = λ x. passed_or sb.manifest (belongs sb x) x.manifest in
       let chained = and_then_ok (manifest_at c sb.manifest sb.length) test m found in
@@ -163,7 +163,7 @@ module _ (c : Image) (sb : Super) (m : Manifest) (journal : List Change) (found 
       let P : Manifest → Type 0 = λ x. is_lawful_manifest x ≡ true in
       subst P here.1 (lawful_read c sb.manifest sb.length blocks.0 chained.0 blocks.2)
 
-  journal_tests : (are_accepted sb.changes_max sb.versions_max (parents_in m) m.changes journal ≡ true) × (length journal ≤ sb.mem)
+  pub journal_tests : (are_accepted sb.changes_max sb.versions_max (parents_in m) m.changes journal ≡ true) × (length journal ≤ sb.mem)
   journal_tests =
       let read = and_then_ok (journal_in_one c sb.mem sb.region) (accepted_in sb.changes_max sb.versions_max (parents_in m) m.changes) journal changes in
       let accepted = accepted_all sb.changes_max sb.versions_max (parents_in m) m.changes read.0 journal read.2 in
@@ -203,24 +203,50 @@ opened_ok (Ok found) h e = ap (λ (o : Option Head). Ok o) e
 opened_ok (Err b) h e = absurd (cc)
 
 -- a head that is found is the one behind its superblock
-slot_ok : (c : Image) (slot : Option (ℕ × Super)) (h : Head) → recover_slot c slot ≡ Ok (Some h) → (sb : Super) × (recover_head c sb ≡ Ok h)
+slot_ok : (c : Image) (slot : Option (ℕ × Super)) (h : Head) → recover_slot c slot ≡ Ok (Some h) → (x : ℕ × Super) × (slot ≡ Some x) × (recover_head c x.1 ≡ Ok h)
 slot_ok c None h e = absurd (cc)
 slot_ok c (Some slot) h e =
     let found = and_then_ok (recover_head c slot.1) (λ x. Ok (Some x)) (Some h) e in
     let last : Ok (Some found.0) ≡ Ok (Some h) = found.2 in
     let same : found.0 ≡ h = cc in
-    (slot.1, found.1 ∙ ap (λ (x : Head). Ok x) same)
+    (slot, refl, found.1 ∙ ap (λ (x : Head). Ok x) same)
+
+-- where a state that is read was found: behind the newest superblock, with its manifest and journal
+pub record FoundState (c : Image) (s : State) : Type 0 where
+  pub slot : ℕ × Super
+  pub manifest : Manifest
+  pub journal : List Change
+  pub newest : newest_in c ≡ Ok (Some slot)
+  pub chained : recover_manifest c slot.1 ≡ Ok manifest
+  pub logged : recover_journal c slot.1 manifest ≡ Ok journal
+  pub state : state_of c (record { sb = slot.1; manifest = manifest; journal = journal }) ≡ Some s
+
+state_at : (c : Image) (s : State) (h k : Head) → k ≡ h → state_of c h ≡ Some s → state_of c k ≡ Some s
+state_at c s h k same is = ap (state_of c) same ∙ is
+
+pub state_found : (c : Image) (s : State) → reads_as c ≡ Some s → FoundState c s
+state_found c s e =
+    let head = next_some (state_of c) (opened (recover c)) s e in
+    let slot = and_then_ok (newest_in c) (recover_slot c) (Some head.0) (opened_ok (recover c) head.0 head.1) in
+    let behind = slot_ok c slot.0 head.0 slot.2 in
+    let sb : Super = behind.0.1 in
+    let rest : Manifest → Read Head = λ m. and_then (recover_journal c sb m) (λ journal. Ok (record { sb = sb; manifest = m; journal = journal })) in
+    let manifest = and_then_ok (recover_manifest c sb) rest head.0 behind.2 in
+    let journal = and_then_ok (recover_journal c sb manifest.0) (λ journal. Ok (record { sb = sb; manifest = manifest.0; journal = journal })) head.0 manifest.2 in
+    let last : Ok (record { sb = sb; manifest = manifest.0; journal = journal.0 }) ≡ Ok head.0 = journal.2 in
+    let same : record { sb = sb; manifest = manifest.0; journal = journal.0 } ≡ head.0 = cc in
+    record {
+      slot = behind.0;
+      manifest = manifest.0;
+      journal = journal.0;
+      newest = slot.1 ∙ ap (λ (o : Option (ℕ × Super)). Ok o) behind.1;
+      chained = manifest.1;
+      logged = journal.1;
+      state = state_at c s head.0 (record { sb = sb; manifest = manifest.0; journal = journal.0 }) same head.2;
+    }
 
 -- what an opening reads has passed what an opening tests
 pub read_openable : (c : Image) (s : State) → reads_as c ≡ Some s → IsWellFormed s
 read_openable c s e =
-    let head = next_some (state_of c) (opened (recover c)) s e in
-    let slot = and_then_ok (newest_in c) (recover_slot c) (Some head.0) (opened_ok (recover c) head.0 head.1) in
-    let behind = slot_ok c slot.0 head.0 slot.2 in
-    let sb : Super = behind.0 in
-    let rest : Manifest → Read Head = λ m. and_then (recover_journal c sb m) (λ journal. Ok (record { sb = sb; manifest = m; journal = journal })) in
-    let manifest = and_then_ok (recover_manifest c sb) rest head.0 behind.1 in
-    let journal = and_then_ok (recover_journal c sb manifest.0) (λ journal. Ok (record { sb = sb; manifest = manifest.0; journal = journal })) head.0 manifest.2 in
-    let last : Ok (record { sb = sb; manifest = manifest.0; journal = journal.0 }) ≡ Ok head.0 = journal.2 in
-    let same : record { sb = sb; manifest = manifest.0; journal = journal.0 } ≡ head.0 = cc in
-    openable c sb manifest.0 journal.0 manifest.1 journal.1 s (subst (λ (x : Head). state_of c x ≡ Some s) (sym same) head.2)
+    let f = state_found c s e in
+    openable c f.slot.1 f.manifest f.journal f.chained f.logged s f.state

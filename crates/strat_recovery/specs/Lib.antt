@@ -1,9 +1,12 @@
+pub mod Asked
 pub mod Bad
 pub mod Disks
 pub mod Head
 pub mod Opened
 pub mod Opening
+pub mod Passed
 pub mod Settings
 pub mod StateTable
 pub mod TableOver
 pub mod Texts
+pub mod Workload

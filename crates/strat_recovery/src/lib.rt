@@ -2,7 +2,9 @@
 //! definitions with their laws.
 #![tactic(auto)]
 
+pub mod asking;
 pub mod opening;
 pub mod state_laws;
 pub mod table_laws;
 pub mod texts;
+pub mod workload_laws;

@@ -13,6 +13,7 @@ ghost use Rattle.strat_recovery.specs.Bad.{IsBad};
 ghost use Rattle.strat_recovery.specs.Disks.{formatted, first_block, manifest_block, new_super, new_head, chain_super, chain_manifest, with_horizon, published_by, published, doubly_open};
 ghost use Rattle.strat_recovery.specs.Head.{Head, head_of, head_versions, head_updates, head_changes, descriptors};
 ghost use Rattle.strat_recovery.specs.Opening.{recover, reads_as, state_of};
+ghost use Rattle.strat_recovery.specs.Passed.{PassesOpening};
 ghost use Rattle.strat_recovery.specs.Texts.{report, summary};
 
 /// A disk that was just formatted opens as a new store.
@@ -71,6 +72,13 @@ pub fn strange_manifests_are_refused()
 /// What the bytes of a disk read as is a well formed state.
 pub fn what_is_read_may_be_opened()
     ensures { (c : Image) (s : State) → reads_as c ≡ Some s → IsWellFormed s }
+{}
+
+/// It has what an opening tests beside that: its limits and counts are within what they may be, no
+/// array has the number of another or of one to come, no tag is empty, and all keys and values have lawful
+/// sizes.
+pub fn what_is_read_has_passed_an_opening()
+    ensures { (c : Image) (s : State) → reads_as c ≡ Some s → PassesOpening s }
 {}
 
 /// The texts of a head are those of the state that it is the head of. They say nothing of where on

@@ -3,6 +3,7 @@ pub mod BreachLemmas
 pub mod GroupLemmas
 pub mod LevelLemmas
 pub mod LiveLemmas
+pub mod LookUpLemmas
 pub mod MapLemmas
 pub mod ReadingLemmas
 pub mod SettingLemmas

@@ -2,6 +2,7 @@ pub mod Breach
 pub mod Broken
 pub mod Level
 pub mod Live
+pub mod LookUp
 pub mod Maps
 pub mod Reading
 pub mod Setting

@@ -5,4 +5,5 @@
 pub mod broken;
 pub mod entry_laws;
 pub mod laws;
+pub mod look_ups;
 pub mod worked;

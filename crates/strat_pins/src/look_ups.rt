@@ -1,0 +1,45 @@
+//! Where a look-up goes, and what decides it. Each is the contract of a function that does nothing.
+
+#![tactic(auto, unfolding(strat_base::specs::Tree::climb, strat_base::specs::Numbers::be, strat_base::specs::Numbers::number, strat_crash::specs::Image::window, strat_crash::specs::Image::over, strat_base::specs::EntryBytes::entry_in, strat_format::specs::Block::entries_in, strat_format::specs::Block::block_bytes, strat_format::specs::Block::block_in, strat_recovery::specs::Opened::entries_on))]
+
+ghost use Rattle.std.specs.Prelude.{◌≡◌, [], ◌∷◌, Some, None};
+ghost use Rattle.strat_base.specs.Samples.{says, gone};
+ghost use Rattle.strat_recovery.specs.Asked.{asked};
+ghost use Rattle.strat_recovery.specs.Disks.{formatted, chain_manifest, published};
+ghost use Rattle.strat_recovery.specs.Opened.{parents_in};
+ghost use Rattle.strat_state.specs.LookUp.{looked_up, of_state};
+ghost use Rattle.strat_state.specs.Worked.{chain, fan};
+
+/// Of the lists of level 0 the first decides that has the key live at the version, also where it is gone; a
+/// list that has it at another version alone decides nothing.
+pub fn newest_lists_decide()
+    ensures first { looked_up of_state (None ∷ [])
+        ((says 97 0 49 ∷ []) ∷ (says 97 0 50 ∷ []) ∷ []) [] 0 (97 ∷ []) ≡ Some (says 97 0 49) }
+    ensures second { looked_up of_state (None ∷ [])
+        ((says 98 0 49 ∷ []) ∷ (says 97 0 50 ∷ []) ∷ []) [] 0 (97 ∷ []) ≡ Some (says 97 0 50) }
+    ensures beside { looked_up of_state (None ∷ Some 0 ∷ Some 0 ∷ [])
+        ((says 97 1 49 ∷ []) ∷ (says 97 0 50 ∷ []) ∷ []) [] 2 (97 ∷ []) ≡ Some (says 97 0 50) }
+    ensures none { looked_up of_state (None ∷ []) ([] ∷ []) [] 0 (97 ∷ []) ≡ None }
+{}
+
+/// A level is asked for the array of the version, or of its nearest ancestor below the horizon.
+pub fn levels_are_asked_by_version()
+    ensures own { looked_up of_state fan.parents [] fan.levels 2 (99 ∷ []) ≡ Some (says 99 2 50) }
+    ensures newer { looked_up of_state (None ∷ Some 0 ∷ Some 1 ∷ Some 2 ∷ Some 3 ∷ []) []
+        chain.levels 4 (97 ∷ []) ≡ Some (says 97 1 49) }
+    ensures none { looked_up of_state chain.parents [] chain.levels 0 (97 ∷ []) ≡ None }
+{}
+
+/// Bytes are asked for what the blocks of an array hold; level 0 goes before them. Where a block is no block its
+/// array has no entry.
+pub fn bytes_are_asked_for_blocks()
+    ensures block { asked published (parents_in chain_manifest) [] chain_manifest.levels 2 (97 ∷ [])
+        ≡ Some (49 ∷ []) }
+    ensures zero { asked published (parents_in chain_manifest) ((says 97 2 50 ∷ []) ∷ [])
+        chain_manifest.levels 2 (97 ∷ []) ≡ Some (50 ∷ []) }
+    ensures gone { asked published (parents_in chain_manifest)
+        ((gone 97 2 ∷ []) ∷ [])
+        chain_manifest.levels 2 (97 ∷ []) ≡ None }
+    ensures none { asked formatted (parents_in chain_manifest) [] chain_manifest.levels 2 (97 ∷ [])
+        ≡ None }
+{}
