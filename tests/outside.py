@@ -289,7 +289,9 @@ def versions_are_as_the_model_has_them(folder):
                 frames.append(chance.choice((
                     put(tag, key, chance.randbytes(chance.randrange(9)), version), delete(tag, key, version),
                     get(tag, key, version), clone(tag, version), info(tag, version), stat(tag))))
-            store.expect_served(f"turn {turn}, run {run}", [b"".join(frames)])
+            data = b"".join(frames)
+            cuts = sorted(chance.sample(range(len(data)), chance.choice((0, 1, 30))))
+            store.expect_served(f"turn {turn}, run {run}", [data[i:j] for i, j in zip([0, *cuts], [*cuts, len(data)])])
 
 
 def the_last_value_of_a_key_counts(folder):
