@@ -1,4 +1,5 @@
 pub mod BadDisks
 pub mod Disks
 pub mod Formats
+pub mod Openings
 pub mod States

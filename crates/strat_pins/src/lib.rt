@@ -9,6 +9,7 @@ pub mod formats;
 pub mod frames;
 pub mod limits;
 pub mod look_ups;
+pub mod openings;
 pub mod runs;
 pub mod scans;
 pub mod states;

@@ -6,6 +6,7 @@ pub mod LiveLemmas
 pub mod LookUpLemmas
 pub mod MapLemmas
 pub mod ReadingLemmas
+pub mod SealLemmas
 pub mod SettingLemmas
 pub mod SoundLemmas
 pub mod SpaceLemmas

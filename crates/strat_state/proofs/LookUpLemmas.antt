@@ -19,7 +19,7 @@ abbrev pub place_in : {L A : Type 0} → Reading L A → Parents → ℕ → Lis
 place_in reading parents v key level = option_map (λ a. reading.shown a key) (array_asked reading parents level v)
 
 module _ (parents : Parents) (v : ℕ) (key : List ℕ) where
-  levels_read : (levels : List Level) → first_live parents (filter_map (place_in of_state parents v key) levels) v key ≡ found_first parents levels v key
+  pub levels_read : (levels : List Level) → first_live parents (filter_map (place_in of_state parents v key) levels) v key ≡ found_first parents levels v key
   levels_read [] = refl
   levels_read (level ∷ levels) = by_array (array_for parents level v) (levels_read levels)
     where

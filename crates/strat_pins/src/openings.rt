@@ -1,0 +1,39 @@
+//! What an opening tests of a state, met exactly and passed by one. Each is the contract of a function that does
+//! nothing.
+
+ghost use Rattle.std.specs.Prelude.{[], ◌∷◌, Some};
+ghost use Rattle.strat_base.specs.Change.{Put};
+ghost use Rattle.strat_recovery.specs.Passed.{PassesOpening};
+ghost use Rattle.strat_pins.specs.Openings.{filled_chain, chain_with, chained_array};
+
+/// After four changes there are at most four updates, 65,536 arrays and 134,217,728 entries written; the change and
+/// the versions of the journal count, and its keys have lawful sizes.
+pub fn states_open_up_to_their_bounds()
+    ensures ok { PassesOpening filled_chain }
+    ensures updates { ¬ PassesOpening (record filled_chain { updates = 5 }) }
+    ensures changes { ¬ PassesOpening (record filled_chain { changes_max = 4 }) }
+    ensures versions { ¬ PassesOpening (record filled_chain { versions_max = 3 }) }
+    ensures next { ¬ PassesOpening (record filled_chain { next_array = 65538 }) }
+    ensures written { ¬ PassesOpening (record filled_chain { written = 134217729 }) }
+    ensures journal { ¬ PassesOpening (record filled_chain { journal = Put 3 [] [] ∷ [] }) }
+{}
+
+/// An array has a number from 1 on and below the next, a version, and an entry; its keys and values have lawful
+/// sizes; a level has a horizon; no two arrays have one number.
+pub fn arrays_open_up_to_their_bounds()
+    ensures zero { ¬ PassesOpening (chain_with 4 (record chained_array { id = 0 } ∷ [])) }
+    ensures next { ¬ PassesOpening (chain_with 4 (record chained_array { id = 65537 } ∷ [])) }
+    ensures tag { ¬ PassesOpening (chain_with 4 (record chained_array { tag = [] } ∷ [])) }
+    ensures order { ¬ PassesOpening (chain_with 4
+        (record chained_array { tag = 2 ∷ 1 ∷ [] } ∷ [])) }
+    ensures entries { ¬ PassesOpening (chain_with 4 (record chained_array { entries = 0 } ∷ [])) }
+    ensures key { ¬ PassesOpening (chain_with 4
+        (record chained_array { content = record { key = []; version = 1; value = Some [] } ∷ [] }
+        ∷ [])) }
+    ensures horizon { ¬ PassesOpening (chain_with 0 (chained_array ∷ [])) }
+    ensures level { ¬ PassesOpening (chain_with 4
+        (record chained_array { id = 2; tag = 2 ∷ [] } ∷ record chained_array { tag = 1 ∷ [] }
+        ∷ [])) }
+    ensures distinct { ¬ PassesOpening (chain_with 4
+        (record chained_array { tag = 1 ∷ [] } ∷ record chained_array { tag = 2 ∷ [] } ∷ [])) }
+{}
