@@ -4,7 +4,7 @@ ghost use Rattle.std.specs.Prelude.{◌≡◌, ◌≢◌, ◌≤◌, ◌<◌, �
 ghost use Rattle.strat_crash.specs.Faults.{CountsFaults, ReadsAtMost};
 ghost use Rattle.strat_crash.specs.Image.{Image};
 ghost use Rattle.strat_format.specs.Layout as places;
-ghost use Rattle.strat_crash.specs.Moments.{Exposes, Images, Since, Passes, TearsOnly, IsDurable};
+ghost use Rattle.strat_crash.specs.Moments.{Exposes, Images, Since, Passes, TearsOnly, KeepsImages, IsDurable};
 ghost use Rattle.strat_gate.specs.Gates.{EndsShut};
 ghost use Rattle.strat_format.specs.Records.{Logged, journal_of};
 ghost use Rattle.strat_format.specs.Layout.{IsRegion, open_flag};
@@ -29,6 +29,9 @@ pub fn close_region<D: Disk>(disk: &mut D, mem: u32, region: u8) -> Result<(), F
     ensures ok { OnOk result ((f : Image) → Exposes (D.view disk.old) f
         → EndsShut f (places.region_at mem region) (D.view disk.old) (D.view disk.new)) }
     ensures images { TearsOnly (D.view disk.old) (D.view disk.new) (places.region_at mem region) 1 }
+    ensures same { (f : Image) → Exposes (D.view disk.old) f
+        → f (places.region_at mem region) ≢ open_flag
+        → KeepsImages (D.view disk.old) (D.view disk.new) }
     ensures time { Passes (D.view disk.old) (D.view disk.new) }
     ensures cause { CountsFaults (D.faults disk.old) (D.faults disk.new) result }
     ensures reads { ReadsAtMost 1 (D.reads disk.old) (D.reads disk.new) }
