@@ -2,6 +2,7 @@
 use Rattle.std.specs.Prelude.{ℕ, List, [], ◌∷◌, ◌++◌, map, replicate, Some}
 use Rattle.strat_base.specs.Entries.{Entry}
 use Rattle.strat_base.specs.Change.{Change, Put}
+use Rattle.strat_base.specs.Numbers.{be}
 use Rattle.strat_crash.specs.Image.{Image, patch}
 use Rattle.strat_format.specs.Manifest.{Extent, ArrayDesc, LevelDesc, Manifest}
 use Rattle.strat_format.specs.Records.{records_bytes}
@@ -149,3 +150,11 @@ abbrev pub with_puts : List ℕ → List ℕ → Image
 with_puts firsts seconds =
     patch (patch (λ i. 0) 8192 (records_bytes (map put_of firsts)))
     16384 (records_bytes (map put_of seconds))
+
+-- a disk with these bytes from an offset on, and zeros everywhere else
+abbrev pub bytes_from : ℕ → List ℕ → Image
+bytes_from at bytes = patch (λ i. 0) at bytes
+
+-- a disk on which block 6 names one block as the next of its chain, and block 7 another
+abbrev pub chain_links : ℕ → ℕ → Image
+chain_links six seven = patch (bytes_from 24576 (be 4 six)) 28672 (be 4 seven)

@@ -1,5 +1,6 @@
 -- States that stand exactly at a bound of a definition, or one past it.
-use Rattle.std.specs.Prelude.{ℕ, List, [], ◌∷◌, Some, None}
+use Rattle.std.specs.Prelude.{ℕ, List, [], ◌∷◌, replicate, Some, None}
+use Rattle.strat_base.specs.Change.{Put}
 use Rattle.strat_base.specs.Samples.{says}
 use Rattle.strat_state.specs.Level.{TaggedArray, Level}
 use Rattle.strat_state.specs.State.{State}
@@ -46,6 +47,11 @@ abbrev pub a_third_is_live : State
 a_third_is_live = with_empty_journal (None ∷ Some 0 ∷ Some 0 ∷ []) 3 (first_level 3 (
     array_of 1 (0 ∷ 1 ∷ 2 ∷ []) (says 97 0 49 ∷ says 98 1 49 ∷ says 99 2 49 ∷ []) 3 3 1 ∷ []))
 
+-- three leads, of which two are live at version 1 and one at version 2
+abbrev pub later_is_sparser : State
+later_is_sparser = with_empty_journal (None ∷ Some 0 ∷ Some 0 ∷ []) 3 (first_level 3 (
+    array_of 1 (1 ∷ 2 ∷ []) (says 97 1 49 ∷ says 98 1 49 ∷ says 99 2 49 ∷ []) 3 3 1 ∷ []))
+
 -- a tag has a version that is the horizon
 abbrev pub tag_at_the_horizon : State
 tag_at_the_horizon = with_empty_journal (None ∷ Some 0 ∷ []) 1 (first_level 1 (
@@ -64,6 +70,12 @@ fan_says entries leads least = record fan {
       array_of 1 (0 ∷ 1 ∷ []) (says 97 0 49 ∷ says 98 0 49 ∷ says 99 1 49 ∷ []) entries leads least
       ∷ array_of 2 (2 ∷ 3 ∷ [])
       (says 97 0 49 ∷ says 98 0 49 ∷ says 99 3 51 ∷ says 99 2 50 ∷ []) 4 2 3 ∷ []);
+}
+
+-- a new store, whose regions take four changes, with so many puts in its journal
+abbrev pub after_puts : ℕ → State
+after_puts n = record (with_empty_journal (None ∷ []) 0 []) {
+  journal = replicate n (Put 0 (97 ∷ []) (49 ∷ []));
 }
 
 -- two levels that break all rules together

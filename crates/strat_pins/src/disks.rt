@@ -3,11 +3,12 @@
 
 #![tactic(auto, unfolding(strat_base::specs::Numbers::be, strat_base::specs::Numbers::number, strat_crash::specs::Image::window, strat_crash::specs::Image::over, strat_format::specs::SuperBlock::slot_of, strat_format::specs::SuperBlock::slot_in, strat_format::specs::SuperBlock::zeros, strat_format::specs::Manifest::all_pass))]
 
-ghost use Rattle.std.specs.Prelude.{◌≡◌, [], ◌∷◌, Some, Ok, true, false};
+ghost use Rattle.std.specs.Prelude.{◌≡◌, [], ◌∷◌, Some, None, Ok, Err, true, false};
 ghost use Rattle.strat_base.specs.Samples.{says};
+ghost use Rattle.strat_crash.specs.Image.{patch};
 ghost use Rattle.strat_format.specs.SuperBlock.{newest_in};
 ghost use Rattle.strat_recovery.specs.Bad.{fits_behind};
-ghost use Rattle.strat_recovery.specs.Disks.{new_super, chain_super, chain_manifest};
+ghost use Rattle.strat_recovery.specs.Disks.{formatted, new_super, chain_super, chain_manifest};
 ghost use Rattle.strat_recovery.specs.Opening.{belongs};
 ghost use Rattle.strat_pins.specs.Disks.{array_at, having, in_block_eight, led_by, after_two_changes, with_second_slot, in_two_blocks};
 
@@ -72,6 +73,16 @@ pub fn ties_of_superblocks_go_to_the_first_slot()
         ≡ Ok (Some (1, record new_super { generation = 2; region = 1 })) }
 {}
 
+/// The block of the chosen slot is named where a field of it is out of range, also where the other slot is good. A slot
+/// that is shut, or has another magic, is none.
+pub fn the_chosen_slot_is_judged()
+    ensures damaged { newest_in (patch (with_second_slot 2) 4123 (2 ∷ [])) ≡ Err 1 }
+    ensures older { newest_in (patch (with_second_slot 1) 4123 (2 ∷ []))
+        ≡ Ok (Some (0, new_super)) }
+    ensures shut { newest_in (patch formatted 0 (0xa6 ∷ [])) ≡ Ok None }
+    ensures magic { newest_in (patch formatted 8 (0x32 ∷ [])) ≡ Ok None }
+{}
+
 /// Entries fit after earlier ones where they come after the last of them, their versions are there, and there
 /// are no more leads than the descriptor says.
 pub fn entries_fit_their_place()
@@ -81,6 +92,10 @@ pub fn entries_fit_their_place()
         × (fits_behind 2 in_two_blocks (says 97 0 49 ∷ []) (says 97 0 49 ∷ []) ≡ false)
         × (fits_behind 2 in_two_blocks (says 97 1 49 ∷ []) (says 97 0 49 ∷ []) ≡ true)
         × (fits_behind 2 in_two_blocks (says 97 0 49 ∷ []) (says 97 1 49 ∷ []) ≡ false) }
+    ensures last { (fits_behind 2 in_two_blocks (says 97 1 49 ∷ says 99 1 49 ∷ [])
+        (says 98 1 49 ∷ []) ≡ false)
+        × (fits_behind 2 in_two_blocks (says 97 1 49 ∷ says 99 1 49 ∷ []) (says 100 1 49 ∷ [])
+        ≡ true) }
     ensures first { fits_behind 2 in_two_blocks [] (says 97 0 49 ∷ []) ≡ true }
     ensures version { (fits_behind 1 in_two_blocks [] (says 97 0 49 ∷ []) ≡ true)
         × (fits_behind 1 in_two_blocks [] (says 97 1 49 ∷ []) ≡ false) }

@@ -1,14 +1,17 @@
 //! Values at the bounds of the formats: at each bound one that passes, and one past it that doesn't. Each is
 //! the contract of a function that does nothing.
 
-#![tactic(auto, unfolding(strat_base::specs::Numbers::be, strat_base::specs::Numbers::number, strat_base::specs::Change::change_in, strat_crash::specs::Image::window, strat_crash::specs::Image::over, strat_format::specs::Block::block_bytes, strat_format::specs::Manifest::all_pass, strat_format::specs::Manifest::manifest_bytes, strat_format::specs::Manifest::manifest_in, strat_format::specs::Manifest::read_manifest, strat_format::specs::Manifest::read_level, strat_format::specs::Manifest::read_array, strat_format::specs::Manifest::read_extent, strat_format::specs::Manifest::read_items, strat_format::specs::Manifest::read_number, strat_format::specs::Records::records))]
+#![tactic(auto, unfolding(strat_base::specs::Numbers::be, strat_base::specs::Numbers::number, strat_base::specs::Change::change_in, strat_crash::specs::Image::window, strat_crash::specs::Image::over, strat_format::specs::Block::block_bytes, strat_format::specs::Chained::chain_from, strat_format::specs::Manifest::all_pass, strat_format::specs::Manifest::manifest_bytes, strat_format::specs::Manifest::manifest_in, strat_format::specs::Manifest::read_manifest, strat_format::specs::Manifest::read_level, strat_format::specs::Manifest::read_array, strat_format::specs::Manifest::read_extent, strat_format::specs::Manifest::read_items, strat_format::specs::Manifest::read_number, strat_format::specs::Records::records))]
 
-ghost use Rattle.std.specs.Prelude.{◌≡◌, [], ◌∷◌, ◌++◌, map, replicate, Some, None, Ok, true, false};
+ghost use Rattle.std.specs.Prelude.{◌≡◌, [], ◌∷◌, ◌++◌, map, replicate, Some, None, Ok, Err, true, false};
 ghost use Rattle.strat_base.specs.Samples.{says, gone};
 ghost use Rattle.strat_format.specs.Block.{fits_block, block_bytes};
 ghost use Rattle.strat_format.specs.Manifest.{is_lawful_extent, is_lawful_array, is_lawful_level, is_lawful_manifest, manifest_bytes, manifest_in};
-ghost use Rattle.strat_pins.specs.Formats.{four_entries, from_block, two_leads, in_extents, for_versions, level_desc, with_arrays, second_extent_at, without_levels, two_arrays, two_arrays_bytes, least_super, greatest_super, slot_with, slot_of_generation, put_of, with_puts};
-ghost use Rattle.strat_format.specs.Records.{journal_of};
+ghost use Rattle.strat_pins.specs.Formats.{four_entries, from_block, two_leads, in_extents, for_versions, level_desc, with_arrays, second_extent_at, without_levels, two_arrays, two_arrays_bytes, least_super, greatest_super, slot_with, slot_of_generation, put_of, with_puts, bytes_from, chain_links};
+ghost use Rattle.strat_format.specs.Chain.{chain_length};
+ghost use Rattle.strat_format.specs.Chained.{may_follow, chain_from};
+ghost use Rattle.strat_format.specs.Layout.{region_size};
+ghost use Rattle.strat_format.specs.Records.{records_bytes, records, journal_of, journal_in_one};
 ghost use Rattle.strat_format.specs.SuperBlock.{in_range, newer};
 
 /// The block of `a` with the value `1` at version 0, and of `b` gone from version 258 on.
@@ -22,6 +25,45 @@ pub fn bytes_of_a_block_of_two()
 pub fn blocks_may_be_full()
     ensures most { fits_block (four_entries 978) ≡ true }
     ensures more { fits_block (four_entries 979) ≡ false }
+{}
+
+/// A block has an entry. Its entries ascend, and none stands twice.
+pub fn blocks_have_entries_in_order()
+    ensures none { fits_block [] ≡ false }
+    ensures order { (fits_block (says 97 0 49 ∷ says 98 0 49 ∷ []) ≡ true)
+        × (fits_block (says 98 0 49 ∷ says 97 0 49 ∷ []) ≡ false)
+        × (fits_block (says 97 1 49 ∷ says 97 0 49 ∷ []) ≡ true)
+        × (fits_block (says 97 0 49 ∷ says 97 1 49 ∷ []) ≡ false) }
+    ensures twice { fits_block (says 97 0 49 ∷ says 97 0 50 ∷ []) ≡ false }
+{}
+
+/// The bytes of a region for the fewest and for the most changes.
+pub fn regions_have_these_sizes()
+    ensures { (region_size 4 ≡ 8192) × (region_size 4096 ≡ 5279744) }
+{}
+
+/// A block of a chain holds 4,092 bytes.
+pub fn chains_are_as_long_as_they_need()
+    ensures one { (chain_length 1 ≡ 1) × (chain_length 4092 ≡ 1) }
+    ensures two { (chain_length 4093 ≡ 2) × (chain_length 8184 ≡ 2) }
+    ensures three { chain_length 8185 ≡ 3 }
+{}
+
+/// A link names a block from 1 to 4,294,967,294 that is not in the chain already.
+pub fn links_name_further_blocks()
+    ensures least { (may_follow [] 0 ≡ false) × (may_follow [] 1 ≡ true) }
+    ensures most { (may_follow [] 4294967294 ≡ true) × (may_follow [] 4294967295 ≡ false) }
+    ensures again { (may_follow (7 ∷ 8 ∷ []) 8 ≡ false) × (may_follow (7 ∷ 8 ∷ []) 9 ≡ true) }
+{}
+
+/// A chain of two blocks is read. One that ends early, goes on after its last block or comes back to a block is
+/// blamed on the block with the wrong link.
+pub fn wrong_links_are_named()
+    ensures ok { chain_from (chain_links 7 0) [] 6 1 ≡ Ok (6 ∷ 7 ∷ []) }
+    ensures early { chain_from (chain_links 0 0) [] 6 1 ≡ Err 6 }
+    ensures late { chain_from (chain_links 7 8) [] 6 1 ≡ Err 7 }
+    ensures itself { chain_from (chain_links 6 0) [] 6 1 ≡ Err 6 }
+    ensures back { chain_from (chain_links 7 6) [] 6 2 ≡ Err 7 }
 {}
 
 /// The manifest of one level with two arrays, as it is written and read.
@@ -149,4 +191,25 @@ pub fn full_regions_lead_to_the_other()
         ≡ Ok (map (λ key. record { change = put_of key; block = 2 }) (97 ∷ 98 ∷ 99 ∷ [])) }
     ensures other { journal_of (with_puts (97 ∷ 98 ∷ 99 ∷ 100 ∷ []) (101 ∷ [])) 4 1
         ≡ Ok (record { change = put_of 101; block = 4 } ∷ []) }
+{}
+
+/// While one region may hold the whole journal, an open gate at the head of the other is damage where the active one is
+/// full, whichever that is, and is not looked at where it is not.
+pub fn other_regions_stay_shut()
+    ensures first { journal_in_one (with_puts (97 ∷ 98 ∷ 99 ∷ 100 ∷ []) (101 ∷ [])) 4 0 ≡ Err 4 }
+    ensures second { journal_in_one (with_puts (101 ∷ []) (97 ∷ 98 ∷ 99 ∷ 100 ∷ [])) 4 1 ≡ Err 2 }
+    ensures room { journal_in_one (with_puts (97 ∷ []) (98 ∷ [])) 4 1
+        ≡ Ok (record { change = put_of 98; block = 4 } ∷ []) }
+    ensures shut { journal_in_one (with_puts [] (97 ∷ 98 ∷ 99 ∷ 100 ∷ [])) 4 1
+        ≡ Ok (map (λ key. record { change = put_of key; block = 4 }) (97 ∷ 98 ∷ 99 ∷ 100 ∷ [])) }
+{}
+
+/// A record is known by the block of its gate, also where the gate is the last byte of that block, and where no change
+/// follows the gate.
+pub fn records_are_known_by_their_gates()
+    ensures last { records (bytes_from 12287 (records_bytes (put_of 97 ∷ []))) 12310 1 12287
+        ≡ Ok (record { change = put_of 97; block = 2 } ∷ []) }
+    ensures first { records (bytes_from 12288 (records_bytes (put_of 97 ∷ []))) 12310 1 12288
+        ≡ Ok (record { change = put_of 97; block = 3 } ∷ []) }
+    ensures none { records (bytes_from 12287 (0xa7 ∷ [])) 12310 1 12287 ≡ Err 2 }
 {}

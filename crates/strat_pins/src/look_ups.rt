@@ -2,12 +2,13 @@
 
 #![tactic(auto, unfolding(strat_base::specs::Tree::climb, strat_base::specs::Numbers::be, strat_base::specs::Numbers::number, strat_crash::specs::Image::window, strat_crash::specs::Image::over, strat_base::specs::EntryBytes::entry_in, strat_format::specs::Block::entries_in, strat_format::specs::Block::block_bytes, strat_format::specs::Block::block_in, strat_recovery::specs::Opened::entries_on))]
 
-ghost use Rattle.std.specs.Prelude.{◌≡◌, [], ◌∷◌, Some, None};
+ghost use Rattle.std.specs.Prelude.{◌≡◌, [], ◌∷◌, Some, None, true, false};
 ghost use Rattle.strat_base.specs.Samples.{says, gone};
+ghost use Rattle.strat_base.specs.Tree.{depth, below};
 ghost use Rattle.strat_recovery.specs.Asked.{asked};
 ghost use Rattle.strat_recovery.specs.Disks.{formatted, chain_manifest, published};
 ghost use Rattle.strat_recovery.specs.Opened.{parents_in};
-ghost use Rattle.strat_state.specs.LookUp.{looked_up, of_state};
+ghost use Rattle.strat_state.specs.LookUp.{looked_up, of_state, filtered};
 ghost use Rattle.strat_state.specs.Worked.{chain, fan};
 
 /// Of the lists of level 0 the first decides that has the key live at the version, also where it is gone; a
@@ -28,6 +29,24 @@ pub fn levels_are_asked_by_version()
     ensures newer { looked_up of_state (None ∷ Some 0 ∷ Some 1 ∷ Some 2 ∷ Some 3 ∷ []) []
         chain.levels 4 (97 ∷ []) ≡ Some (says 97 1 49) }
     ensures none { looked_up of_state chain.parents [] chain.levels 0 (97 ∷ []) ≡ None }
+{}
+
+/// An array that a filter refuses is as one without an entry, and its level is passed over.
+pub fn refused_arrays_have_no_entry()
+    ensures refused { looked_up (filtered (λ a key. false) of_state) fan.parents [] fan.levels 2
+        (99 ∷ []) ≡ None }
+    ensures passed { looked_up (filtered (λ a key. true) of_state) fan.parents [] fan.levels 2
+        (99 ∷ []) ≡ Some (says 99 2 50) }
+{}
+
+/// The first version has no ancestor, and a version with two is at depth two. Below a horizon stands the nearest.
+pub fn ancestors_are_counted()
+    ensures depth { (depth (None ∷ Some 0 ∷ Some 1 ∷ []) 0 ≡ 0)
+        × (depth (None ∷ Some 0 ∷ Some 1 ∷ []) 2 ≡ 2)
+        × (depth (None ∷ Some 0 ∷ Some 0 ∷ []) 2 ≡ 1) }
+    ensures below { (below (None ∷ Some 0 ∷ Some 1 ∷ []) 2 3 ≡ 2)
+        × (below (None ∷ Some 0 ∷ Some 1 ∷ []) 2 2 ≡ 1)
+        × (below (None ∷ Some 0 ∷ Some 0 ∷ []) 2 2 ≡ 0) }
 {}
 
 /// Bytes are asked for what the blocks of an array hold; level 0 goes before them. Where a block is no block its

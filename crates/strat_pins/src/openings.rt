@@ -1,9 +1,9 @@
 //! What an opening tests of a state, met exactly and passed by one. Each is the contract of a function that does
 //! nothing.
 
-ghost use Rattle.std.specs.Prelude.{[], ◌∷◌, Some};
+ghost use Rattle.std.specs.Prelude.{◌≡◌, [], ◌∷◌, replicate, Some, None, true, false};
 ghost use Rattle.strat_base.specs.Change.{Put};
-ghost use Rattle.strat_recovery.specs.Passed.{PassesOpening};
+ghost use Rattle.strat_recovery.specs.Passed.{is_sized, PassesOpening};
 ghost use Rattle.strat_pins.specs.Openings.{filled_chain, chain_with, chained_array};
 
 /// After four changes there are at most four updates, 65,536 arrays and 134,217,728 entries written; the change and
@@ -36,4 +36,14 @@ pub fn arrays_open_up_to_their_bounds()
         ∷ [])) }
     ensures distinct { ¬ PassesOpening (chain_with 4
         (record chained_array { tag = 1 ∷ [] } ∷ record chained_array { tag = 2 ∷ [] } ∷ [])) }
+{}
+
+/// A key has a byte at least; a value has up to 1,024 bytes, and need not be there.
+pub fn keys_and_values_are_sized()
+    ensures none { is_sized (record { key = 97 ∷ []; version = 0; value = None }) ≡ true }
+    ensures most { is_sized
+        (record { key = 97 ∷ []; version = 0; value = Some (replicate 1024 49) }) ≡ true }
+    ensures more { is_sized
+        (record { key = 97 ∷ []; version = 0; value = Some (replicate 1025 49) }) ≡ false }
+    ensures key { is_sized (record { key = []; version = 0; value = None }) ≡ false }
 {}

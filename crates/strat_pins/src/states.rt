@@ -3,11 +3,12 @@
 
 #![tactic(auto, unfolding(strat_base::specs::Tree::climb, strat_state::specs::State::deep))]
 
-ghost use Rattle.std.specs.Prelude.{◌≡◌, [], ◌∷◌, true, false};
+ghost use Rattle.std.specs.Prelude.{◌≡◌, [], ◌∷◌, ◌++◌, true, false};
 ghost use Rattle.strat_state.specs.Breach.{breach, breaches};
-ghost use Rattle.strat_state.specs.Sound.{is_numbered_from};
-ghost use Rattle.strat_state.specs.State.{densities, deep, promised, IsPaid};
-ghost use Rattle.strat_pins.specs.States.{two_levels, two_levels_after, only_array_in, with_a_lead, without_leads, eight_leads_in, a_third_is_live, tag_at_the_horizon, shallower_horizon_is, fan_says, all_broken};
+ghost use Rattle.strat_state.specs.Sound.{is_numbered_from, IsWellFormed};
+ghost use Rattle.strat_state.specs.State.{densities, lead_fractions, stored, deep, promised, IsPaid};
+ghost use Rattle.strat_state.specs.Worked.{fan};
+ghost use Rattle.strat_pins.specs.States.{two_levels, two_levels_after, only_array_in, with_a_lead, without_leads, eight_leads_in, a_third_is_live, later_is_sparser, tag_at_the_horizon, shallower_horizon_is, fan_says, after_puts, all_broken};
 
 /// After nine changes there may be leads in level 2, and 72 entries may be written: four for each change
 /// and level. Of these a lead in level 1 keeps back four.
@@ -34,6 +35,25 @@ pub fn rooms_double_from_level_to_level()
     ensures fewer { breaches (eight_leads_in 3 1) ≡ breach 104 1 0 ∷ [] }
 {}
 
+/// Room and promised writes are counted in leads, and neither in entries nor in arrays: the fan has five leads, in two
+/// arrays of seven entries.
+pub fn leads_are_counted()
+    ensures room { breaches (record fan { mem = 3 }) ≡ [] }
+    ensures full { breaches (record fan { mem = 2 }) ≡ breach 104 1 0 ∷ [] }
+    ensures promised { (promised fan 3 ≡ 10) × (promised fan 1 ≡ 0) }
+{}
+
+/// A journal has as many changes as a region takes, and no more; levels begin with level 1.
+pub fn states_are_formed_up_to_their_bounds()
+    ensures most { IsWellFormed (after_puts 4) }
+    ensures more { ¬ IsWellFormed (after_puts 5) }
+    ensures level { ¬ IsWellFormed (eight_leads_in 4 0) }
+    ensures rising { is_numbered_from 1
+        ((eight_leads_in 4 2).levels ++ (eight_leads_in 4 2).levels) ≡ false }
+    ensures arrays { is_numbered_from 1 (record { number = 1; horizon = 1; arrays = [] } ∷ [])
+        ≡ false }
+{}
+
 /// Levels are numbered from 1 to 22.
 pub fn levels_are_numbered_to_twenty_two()
     ensures least { is_numbered_from 1 (eight_leads_in 4 1).levels ≡ true }
@@ -46,6 +66,19 @@ pub fn levels_are_numbered_to_twenty_two()
 pub fn a_third_is_enough()
     ensures ok { breaches a_third_is_live ≡ [] }
     ensures density { densities a_third_is_live ≡ (1, 3) ∷ [] }
+{}
+
+/// Of the versions of a tag the one with fewest live entries counts, wherever it stands.
+pub fn the_sparsest_version_counts()
+    ensures ok { breaches later_is_sparser ≡ [] }
+    ensures density { densities later_is_sparser ≡ (1, 3) ∷ [] }
+{}
+
+/// What is said of arrays is said of what they hold, whatever their descriptors say.
+pub fn contents_are_counted()
+    ensures densities { densities (fan_says 9 8 7) ≡ (2, 3) ∷ (3, 4) ∷ [] }
+    ensures leads { lead_fractions (fan_says 9 8 7) ≡ (3, 3) ∷ (2, 4) ∷ [] }
+    ensures stored { stored (fan_says 9 8 7) ≡ 8 }
 {}
 
 /// A tag has no version that is its level's horizon.
