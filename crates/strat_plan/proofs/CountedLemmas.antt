@@ -14,7 +14,8 @@ use Rattle.strat_base.proofs.TreeLemmas.{on_root, on_path, from_path, ancestor_a
 use Rattle.strat_state.proofs.LiveLemmas.{deciding_found, deciding_some, decides_live, live_few, live_on_path}
 use Rattle.strat_plan.specs.Plan.{Plan, horizon_of, part_of, members}
 use Rattle.strat_plan.specs.Planned.{part_leads}
-use Rattle.strat_plan.specs.Groups.{grouped_entries, AreGroups, group_versions, own_of, own_at, sees_one, keys_at}
+use Rattle.strat_plan.specs.Groups.{grouped_entries, AreGroups, group_versions, own_of}
+use Rattle.strat_state.specs.Counted.{own_at, sees_one, keys_at}
 use Rattle.strat_plan.proofs.ListLemmas.{bool_same, filter_same, filter_none, filter_every, count_either, filter_le, some_length, empty_length, map_among, among_map, distinct_range, distinct_filter, distinct_head, distinct_tail}
 use Rattle.strat_plan.proofs.PlannedLemmas.{member_of, of_member}
 use Rattle.strat_plan.proofs.LiveSetLemmas.{live_self}

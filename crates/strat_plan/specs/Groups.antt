@@ -1,9 +1,10 @@
 -- Groups: entries of one key each, the keys ascending, and of one key the greater version first. Promotion sees one
 -- group at a time; what a plan says of all entries is said here of each group.
-use Rattle.std.specs.Prelude.{◌≡◌, ◌<◌, ℕ, ◌+◌, ◌==◌, ◌&&◌, nat_lt, not, Bool, true, List, [], ◌∷◌, length, map, filter, flat_map, sum_by, IsTrue}
-use Rattle.std.specs.List.{list_any, list_all, range_with_len, count_by}
-use Rattle.strat_base.specs.Tree.{Parents, is_ancestor}
+use Rattle.std.specs.Prelude.{◌≡◌, ◌<◌, ℕ, ◌+◌, ◌==◌, ◌&&◌, nat_lt, not, Bool, true, List, [], ◌∷◌, length, map, filter, flat_map, IsTrue}
+use Rattle.std.specs.List.{list_any, list_all, range_with_len}
+use Rattle.strat_base.specs.Tree.{Parents}
 use Rattle.strat_base.specs.Entries.{Entry, is_of, is_ascending}
+use Rattle.strat_state.specs.Counted.{own_at, keys_at}
 use Rattle.strat_state.specs.Level.{TaggedArray, Level}
 use Rattle.strat_plan.specs.Plan.{Plan, horizon_of, part_at, members, IsSplit}
 use Rattle.strat_plan.specs.Planned.{is_taken}
@@ -37,18 +38,6 @@ group_versions groups = map (λ group. map (λ e. e.version) group) groups
 -- how many of the entries are a version's own
 abbrev pub own_of : List Entry → ℕ → ℕ
 own_of entries v = length (filter (λ e. e.version == v) entries)
-
--- the same, counted from the versions of each group
-abbrev pub own_at : List (List ℕ) → ℕ → ℕ
-own_at groups v = sum_by (λ versions. count_by (λ u. u == v) versions) groups
-
--- a version sees a key where one of the key's versions is its own or an ancestor's
-abbrev pub sees_one : Parents → ℕ → List ℕ → Bool
-sees_one parents v versions = list_any (λ u. is_ancestor parents u v) versions
-
--- how many keys a version sees
-abbrev pub keys_at : Parents → List (List ℕ) → ℕ → ℕ
-keys_at parents groups v = count_by (sees_one parents v) groups
 
 -- a plan splits the versions of groups, told how many leads each version has and how many keys it sees
 pub record SplitsGroups (parents : Parents) (groups : List (List Entry)) (own live : ℕ → ℕ)

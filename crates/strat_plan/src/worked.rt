@@ -5,7 +5,8 @@
 
 ghost use Rattle.std.specs.Prelude.{◌≡◌, [], ◌∷◌};
 ghost use Rattle.strat_base.specs.Samples.{says};
-ghost use Rattle.strat_plan.specs.Groups.{group_versions, own_at, keys_at, SplitsGroups, level_of_groups};
+ghost use Rattle.strat_plan.specs.Groups.{group_versions, SplitsGroups, level_of_groups};
+ghost use Rattle.strat_state.specs.Counted.{own_at, keys_at};
 ghost use Rattle.strat_plan.specs.Splits.{pair, later_groups, later_plan, wide_groups, wide_plan, same_groups, same_plan};
 ghost use Rattle.strat_state.specs.Worked.{array_of, first_level};
 

@@ -4,7 +4,8 @@ use Rattle.std.specs.List.{sum_by}
 use Rattle.std.specs.Option.{option_map_or}
 use Rattle.strat_base.specs.Tree.{parent_of, climb}
 use Rattle.strat_plan.specs.Plan.{part_of, part_at, members, in_no_part, IsSplit}
-use Rattle.strat_plan.specs.Groups.{group_versions, own_at, keys_at}
+use Rattle.strat_plan.specs.Groups.{group_versions}
+use Rattle.strat_state.specs.Counted.{own_at, keys_at}
 use Rattle.strat_plan.specs.Splits.{pair, wide_groups, wide_plan}
 use Rattle.strat_plan.proofs.worked.more_keys_at_a_child.Goals as goal
 
