@@ -4,12 +4,13 @@
 
 ghost use Rattle.std.specs.Prelude.{◌≡◌, [], ◌∷◌};
 ghost use Rattle.strat_base.specs.Samples.{says, gone};
-ghost use Rattle.strat_plan.specs.Groups.{group_versions, own_at, keys_at};
+ghost use Rattle.strat_plan.specs.Groups.{group_versions};
 ghost use Rattle.strat_plan.specs.Splits.{pair, later_groups, later_plan};
 ghost use Rattle.strat_promotion.specs.Begun.{first_writes};
 ghost use Rattle.strat_promotion.specs.Merging.{runs_taken, Merges};
 ghost use Rattle.strat_promotion.specs.Promoted.{PromotesGroups, levels_of_groups};
 ghost use Rattle.strat_promotion.specs.Purge.{purged};
+ghost use Rattle.strat_state.specs.Counted.{own_at, keys_at};
 ghost use Rattle.strat_state.specs.Worked.{array_of, first_level};
 
 /// A journal with a clone and a put at it becomes level 1, which has one array.
