@@ -5,3 +5,4 @@ pub mod ReplacedLemmas
 pub mod PromotedLemmas
 pub mod MergingLemmas
 pub mod CutLemmas
+pub mod PaidLemmas
