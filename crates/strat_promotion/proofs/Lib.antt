@@ -6,3 +6,6 @@ pub mod PromotedLemmas
 pub mod MergingLemmas
 pub mod CutLemmas
 pub mod PaidLemmas
+pub mod SealedLemmas
+pub mod TargetLemmas
+pub mod ReadLemmas

@@ -84,7 +84,7 @@ sum_none f (x ∷ xs) each =
     let whole = sum_by-cons f x xs in
     omega arith
 
-sum_filter : {X : Type 0} (p : X → Bool) (f : X → ℕ) (xs : List X) → sum_by f (filter p xs) ≡ sum_by (λ x. cond (p x) (f x) 0) xs
+pub sum_filter : {X : Type 0} (p : X → Bool) (f : X → ℕ) (xs : List X) → sum_by f (filter p xs) ≡ sum_by (λ x. cond (p x) (f x) 0) xs
 sum_filter p f [] = refl
 sum_filter p f (x ∷ xs) =
     let rest = sum_filter p f xs in
@@ -96,7 +96,7 @@ sum_filter p f (x ∷ xs) =
 
 -- levels
 
-abbrev count : Level → ℕ
+abbrev pub count : Level → ℕ
 count level = length (level_leads level)
 
 abbrev weight : ℕ → List Level → ℕ

@@ -82,7 +82,7 @@ module _ (s : State) (sound : IsSound s) (j : ℕ) (taken kept fresh : List Leve
       changes_max = refl;
       versions_max = refl;
       versions = refl;
-      maps = λ v. maps_same parents parents tree tree (sources s) (sources new) v v (λ q. values_kept v q);
+      maps = λ v known. maps_same parents parents tree tree (sources s) (sources new) v v (λ q. values_kept v q);
       updates = omega arith;
       changes = omega arith;
     }

@@ -5,3 +5,4 @@ pub mod Promoted
 pub mod Replaced
 pub mod Begun
 pub mod Paid
+pub mod Sealed

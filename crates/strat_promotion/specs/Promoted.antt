@@ -1,5 +1,5 @@
 -- A promotion: the journal and the shallow levels become one level.
-use Rattle.std.specs.Prelude.{◌≡◌, ◌≤◌, ℕ, ◌+◌, ◌*◌, ◌^◌, nat_lt, nat_le, List, [], ◌∷◌, ◌++◌, length, reverse, sum_by, filter, flat_map, IsTrue}
+use Rattle.std.specs.Prelude.{◌≡◌, ◌<◌, ◌≤◌, ℕ, ◌+◌, ◌*◌, ◌^◌, nat_lt, nat_le, List, [], ◌∷◌, ◌++◌, length, reverse, sum_by, filter, flat_map, IsTrue}
 use Rattle.std.specs.List.{list_all}
 use Rattle.strat_base.specs.declared.limits.TheConstants.{LEVELS}
 use Rattle.strat_base.specs.Entries.{Entry}
@@ -18,7 +18,7 @@ pub record SaysTheSame (old new : State) : Type 0 where
   pub changes_max : new.changes_max ≡ old.changes_max
   pub versions_max : new.versions_max ≡ old.versions_max
   pub versions : versions_of new ≡ versions_of old
-  pub maps : (v : ℕ) → map_at new v ≡ map_at old v
+  pub maps : (v : ℕ) → v < length (versions_of old) → map_at new v ≡ map_at old v
   pub updates : updates_of new ≡ updates_of old
   pub changes : changes_of new ≡ changes_of old
 

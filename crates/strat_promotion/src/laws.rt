@@ -1,12 +1,13 @@
 //! The laws of promotion. Each is the contract of a function that does nothing.
 
-ghost use Rattle.std.specs.Prelude.{◌≡◌, ℕ, ◌+◌, ◌*◌, ◌^◌, ◌<◌, ◌≤◌, List, ◌++◌, length, sum_by};
+ghost use Rattle.std.specs.List.{range_with_len};
+ghost use Rattle.std.specs.Prelude.{◌≡◌, ℕ, suc, ◌+◌, ◌*◌, ◌^◌, ◌<◌, ◌≤◌, List, ◌++◌, length, sum_by};
 ghost use Rattle.strat_base.specs.declared.limits.TheConstants.{LEVELS};
 ghost use Rattle.strat_base.specs.Entries.{Entry};
 ghost use Rattle.strat_plan.specs.Groups.{grouped_entries, SplitsGroups};
 ghost use Rattle.strat_plan.specs.Plan.{Plan, horizon_of};
 ghost use Rattle.strat_promotion.specs.Merging.{runs_taken, Merges};
-ghost use Rattle.strat_promotion.specs.Paid.{entries_written, IsLeastTarget};
+ghost use Rattle.strat_promotion.specs.Paid.{entries_written, leads_at, IsLeastTarget};
 ghost use Rattle.strat_promotion.specs.Promoted.{SaysTheSame, levels_to, levels_behind, promoted, Takeable, Promotes, fresh_after, levels_after, PromotesGroups, fresh_of_groups, levels_of_groups};
 ghost use Rattle.strat_promotion.specs.Purge.{groups_over};
 ghost use Rattle.strat_promotion.specs.Replaced.{Replaces};
@@ -72,6 +73,21 @@ pub fn levels_with_room_may_be_taken()
         → length (level_zero s)
         + sum_by (λ level. length (level_leads level)) (levels_to j s.levels) ≤ s.mem * 2 ^ j
         → Takeable s j (levels_to j s.levels) (levels_behind j s.levels) }
+{}
+
+/// The least number with room for the leads of all levels down to it, level 0 among them, is a
+/// promotion's target; where it is 1, once the journal is full.
+pub fn the_least_number_with_room_is_the_target()
+    ensures sum { (s : State) (j : ℕ) → IsSound s
+        → sum_by (leads_at s) (range_with_len 0 (suc j))
+        ≡ length (level_zero s)
+        + sum_by (λ level. length (level_leads level)) (levels_to j s.levels) }
+    ensures target { (s : State) (j : ℕ) → IsSound s → 1 ≤ j → j ≤ LEVELS
+        → sum_by (leads_at s) (range_with_len 0 (suc j)) ≤ s.mem * 2 ^ j
+        → ((i : ℕ) → 1 ≤ i → i < j
+        → s.mem * 2 ^ i < sum_by (leads_at s) (range_with_len 0 (suc i)))
+        → (j ≡ 1 → s.mem ≤ length s.journal)
+        → Takeable s j (levels_to j s.levels) (levels_behind j s.levels) × IsLeastTarget s j }
 {}
 
 /// A promotion into the first level with room leaves a paid state paid, with the entries of the new
