@@ -1,10 +1,11 @@
 -- How the counts of items and of live keys move down a tree.
-use Rattle.std.proofs.Common.{◌≡◌, ◌<◌, ◌≤◌, ◌+◌, ℕ, Bool, true, false, cond, ltb, eqb, ◌&&◌, ◌||◌, not, ◌⊎◌, inl, inr, List, [], ◌∷◌, Option, Some, None, refl, sym, ap, ◌∙◌, arith}
-use Rattle.std.specs.List.{list_any, list_all, sum_by, count_by}
+use Rattle.std.proofs.Common.{◌≡◌, ◌≤◌, ◌+◌, ℕ, Bool, true, false, ltb, eqb, ◌&&◌, ◌||◌, not, inl, inr, List, [], ◌∷◌, Some, None, refl, sym, ap, ◌∙◌, arith}
+use Rattle.std.specs.List.{list_any, list_all, count_by}
 use Rattle.std.proofs.lemmas.Bool.{and_parts, eq-eqb, ne_eqb, or_parts, cases_eq}
 use Rattle.std.proofs.lemmas.List.Sums.{sum_by-cons}
 use Rattle.strat_base.specs.Tree.{Parents, parent_of, IsTree}
-use Rattle.strat_live.specs.Counting.{descends, own_count, is_seen, live_count, is_seen_above, is_begun, begun_count}
+use Rattle.strat_live.specs.Counting.{descends, is_seen_above, is_begun, begun_count}
+use Rattle.strat_state.specs.Counted.{own_at, sees_one, keys_at}
 use Rattle.strat_live.proofs.SeenLemmas.{seen_parts}
 use Rattle.strat_live.proofs.CountingLemmas.{one_if, none_equal, live_root, live_up}
 
@@ -63,37 +64,37 @@ count_once v (x ∷ us) down =
     ]
 
 module _ (parents : Parents) (tree : IsTree parents) where
-  begun_le : (groups : List (List ℕ)) (v : ℕ) → begun_count parents groups v ≤ own_count groups v
+  begun_le : (groups : List (List ℕ)) (v : ℕ) → begun_count parents groups v ≤ own_at groups v
   begun_le [] v = omega arith
   begun_le (group ∷ groups) v =
       let a : begun_count parents (group ∷ groups) v ≡ one_if (is_begun parents v group) + begun_count parents groups v = sum_by-cons (λ g. one_if (is_begun parents v g)) group groups in
-      let b : own_count (group ∷ groups) v ≡ count_by (λ u. eqb u v) group + own_count groups v = sum_by-cons (λ g. count_by (λ u. eqb u v) g) group groups in
+      let b : own_at (group ∷ groups) v ≡ count_by (λ u. eqb u v) group + own_at groups v = sum_by-cons (λ g. count_by (λ u. eqb u v) g) group groups in
       let one : one_if (is_begun parents v group) ≤ one_if (list_any (λ u. eqb u v) group) = one_and (list_any (λ u. eqb u v) group) (not (is_seen_above parents v group)) in
       let some : one_if (list_any (λ u. eqb u v) group) ≤ count_by (λ u. eqb u v) group = count_some v group in
-      let rest : begun_count parents groups v ≤ own_count groups v = begun_le groups v in
+      let rest : begun_count parents groups v ≤ own_at groups v = begun_le groups v in
       omega arith
 
   -- what is live at a version is live at its child
-  pub live_grows : (groups : List (List ℕ)) (v p : ℕ) → parent_of parents v ≡ Some p → live_count parents groups p ≤ live_count parents groups v
+  pub live_grows : (groups : List (List ℕ)) (v p : ℕ) → parent_of parents v ≡ Some p → keys_at parents groups p ≤ keys_at parents groups v
   live_grows groups v p some = let up = live_up parents tree groups v p some in omega arith
 
   -- and what is live at a child is live at its parent, or its own
-  pub live_grows_by_own : (groups : List (List ℕ)) (v p : ℕ) → parent_of parents v ≡ Some p → live_count parents groups v ≤ live_count parents groups p + own_count groups v
+  pub live_grows_by_own : (groups : List (List ℕ)) (v p : ℕ) → parent_of parents v ≡ Some p → keys_at parents groups v ≤ keys_at parents groups p + own_at groups v
   live_grows_by_own groups v p some = let up = live_up parents tree groups v p some in let le = begun_le groups v in omega arith
 
   -- a root has no more live than its own
-  pub root_live : (groups : List (List ℕ)) (v : ℕ) → parent_of parents v ≡ None → live_count parents groups v ≤ own_count groups v
+  pub root_live : (groups : List (List ℕ)) (v : ℕ) → parent_of parents v ≡ None → keys_at parents groups v ≤ own_at groups v
   root_live groups v none = let is = live_root parents tree groups v none in let le = begun_le groups v in omega arith
 
   -- what a version has is live at it
-  pub own_live : (groups : List (List ℕ)) (v : ℕ) → list_all descends groups ≡ true → own_count groups v ≤ live_count parents groups v
+  pub own_live : (groups : List (List ℕ)) (v : ℕ) → list_all descends groups ≡ true → own_at groups v ≤ keys_at parents groups v
   own_live [] v down = omega arith
   own_live (group ∷ groups) v down =
       let parts = and_parts (descends group) (list_all descends groups) down in
-      let a : own_count (group ∷ groups) v ≡ count_by (λ u. eqb u v) group + own_count groups v = sum_by-cons (λ g. count_by (λ u. eqb u v) g) group groups in
-      let b : live_count parents (group ∷ groups) v ≡ one_if (is_seen parents v group) + live_count parents groups v = sum_by-cons (λ g. one_if (is_seen parents v g)) group groups in
+      let a : own_at (group ∷ groups) v ≡ count_by (λ u. eqb u v) group + own_at groups v = sum_by-cons (λ g. count_by (λ u. eqb u v) g) group groups in
+      let b : keys_at parents (group ∷ groups) v ≡ one_if (sees_one parents v group) + keys_at parents groups v = sum_by-cons (λ g. one_if (sees_one parents v g)) group groups in
       let once : count_by (λ u. eqb u v) group ≤ one_if (list_any (λ u. eqb u v) group) = count_once v group parts.0 in
-      let seen : one_if (is_seen parents v group) ≡ one_if (list_any (λ u. eqb u v) group || is_seen_above parents v group) = ap one_if (seen_parts parents tree v group) in
+      let seen : one_if (sees_one parents v group) ≡ one_if (list_any (λ u. eqb u v) group || is_seen_above parents v group) = ap one_if (seen_parts parents tree v group) in
       let le : one_if (list_any (λ u. eqb u v) group) ≤ one_if (list_any (λ u. eqb u v) group || is_seen_above parents v group) = one_or (list_any (λ u. eqb u v) group) (is_seen_above parents v group) in
-      let rest : own_count groups v ≤ live_count parents groups v = own_live groups v parts.1 in
+      let rest : own_at groups v ≤ keys_at parents groups v = own_live groups v parts.1 in
       omega arith

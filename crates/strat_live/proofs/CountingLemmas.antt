@@ -1,19 +1,19 @@
 -- Counts of items and of keys, and how they are kept.
-use Rattle.std.proofs.Common.{◌≡◌, ◌<◌, ◌≤◌, ◌+◌, ℕ, zero, suc, Bool, true, false, cond, ltb, eqb, ◌&&◌, ◌||◌, not, ◌⊎◌, inl, inr, List, [], ◌∷◌, ◌++◌, length, map, filter, sum, get_or, set, take, min, Option, Some, None, refl, sym, ap, ◌∙◌, subst, arith, true≢false}
+use Rattle.std.proofs.Common.{◌≡◌, ◌<◌, ◌≤◌, ◌+◌, ℕ, zero, suc, Bool, true, false, cond, ltb, eqb, ◌&&◌, ◌||◌, not, inl, inr, List, [], ◌∷◌, ◌++◌, length, filter, sum, get_or, set, take, min, Option, Some, None, refl, sym, ap, ◌∙◌, subst, arith}
 use Rattle.std.specs.List.{list_any, list_all, fold, sum_by, count_by}
 use Rattle.std.specs.Option.{option_map_or}
-use Rattle.std.proofs.lemmas.Bool.{and_parts, and_from, cases_lt, ltb-true, lt-ltb, eqb-true, eq-eqb, false_from_ne_true, ne_eqb, cases_eq}
+use Rattle.std.proofs.lemmas.Bool.{and_parts, and_from, cases_lt, ltb-true, eqb-true, eq-eqb, false_from_ne_true, ne_eqb, cases_eq}
 use Rattle.std.proofs.lemmas.List.{get_or-set_same, get_or-set_other, get_or_past, length-set, length-map, length-take, take-take}
 use Rattle.std.proofs.lemmas.List.Sums.{sum_by-cons, sum_by_push, sum_by_more, sum_by-set, sum_by-take-le, get_or-le-sum_by, count_by-le-length, length-filter}
 use Rattle.std.proofs.lemmas.List.Folds.{list_all-append, list_all-map}
 use Rattle.strat_base.specs.Tree.{Parents, parent_of, IsTree}
-use Rattle.strat_base.proofs.ListFacts.{Among, any_among, all_at, fold-push}
+use Rattle.strat_base.proofs.ListFacts.{any_among, all_at, fold-push}
 use Rattle.strat_base.proofs.TreeLemmas.{option_cases, parent_older, along_path}
 use Rattle.strat_arena.specs.declared.items.Item.{Item}
 use Rattle.strat_live.specs.Group.{is_descending}
-use Rattle.strat_live.specs.Tallies.{Tallies}
 use Rattle.strat_live.specs.CountFields.{AreSmall}
-use Rattle.strat_live.specs.Counting.{group_versions, are_below, descends, own_count, is_seen, live_count, is_seen_above, is_begun, begun_count, tallied, SameParents, IsTally, IsCount, AreSummed}
+use Rattle.strat_live.specs.Counting.{item_versions, are_below, descends, is_seen_above, is_begun, begun_count, tallied, SameParents, IsTally, IsCount, AreSummed}
+use Rattle.strat_state.specs.Counted.{sees_one, keys_at}
 use Rattle.strat_live.proofs.SeenLemmas.{seen_parts, seen_same, begun_same}
 
 -- 1 for a test that passes
@@ -62,13 +62,13 @@ tallied_at counts (u ∷ places) v below =
     ]
 
 -- the versions of items descend, and are below a number
-pub descends_from : (items : List Item) → is_descending items ≡ true → descends (group_versions items) ≡ true
+pub descends_from : (items : List Item) → is_descending items ≡ true → descends (item_versions items) ≡ true
 descends_from [] down = refl
 descends_from (x ∷ items) down =
     let parts = and_parts (list_all (λ later. ltb later.version x.version) items) (is_descending items) down in
-    and_from (list_all (λ u. ltb u x.version) (group_versions items)) (descends (group_versions items)) (list_all-map (λ u. ltb u x.version) (λ (item : Item). item.version) items ∙ parts.0) (descends_from items parts.1)
+    and_from (list_all (λ u. ltb u x.version) (item_versions items)) (descends (item_versions items)) (list_all-map (λ u. ltb u x.version) (λ (item : Item). item.version) items ∙ parts.0) (descends_from items parts.1)
 
-pub below_from : (n : ℕ) (items : List Item) → are_below n items ≡ true → list_all (λ u. ltb u n) (group_versions items) ≡ true
+pub below_from : (n : ℕ) (items : List Item) → are_below n items ≡ true → list_all (λ u. ltb u n) (item_versions items) ≡ true
 below_from n items below = list_all-map (λ u. ltb u n) (λ (item : Item). item.version) items ∙ below
 
 pub all_filter : (p q : ℕ → Bool) (us : List ℕ) → list_all p us ≡ true → list_all p (filter q us) ≡ true
@@ -99,44 +99,44 @@ tallied_fits counts places v m below room =
       | inr past ↦ let none : get_or (tallied counts places) v 0 ≡ 0 = get_or_past (tallied counts places) v 0 past in omega arith
     ]
 
-part_below : (n i : ℕ) (items : List Item) → are_below n items ≡ true → list_all (λ u. ltb u n) (group_versions (take i items)) ≡ true
+part_below : (n i : ℕ) (items : List Item) → are_below n items ≡ true → list_all (λ u. ltb u n) (item_versions (take i items)) ≡ true
 part_below n i items below = below_from n (take i items) (all_take (λ (item : Item). ltb item.version n) i items below)
 
-part_short : (i : ℕ) (items : List Item) → length (group_versions (take i items)) ≤ length items
+part_short : (i : ℕ) (items : List Item) → length (item_versions (take i items)) ≤ length items
 part_short i items =
-    let a : length (group_versions (take i items)) ≡ length (take i items) = length-map (take i items) (λ (item : Item). item.version) in
+    let a : length (item_versions (take i items)) ≡ length (take i items) = length-map (take i items) (λ (item : Item). item.version) in
     let b : length (take i items) ≡ min i (length items) = length-take i items in
     omega arith
 
-pub own_fits : (counts : List ℕ) (items : List Item) (i m : ℕ) (now : List ℕ) → are_below (length counts) items ≡ true → sum counts + length items ≤ m → now ≡ tallied counts (group_versions (take i items)) → (v : ℕ) → get_or now v 0 ≤ m
+pub own_fits : (counts : List ℕ) (items : List Item) (i m : ℕ) (now : List ℕ) → are_below (length counts) items ≡ true → sum counts + length items ≤ m → now ≡ tallied counts (item_versions (take i items)) → (v : ℕ) → get_or now v 0 ≤ m
 own_fits counts items i m now below room is v =
     let short = part_short i items in
-    let le : get_or (tallied counts (group_versions (take i items))) v 0 ≤ m = tallied_fits counts (group_versions (take i items)) v m (part_below (length counts) i items below) (omega arith) in
+    let le : get_or (tallied counts (item_versions (take i items))) v 0 ≤ m = tallied_fits counts (item_versions (take i items)) v m (part_below (length counts) i items below) (omega arith) in
     subst (λ (ns : List ℕ). get_or ns v 0 ≤ m) (sym is) le
 
-pub begun_fits : (counts : List ℕ) (items : List Item) (q : ℕ → Bool) (i m : ℕ) (now : List ℕ) → are_below (length counts) items ≡ true → sum counts + length items ≤ m → now ≡ tallied counts (filter q (group_versions (take i items))) → (v : ℕ) → get_or now v 0 ≤ m
+pub begun_fits : (counts : List ℕ) (items : List Item) (q : ℕ → Bool) (i m : ℕ) (now : List ℕ) → are_below (length counts) items ≡ true → sum counts + length items ≤ m → now ≡ tallied counts (filter q (item_versions (take i items))) → (v : ℕ) → get_or now v 0 ≤ m
 begun_fits counts items q i m now below room is v =
     let short = part_short i items in
-    let fewer = filter_short q (group_versions (take i items)) in
-    let le : get_or (tallied counts (filter q (group_versions (take i items)))) v 0 ≤ m = tallied_fits counts (filter q (group_versions (take i items))) v m (all_filter (λ u. ltb u (length counts)) q (group_versions (take i items)) (part_below (length counts) i items below)) (omega arith) in
+    let fewer = filter_short q (item_versions (take i items)) in
+    let le : get_or (tallied counts (filter q (item_versions (take i items)))) v 0 ≤ m = tallied_fits counts (filter q (item_versions (take i items))) v m (all_filter (λ u. ltb u (length counts)) q (item_versions (take i items)) (part_below (length counts) i items below)) (omega arith) in
     subst (λ (ns : List ℕ). get_or ns v 0 ≤ m) (sym is) le
 
 -- and sum up to the items that were added
-pub own_sum : (counts : List ℕ) (items : List Item) → are_below (length counts) items ≡ true → sum (tallied counts (group_versions items)) ≡ sum counts + length items
+pub own_sum : (counts : List ℕ) (items : List Item) → are_below (length counts) items ≡ true → sum (tallied counts (item_versions items)) ≡ sum counts + length items
 own_sum counts items below =
-    let a : length (group_versions items) ≡ length items = length-map items (λ (item : Item). item.version) in
-    let b : sum (tallied counts (group_versions items)) ≡ sum counts + length (group_versions items) = sum_tallied counts (group_versions items) (below_from (length counts) items below) in
+    let a : length (item_versions items) ≡ length items = length-map items (λ (item : Item). item.version) in
+    let b : sum (tallied counts (item_versions items)) ≡ sum counts + length (item_versions items) = sum_tallied counts (item_versions items) (below_from (length counts) items below) in
     omega arith
 
-pub small_more : (own begun live : List ℕ) (items : List Item) (q : ℕ → Bool) → AreSmall own begun live → are_below (length own) items ≡ true → sum own + length items ≤ 16777216 → AreSmall (tallied own (group_versions items)) (tallied begun (filter q (group_versions items))) live
+pub small_more : (own begun live : List ℕ) (items : List Item) (q : ℕ → Bool) → AreSmall own begun live → are_below (length own) items ≡ true → sum own + length items ≤ 16777216 → AreSmall (tallied own (item_versions items)) (tallied begun (filter q (item_versions items))) live
 small_more own begun live items q small below room =
-    let all : sum (tallied own (group_versions items)) ≡ sum own + length items = own_sum own items below in
-    let same : length (group_versions items) ≡ length items = length-map items (λ (item : Item). item.version) in
-    let fewer : length (filter q (group_versions items)) ≤ length (group_versions items) = filter_short q (group_versions items) in
-    let fits : list_all (λ u. ltb u (length begun)) (filter q (group_versions items)) ≡ true = all_filter (λ u. ltb u (length begun)) q (group_versions items) (ap (λ (n : ℕ). list_all (λ u. ltb u n) (group_versions items)) small.begun_len ∙ below_from (length own) items below) in
-    let some : sum (tallied begun (filter q (group_versions items))) ≡ sum begun + length (filter q (group_versions items)) = sum_tallied begun (filter q (group_versions items)) fits in
-    let own_len : length (tallied own (group_versions items)) ≡ length own = length_tallied own (group_versions items) in
-    let begun_len' : length (tallied begun (filter q (group_versions items))) ≡ length begun = length_tallied begun (filter q (group_versions items)) in
+    let all : sum (tallied own (item_versions items)) ≡ sum own + length items = own_sum own items below in
+    let same : length (item_versions items) ≡ length items = length-map items (λ (item : Item). item.version) in
+    let fewer : length (filter q (item_versions items)) ≤ length (item_versions items) = filter_short q (item_versions items) in
+    let fits : list_all (λ u. ltb u (length begun)) (filter q (item_versions items)) ≡ true = all_filter (λ u. ltb u (length begun)) q (item_versions items) (ap (λ (n : ℕ). list_all (λ u. ltb u n) (item_versions items)) small.begun_len ∙ below_from (length own) items below) in
+    let some : sum (tallied begun (filter q (item_versions items))) ≡ sum begun + length (filter q (item_versions items)) = sum_tallied begun (filter q (item_versions items)) fits in
+    let own_len : length (tallied own (item_versions items)) ≡ length own = length_tallied own (item_versions items) in
+    let begun_len' : length (tallied begun (filter q (item_versions items))) ≡ length begun = length_tallied begun (filter q (item_versions items)) in
     let few' = small.few in
     let begun_few' = small.begun_few in
     let lens = small.begun_len in
@@ -207,12 +207,12 @@ module _ (parents : Parents) (tree : IsTree parents) where
   one_parts false false = refl
 
   -- what is live at a version: what begins there, and what is live at its parent
-  live_parts : (groups : List (List ℕ)) (v : ℕ) → live_count parents groups v ≡ begun_count parents groups v + count_by (is_seen_above parents v) groups
+  live_parts : (groups : List (List ℕ)) (v : ℕ) → keys_at parents groups v ≡ begun_count parents groups v + count_by (is_seen_above parents v) groups
   live_parts [] v = refl
   live_parts (group ∷ groups) v =
-      let one : one_if (is_seen parents v group) ≡ one_if (is_begun parents v group) + one_if (is_seen_above parents v group) = ap one_if (seen_parts parents tree v group) ∙ one_parts (list_any (λ u. eqb u v) group) (is_seen_above parents v group) in
-      let rest : live_count parents groups v ≡ begun_count parents groups v + count_by (is_seen_above parents v) groups = live_parts groups v in
-      let a : live_count parents (group ∷ groups) v ≡ one_if (is_seen parents v group) + live_count parents groups v = sum_by-cons (λ g. one_if (is_seen parents v g)) group groups in
+      let one : one_if (sees_one parents v group) ≡ one_if (is_begun parents v group) + one_if (is_seen_above parents v group) = ap one_if (seen_parts parents tree v group) ∙ one_parts (list_any (λ u. eqb u v) group) (is_seen_above parents v group) in
+      let rest : keys_at parents groups v ≡ begun_count parents groups v + count_by (is_seen_above parents v) groups = live_parts groups v in
+      let a : keys_at parents (group ∷ groups) v ≡ one_if (sees_one parents v group) + keys_at parents groups v = sum_by-cons (λ g. one_if (sees_one parents v g)) group groups in
       let b : begun_count parents (group ∷ groups) v ≡ one_if (is_begun parents v group) + begun_count parents groups v = sum_by-cons (λ g. one_if (is_begun parents v g)) group groups in
       let c : count_by (is_seen_above parents v) (group ∷ groups) ≡ one_if (is_seen_above parents v group) + count_by (is_seen_above parents v) groups = sum_by-cons (λ g. one_if (is_seen_above parents v g)) group groups in
       omega arith
@@ -220,40 +220,40 @@ module _ (parents : Parents) (tree : IsTree parents) where
   above_none : (groups : List (List ℕ)) (v : ℕ) → parent_of parents v ≡ None → count_by (is_seen_above parents v) groups ≡ 0
   above_none [] v none = refl
   above_none (group ∷ groups) v none =
-      let one : one_if (is_seen_above parents v group) ≡ 0 = ap (λ (o : Option ℕ). one_if (option_map_or (λ p. is_seen parents p group) o false)) none in
+      let one : one_if (is_seen_above parents v group) ≡ 0 = ap (λ (o : Option ℕ). one_if (option_map_or (λ p. sees_one parents p group) o false)) none in
       let c : count_by (is_seen_above parents v) (group ∷ groups) ≡ one_if (is_seen_above parents v group) + count_by (is_seen_above parents v) groups = sum_by-cons (λ g. one_if (is_seen_above parents v g)) group groups in
       let rest : count_by (is_seen_above parents v) groups ≡ 0 = above_none groups v none in
       omega arith
 
-  above_some : (groups : List (List ℕ)) (v p : ℕ) → parent_of parents v ≡ Some p → count_by (is_seen_above parents v) groups ≡ live_count parents groups p
+  above_some : (groups : List (List ℕ)) (v p : ℕ) → parent_of parents v ≡ Some p → count_by (is_seen_above parents v) groups ≡ keys_at parents groups p
   above_some [] v p some = refl
   above_some (group ∷ groups) v p some =
-      let one : one_if (is_seen_above parents v group) ≡ one_if (is_seen parents p group) = ap (λ (o : Option ℕ). one_if (option_map_or (λ p. is_seen parents p group) o false)) some in
+      let one : one_if (is_seen_above parents v group) ≡ one_if (sees_one parents p group) = ap (λ (o : Option ℕ). one_if (option_map_or (λ p. sees_one parents p group) o false)) some in
       let c : count_by (is_seen_above parents v) (group ∷ groups) ≡ one_if (is_seen_above parents v group) + count_by (is_seen_above parents v) groups = sum_by-cons (λ g. one_if (is_seen_above parents v g)) group groups in
-      let d : live_count parents (group ∷ groups) p ≡ one_if (is_seen parents p group) + live_count parents groups p = sum_by-cons (λ g. one_if (is_seen parents p g)) group groups in
-      let rest : count_by (is_seen_above parents v) groups ≡ live_count parents groups p = above_some groups v p some in
+      let d : keys_at parents (group ∷ groups) p ≡ one_if (sees_one parents p group) + keys_at parents groups p = sum_by-cons (λ g. one_if (sees_one parents p g)) group groups in
+      let rest : count_by (is_seen_above parents v) groups ≡ keys_at parents groups p = above_some groups v p some in
       omega arith
 
-  pub live_root : (groups : List (List ℕ)) (v : ℕ) → parent_of parents v ≡ None → live_count parents groups v ≡ begun_count parents groups v
+  pub live_root : (groups : List (List ℕ)) (v : ℕ) → parent_of parents v ≡ None → keys_at parents groups v ≡ begun_count parents groups v
   live_root groups v none = let parts = live_parts groups v in let none' = above_none groups v none in omega arith
 
-  pub live_up : (groups : List (List ℕ)) (v p : ℕ) → parent_of parents v ≡ Some p → live_count parents groups v ≡ begun_count parents groups v + live_count parents groups p
+  pub live_up : (groups : List (List ℕ)) (v p : ℕ) → parent_of parents v ≡ Some p → keys_at parents groups v ≡ begun_count parents groups v + keys_at parents groups p
   live_up groups v p some = let parts = live_parts groups v in let same = above_some groups v p some in omega arith
 
   -- counts that are summed down are those of live keys
-  pub summed_live : (groups : List (List ℕ)) (begun live : List ℕ) (n : ℕ) → AreSummed parents begun live n → ((v : ℕ) → v < n → get_or begun v 0 ≡ begun_count parents groups v) → (v : ℕ) → v < n → get_or live v 0 ≡ live_count parents groups v
-  summed_live groups begun live n summed begins = along_path parents tree (λ v. v < n → get_or live v 0 ≡ live_count parents groups v)
+  pub summed_live : (groups : List (List ℕ)) (begun live : List ℕ) (n : ℕ) → AreSummed parents begun live n → ((v : ℕ) → v < n → get_or begun v 0 ≡ begun_count parents groups v) → (v : ℕ) → v < n → get_or live v 0 ≡ keys_at parents groups v
+  summed_live groups begun live n summed begins = along_path parents tree (λ v. v < n → get_or live v 0 ≡ keys_at parents groups v)
       (λ v none lt.
       let at : get_or live v 0 ≡ get_or begun v 0 + 0 = summed v lt ∙ ap (λ (o : Option ℕ). get_or begun v 0 + option_map_or (λ p. get_or live p 0) o 0) none in
       let b : get_or begun v 0 ≡ begun_count parents groups v = begins v lt in
-      let e : live_count parents groups v ≡ begun_count parents groups v = live_root groups v none in
+      let e : keys_at parents groups v ≡ begun_count parents groups v = live_root groups v none in
       omega arith)
       (λ v p some ih lt.
       let older : p < v = parent_older parents tree v p some in
       let at : get_or live v 0 ≡ get_or begun v 0 + get_or live p 0 = summed v lt ∙ ap (λ (o : Option ℕ). get_or begun v 0 + option_map_or (λ p. get_or live p 0) o 0) some in
       let b : get_or begun v 0 ≡ begun_count parents groups v = begins v lt in
-      let up : get_or live p 0 ≡ live_count parents groups p = ih (omega arith) in
-      let e : live_count parents groups v ≡ begun_count parents groups v + live_count parents groups p = live_up groups v p some in
+      let up : get_or live p 0 ≡ keys_at parents groups p = ih (omega arith) in
+      let e : keys_at parents groups v ≡ begun_count parents groups v + keys_at parents groups p = live_up groups v p some in
       omega arith)
 
   -- and stay below all that begins
@@ -307,8 +307,8 @@ module _ (parents : Parents) (tree : IsTree parents) where
       ]
 
   -- a tree that gives the versions below n the same parents counts the same
-  pub live_same : (n : ℕ) (others : Parents) → SameParents n others parents → (groups : List (List ℕ)) (v : ℕ) → v < n → live_count others groups v ≡ live_count parents groups v
-  live_same n others same groups v lt = same_sum (λ g. one_if (is_seen others v g)) (λ g. one_if (is_seen parents v g)) (λ g. ap one_if (seen_same parents tree n others same v lt g)) groups
+  pub live_same : (n : ℕ) (others : Parents) → SameParents n others parents → (groups : List (List ℕ)) (v : ℕ) → v < n → keys_at others groups v ≡ keys_at parents groups v
+  live_same n others same groups v lt = same_sum (λ g. one_if (sees_one others v g)) (λ g. one_if (sees_one parents v g)) (λ g. ap one_if (seen_same parents tree n others same v lt g)) groups
 
   begun_count_same : (n : ℕ) (others : Parents) → SameParents n others parents → (groups : List (List ℕ)) (v : ℕ) → v < n → begun_count others groups v ≡ begun_count parents groups v
   begun_count_same n others same groups v lt = same_sum (λ g. one_if (is_begun others v g)) (λ g. one_if (is_begun parents v g)) (λ g. ap one_if (begun_same parents tree n others same v lt g)) groups

@@ -1,15 +1,16 @@
 -- What is counted over the items of many keys. Of each key a list has the versions of its items, the
 -- greatest first.
-use Rattle.std.specs.Prelude.{◌≡◌, ℕ, ◌<◌, ◌+◌, nat_lt, ◌==◌, ◌&&◌, not, Bool, true, false, List, [], ◌∷◌, map, filter, fold, length, sum_by, count_by, slice_index, slice_set, IsTrue}
+use Rattle.std.specs.Prelude.{◌≡◌, ℕ, ◌<◌, ◌+◌, nat_lt, ◌==◌, ◌&&◌, not, Bool, true, false, List, [], ◌∷◌, map, fold, length, count_by, slice_index, slice_set, IsTrue}
 use Rattle.std.specs.List.{list_any, list_all}
 use Rattle.std.specs.Option.{option_map_or}
-use Rattle.strat_base.specs.Tree.{Parents, parent_of, is_ancestor}
+use Rattle.strat_base.specs.Tree.{Parents, parent_of}
+use Rattle.strat_state.specs.Counted.{own_at, sees_one, keys_at}
 use Rattle.strat_arena.specs.declared.items.Item.{Item}
 use Rattle.strat_live.specs.Tallies.{Tallies}
 
 -- the versions of items
-abbrev pub group_versions : List Item → List ℕ
-group_versions items = map (λ item. item.version) items
+abbrev pub item_versions : List Item → List ℕ
+item_versions items = map (λ item. item.version) items
 
 -- the items' versions are below n
 abbrev pub are_below : ℕ → List Item → Bool
@@ -20,22 +21,10 @@ abbrev pub descends : List ℕ → Bool
 descends [] = true
 descends (v ∷ versions) = list_all (λ u. nat_lt u v) versions && descends versions
 
--- how many items a version has
-abbrev pub own_count : List (List ℕ) → ℕ → ℕ
-own_count groups v = sum_by (λ group. count_by (λ u. u == v) group) groups
-
--- a version sees an item of a key: its own, or one of an ancestor
-abbrev pub is_seen : Parents → ℕ → List ℕ → Bool
-is_seen parents v group = list_any (λ u. is_ancestor parents u v) group
-
--- how many keys have an item live at a version
-abbrev pub live_count : Parents → List (List ℕ) → ℕ → ℕ
-live_count parents groups v = count_by (is_seen parents v) groups
-
 -- a version's parent sees an item of a key
 abbrev pub is_seen_above : Parents → ℕ → List ℕ → Bool
 is_seen_above parents v group =
-    option_map_or (λ p. is_seen parents p group) (parent_of parents v) false
+    option_map_or (λ p. sees_one parents p group) (parent_of parents v) false
 
 -- a version has an item of a key of which its parent sees none
 abbrev pub is_begun : Parents → ℕ → List ℕ → Bool
@@ -56,16 +45,16 @@ SameParents n parents others = (v : ℕ) → v < n → parent_of parents v ≡ p
 -- these were counted over all keys so far
 pub record IsTally (parents : Parents) (groups : List (List ℕ)) (tallies : Tallies) : Type 0 where
   pub descending : IsTrue (list_all descends groups)
-  pub own : (v : ℕ) → v < length tallies.own → slice_index tallies.own v ≡ own_count groups v
+  pub own : (v : ℕ) → v < length tallies.own → slice_index tallies.own v ≡ own_at groups v
   pub begun : (v : ℕ) → v < length tallies.own
       → slice_index tallies.begun v ≡ begun_count parents groups v
 
 -- these count all keys, also those that are live at each version
 pub record IsCount (parents : Parents) (groups : List (List ℕ)) (tallies : Tallies) : Type 0 where
   pub descending : IsTrue (list_all descends groups)
-  pub own : (v : ℕ) → v < length tallies.own → slice_index tallies.own v ≡ own_count groups v
+  pub own : (v : ℕ) → v < length tallies.own → slice_index tallies.own v ≡ own_at groups v
   pub live : (v : ℕ) → v < length tallies.own
-      → slice_index tallies.live v ≡ live_count parents groups v
+      → slice_index tallies.live v ≡ keys_at parents groups v
 
 -- below n each version's count is what begins there and its parent's count
 abbrev pub AreSummed : Parents → List ℕ → List ℕ → ℕ → Type 0

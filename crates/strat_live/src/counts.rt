@@ -5,7 +5,8 @@ ghost use Rattle.std.specs.List.{position_or_len};
 ghost use Rattle.std.specs.Option.{option_map, option_map_or};
 ghost use Rattle.strat_arena.specs.declared.items.Item.{Item};
 ghost use Rattle.strat_base.specs.Tree.{Parents, parent_of, IsTree};
-ghost use Rattle.strat_live.specs.Counting.{group_versions, are_below, own_count, live_count, is_seen, is_seen_above, tallied, IsTally, IsCount, SameParents, AreSummed};
+ghost use Rattle.strat_live.specs.Counting.{item_versions, are_below, is_seen_above, tallied, IsTally, IsCount, SameParents, AreSummed};
+ghost use Rattle.strat_state.specs.Counted.{own_at, keys_at, sees_one};
 ghost use Rattle.strat_live.specs.Group.{is_descending};
 ghost use Rattle.strat_live.specs.Tallies.{items_counted};
 
@@ -61,7 +62,7 @@ impl Counts {
         ensures ok { (parents : Parents) (groups : List (List ℕ))
             → SameParents (length self.old.own) parents tree.now.parents
             → IsTally parents groups self.old
-            → IsTally parents (groups ++ group_versions group.now ∷ []) self.new }
+            → IsTally parents (groups ++ item_versions group.now ∷ []) self.new }
         ensures len { length self.new.own ≡ length self.old.own }
         ensures room { items_counted self.new ≡ items_counted self.old + length group.now }
     {
@@ -87,7 +88,7 @@ impl Counts {
         requires { v < length self.now.own }
         ensures ok { result ≡ slice_index self.now.own v }
         ensures found { (parents : Parents) (groups : List (List ℕ))
-            → IsTally parents groups self.now → result ≡ own_count groups v }
+            → IsTally parents groups self.now → result ≡ own_at groups v }
         ensures fits { result ≤ 16777216 }
     {
         self.own[v as usize]
@@ -116,7 +117,7 @@ impl Counts {
         requires { v < length self.now.own }
         ensures ok { result ≡ slice_index self.now.live v }
         ensures found { (parents : Parents) (groups : List (List ℕ))
-            → IsCount parents groups self.now → result ≡ live_count parents groups v }
+            → IsCount parents groups self.now → result ≡ keys_at parents groups v }
         ensures fits { result ≤ 16777216 }
     {
         self.live[v as usize]
@@ -135,7 +136,7 @@ fn zeros(alloc: Global, n: u32) -> Result<Vec<u32>, NoMemory>
 fn add_own(own: &mut [u32], group: &[Item])
     requires fits { IsTrue (are_below (length own.old) group.now) }
     requires room { sum own.old + length group.now ≤ 16777216 }
-    ensures ok { own.new ≡ tallied own.old (group_versions group.now) }
+    ensures ok { own.new ≡ tallied own.old (item_versions group.now) }
 {
     for item in group {
         own[item.version as usize] += 1;
@@ -149,8 +150,8 @@ fn add_begun(begun: &mut [u32], group: &[Item], tree: &Tree)
     requires len { length begun.old ≤ length tree.now.parents }
     requires room { sum begun.old + length group.now ≤ 16777216 }
     ensures ok { begun.new ≡ tallied begun.old (filter
-        (λ u. not (is_seen_above tree.now.parents u (group_versions group.now)))
-        (group_versions group.now)) }
+        (λ u. not (is_seen_above tree.now.parents u (item_versions group.now)))
+        (item_versions group.now)) }
 {
     for item in group {
         if !is_seen_from_above(group, tree, item.version) {
@@ -163,7 +164,7 @@ fn add_begun(begun: &mut [u32], group: &[Item], tree: &Tree)
 fn is_seen_from_above(group: &[Item], tree: &Tree, v: Version) -> bool
     requires kept { IsTrue (is_descending group.now) }
     requires fits { v < length tree.now.parents }
-    ensures ok { result ≡ is_seen_above tree.now.parents v (group_versions group.now) }
+    ensures ok { result ≡ is_seen_above tree.now.parents v (item_versions group.now) }
 {
     match tree.parents()[v as usize] {
         Some(p) => sees(group, tree, p),
@@ -176,7 +177,7 @@ fn is_seen_from_above(group: &[Item], tree: &Tree, v: Version) -> bool
 fn sees(group: &[Item], tree: &Tree, v: Version) -> bool
     requires kept { IsTrue (is_descending group.now) }
     requires fits { v < length tree.now.parents }
-    ensures ok { result ≡ is_seen tree.now.parents v (group_versions group.now) }
+    ensures ok { result ≡ sees_one tree.now.parents v (item_versions group.now) }
 {
     // A tree says with its count that it is one.
     let _ = tree.count();

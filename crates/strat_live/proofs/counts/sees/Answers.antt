@@ -1,15 +1,16 @@
-use Rattle.std.proofs.Common.{◌≡◌, ◌<◌, ◌≤◌, ◌+◌, ℕ, length, Some, sym, ap, ◌∙◌, arith, rules, subst}
+use Rattle.std.proofs.Common.{◌<◌, ◌+◌, ℕ, sym, ap, ◌∙◌, arith, subst}
 use Rattle.strat_base.specs.Tree.{below}
 use Rattle.strat_base.proofs.ListFacts.{Among}
 use Rattle.strat_base.proofs.TreeLemmas.{below_found}
-use Rattle.strat_live.specs.Counting.{group_versions, is_seen}
+use Rattle.strat_live.specs.Counting.{item_versions}
+use Rattle.strat_state.specs.Counted.{sees_one}
 use Rattle.strat_live.proofs.SeenLemmas.{IsUpTo, up_to_some, up_to_none, seen_here, seen_none, seen_below}
 use Rattle.strat_live.proofs.counts.sees.Goals as goal
 
 pub returns-then-u-w : goal.returns-then-u-w
 returns-then-u-w c =
     let found : IsUpTo c.args.group.now c.loop-u.w c.in-Some.u = up_to_some c.args.group.now c.requires.kept c.loop-u.w c.in-Some.u (sym c.in-Some.ensures.ok) in
-    let at : Among c.loop-u.w (group_versions c.args.group.now) = subst (λ (x : ℕ). Among x (group_versions c.args.group.now)) c.if-u-w.true found.among in
+    let at : Among c.loop-u.w (item_versions c.args.group.now) = subst (λ (x : ℕ). Among x (item_versions c.args.group.now)) c.if-u-w.true found.among in
     record { ok = sym (seen_here c.args.tree.now.parents c.count.ensures.kept c.args.group.now c.loop-u.w at) ∙ c.loop-u.invariant.same }
 
 pub overflow_add-u : goal.overflow_add-u
@@ -29,8 +30,8 @@ loop-u-preserved c =
     let under : below c.args.tree.now.parents c.loop-u.w (c.in-Some.u + 1) < c.in-Some.u + 1 = (below_found c.args.tree.now.parents c.count.ensures.kept c.loop-u.w (c.in-Some.u + 1) c.loop-u.invariant.known (omega arith)).1 in
     record {
       known = omega arith;
-      same = ap (λ (x : ℕ). is_seen c.args.tree.now.parents x (group_versions c.args.group.now)) c.below-w.ensures.ok ∙ sym (seen_below c.args.tree.now.parents c.count.ensures.kept (group_versions c.args.group.now) c.loop-u.w c.in-Some.u c.loop-u.invariant.known found.greatest) ∙ c.loop-u.invariant.same;
+      same = ap (λ (x : ℕ). sees_one c.args.tree.now.parents x (item_versions c.args.group.now)) c.below-w.ensures.ok ∙ sym (seen_below c.args.tree.now.parents c.count.ensures.kept (item_versions c.args.group.now) c.loop-u.w c.in-Some.u c.loop-u.invariant.known found.greatest) ∙ c.loop-u.invariant.same;
     }
 
 pub returns : goal.returns
-returns c = record { ok = sym (seen_none c.args.tree.now.parents c.count.ensures.kept (group_versions c.args.group.now) c.loop-u.w (up_to_none c.args.group.now c.loop-u.w (sym c.greatest_up_to.ensures.ok ∙ c.in_default.is))) ∙ c.loop-u.invariant.same }
+returns c = record { ok = sym (seen_none c.args.tree.now.parents c.count.ensures.kept (item_versions c.args.group.now) c.loop-u.w (up_to_none c.args.group.now c.loop-u.w (sym c.greatest_up_to.ensures.ok ∙ c.in_default.is))) ∙ c.loop-u.invariant.same }

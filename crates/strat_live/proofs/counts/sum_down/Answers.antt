@@ -1,7 +1,7 @@
-use Rattle.std.proofs.Common.{◌≤◌, ◌+◌, arith, length, sum, get_or, sym}
+use Rattle.std.proofs.Common.{◌≤◌, ◌+◌, arith, sum, get_or}
 use Rattle.std.specs.Option.{option_map_or}
 use Rattle.strat_base.specs.Tree.{parent_of}
-use Rattle.strat_live.proofs.CountingLemmas.{next_small, summed_more}
+use Rattle.strat_live.proofs.CountingLemmas.{next_small}
 use Rattle.strat_live.proofs.counts.sum_down.Goals as goal
 
 pub overflow_add-live : goal.overflow_add-live
