@@ -4,8 +4,8 @@
 
 ghost use Rattle.std.specs.Prelude.{◌≡◌, [], ◌∷◌};
 ghost use Rattle.strat_base.specs.Samples.{says, gone};
-ghost use Rattle.strat_plan.specs.Groups.{group_versions};
-ghost use Rattle.strat_plan.specs.Splits.{pair, later_groups, later_plan};
+ghost use Rattle.strat_plan.specs.Groups.{group_versions, level_of_groups};
+ghost use Rattle.strat_plan.specs.Splits.{pair, later_groups, later_plan, wide_groups, wide_plan};
 ghost use Rattle.strat_promotion.specs.Begun.{first_writes};
 ghost use Rattle.strat_promotion.specs.Merging.{runs_taken, Merges};
 ghost use Rattle.strat_promotion.specs.Paid.{entries_written, IsLeastTarget};
@@ -32,6 +32,11 @@ pub fn a_full_journal_pays_for_its_level()
         ≡ 1 }
     ensures after { IsPaid (promoted first_writes
         (levels_of_groups first_writes 1 [] later_groups later_plan 1) 1 2) }
+{}
+
+/// Copies are written too: an array of one entry, and one of three leads and a copy.
+pub fn copies_are_written_too()
+    ensures { entries_written (level_of_groups pair wide_groups wide_plan 1 1 ∷ []) ≡ 5 }
 {}
 
 /// Of a mark that a key is gone: it goes where nothing lies above, and stays below a value.
