@@ -80,9 +80,6 @@ impl Levels {
         ensures ok { option_copied result ≡ option_and_then
             (λ level. desc_for tree.now.parents level v) (level_desc self.now number) }
     {
-        match self.get(number) {
-            Some(level) => level.array_for(tree, v),
-            None => None,
-        }
+        self.get(number)?.array_for(tree, v)
     }
 }
