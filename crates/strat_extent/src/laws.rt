@@ -1,0 +1,25 @@
+//! Laws of the words in which a space is described. Each is the contract of a function that does nothing.
+
+ghost use Rattle.std.specs.Prelude.{◌≡◌, ℕ, ◌<◌, false, ◌||◌, nat_lt, ◌==◌, List, length};
+ghost use Rattle.std.specs.List.{count_by};
+ghost use Rattle.strat_base.specs.declared.descriptors.Extent.{Extent};
+ghost use Rattle.strat_extent.specs.Blocks.{SpaceView, times_in, total_len, is_used};
+ghost use Rattle.strat_extent.specs.Change.{IsMarked};
+ghost use Rattle.strat_format.specs.Arrays.{blocks_of};
+
+/// A block stands in extents as often as in the list of their blocks, and that list is as long as they
+/// are together.
+pub fn blocks_are_those_of_the_list()
+    ensures ok { (xs : List Extent) (b : ℕ)
+        → times_in xs b ≡ count_by (λ a. a == b) (blocks_of xs) }
+    ensures len { (xs : List Extent) → total_len xs ≡ length (blocks_of xs) }
+{}
+
+/// Where blocks were marked, those are used that were used and those that were marked, and none was
+/// both.
+pub fn marked_blocks_are_used_too()
+    ensures ok { (before after : SpaceView) (xs : List Extent) → IsMarked before xs after → (b : ℕ)
+        → is_used after b ≡ is_used before b || nat_lt 0 (times_in xs b) }
+    ensures none { (before after : SpaceView) (xs : List Extent) → IsMarked before xs after
+        → (b : ℕ) → 0 < times_in xs b → is_used before b ≡ false }
+{}
