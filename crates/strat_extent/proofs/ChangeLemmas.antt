@@ -5,7 +5,7 @@ use Rattle.std.proofs.lemmas.Bool.Decides.{nat_tests}
 use Rattle.strat_base.specs.declared.descriptors.Extent.{Extent}
 use Rattle.strat_extent.specs.Blocks.{SpaceView, inside, times_in, total_len, AreRuns, is_used, is_free, uses}
 use Rattle.strat_extent.specs.Change.{IsMarked, SameBlocks, CanMark, CanGive}
-use Rattle.strat_extent.specs.Gap.{IsPlace, IsGap, IsInHole, HasUsedBlock}
+use Rattle.strat_extent.specs.Gap.{IsHolePlace, IsGap, IsInHole, HasUsedBlock}
 use Rattle.strat_extent.proofs.CountLemmas.{inside_in, inside_below, inside_above, inside_le, inside_bounds}
 use Rattle.strat_extent.proofs.RunLemmas.{run_at, times_runs, runs_span, place_gap, none_below}
 
@@ -152,7 +152,7 @@ given_within s run a can p =
 
 -- the place of a run of used blocks
 pub given_gap : (s : SpaceView) (run : Extent) (i : ℕ) → AreRuns s.first s.holes s.end → CanGive s (run ∷ []) → 0 < run.len → i ≤ length s.holes
-    → IsPlace s.holes run.start i
+    → IsHolePlace s.holes run.start i
     → IsGap s.first s.holes i (run.start + 1) (run.start + run.len) s.end × (s.first ≤ run.start) × (run.start + run.len ≤ s.end)
 given_gap s run i a can p le o =
     let within : (s.first ≤ run.start) × (run.start + run.len ≤ s.end) = given_within s run a can p in

@@ -7,7 +7,7 @@ use Rattle.std.specs.List.{insert, remove}
 use Rattle.std.specs.List.Sorted.{IsNonDecreasingBy}
 use Rattle.strat_base.specs.declared.descriptors.Extent.{Extent}
 use Rattle.strat_extent.specs.Blocks.{inside, times_in, total_len, AreRuns}
-use Rattle.strat_extent.specs.Gap.{IsPlace, IsGap, HasUsedBlock}
+use Rattle.strat_extent.specs.Gap.{IsHolePlace, IsGap, HasUsedBlock}
 use Rattle.strat_extent.proofs.CountLemmas.{inside_in, inside_below, inside_above, inside_past, inside_join, inside_same, times_remove}
 
 pub runs_weaker : (low low2 high high2 : ℕ) (rs : List Extent) → low2 ≤ low → high ≤ high2 → AreRuns low rs high → AreRuns low2 rs high2
@@ -178,7 +178,7 @@ starts_ascend low high (r ∷ rs) (suc i) (suc j) d a le lt =
     starts_ascend (r.start + r.len + 1) high rs i j d a.3 (omega arith) (omega arith)
 
 -- a run of blocks that are in no run stands in a place
-pub place_gap : (low high : ℕ) (rs : List Extent) (i : ℕ) (x : Extent) → i ≤ length rs → 0 < x.len → AreRuns low rs high → IsPlace rs x.start i
+pub place_gap : (low high : ℕ) (rs : List Extent) (i : ℕ) (x : Extent) → i ≤ length rs → 0 < x.len → AreRuns low rs high → IsHolePlace rs x.start i
     → ((b : ℕ) → times_in rs b + inside x.start (x.start + x.len) b ≤ 1)
     → IsGap low rs i (x.start + 1) (x.start + x.len) high
 place_gap low high [] zero x le p a o once = record { before = tt; after = tt }
@@ -274,7 +274,7 @@ runs_past low high [] block a after = tt
 runs_past low high (r ∷ rs) block a after = (omega (arith, after zero r (omega arith)), a.1, a.2, a.3)
 
 -- no run before a place has a block from where the last of them ends
-last_ends : (low high : ℕ) (rs : List Extent) (i : ℕ) (block w : ℕ) (d : Extent) → i < length rs → AreRuns low rs high → IsPlace rs block (suc i)
+last_ends : (low high : ℕ) (rs : List Extent) (i : ℕ) (block w : ℕ) (d : Extent) → i < length rs → AreRuns low rs high → IsHolePlace rs block (suc i)
     → (get_or rs i d).start + (get_or rs i d).len ≤ w → w ≤ block ⊎ (w ≡ (get_or rs i d).start + (get_or rs i d).len)
     → times_in rs w ≡ 0
 last_ends low high [] i block w d lt a o le at = absurd (omega arith)
@@ -300,7 +300,7 @@ last_ends low high (r ∷ rs) (suc i) block w d lt a o le at =
 
 -- a run that begins in no run has a used block
 pub used_before_all : (low high : ℕ) (rs : List Extent) (run : Extent) → 0 < run.len → low ≤ run.start → run.start < high → AreRuns low rs high
-    → IsPlace rs run.start 0 → HasUsedBlock low rs high run
+    → IsHolePlace rs run.start 0 → HasUsedBlock low rs high run
 used_before_all low high rs run p le lt a o = record {
   block = run.start;
   from = omega arith;
@@ -312,7 +312,7 @@ used_before_all low high rs run p le lt a o = record {
 
 -- a run that reaches past the run in which it may begin has a used block
 pub used_after_last : (low high : ℕ) (rs : List Extent) (i : ℕ) (run hole : Extent) → i < length rs → 0 < run.len → low ≤ run.start → run.start < high
-    → AreRuns low rs high → IsPlace rs run.start (suc i) → hole ≡ get_or rs i hole → hole.start + hole.len < run.start + run.len
+    → AreRuns low rs high → IsHolePlace rs run.start (suc i) → hole ≡ get_or rs i hole → hole.start + hole.len < run.start + run.len
     → HasUsedBlock low rs high run
 used_after_last low high rs i run hole lt p le below a o e out =
     let at : (low ≤ (get_or rs i hole).start) × (0 < (get_or rs i hole).len) × ((get_or rs i hole).start + (get_or rs i hole).len < high)

@@ -4,7 +4,7 @@ use Rattle.strat_base.specs.declared.descriptors.Extent.{Extent}
 use Rattle.strat_extent.specs.Blocks.{AreRuns, times_in}
 
 -- the runs before a place start at or below a block, and the others above it
-pub record IsPlace (rs : List Extent) (block i : ℕ) : Type 0 where
+pub record IsHolePlace (rs : List Extent) (block i : ℕ) : Type 0 where
   pub before : (k : ℕ) (d : Extent) → k < i → (slice_index_or rs k d).start ≤ block
   pub after : (k : ℕ) (d : Extent) → i ≤ k → k < length rs → block < (slice_index_or rs k d).start
 
@@ -17,7 +17,8 @@ pub record IsGap (low : ℕ) (rs : List Extent) (i from to high : ℕ) : Type 0 
 pub record IsInHole (rs : List Extent) (i : ℕ) (run : Extent) : Type 0 where
   pub within : i < length rs
   pub start : (d : Extent) → (slice_index_or rs i d).start ≤ run.start
-  pub end : (d : Extent) → run.start + run.len ≤ (slice_index_or rs i d).start + (slice_index_or rs i d).len
+  pub end : (d : Extent)
+      → run.start + run.len ≤ (slice_index_or rs i d).start + (slice_index_or rs i d).len
 
 -- a run has a block from low on and below high that is in none of the runs
 pub record HasUsedBlock (low : ℕ) (rs : List Extent) (high : ℕ) (run : Extent) : Type 0 where

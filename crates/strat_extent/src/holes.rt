@@ -3,14 +3,15 @@
 ghost use Rattle.std.specs.Prelude.{◌≡◌, ℕ, ◌+◌, ◌<◌, ◌≤◌, ◌^◌, ◌∷◌, ◌==◌, length, slice_index_or, OnOk, IfSome, IfNone, ◌-◌};
 ghost use Rattle.std.specs.VecDeque.{deque_len, deque_capacity};
 ghost use Rattle.strat_extent.specs.Blocks.{AreRuns, inside, times_in, total_len};
-ghost use Rattle.strat_extent.specs.Gap.{IsPlace, IsGap, IsInHole, HasUsedBlock};
+ghost use Rattle.strat_extent.specs.Gap.{IsHolePlace, IsGap, IsInHole, HasUsedBlock};
 
 use std::collections::VecDeque;
 use strat_base::{Extent, NoMemory};
 
 /// Makes room for so many holes in all.
 pub(crate) fn reserve_for(holes: &mut VecDeque<Extent>, wanted: usize) -> Result<(), NoMemory>
-    ensures same { (holes.new.items ≡ holes.old.items) × (deque_len holes.new ≡ deque_len holes.old) }
+    ensures same { (holes.new.items ≡ holes.old.items)
+        × (deque_len holes.new ≡ deque_len holes.old) }
     ensures room { deque_capacity holes.old ≤ deque_capacity holes.new }
     ensures ok { OnOk result (wanted ≤ deque_capacity holes.new) }
 {
@@ -22,7 +23,7 @@ pub(crate) fn reserve_for(holes: &mut VecDeque<Extent>, wanted: usize) -> Result
 /// How many holes start at or below a block. O(log holes) comparisons.
 pub(crate) fn place_of(holes: &VecDeque<Extent>, block: u32) -> usize
     ensures ok { (low high : ℕ) → AreRuns low holes.now.items high
-        → IsPlace holes.now.items block result }
+        → IsHolePlace holes.now.items block result }
     ensures len { result ≤ deque_len holes.now }
 {
     holes.partition_point(|hole| hole.start <= block)
