@@ -60,6 +60,7 @@ impl Space {
         ensures ok { (b : ℕ) → is_used self.now b ≡ true → b < result }
         ensures found { self.now.first < result → is_used self.now (result - 1) ≡ true }
         ensures fits { self.now.first ≤ result }
+        ensures kept { AreRuns self.now.first self.now.holes self.now.end }
     {
         self.end
     }
