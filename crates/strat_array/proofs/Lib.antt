@@ -1,0 +1,5 @@
+pub mod SparingLemmas
+pub mod EntriesOnLemmas
+pub mod JoinLemmas
+pub mod TakenLemmas
+pub mod PushLemmas
