@@ -3,3 +3,4 @@ pub mod EntriesOnLemmas
 pub mod JoinLemmas
 pub mod TakenLemmas
 pub mod PushLemmas
+pub mod StayLemmas

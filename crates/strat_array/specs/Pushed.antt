@@ -1,11 +1,13 @@
 -- The entries of an array that is being written, and the extents of one.
-use Rattle.std.specs.Prelude.{◌≡◌, ◌≢◌, ℕ, ◌+◌, ◌<◌, List, [], ◌∷◌, ◌++◌, length, Some, ⊤}
+use Rattle.std.specs.Prelude.{◌≡◌, ◌≢◌, ℕ, ◌+◌, ◌<◌, List, [], ◌∷◌, ◌++◌, length, nat_le, if◌then◌else◌, Some, ⊤}
+use Rattle.strat_base.specs.declared.limits.TheConstants.{BLOCK}
 use Rattle.strat_base.specs.declared.descriptors.Extent.{Extent}
 use Rattle.strat_base.specs.declared.failures.Trouble.{Trouble}
 use Rattle.strat_base.specs.declared.failures.Trouble.TheVariants.{NoMemory, Device, Damaged}
 use Rattle.strat_base.specs.Entries.{Entry}
 use Rattle.strat_crash.specs.Faults.{Rose}
 use Rattle.strat_crash.specs.Image.{Image}
+use Rattle.strat_format.specs.Block.{block_front}
 use Rattle.strat_format.specs.Arrays.{blocks_of, entries_on}
 use Rattle.strat_array.specs.Progress.{ArrayProgress}
 
@@ -19,6 +21,11 @@ pub record IsWritten (f : Image) (extents : List Extent) (pending entries : List
 pub record IsPushed (f : Image) (w : ArrayProgress) (entries : List Entry) : Type 0 where
   pub stands : IsWritten f w.extents w.pending entries
   pub count : w.count ≡ length entries
+
+-- what is in no block after one more entry: a new block begins exactly where the entry has no room
+abbrev pub with_entry : List Entry → Entry → List Entry
+with_entry pending e =
+    if nat_le (length (block_front (pending ++ e ∷ []))) BLOCK then pending ++ e ∷ [] else e ∷ []
 
 -- no extent is empty, and none begins where the one before it ends
 abbrev pub AreMaximal : List Extent → Type 0

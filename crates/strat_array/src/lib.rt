@@ -3,5 +3,6 @@
 
 mod blocks;
 mod writer;
+pub mod writer_laws;
 
 pub use writer::ArrayWriter;

@@ -1,7 +1,7 @@
 //! Writing an array.
 
 ghost use Rattle.std.specs.Prelude.{◌≡◌, ◌<◌, ◌+◌, ℕ, List, ◌++◌, ◌∷◌, [], length, Some, OnOk, OnErr, IfOk, IsErrOf, IsTrue, MatchResult};
-ghost use Rattle.strat_array.specs.Pushed.{AreMaximal, IsWritten, IsPushed, HasReason};
+ghost use Rattle.strat_array.specs.Pushed.{AreMaximal, IsWritten, IsPushed, HasReason, with_entry};
 ghost use Rattle.strat_array.specs.Sparing.{ChangesOnly};
 ghost use Rattle.strat_array.specs.Taking.{HasRoom, AreUsed, Takes};
 ghost use Rattle.strat_base.specs.declared.failures.Trouble.TheVariants.{Device, Damaged};
@@ -63,7 +63,8 @@ fn push_entry<D: Disk>(
     ensures ok { OnOk result ((f g : Image) (es : List TheEntry) → Exposes (D.view disk.old) f
         → Exposes (D.view disk.new) g → IsWritten f extents.old pending.old es
         → IsWritten g extents.new pending.new (es ++ entry_of e.now ∷ [])) }
-    ensures end { MatchResult result (λ _. 0 < length pending.new)
+    ensures end { MatchResult result
+        (λ _. pending.new ≡ with_entry pending.old (entry_of e.now))
         (λ _. pending.new ≡ pending.old) }
     ensures found { Takes space.old space.new (blocks_of extents.old) (blocks_of extents.new) }
     ensures kept { AreMaximal extents.old → AreMaximal extents.new }
@@ -132,6 +133,8 @@ impl ArrayWriter {
         ensures ok { OnOk result ((f g : Image) (es : List TheEntry) → Exposes (D.view disk.old) f
             → Exposes (D.view disk.new) g → IsPushed f self.old es
             → IsPushed g self.new (es ++ entry_of e.now ∷ [])) }
+        ensures end { OnOk result (
+            self.new.pending ≡ with_entry self.old.pending (entry_of e.now)) }
         ensures len { OnOk result (self.new.count ≡ self.old.count + 1) }
         ensures found { Takes space.old space.new (blocks_of self.old.extents)
             (blocks_of self.new.extents) }

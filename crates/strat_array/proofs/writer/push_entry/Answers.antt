@@ -1,4 +1,4 @@
-use Rattle.std.proofs.Common.{◌≡◌, ◌<◌, List, ◌++◌, length, Some, sym, subst, arith}
+use Rattle.std.proofs.Common.{◌≡◌, ◌<◌, List, ◌++◌, ◌∷◌, [], length, Some, Bool, cond, ap, ◌∙◌, sym, subst}
 use Rattle.strat_base.specs.Entries.{Entry}
 use Rattle.strat_base.specs.EntryView.{entry_of}
 use Rattle.strat_format.specs.Arrays.{blocks_of, entries_on}
@@ -21,6 +21,6 @@ returns-clause-ok g c = λ f h es told now old.
 
 pub returns-clause-end : goal.returns-clause-end
 returns-clause-end g c =
-    subst (λ (l : List Entry). 0 < length l)
-    (sym (pushed_alone c.write_pending.new.pending c.push-2.new.self (entry_of c.args.e.now) c.push-2.result c.requires.fits c.in_ok-write_pending.ensures.end c.push-2.ensures.room c.push-2.ensures.ok))
-    (omega arith)
+    let e : Entry = entry_of c.args.e.now in
+    pushed_alone c.write_pending.new.pending c.push-2.new.self e c.push-2.result c.requires.fits c.in_ok-write_pending.ensures.end c.push-2.ensures.room c.push-2.ensures.ok
+    ∙ ap (λ (t : Bool). cond t (c.args.pending.now ++ e ∷ []) (e ∷ [])) c.if-push.ensures.room
