@@ -12,7 +12,7 @@ use Rattle.strat_tree.specs.Preorder.{Numbering, IsPreorder}
 use Rattle.strat_state.specs.Counted.{sees_one}
 use Rattle.strat_live.specs.declared.tops.Interval.{Interval}
 use Rattle.strat_live.specs.Counting.{descends, is_seen_above}
-use Rattle.strat_live.specs.Tops.{top_at, interval_of, AreApart, IsCovered, IsPlaceOf, IsAmong}
+use Rattle.strat_live.specs.Tops.{top_at, interval_of, AreApart, IsCovered, IsPlaceAmong, IsAmong}
 
 -- the starts of intervals that are apart ascend
 starts_ascend : (tops : List Interval) → AreApart tops → (i j : ℕ) → i ≤ j → j < length tops → (top_at tops i).start ≤ (top_at tops j).start
@@ -39,7 +39,7 @@ tops_parted tops x apart i j d le lt e =
     let at_j = ap (λ (top : Interval). top.start) (read_top tops j d lt) in
     le-leb (get_or tops i d).start x (omega arith)
 
-pub place_from_point : (tops : List Interval) (x at : ℕ) → at ≤ length tops → IsPartitionPoint (λ (top : Interval). leb top.start x ≡ true) (λ (top : Interval). leb top.start x ≡ false) tops at → IsPlaceOf tops x at
+pub place_from_point : (tops : List Interval) (x at : ℕ) → at ≤ length tops → IsPartitionPoint (λ (top : Interval). leb top.start x ≡ true) (λ (top : Interval). leb top.start x ≡ false) tops at → IsPlaceAmong tops x at
 place_from_point tops x at le point =
     let d : Interval = record { start = 0; end = 0 } in
     record {
@@ -48,10 +48,10 @@ place_from_point tops x at le point =
     }
 
 -- the last interval that starts at a number or before is the only one that may hold it
-pub place_covered : (tops : List Interval) (x at : ℕ) → at ≤ length tops → IsPlaceOf tops x at → 0 < at → x < (top_at tops (at - 1)).end → IsCovered tops x
+pub place_covered : (tops : List Interval) (x at : ℕ) → at ≤ length tops → IsPlaceAmong tops x at → 0 < at → x < (top_at tops (at - 1)).end → IsCovered tops x
 place_covered tops x at within place some lt = (at - 1, omega arith, place.low (at - 1) (omega arith), lt)
 
-pub place_free : (tops : List Interval) (interval : Interval) (at : ℕ) → AreApart tops → at ≤ length tops → IsPlaceOf tops interval.start at → (0 < at → (top_at tops (at - 1)).end ≤ interval.start) → IsAmong tops interval (insert tops at interval)
+pub place_free : (tops : List Interval) (interval : Interval) (at : ℕ) → AreApart tops → at ≤ length tops → IsPlaceAmong tops interval.start at → (0 < at → (top_at tops (at - 1)).end ≤ interval.start) → IsAmong tops interval (insert tops at interval)
 place_free tops interval at apart within place past =
     record {
       at = at;

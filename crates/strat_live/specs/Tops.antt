@@ -26,12 +26,13 @@ IsCovered tops x =
     (k : ℕ) × (k < length tops) × ((top_at tops k).start ≤ x) × (x < (top_at tops k).end)
 
 -- the intervals before this place start at or before a number, and the others behind it
-pub record IsPlaceOf (tops : List Interval) (x at : ℕ) : Type 0 where
+pub record IsPlaceAmong (tops : List Interval) (x at : ℕ) : Type 0 where
   pub low : (k : ℕ) → k < at → (top_at tops k).start ≤ x
   pub high : (k : ℕ) → at ≤ k → k < length tops → x < (top_at tops k).start
 
 -- an interval came behind those that end at its start or before, and before those that start later
-pub record IsAmong (before : List Interval) (interval : Interval) (after : List Interval) : Type 0 where
+pub record IsAmong (before : List Interval) (interval : Interval) (after : List Interval)
+    : Type 0 where
   pub at : ℕ
   pub within : at ≤ length before
   pub low : (k : ℕ) → k < at → (top_at before k).end ≤ interval.start

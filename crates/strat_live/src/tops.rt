@@ -1,7 +1,7 @@
 //! Intervals of numbers that have nothing in common, kept in order of their starts.
 
 ghost use Rattle.std.specs.Prelude.{◌≡◌, ◌<◌, ◌≤◌, ◌+◌, length, true, false, vec_len, vec_capacity};
-ghost use Rattle.strat_live.specs.Tops.{AreApart, IsCovered, IsPlaceOf, IsAmong};
+ghost use Rattle.strat_live.specs.Tops.{AreApart, IsCovered, IsPlaceAmong, IsAmong};
 
 /// The numbers from a start to below an end.
 #[derive(Clone, Copy)]
@@ -33,7 +33,7 @@ pub(crate) fn begins(tops: &mut Vec<Interval>, interval: Interval) -> bool
 /// The place of the first interval that starts behind a number, or how many there are.
 fn place_of(tops: &[Interval], start: u32) -> usize
     ensures len { result ≤ length tops.now }
-    ensures ok { AreApart tops.now → IsPlaceOf tops.now start result }
+    ensures ok { AreApart tops.now → IsPlaceAmong tops.now start result }
 {
     tops.partition_point(|top| top.start <= start)
 }
