@@ -1,6 +1,6 @@
 //! Runs of free blocks, ascending, between two of which there is a block that is used.
 
-ghost use Rattle.std.specs.Prelude.{◌≡◌, ℕ, ◌+◌, ◌<◌, ◌≤◌, ◌^◌, ◌∷◌, ◌==◌, length, slice_index_or, OnOk, IfSome, IfNone, ◌-◌};
+ghost use Rattle.std.specs.Prelude.{◌≡◌, ℕ, ◌+◌, ◌<◌, ◌≤◌, ◌^◌, ◌∷◌, ◌==◌, OnOk, IfSome, IfNone};
 ghost use Rattle.std.specs.VecDeque.{deque_len, deque_capacity};
 ghost use Rattle.strat_extent.specs.Blocks.{AreRuns, inside, times_in, total_len};
 ghost use Rattle.strat_extent.specs.Gap.{IsHolePlace, IsGap, IsInHole, HasUsedBlock};

@@ -1,6 +1,6 @@
 //! Which blocks of a file are used: the lowest free ones are taken, and blocks are given back.
 
-ghost use Rattle.std.specs.Prelude.{◌≡◌, ℕ, ◌+◌, ◌-◌, ◌<◌, ◌≤◌, ◌^◌, ◌↔◌, Bool, true, false, List, [], ◌∷◌, ◌++◌, take, MatchBool, IfOk, OnOk, OnErr};
+ghost use Rattle.std.specs.Prelude.{◌≡◌, ℕ, ◌+◌, ◌-◌, ◌<◌, ◌≤◌, ◌^◌, ◌↔◌, true, false, [], ◌∷◌, ◌++◌, MatchBool, IfOk, OnOk, OnErr};
 ghost use Rattle.strat_extent.specs.Blocks.{AreRuns, total_len, is_used, used_count};
 ghost use Rattle.strat_extent.specs.Gap.{IsInHole};
 ghost use Rattle.strat_extent.specs.Change.{IsMarked, SameBlocks, CanMark, CanGive, AreLowest};
