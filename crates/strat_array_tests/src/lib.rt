@@ -1,0 +1,5 @@
+//! Tests of arrays.
+#![tactic(auto)]
+
+#[cfg(test)]
+mod writer;
