@@ -1,0 +1,6 @@
+pub mod SumLemmas
+pub mod GreedyLemmas
+pub mod PlacingLemmas
+pub mod PlaceLemmas
+pub mod LeastLemmas
+pub mod SplitLemmas

@@ -1,0 +1,4 @@
+pub mod Survey
+pub mod Greedy
+pub mod Placing
+pub mod Shown
