@@ -4,3 +4,4 @@ pub mod PlacingLemmas
 pub mod PlaceLemmas
 pub mod LeastLemmas
 pub mod SplitLemmas
+pub mod TakenLemmas

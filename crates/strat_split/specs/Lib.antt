@@ -2,3 +2,4 @@ pub mod Survey
 pub mod Greedy
 pub mod Placing
 pub mod Shown
+pub mod Taken

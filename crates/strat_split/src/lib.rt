@@ -2,9 +2,12 @@
 #![tactic(auto)]
 
 mod gather;
+pub mod laws;
 pub mod parts;
 mod place;
 mod split;
 mod survey;
+mod taken;
 
 pub use split::plan;
+pub use taken::takes;
