@@ -122,7 +122,7 @@ module _ (t : Told) where
   sums_low zero v = zeros_low (length t.own) v (get_or t.live v 0 - 1)
   sums_low (suc k) v =
       set_low (sums_after t k) t.live (up t.parents (length t.own - suc k)) (open_after (get_or t.own (length t.own - suc k) 0 + get_or (sums_after t k) (length t.own - suc k) 0) (get_or (sums_after t k) (up t.parents (length t.own - suc k)) 0) (get_or t.live (up t.parents (length t.own - suc k)) 0)) v (sums_low k)
-          (after_low (get_or t.own (length t.own - suc k) 0 + get_or (sums_after t k) (length t.own - suc k) 0) (get_or (sums_after t k) (up t.parents (length t.own - suc k)) 0) (get_or t.live (up t.parents (length t.own - suc k)) 0) (sums_low k (up t.parents (length t.own - suc k))))
+      (after_low (get_or t.own (length t.own - suc k) 0 + get_or (sums_after t k) (length t.own - suc k) 0) (get_or (sums_after t k) (up t.parents (length t.own - suc k)) 0) (get_or t.live (up t.parents (length t.own - suc k)) 0) (sums_low k (up t.parents (length t.own - suc k))))
 
   -- the code's sums are small
   pub sums_small : (c v : ℕ) (sums : List ℕ) → ((w : ℕ) → get_or t.live w 0 ≤ 16777216) → sums ≡ sums_from t c → get_or sums v 0 ≤ 16777216

@@ -118,11 +118,14 @@ module _ (t : Told) (lawful : IsLawful t) (c p : ℕ) (labels joins : List ℕ) 
       let held = lawful.held c lt in
       let low : get_or (sums_from t (c + 1)) c 0 ≤ get_or t.live c 0 - 1 = sums_low t (length t.own - (c + 1)) c in
       begin_step t lawful c p labels joins parts positive lt far p_is (part_below t p c leads) joins refl refl refl (omega arith) (omega arith) (omega arith) far.joins_len (λ v under. inl refl)
-          (λ r is_part. part_sum_same r joins joins (sums_from t c) (sums_from t (c + 1)) c (λ v under. (refl, elim (cases_eq v p) [
-            | inl here ↦ ap (λ (w : ℕ). get_or (sums_from t (c + 1)) w 0) here ∙ sym after ∙ ap (λ (w : ℕ). get_or (sums_from t c) w 0) (sym here)
-            | inr apart ↦ sym (sums_off t c v lt (λ e. apart (e ∙ sym p_is)))
-          ])))
-          (let none : part_sum (length parts) joins (sums_from t (c + 1)) c ≡ 0 = part_sum_none (length parts) joins (sums_from t (c + 1)) c unused in omega arith)
+      (λ r is_part. part_sum_same r joins joins (sums_from t c) (sums_from t (c + 1)) c (λ v under. (
+        refl,
+        elim (cases_eq v p) [
+          | inl here ↦ ap (λ (w : ℕ). get_or (sums_from t (c + 1)) w 0) here ∙ sym after ∙ ap (λ (w : ℕ). get_or (sums_from t c) w 0) (sym here)
+          | inr apart ↦ sym (sums_off t c v lt (λ e. apart (e ∙ sym p_is)))
+        ],
+      )))
+      (let none : part_sum (length parts) joins (sums_from t (c + 1)) c ≡ 0 = part_sum_none (length parts) joins (sums_from t (c + 1)) c unused in omega arith)
 
   pub placed_closes : (leads : ℕ) → Closes leads ≡ fate_of t c → IsSoFar t (c + 1) (set labels c (length parts)) (set (set joins p (length parts)) c (length parts)) (parts ++ part_below t p c leads ∷ [])
   placed_closes leads is =
@@ -135,20 +138,20 @@ module _ (t : Told) (lawful : IsLawful t) (c p : ℕ) (labels joins : List ℕ) 
       let up = live_up in
       let low : get_or (sums_from t (c + 1)) p 0 ≤ get_or t.live p 0 - 1 = sums_low t (length t.own - (c + 1)) p in
       begin_step t lawful c p labels joins parts positive lt far p_is (part_below t p c leads) (set joins p (length parts)) refl refl refl (omega arith) (omega arith) (omega arith) (length-set joins p (length parts) ∙ far.joins_len)
-          (λ v under. elim (cases_eq v p) [
-            | inl here ↦ inr (here, ap (λ (w : ℕ). get_or (set joins p (length parts)) w 0) here ∙ at_p, omega arith)
-            | inr apart ↦ inl (get_or-set_other joins p v (length parts) 0 apart)
-          ])
-          (λ r is_part.
-          let changed : part_sum r (set joins p (length parts)) (sums_from t (c + 1)) c + taken (eqb (get_or joins p 0) r) (get_or (sums_from t c) p 0) ≡ part_sum r joins (sums_from t c) c + taken (eqb (get_or (set joins p (length parts)) p 0) r) (get_or (sums_from t (c + 1)) p 0) = change r in
-          let x : taken (eqb (get_or joins p 0) r) (get_or (sums_from t c) p 0) ≡ 0 = ap (taken (eqb (get_or joins p 0) r)) case'.after_is ∙ nothing (eqb (get_or joins p 0) r) in
-          let y : taken (eqb (get_or (set joins p (length parts)) p 0) r) (get_or (sums_from t (c + 1)) p 0) ≡ 0 = ap (λ (b : Bool). taken b (get_or (sums_from t (c + 1)) p 0)) (ap (λ (l : ℕ). eqb l r) at_p ∙ ne_eqb (length parts) r (λ e. omega (arith, e))) in
-          omega arith)
-          (let changed : part_sum (length parts) (set joins p (length parts)) (sums_from t (c + 1)) c + taken (eqb (get_or joins p 0) (length parts)) (get_or (sums_from t c) p 0) ≡ part_sum (length parts) joins (sums_from t c) c + taken (eqb (get_or (set joins p (length parts)) p 0) (length parts)) (get_or (sums_from t (c + 1)) p 0) = change (length parts) in
-          let x : taken (eqb (get_or joins p 0) (length parts)) (get_or (sums_from t c) p 0) ≡ 0 = ap (taken (eqb (get_or joins p 0) (length parts))) case'.after_is ∙ nothing (eqb (get_or joins p 0) (length parts)) in
-          let y : taken (eqb (get_or (set joins p (length parts)) p 0) (length parts)) (get_or (sums_from t (c + 1)) p 0) ≡ get_or (sums_from t (c + 1)) p 0 = ap (λ (b : Bool). taken b (get_or (sums_from t (c + 1)) p 0)) (ap (λ (l : ℕ). eqb l (length parts)) at_p ∙ eq-eqb (length parts) (length parts) refl) in
-          let none : part_sum (length parts) joins (sums_from t c) c ≡ 0 = part_sum_none (length parts) joins (sums_from t c) c unused in
-          omega arith)
+      (λ v under. elim (cases_eq v p) [
+        | inl here ↦ inr (here, ap (λ (w : ℕ). get_or (set joins p (length parts)) w 0) here ∙ at_p, omega arith)
+        | inr apart ↦ inl (get_or-set_other joins p v (length parts) 0 apart)
+      ])
+      (λ r is_part.
+      let changed : part_sum r (set joins p (length parts)) (sums_from t (c + 1)) c + taken (eqb (get_or joins p 0) r) (get_or (sums_from t c) p 0) ≡ part_sum r joins (sums_from t c) c + taken (eqb (get_or (set joins p (length parts)) p 0) r) (get_or (sums_from t (c + 1)) p 0) = change r in
+      let x : taken (eqb (get_or joins p 0) r) (get_or (sums_from t c) p 0) ≡ 0 = ap (taken (eqb (get_or joins p 0) r)) case'.after_is ∙ nothing (eqb (get_or joins p 0) r) in
+      let y : taken (eqb (get_or (set joins p (length parts)) p 0) r) (get_or (sums_from t (c + 1)) p 0) ≡ 0 = ap (λ (b : Bool). taken b (get_or (sums_from t (c + 1)) p 0)) (ap (λ (l : ℕ). eqb l r) at_p ∙ ne_eqb (length parts) r (λ e. omega (arith, e))) in
+      omega arith)
+      (let changed : part_sum (length parts) (set joins p (length parts)) (sums_from t (c + 1)) c + taken (eqb (get_or joins p 0) (length parts)) (get_or (sums_from t c) p 0) ≡ part_sum (length parts) joins (sums_from t c) c + taken (eqb (get_or (set joins p (length parts)) p 0) (length parts)) (get_or (sums_from t (c + 1)) p 0) = change (length parts) in
+      let x : taken (eqb (get_or joins p 0) (length parts)) (get_or (sums_from t c) p 0) ≡ 0 = ap (taken (eqb (get_or joins p 0) (length parts))) case'.after_is ∙ nothing (eqb (get_or joins p 0) (length parts)) in
+      let y : taken (eqb (get_or (set joins p (length parts)) p 0) (length parts)) (get_or (sums_from t (c + 1)) p 0) ≡ get_or (sums_from t (c + 1)) p 0 = ap (λ (b : Bool). taken b (get_or (sums_from t (c + 1)) p 0)) (ap (λ (l : ℕ). eqb l (length parts)) at_p ∙ eq-eqb (length parts) (length parts) refl) in
+      let none : part_sum (length parts) joins (sums_from t c) c ≡ 0 = part_sum_none (length parts) joins (sums_from t c) c unused in
+      omega arith)
     where
       at_p : get_or (set joins p (length parts)) p 0 ≡ length parts
       at_p = let less = below in get_or-set_same joins p (length parts) 0 (omega (arith, far.joins_len))

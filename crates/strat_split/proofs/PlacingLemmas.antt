@@ -225,7 +225,7 @@ module _ (t : Told) (lawful : IsLawful t) (c p : ℕ) (labels joins : List ℕ) 
               let less : up t.parents v < v = up_less v above under in
               let old : get_or labels v 0 < length parts = old_label t parts part v (get_or labels v 0) few_parts (far.served v under) is_part in
               subst (λ (x : Part). (get_or (set labels c (length parts)) (up t.parents v) 0 ≡ get_or labels v 0) ⊎ (x.above ≡ Some (up t.parents v))) (sym (old_part parts part (get_or labels v 0) old))
-                  (subst (λ (l : ℕ). (l ≡ get_or labels v 0) ⊎ ((nth_part parts (get_or labels v 0)).above ≡ Some (up t.parents v))) (sym (kept labels c (length parts) (up t.parents v) (omega arith))) (far.hangs v above under old)))
+              (subst (λ (l : ℕ). (l ≡ get_or labels v 0) ⊎ ((nth_part parts (get_or labels v 0)).above ≡ Some (up t.parents v))) (sym (kept labels c (length parts) (up t.parents v) (omega arith))) (far.hangs v above under old)))
               (λ above is_part. inr (new_above (up t.parents c) p_is))
               v under above;
           joins_hang = set_each (λ v l. l < length (parts ++ part ∷ []) → (get_or (set labels c (length parts)) v 0 ≡ l) ⊎ ((nth_part (parts ++ part ∷ []) l).above ≡ Some v)) joins1 c (length parts) joins_lt
@@ -234,7 +234,7 @@ module _ (t : Told) (lawful : IsLawful t) (c p : ℕ) (labels joins : List ℕ) 
                     subst (λ (l : ℕ). l < length (parts ++ part ∷ []) → (get_or (set labels c (length parts)) v 0 ≡ l) ⊎ ((nth_part (parts ++ part ∷ []) l).above ≡ Some v)) (sym same) (λ is_part.
                     let old : get_or joins v 0 < length parts = old_label t parts part v (get_or joins v 0) few_parts (far.joins_served v under) is_part in
                     subst (λ (x : Part). (get_or (set labels c (length parts)) v 0 ≡ get_or joins v 0) ⊎ (x.above ≡ Some v)) (sym (old_part parts part (get_or joins v 0) old))
-                        (subst (λ (l : ℕ). (l ≡ get_or joins v 0) ⊎ ((nth_part parts (get_or joins v 0)).above ≡ Some v)) (sym (kept labels c (length parts) v under)) (far.joins_hang v under old)))
+                    (subst (λ (l : ℕ). (l ≡ get_or joins v 0) ⊎ ((nth_part parts (get_or joins v 0)).above ≡ Some v)) (sym (kept labels c (length parts) v under)) (far.joins_hang v under old)))
                 | inr here ↦
                     subst (λ (l : ℕ). l < length (parts ++ part ∷ []) → (get_or (set labels c (length parts)) v 0 ≡ l) ⊎ ((nth_part (parts ++ part ∷ []) l).above ≡ Some v)) (sym here.1) (λ is_part. inr (new_above v (sym here.0)))
               ])

@@ -16,7 +16,6 @@ part_sum_more q labels numbers n = ap (part_sum q labels numbers) (add-one n)
 
 pub part_sum_same : (q : ℕ) (labels labels' numbers numbers' : List ℕ) (n : ℕ) → ((v : ℕ) → v < n → (get_or labels' v 0 ≡ get_or labels v 0) × (get_or numbers' v 0 ≡ get_or numbers v 0))
     → part_sum q labels' numbers' n ≡ part_sum q labels numbers n
-
 part_sum_same q labels labels' numbers numbers' zero same = refl
 part_sum_same q labels labels' numbers numbers' (suc n) same =
     λ i. part_sum_same q labels labels' numbers numbers' n (λ v lt. same v (omega arith)) i + taken (eqb ((same n (omega arith)).0 i) q) ((same n (omega arith)).1 i)

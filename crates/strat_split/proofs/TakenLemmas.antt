@@ -83,11 +83,11 @@ live_above parents tree items v p item some apart live =
     let on : Among item.version (path parents p) = elim (on_path parents tree item.version v p some (ancestor_among parents tree item.version v parts.0)) [ inl here ↦ absurd (apart here) | inr there ↦ there ] in
     let none : list_any (is_nearer parents v item.version) items ≡ false = not-true (list_any (is_nearer parents v item.version) items) parts.1 in
     let none' : list_any (is_nearer parents p item.version) items ≡ false = false_from_ne_true (list_any (is_nearer parents p item.version) items) (λ any.
-        let found = any_among (is_nearer parents p item.version) items any in
-        let near = and_parts (ltb item.version found.0.version) (is_ancestor parents found.0.version p) found.2 in
-        let up : Among found.0.version (path parents v) = from_path parents tree found.0.version v p some (inr (ancestor_among parents tree found.0.version p near.1)) in
-        let near' : is_nearer parents v item.version found.0 ≡ true = and_from (ltb item.version found.0.version) (is_ancestor parents found.0.version v) near.0 (among_ancestor parents tree found.0.version v up) in
-        true≢false (sym (any_from (is_nearer parents v item.version) found.0 items found.1 near') ∙ none)) in
+    let found = any_among (is_nearer parents p item.version) items any in
+    let near = and_parts (ltb item.version found.0.version) (is_ancestor parents found.0.version p) found.2 in
+    let up : Among found.0.version (path parents v) = from_path parents tree found.0.version v p some (inr (ancestor_among parents tree found.0.version p near.1)) in
+    let near' : is_nearer parents v item.version found.0 ≡ true = and_from (ltb item.version found.0.version) (is_ancestor parents found.0.version v) near.0 (among_ancestor parents tree found.0.version v up) in
+    true≢false (sym (any_from (is_nearer parents v item.version) found.0 items found.1 near') ∙ none)) in
     and_from (is_ancestor parents item.version p) (not (list_any (is_nearer parents p item.version) items)) (among_ancestor parents tree item.version p on) (not_from_false (list_any (is_nearer parents p item.version) items) none')
 
 -- what is live at a version of a part is taken by the part

@@ -14,7 +14,7 @@ is_enough live leads = nat_lt 0 leads && nat_le live leads
 unfoldable pub fate_after : ℕ → ℕ → ℕ → Fate
 fate_after rest sum live =
     cond (is_enough live rest) (Alone rest)
-        (cond (is_enough live (sum + rest)) (Closes (sum + rest)) Joins)
+    (cond (is_enough live (sum + rest)) (Closes (sum + rest)) Joins)
 
 -- the sum of the parent's open group afterwards
 unfoldable pub open_after : ℕ → ℕ → ℕ → ℕ
@@ -25,8 +25,8 @@ open_after rest sum live =
 abbrev pub sums_taken : Told → ℕ → List ℕ → List ℕ
 sums_taken t c sums =
     slice_set sums (up t.parents c)
-        (open_after (slice_index t.own c + slice_index sums c)
-            (slice_index sums (up t.parents c)) (slice_index t.live (up t.parents c)))
+    (open_after (slice_index t.own c + slice_index sums c)
+    (slice_index sums (up t.parents c)) (slice_index t.live (up t.parents c)))
 
 -- the sums once the last k versions are taken
 unfoldable pub sums_after : Told → ℕ → List ℕ
@@ -45,7 +45,7 @@ rest_of t c = slice_index t.own c + slice_index (sums_from t (c + 1)) c
 abbrev pub fate_of : Told → ℕ → Fate
 fate_of t c =
     fate_after (rest_of t c) (slice_index (sums_from t (c + 1)) (up t.parents c))
-        (slice_index t.live (up t.parents c))
+    (slice_index t.live (up t.parents c))
 
 -- what becomes of the rest of each version but 0, and the leads of the rest of version 0
 pub record IsGathered (t : Told) (first : ℕ) (fates : List Fate) : Type 0 where

@@ -21,11 +21,7 @@ pub(crate) struct Draft {
 }
 
 /// Places all versions. O(versions).
-pub(crate) fn place(
-    alloc: Global,
-    survey: &Survey,
-    gathered: &Gathered,
-) -> Result<Draft, NoMemory>
+pub(crate) fn place(alloc: Global, survey: &Survey, gathered: &Gathered) -> Result<Draft, NoMemory>
     requires kept { IsSized (told survey.now) }
     requires found { IsGathered (told survey.now) gathered.now.first gathered.now.fates.items }
     ensures ok { IsLawful (told survey.now) → IfOk result (λ draft. IsSoFar (told survey.now)
@@ -79,12 +75,7 @@ fn undrafted(alloc: Global, n: usize) -> Result<Draft, NoMemory>
 }
 
 /// Places version c, once all lesser ones are placed.
-fn place_version(
-    draft: &mut Draft,
-    survey: &Survey,
-    fate: Fate,
-    c: usize,
-) -> Result<(), NoMemory>
+fn place_version(draft: &mut Draft, survey: &Survey, fate: Fate, c: usize) -> Result<(), NoMemory>
     requires kept { IsSized (told survey.now) }
     requires fits { (0 < c) × (c < length survey.now.own.now) }
     requires found { fate ≡ fate_of (told survey.now) c }
@@ -92,9 +83,9 @@ fn place_version(
         draft.old.labels.items draft.old.joins.items draft.old.parts.items }
     ensures ok { IsLawful (told survey.now)
         → IsSoFar (told survey.now) c
-            draft.old.labels.items draft.old.joins.items draft.old.parts.items
+        draft.old.labels.items draft.old.joins.items draft.old.parts.items
         → OnOk result (IsSoFar (told survey.now) (c + 1)
-            draft.new.labels.items draft.new.joins.items draft.new.parts.items) }
+        draft.new.labels.items draft.new.joins.items draft.new.parts.items) }
     ensures len { OnOk result (IsDrafted (length survey.now.own.now) (c + 1)
         draft.new.labels.items draft.new.joins.items draft.new.parts.items) }
 {

@@ -25,7 +25,7 @@ pub fn plan(alloc: Global, tree: &Tree, counts: &Counts, horizon: u32) -> Result
     ensures ok { (parents : Parents) (groups : List (List ℕ))
         → SameParents horizon parents tree.now.parents → IsCount parents groups counts.now
         → IfOk result (λ plan. IsSplit parents (own_at groups) (keys_at parents groups)
-            (shown plan)) }
+        (shown plan)) }
     ensures len { IfOk result (λ plan. length plan.part_of ≡ horizon) }
 {
     let survey = survey_of(tree, counts, horizon);

@@ -20,7 +20,7 @@ returns-clause-ok c = λ parents groups same counted.
     let agree : SameParents (length (told c.survey_of-survey.result).own) parents (told c.survey_of-survey.result).parents = λ v lt. same v (omega arith) ∙ ap (λ (ps : Parents). parent_of ps v) (sym parents_same) in
     let lawful : IsLawful (told c.survey_of-survey.result) = counted_lawful (told c.survey_of-survey.result) c.survey_of-survey.ensures.kept parents groups c.args.counts.now own_same live_same agree counted in
     IfOk-weaker c.split.result (λ (plan : Plan). IsDivided (told c.survey_of-survey.result) plan.part_of plan.parts) (λ (plan : Plan). IsSplit parents (own_at groups) (keys_at parents groups) (shown plan))
-        (λ (plan : Plan) divided. divided_split (told c.survey_of-survey.result) lawful plan.part_of plan.parts divided parents agree (own_at groups) (keys_at parents groups)
-            (own_counted (told c.survey_of-survey.result) c.survey_of-survey.ensures.kept parents groups c.args.counts.now own_same live_same agree counted)
-            (live_counted (told c.survey_of-survey.result) c.survey_of-survey.ensures.kept parents groups c.args.counts.now own_same live_same agree counted))
-        (c.split.ensures.ok lawful)
+    (λ (plan : Plan) divided. divided_split (told c.survey_of-survey.result) lawful plan.part_of plan.parts divided parents agree (own_at groups) (keys_at parents groups)
+    (own_counted (told c.survey_of-survey.result) c.survey_of-survey.ensures.kept parents groups c.args.counts.now own_same live_same agree counted)
+    (live_counted (told c.survey_of-survey.result) c.survey_of-survey.ensures.kept parents groups c.args.counts.now own_same live_same agree counted))
+    (c.split.ensures.ok lawful)
