@@ -1,3 +1,4 @@
 pub mod OrderLemmas
 pub mod SeekLemmas
 pub mod WalkLemmas
+pub mod CacheLemmas

@@ -3,7 +3,7 @@ use Rattle.std.specs.Prelude.{ℕ, ◌*◌, List, [], ◌∷◌, Option, Some, o
 use Rattle.strat_base.specs.declared.limits.TheConstants.{BLOCK}
 use Rattle.strat_base.specs.Entries.{Entry}
 use Rattle.strat_crash.specs.Image.{Image, window}
-use Rattle.strat_format.specs.Block.{block_in}
+use Rattle.strat_block.specs.Block.{block_in}
 
 -- the entries of the block of an image with this number, where it is a block of entries
 abbrev pub block_read : Image → ℕ → Option (List Entry)

@@ -1,5 +1,8 @@
 //! Arrays of entries on a disk: their writer, and the reading of keys and of entries in order.
 #![tactic(auto)]
 
-/// Nothing yet.
-pub fn nothing() {}
+mod cache;
+mod scratch;
+
+pub use cache::Cache;
+pub use scratch::Scratch;
