@@ -71,6 +71,8 @@ OWNERS = {
 EXCEPTIONS = {
     ("Level", "Level.antt"): "read together nowhere",
     ("Slot", "SuperBlock.antt"): "read together nowhere",
+    ("Part", "Plan.antt"): "the part that contracts see",
+    ("Plan", "Plan.antt"): "the plan that contracts see",
 }
 
 README_LINES = (15, 60)

@@ -5,6 +5,8 @@
 #[cfg(test)]
 mod changes;
 #[cfg(test)]
+mod descriptors;
+#[cfg(test)]
 mod entries;
 #[cfg(test)]
 mod failures;

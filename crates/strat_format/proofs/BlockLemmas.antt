@@ -1,21 +1,18 @@
 -- Blocks are read as they were written, and what is read was written so.
-use Rattle.std.proofs.Common.{◌≡◌, ◌<◌, ◌≤◌, ◌+◌, ◌-◌, ◌*◌, ◌^◌, inl, inr, ℕ, suc, true, false, eqb, ltb, leb, ◌&&◌, List, [], ◌∷◌, ◌++◌, length, drop, replicate, Option, Some, None, cond, refl, sym, ap, ◌∙◌, subst, arith, length-append, take-append-drop, append_assoc}
+use Rattle.std.proofs.Common.{◌≡◌, ◌<◌, ◌≤◌, ◌+◌, ◌-◌, ◌*◌, ◌^◌, inl, inr, ℕ, suc, true, ltb, leb, ◌&&◌, List, [], ◌∷◌, ◌++◌, length, drop, replicate, Option, Some, None, cond, refl, sym, ap, ◌∙◌, subst, arith, length-append, append_assoc}
 use Rattle.std.specs.List.{list_all, flat_map}
 use Rattle.std.specs.Option.{option_map, option_and_then}
 use Rattle.std.specs.Str.{bytes_eq}
-use Rattle.std.proofs.lemmas.Bool.{eqb-true, ltb-true, lt-ltb, leb-true, le-leb, and_parts, and_from, cond-true}
+use Rattle.std.proofs.lemmas.Bool.{leb-true, and_parts, and_from, cond-true}
 use Rattle.std.proofs.lemmas.Option.{cond_some}
 use Rattle.std.proofs.lemmas.List.{drop_at, length-replicate}
-use Rattle.strat_base.specs.Numbers.{be, number, AreBytes}
-use Rattle.strat_base.specs.Sizes.{is_key}
-use Rattle.strat_base.specs.Fields.{key_field, value_field, key_in, value_in}
+use Rattle.strat_base.specs.Numbers.{be, number}
 use Rattle.strat_base.specs.Entries.{Entry, is_ascending}
-use Rattle.strat_base.specs.EntryBytes.{fits_fields, entry_bytes, entry_in}
+use Rattle.strat_base.specs.EntryBytes.{fits_fields, entry_bytes}
 use Rattle.strat_format.specs.Block.{entries_in, offsets, block_front, block_bytes, fits_block, IsBlock, block_in}
 use Rattle.strat_base.proofs.EntryBytesLemmas.{entry_in-bytes}
 use Rattle.strat_base.proofs.EntryLemmas.{bytes_same, same_bytes}
-use Rattle.strat_base.proofs.NumberLemmas.{length-be, number-be, number-lt, be-number_4, AreBytes-drop}
-use Rattle.strat_base.proofs.FieldLemmas.{key_max, value_max, length-value_field, key_in-field, key_in-some, value_in-field, value_in-some}
+use Rattle.strat_base.proofs.NumberLemmas.{length-be, number-be}
 use Rattle.strat_base.proofs.TreeLemmas.{option_cases}
 
 entries_in-bytes : (entries : List Entry) (rest : List ℕ) → list_all fits_fields entries ≡ true → entries_in (length entries) (flat_map entry_bytes entries ++ rest) ≡ Some entries

@@ -8,7 +8,10 @@ use Rattle.std.proofs.lemmas.Bool.Decides.{nat_tests}
 use Rattle.std.proofs.lemmas.Option.{cond_some}
 use Rattle.std.proofs.lemmas.List.{drop_at}
 use Rattle.strat_base.specs.Numbers.{be, number}
-use Rattle.strat_format.specs.Manifest.{Extent, ArrayDesc, LevelDesc, Manifest, versions_in, is_lawful_extent, is_counted, is_lawful_array, is_lawful_level, are_older, is_lawful_manifest, list_bytes, extent_bytes, array_bytes, level_bytes, manifest_bytes, SpellsManifest, Parsed, next, all_pass, read_number, read_items, read_list, read_extent, read_array, read_level, read_manifest, manifest_in}
+use Rattle.strat_format.specs.Manifest.{Manifest, versions_in, is_lawful_extent, is_counted, is_lawful_array, is_lawful_level, are_older, is_lawful_manifest, list_bytes, extent_bytes, array_bytes, level_bytes, manifest_bytes, SpellsManifest, Parsed, next, all_pass, read_number, read_items, read_list, read_extent, read_array, read_level, read_manifest, manifest_in}
+use Rattle.strat_base.specs.declared.descriptors.Extent.{Extent}
+use Rattle.strat_base.specs.declared.descriptors.ArrayDesc.{ArrayDesc}
+use Rattle.strat_base.specs.declared.descriptors.LevelDesc.{LevelDesc}
 use Rattle.strat_base.proofs.ListFacts.{Among, all_at}
 use Rattle.strat_base.proofs.EntryLemmas.{bytes_same, same_bytes}
 use Rattle.strat_base.proofs.NumberLemmas.{length-be, number-be}

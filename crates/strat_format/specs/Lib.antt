@@ -1,3 +1,4 @@
+pub mod Arrays
 pub mod Block
 pub mod Chain
 pub mod Chained

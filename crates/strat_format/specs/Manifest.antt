@@ -3,27 +3,9 @@ use Rattle.std.specs.Prelude.{◌≡◌, ℕ, zero, suc, ◌+◌, ◌-◌, ◌^�
 use Rattle.std.specs.List.{list_all}
 use Rattle.strat_base.specs.declared.limits.TheConstants.{LEVELS, VERSIONS_MAX}
 use Rattle.strat_base.specs.Numbers.{be, number}
-
--- len blocks from block start on
-pub record Extent : Type 0 where
-  pub start : ℕ
-  pub len : ℕ
-
--- the descriptor of an array: its number, how many entries, leads and least live ones it has, where
--- it lies, and its tag
-pub record ArrayDesc : Type 0 where
-  pub id : ℕ
-  pub entries : ℕ
-  pub leads : ℕ
-  pub least : ℕ
-  pub extents : List Extent
-  pub versions : List ℕ
-
--- the descriptor of a level: its number, its horizon, and its arrays
-pub record LevelDesc : Type 0 where
-  pub number : ℕ
-  pub horizon : ℕ
-  pub arrays : List ArrayDesc
+use Rattle.strat_base.specs.declared.descriptors.Extent.{Extent}
+use Rattle.strat_base.specs.declared.descriptors.ArrayDesc.{ArrayDesc}
+use Rattle.strat_base.specs.declared.descriptors.LevelDesc.{LevelDesc}
 
 -- a manifest, with the parent of each version from 1 on
 pub record Manifest : Type 0 where

@@ -1,5 +1,5 @@
 -- Superblocks: their fields and bytes, and which of the two slots holds the newest.
-use Rattle.std.specs.Prelude.{◌≤◌, ◌<◌, ◌==◌, ◌&&◌, ℕ, ◌+◌, ◌*◌, ◌/◌, ◌^◌, nat_lt, nat_le, if◌then◌else◌, Bool, List, [], ◌∷◌, ◌++◌, drop, replicate, slice_index, Option, Some, None, Result, Ok, Err}
+use Rattle.std.specs.Prelude.{◌≤◌, ◌<◌, ◌==◌, ◌&&◌, ℕ, ◌^◌, nat_lt, nat_le, if◌then◌else◌, Bool, List, [], ◌∷◌, ◌++◌, drop, replicate, slice_index, Option, Some, None, Result, Ok, Err}
 use Rattle.strat_crash.specs.Image.{Image, window}
 use Rattle.strat_base.specs.Numbers.{be, number}
 use Rattle.strat_format.specs.Layout.{open_flag, manifest_min, first_free}

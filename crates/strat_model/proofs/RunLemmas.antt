@@ -1,6 +1,6 @@
 -- What a run tells of commands for which memory ran out.
 use Rattle.std.proofs.Common.{◌≡◌, ◌==◌, ℕ, Bool, true, false, not, cond, eqb, List, length, Option, Some, None, refl, sym, ap, ◌∙◌, true≢false, inl, inr}
-use Rattle.std.specs.Prelude.{find, drop}
+use Rattle.std.specs.Prelude.{find}
 use Rattle.std.specs.List.{list_any}
 use Rattle.std.specs.Option.{option_map_or}
 use Rattle.strat_base.specs.declared.limits.TheConstants.{CURSORS_MAX}
@@ -10,7 +10,7 @@ use Rattle.strat_model.specs.declared.replies.Refusal.{Refusal}
 use Rattle.strat_model.specs.declared.replies.Refusal.TheVariants as why
 use Rattle.strat_model.specs.Answer.{Answer, refusal, accepts}
 use Rattle.strat_model.specs.Request.{Request, Put, Delete, Get, Clone, Scan, Info, OpenCursor, NextPairs, CloseCursor, Stat}
-use Rattle.strat_model.specs.Run.{Position, Response, Answers, AnswersNoCommand, takes_memory}
+use Rattle.strat_model.specs.Run.{Position, Response, Answers, takes_memory}
 use Rattle.strat_model.specs.Spelling.{Spells, IsRefusedAs}
 use Rattle.strat_model.specs.Step.{Outcome, replies_with, refuses, found, page, advanced, step, has_row, is_frozen, pairs_at}
 use Rattle.strat_model.specs.Pairs.{value_of}

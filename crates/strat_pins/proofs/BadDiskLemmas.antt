@@ -13,15 +13,17 @@ use Rattle.strat_crash.specs.Image.{Image, window, over}
 use Rattle.strat_format.specs.Block.{block_in, block_bytes, entries_in}
 use Rattle.strat_format.specs.Chain.{link_bytes}
 use Rattle.strat_format.specs.Chained.{chain_from}
-use Rattle.strat_format.specs.Manifest.{ArrayDesc, all_pass, read_number, read_items, read_extent, read_array, read_level, read_manifest, manifest_in, manifest_bytes}
+use Rattle.strat_format.specs.Manifest.{all_pass, read_number, read_items, read_extent, read_array, read_level, read_manifest, manifest_in, manifest_bytes}
+use Rattle.strat_base.specs.declared.descriptors.ArrayDesc.{ArrayDesc}
 use Rattle.strat_format.specs.Records.{records}
 use Rattle.strat_format.specs.SuperBlock.{slot_of, slot_in, zeros}
 use Rattle.strat_state.specs.Sound.{IsSound}
 use Rattle.strat_state.specs.Worked.{chain}
 use Rattle.strat_state.proofs.BreachLemmas.{sound_from_none}
-use Rattle.strat_recovery.specs.Bad.{block_on, IsUnread, fits_behind, IsMisplaced, IsBad, refused, unread, misplaced}
+use Rattle.strat_format.specs.Arrays.{block_on}
+use Rattle.strat_recovery.specs.Bad.{IsUnread, fits_behind, IsMisplaced, IsBad, refused, unread, misplaced}
 use Rattle.strat_recovery.specs.Disks.{published}
-use Rattle.strat_recovery.specs.Opened.{blocks_of, entries_on}
+use Rattle.strat_format.specs.Arrays.{blocks_of, entries_on}
 use Rattle.strat_recovery.specs.Opening.{recover, state_of}
 use Rattle.strat_recovery.proofs.BadLemmas.{contained_at, no_bad_block}
 use Rattle.strat_pins.specs.BadDisks.{chain_head, chain_array, uncounted, split_array, split_head, split_with, split_state}

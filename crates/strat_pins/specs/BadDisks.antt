@@ -5,7 +5,8 @@ use Rattle.strat_base.specs.Entries.{Entry}
 use Rattle.strat_base.specs.EntryBytes.{entry_bytes}
 use Rattle.strat_base.specs.Samples.{says}
 use Rattle.strat_crash.specs.Image.{Image, patch}
-use Rattle.strat_format.specs.Manifest.{ArrayDesc, Manifest}
+use Rattle.strat_format.specs.Manifest.{Manifest}
+use Rattle.strat_base.specs.declared.descriptors.ArrayDesc.{ArrayDesc}
 use Rattle.strat_format.specs.SuperBlock.{Super}
 use Rattle.strat_state.specs.State.{State}
 use Rattle.strat_state.specs.Worked.{array_of, first_level, chain}

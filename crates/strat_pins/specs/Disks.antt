@@ -2,7 +2,8 @@
 use Rattle.std.specs.Prelude.{ℕ, List, [], ◌∷◌}
 use Rattle.strat_crash.specs.Image.{Image, patch}
 use Rattle.strat_format.specs.Chained.{Chained}
-use Rattle.strat_format.specs.Manifest.{ArrayDesc, Manifest}
+use Rattle.strat_format.specs.Manifest.{Manifest}
+use Rattle.strat_base.specs.declared.descriptors.ArrayDesc.{ArrayDesc}
 use Rattle.strat_format.specs.SuperBlock.{spelled, fields}
 use Rattle.strat_recovery.specs.Disks.{formatted, new_super, chain_manifest}
 use Rattle.strat_pins.specs.Formats.{from_block, level_desc}

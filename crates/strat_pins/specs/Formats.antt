@@ -4,7 +4,10 @@ use Rattle.strat_base.specs.Entries.{Entry}
 use Rattle.strat_base.specs.Change.{Change, Put}
 use Rattle.strat_base.specs.Numbers.{be}
 use Rattle.strat_crash.specs.Image.{Image, patch}
-use Rattle.strat_format.specs.Manifest.{Extent, ArrayDesc, LevelDesc, Manifest}
+use Rattle.strat_format.specs.Manifest.{Manifest}
+use Rattle.strat_base.specs.declared.descriptors.Extent.{Extent}
+use Rattle.strat_base.specs.declared.descriptors.ArrayDesc.{ArrayDesc}
+use Rattle.strat_base.specs.declared.descriptors.LevelDesc.{LevelDesc}
 use Rattle.strat_format.specs.Records.{records_bytes}
 use Rattle.strat_format.specs.SuperBlock.{Super, Slot}
 

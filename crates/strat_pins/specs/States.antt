@@ -8,14 +8,14 @@ use Rattle.strat_state.specs.Worked.{array_of, first_level, fan}
 use Rattle.strat_state.specs.Broken.{with_empty_journal}
 
 -- a level with this number, horizon and arrays
-abbrev pub level_of : ℕ → ℕ → List TaggedArray → Level
-level_of number horizon arrays = record { number = number; horizon = horizon; arrays = arrays }
+abbrev pub level_with : ℕ → ℕ → List TaggedArray → Level
+level_with number horizon arrays = record { number = number; horizon = horizon; arrays = arrays }
 
 -- one lead in level 1 and one in level 2, after eight updates and a clone
 abbrev pub two_levels : State
 two_levels = with_empty_journal (None ∷ Some 0 ∷ []) 8 (
-    level_of 1 2 (array_of 2 (1 ∷ []) (says 98 1 49 ∷ []) 1 1 1 ∷ [])
-    ∷ level_of 2 1 (array_of 1 (0 ∷ []) (says 97 0 49 ∷ []) 1 1 1 ∷ []) ∷ [])
+    level_with 1 2 (array_of 2 (1 ∷ []) (says 98 1 49 ∷ []) 1 1 1 ∷ [])
+    ∷ level_with 2 1 (array_of 1 (0 ∷ []) (says 97 0 49 ∷ []) 1 1 1 ∷ []) ∷ [])
 
 -- the same after so many entries were written
 abbrev pub two_levels_after : ℕ → State
@@ -23,7 +23,7 @@ two_levels_after written = record two_levels { written = written }
 
 -- after nine changes, one array in the level with this number
 abbrev pub only_array_in : ℕ → TaggedArray → State
-only_array_in number a = record two_levels { levels = level_of number 1 (a ∷ []) ∷ [] }
+only_array_in number a = record two_levels { levels = level_with number 1 (a ∷ []) ∷ [] }
 
 -- an array with one lead
 abbrev pub with_a_lead : TaggedArray
@@ -37,7 +37,7 @@ without_leads = array_of 1 (0 ∷ []) [] 0 0 0
 abbrev pub eight_leads_in : ℕ → ℕ → State
 eight_leads_in mem number = record (with_empty_journal (None ∷ []) 8 []) {
   mem = mem;
-  levels = level_of number 1 (array_of 1 (0 ∷ []) (
+  levels = level_with number 1 (array_of 1 (0 ∷ []) (
       says 97 0 49 ∷ says 98 0 49 ∷ says 99 0 49 ∷ says 100 0 49
       ∷ says 101 0 49 ∷ says 102 0 49 ∷ says 103 0 49 ∷ says 104 0 49 ∷ []) 8 8 8 ∷ []) ∷ [];
 }
@@ -60,8 +60,8 @@ tag_at_the_horizon = with_empty_journal (None ∷ Some 0 ∷ []) 1 (first_level 
 -- level 2 has horizon 3, and level 1 this one
 abbrev pub shallower_horizon_is : ℕ → State
 shallower_horizon_is horizon = with_empty_journal (None ∷ Some 0 ∷ Some 0 ∷ []) 2 (
-    level_of 1 horizon (array_of 2 (1 ∷ []) (says 98 1 49 ∷ []) 1 1 1 ∷ [])
-    ∷ level_of 2 3 (array_of 1 (0 ∷ 1 ∷ 2 ∷ []) (says 97 0 49 ∷ []) 1 1 1 ∷ []) ∷ [])
+    level_with 1 horizon (array_of 2 (1 ∷ []) (says 98 1 49 ∷ []) 1 1 1 ∷ [])
+    ∷ level_with 2 3 (array_of 1 (0 ∷ 1 ∷ 2 ∷ []) (says 97 0 49 ∷ []) 1 1 1 ∷ []) ∷ [])
 
 -- the fan's first array has three entries, three leads and at least two live ones; say these
 abbrev pub fan_says : ℕ → ℕ → ℕ → State
@@ -81,7 +81,7 @@ after_puts n = record (with_empty_journal (None ∷ []) 0 []) {
 -- two levels that break all rules together
 abbrev pub all_broken : State
 all_broken = record (with_empty_journal (None ∷ Some 0 ∷ Some 0 ∷ Some 0 ∷ []) 3 (
-    level_of 1 5 (
+    level_with 1 5 (
     array_of 1 (0 ∷ 1 ∷ []) (says 98 0 49 ∷ says 97 0 49 ∷ says 97 0 50 ∷ []) 9 3 3
     ∷ array_of 2 (1 ∷ 2 ∷ []) (says 97 2 49 ∷ says 99 3 57 ∷ says 100 3 49 ∷ []) 3 1 1 ∷ [])
-    ∷ level_of 2 6 (array_of 3 (0 ∷ []) (says 97 0 49 ∷ []) 1 1 1 ∷ []) ∷ [])) { mem = 1 }
+    ∷ level_with 2 6 (array_of 3 (0 ∷ []) (says 97 0 49 ∷ []) 1 1 1 ∷ []) ∷ [])) { mem = 1 }

@@ -1,6 +1,6 @@
 //! Where a look-up goes, and what decides it. Each is the contract of a function that does nothing.
 
-#![tactic(auto, unfolding(strat_base::specs::Tree::climb, strat_base::specs::Numbers::be, strat_base::specs::Numbers::number, strat_crash::specs::Image::window, strat_crash::specs::Image::over, strat_base::specs::EntryBytes::entry_in, strat_format::specs::Block::entries_in, strat_format::specs::Block::block_bytes, strat_format::specs::Block::block_in, strat_recovery::specs::Opened::entries_on))]
+#![tactic(auto, unfolding(strat_base::specs::Tree::climb, strat_base::specs::Numbers::be, strat_base::specs::Numbers::number, strat_crash::specs::Image::window, strat_crash::specs::Image::over, strat_base::specs::EntryBytes::entry_in, strat_format::specs::Block::entries_in, strat_format::specs::Block::block_bytes, strat_format::specs::Block::block_in, strat_format::specs::Arrays::entries_on))]
 
 ghost use Rattle.std.specs.Prelude.{◌≡◌, [], ◌∷◌, Some, None, true, false};
 ghost use Rattle.strat_base.specs.Samples.{says, gone};

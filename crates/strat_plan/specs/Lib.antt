@@ -1,2 +1,4 @@
+pub mod Groups
 pub mod Plan
 pub mod Planned
+pub mod Splits

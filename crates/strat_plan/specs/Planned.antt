@@ -38,8 +38,8 @@ array_of_part parents entries plan first q =
     }
 
 -- the level that a plan gives, with arrays numbered from first on
-abbrev pub level_of : Parents → List Entry → Plan → ℕ → ℕ → Level
-level_of parents entries plan number first =
+abbrev pub planned_level : Parents → List Entry → Plan → ℕ → ℕ → Level
+planned_level parents entries plan number first =
     record {
       number = number;
       horizon = horizon_of plan;

@@ -5,7 +5,8 @@ use Rattle.std.specs.Option.{option_map, option_and_then, unwrap_or}
 use Rattle.strat_base.specs.Entries.{Entry, is_tagged}
 use Rattle.strat_base.specs.Tree.{Parents, below}
 use Rattle.strat_crash.specs.Image.{Image}
-use Rattle.strat_format.specs.Manifest.{ArrayDesc, LevelDesc}
+use Rattle.strat_base.specs.declared.descriptors.ArrayDesc.{ArrayDesc}
+use Rattle.strat_base.specs.declared.descriptors.LevelDesc.{LevelDesc}
 use Rattle.strat_state.specs.Level.{TaggedArray, Level}
 use Rattle.strat_state.specs.LookUp.{first_live, looked_up, of_state}
 use Rattle.strat_state.specs.Reading.{level_zero}
@@ -16,7 +17,9 @@ use Rattle.strat_model.specs.Pairs.{value_of}
 use Rattle.strat_model.specs.Step.{pairs_at}
 use Rattle.strat_recovery.specs.Asked.{on_disk, asked}
 use Rattle.strat_recovery.specs.Head.{Head}
-use Rattle.strat_recovery.specs.Opened.{blocks_of, entries_on, array_on, level_on, all_some}
+use Rattle.strat_format.specs.Arrays.{blocks_of, entries_on}
+use Rattle.strat_format.specs.Arrays.{all_some}
+use Rattle.strat_recovery.specs.Opened.{array_on, level_on}
 use Rattle.strat_recovery.specs.Opening.{state_of}
 use Rattle.strat_recovery.specs.StateTable.{table_of}
 use Rattle.strat_recovery.proofs.HeadLemmas.{state_with}

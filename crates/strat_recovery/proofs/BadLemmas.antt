@@ -11,8 +11,11 @@ use Rattle.strat_base.specs.Order.{entry_cmp}
 use Rattle.strat_format.specs.Block.{block_in}
 use Rattle.strat_base.specs.Entries.{Entry, is_tagged, lead_entries, holds_entry, is_ascending}
 use Rattle.strat_state.specs.Level.{TaggedArray, Level, level_leads, own_leads, least_live, is_drawn, IsStratified}
-use Rattle.strat_format.specs.Manifest.{ArrayDesc, LevelDesc}
-use Rattle.strat_recovery.specs.Opened.{blocks_of, entries_on, array_on, level_on, all_some}
+use Rattle.strat_base.specs.declared.descriptors.ArrayDesc.{ArrayDesc}
+use Rattle.strat_base.specs.declared.descriptors.LevelDesc.{LevelDesc}
+use Rattle.strat_format.specs.Arrays.{blocks_of, entries_on}
+use Rattle.strat_format.specs.Arrays.{all_some}
+use Rattle.strat_recovery.specs.Opened.{array_on, level_on}
 use Rattle.strat_state.specs.State.{State, versions_of}
 use Rattle.strat_state.specs.Sound.{shallower, has_old_horizon, is_described, has_ascending_entries, IsSound}
 use Rattle.strat_state.proofs.AppendedLemmas.{length-grown}
@@ -22,7 +25,8 @@ use Rattle.strat_base.proofs.ListFacts.{Among, any_among, all_at, all_from, amon
 use Rattle.strat_state.proofs.SoundLemmas.{sound_tree}
 use Rattle.strat_recovery.specs.Head.{Head, descriptors}
 use Rattle.strat_recovery.specs.Opening.{recover, state_of}
-use Rattle.strat_recovery.specs.Bad.{block_on, IsUnread, begins_after, fits_behind, IsMisplaced, IsBad, refused, unread, misplaced}
+use Rattle.strat_format.specs.Arrays.{block_on}
+use Rattle.strat_recovery.specs.Bad.{IsUnread, begins_after, fits_behind, IsMisplaced, IsBad, refused, unread, misplaced}
 use Rattle.strat_recovery.proofs.OpeningLemmas.{map_some, next_some, each_some}
 use Rattle.strat_recovery.proofs.HeadLemmas.{state_with}
 

@@ -6,8 +6,12 @@ use Rattle.std.proofs.lemmas.List.{map-append}
 use Rattle.std.proofs.Math.ListN.{length-map}
 use Rattle.strat_crash.specs.Image.{Image}
 use Rattle.strat_state.specs.Level.{TaggedArray, Level}
-use Rattle.strat_format.specs.Manifest.{ArrayDesc, LevelDesc, Manifest}
-use Rattle.strat_recovery.specs.Opened.{blocks_of, entries_on, array_on, level_on, all_some, parents_in}
+use Rattle.strat_format.specs.Manifest.{Manifest}
+use Rattle.strat_base.specs.declared.descriptors.ArrayDesc.{ArrayDesc}
+use Rattle.strat_base.specs.declared.descriptors.LevelDesc.{LevelDesc}
+use Rattle.strat_format.specs.Arrays.{blocks_of, entries_on}
+use Rattle.strat_format.specs.Arrays.{all_some}
+use Rattle.strat_recovery.specs.Opened.{array_on, level_on, parents_in}
 use Rattle.strat_state.specs.State.{State, versions_of, updates_of, changes_of}
 use Rattle.strat_recovery.specs.Head.{Head, head_versions, journal_count, head_changes, head_updates, head_stored, descriptors, described, level_described, parent_numbers, head_of}
 use Rattle.strat_recovery.specs.Texts.{joined, store_line, journal_line, array_line, level_lines, report, summary, sparser, sparsest, density_line}

@@ -8,8 +8,10 @@ use Rattle.strat_crash.specs.Image.{Image}
 use Rattle.strat_base.specs.Tree.{Parents}
 use Rattle.strat_base.specs.Change.{Change}
 use Rattle.strat_state.specs.Level.{Level}
-use Rattle.strat_format.specs.Manifest.{LevelDesc, Manifest, is_rising, are_older, is_counted, first_version, versions_in, is_lawful_array, is_lawful_level, is_lawful_manifest, manifest_in}
-use Rattle.strat_recovery.specs.Opened.{array_on, level_on, all_some, parents_in}
+use Rattle.strat_format.specs.Manifest.{Manifest, is_rising, are_older, is_counted, first_version, versions_in, is_lawful_array, is_lawful_level, is_lawful_manifest, manifest_in}
+use Rattle.strat_base.specs.declared.descriptors.LevelDesc.{LevelDesc}
+use Rattle.strat_format.specs.Arrays.{all_some}
+use Rattle.strat_recovery.specs.Opened.{array_on, level_on, parents_in}
 use Rattle.strat_state.specs.State.{State, tree_after}
 use Rattle.strat_state.specs.Sound.{is_tree, is_tree_from, is_numbered_from, is_accepted, are_accepted, IsWellFormed}
 use Rattle.strat_format.specs.SuperBlock.{Super, newest_in}

@@ -23,7 +23,9 @@ use Rattle.strat_format.specs.Block.{block_front, block_in}
 use Rattle.strat_format.specs.Chained.{Chained, manifest_at}
 use Rattle.strat_format.specs.Damage.{Read, passed_or, put_first}
 use Rattle.strat_format.specs.Layout.{region_first, region_at, region_size, other_region, is_open}
-use Rattle.strat_format.specs.Manifest.{ArrayDesc, LevelDesc, Manifest, versions_in, is_rising, are_apart, is_counted, is_lawful_extent, is_lawful_array, is_lawful_level, is_lawful_manifest, first_version}
+use Rattle.strat_format.specs.Manifest.{Manifest, versions_in, is_rising, are_apart, is_counted, is_lawful_extent, is_lawful_array, is_lawful_level, is_lawful_manifest, first_version}
+use Rattle.strat_base.specs.declared.descriptors.ArrayDesc.{ArrayDesc}
+use Rattle.strat_base.specs.declared.descriptors.LevelDesc.{LevelDesc}
 use Rattle.strat_format.specs.Records.{Logged, block_of, record_then, records, region_records, is_other_open, journal_in_one}
 use Rattle.strat_format.specs.SuperBlock.{Super, Slot, AreLimits, in_range, chosen_in, verdict}
 use Rattle.strat_format.proofs.BlockLemmas.{block_in-some}
@@ -33,7 +35,9 @@ use Rattle.strat_state.specs.Level.{TaggedArray, Level, is_distinct}
 use Rattle.strat_state.specs.State.{State, tree_after, update_of}
 use Rattle.strat_state.specs.Sound.{is_accepted, are_accepted}
 use Rattle.strat_recovery.specs.Head.{descriptors}
-use Rattle.strat_recovery.specs.Opened.{blocks_of, entries_on, array_on, level_on, all_some, parents_in}
+use Rattle.strat_format.specs.Arrays.{blocks_of, entries_on}
+use Rattle.strat_format.specs.Arrays.{all_some}
+use Rattle.strat_recovery.specs.Opened.{array_on, level_on, parents_in}
 use Rattle.strat_recovery.specs.Opening.{has_own_blocks, has_own_ids, has_own_versions, is_filled, has_few_publications, belongs, recover_manifest, accepted_in, recover_journal, state_of, reads_as}
 use Rattle.strat_recovery.specs.Passed.{is_sized, IsTestedArray, IsTestedLevel, PassesOpening}
 use Rattle.strat_recovery.proofs.OpeningLemmas.{map_some, next_some, each_some, manifest_tests, level_tests, lawful_found, journal_tests, state_found}

@@ -3,7 +3,7 @@ use Rattle.std.proofs.Common.{◌≡◌, ◌+◌, ◌*◌, ℕ, suc, Bool, true,
 use Rattle.std.specs.Prelude.{flat_map, IsTrue}
 use Rattle.std.specs.List.{AllByRecursion, range_with_len, list_all}
 use Rattle.std.proofs.lemmas.Bool.{and_from, and_parts, eqb-true, cond-true, cond-false, lt-ltb, le-ltb}
-use Rattle.strat_format.specs.Manifest.{ArrayDesc}
+use Rattle.strat_base.specs.declared.descriptors.ArrayDesc.{ArrayDesc}
 use Rattle.strat_recovery.specs.Texts.{run_from, runs_of, numbers_of, are_separate, has_number, sparser, sparsest, IsSparser, IsNoDenser}
 
 numbers_from : (v : ℕ) (runs : List (ℕ × ℕ)) → flat_map numbers_of (run_from v runs) ≡ v ∷ flat_map numbers_of runs

@@ -3,9 +3,10 @@ use Rattle.std.specs.Prelude.{ℕ, List, [], Option, unwrap_or, option_and_then}
 use Rattle.strat_base.specs.Entries.{Entry}
 use Rattle.strat_base.specs.Tree.{Parents}
 use Rattle.strat_crash.specs.Image.{Image}
-use Rattle.strat_format.specs.Manifest.{ArrayDesc, LevelDesc}
+use Rattle.strat_base.specs.declared.descriptors.ArrayDesc.{ArrayDesc}
+use Rattle.strat_base.specs.declared.descriptors.LevelDesc.{LevelDesc}
 use Rattle.strat_state.specs.LookUp.{Reading, looked_up}
-use Rattle.strat_recovery.specs.Opened.{blocks_of, entries_on}
+use Rattle.strat_format.specs.Arrays.{blocks_of, entries_on}
 
 -- levels as their descriptors and an image give them: an array shows what its blocks hold, and
 -- nothing where one of them is no block

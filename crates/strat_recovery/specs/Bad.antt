@@ -1,19 +1,13 @@
 -- Which blocks of a disk are bad.
-use Rattle.std.specs.Prelude.{◌≡◌, ℕ, ◌-◌, ◌*◌, ◌==◌, nat_lt, nat_le, ◌&&◌, Bool, true, false, List, [], ◌∷◌, ◌++◌, length, slice_get, Option, Some, None, Err, IsTrue}
+use Rattle.std.specs.Prelude.{◌≡◌, ℕ, ◌-◌, ◌==◌, nat_lt, nat_le, ◌&&◌, Bool, true, false, List, [], ◌∷◌, ◌++◌, length, slice_get, Option, Some, None, Err, IsTrue}
 use Rattle.std.specs.List.{Contains, list_any, list_all}
 use Rattle.std.specs.Ordering.{is_lt}
-use Rattle.strat_base.specs.declared.limits.TheConstants.{BLOCK}
 use Rattle.strat_base.specs.Order.{entry_cmp}
-use Rattle.strat_crash.specs.Image.{Image, window}
+use Rattle.strat_crash.specs.Image.{Image}
 use Rattle.strat_base.specs.Entries.{Entry, lead_entries}
-use Rattle.strat_format.specs.Block.{block_in}
-use Rattle.strat_format.specs.Manifest.{ArrayDesc}
-use Rattle.strat_recovery.specs.Opened.{blocks_of, entries_on}
+use Rattle.strat_base.specs.declared.descriptors.ArrayDesc.{ArrayDesc}
+use Rattle.strat_format.specs.Arrays.{blocks_of, block_on, entries_on}
 use Rattle.strat_recovery.specs.Opening.{recover}
-
--- the entries of an image's block, where it is a block of entries
-abbrev pub block_on : Image → ℕ → Option (List Entry)
-block_on c b = block_in (window c (BLOCK * b) BLOCK)
 
 -- a block of an array is no block of entries
 pub record IsUnread (c : Image) (a : ArrayDesc) (b : ℕ) : Type 0 where

@@ -4,7 +4,8 @@ use Rattle.strat_crash.specs.Image.{Image, patch}
 use Rattle.strat_base.specs.EntryBytes.{entry_bytes}
 use Rattle.strat_base.specs.Numbers.{be}
 use Rattle.strat_base.specs.Change.{Put, change_bytes}
-use Rattle.strat_format.specs.Manifest.{LevelDesc, Manifest, manifest_bytes, new_manifest}
+use Rattle.strat_format.specs.Manifest.{Manifest, manifest_bytes, new_manifest}
+use Rattle.strat_base.specs.declared.descriptors.LevelDesc.{LevelDesc}
 use Rattle.strat_format.specs.SuperBlock.{Super, spelled, fields}
 use Rattle.strat_base.specs.Samples.{says}
 use Rattle.strat_recovery.specs.Head.{Head}

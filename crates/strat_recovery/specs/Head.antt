@@ -3,7 +3,9 @@ use Rattle.std.specs.Prelude.{ℕ, ◌+◌, List, [], length, map, flat_map, fil
 use Rattle.strat_base.specs.Tree.{Parents}
 use Rattle.strat_base.specs.Change.{Change}
 use Rattle.strat_state.specs.Level.{TaggedArray, Level}
-use Rattle.strat_format.specs.Manifest.{ArrayDesc, LevelDesc, Manifest}
+use Rattle.strat_format.specs.Manifest.{Manifest}
+use Rattle.strat_base.specs.declared.descriptors.ArrayDesc.{ArrayDesc}
+use Rattle.strat_base.specs.declared.descriptors.LevelDesc.{LevelDesc}
 use Rattle.strat_recovery.specs.Opened.{parents_in}
 use Rattle.strat_state.specs.State.{State, tree_after, update_of}
 use Rattle.strat_format.specs.SuperBlock.{Super}

@@ -4,8 +4,11 @@ use Rattle.std.specs.List.{list_all}
 use Rattle.strat_crash.specs.Image.{Image}
 use Rattle.strat_base.specs.Tree.{Parents}
 use Rattle.strat_state.specs.Level.{is_distinct}
-use Rattle.strat_format.specs.Manifest.{ArrayDesc, LevelDesc, Manifest, all_pass, versions_in}
-use Rattle.strat_recovery.specs.Opened.{blocks_of, parents_in, state_on}
+use Rattle.strat_format.specs.Manifest.{Manifest, all_pass, versions_in}
+use Rattle.strat_base.specs.declared.descriptors.ArrayDesc.{ArrayDesc}
+use Rattle.strat_base.specs.declared.descriptors.LevelDesc.{LevelDesc}
+use Rattle.strat_format.specs.Arrays.{blocks_of}
+use Rattle.strat_recovery.specs.Opened.{parents_in, state_on}
 use Rattle.strat_state.specs.State.{State, tree_after}
 use Rattle.strat_state.specs.Sound.{is_accepted}
 use Rattle.strat_format.specs.SuperBlock.{Super, newest_in}

@@ -12,7 +12,7 @@ ghost use Rattle.strat_state.specs.Worked.{chain, fan, deleted_below};
 ghost use Rattle.strat_recovery.specs.Settings.{settings};
 ghost use Rattle.strat_recovery.specs.Head.{head_of};
 ghost use Rattle.strat_recovery.specs.Texts.{text, format_line, report, summary, check_line, damaged_line, versions_text, runs_of, numbers_of, are_separate, has_number, sparsest, IsSparser, IsNoDenser};
-ghost use Rattle.strat_format.specs.Manifest.{ArrayDesc};
+ghost use Rattle.strat_base.specs.declared.descriptors.ArrayDesc.{ArrayDesc};
 
 /// The report of a chain of clones with one key at its second version.
 pub fn report_of_a_chain()

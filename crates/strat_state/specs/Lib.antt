@@ -1,5 +1,6 @@
 pub mod Breach
 pub mod Broken
+pub mod Counted
 pub mod Level
 pub mod Live
 pub mod LookUp

@@ -7,7 +7,7 @@ use Rattle.strat_format.specs.Manifest.{all_pass, read_number, read_items, read_
 use Rattle.strat_base.specs.EntryBytes.{entry_in}
 use Rattle.strat_format.specs.Block.{block_in, block_bytes, entries_in}
 use Rattle.strat_format.specs.Chain.{link_bytes}
-use Rattle.strat_recovery.specs.Opened.{entries_on}
+use Rattle.strat_format.specs.Arrays.{entries_on}
 use Rattle.strat_format.specs.Chained.{chain_from}
 use Rattle.strat_format.specs.Records.{records}
 use Rattle.strat_recovery.proofs.opening.published_disks_open.Goals as goal

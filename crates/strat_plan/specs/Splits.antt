@@ -1,0 +1,47 @@
+-- Plans written out, for two versions of which one is the other's child.
+use Rattle.std.specs.Prelude.{List, [], ◌∷◌, Some, None}
+use Rattle.strat_base.specs.Tree.{Parents}
+use Rattle.strat_base.specs.Entries.{Entry}
+use Rattle.strat_base.specs.Samples.{says}
+use Rattle.strat_plan.specs.Plan.{Plan, in_no_part}
+
+-- version 0 and its child
+abbrev pub pair : Parents
+pair = None ∷ Some 0 ∷ []
+
+-- the child alone has a key
+abbrev pub later_groups : List (List Entry)
+later_groups = (says 97 1 49 ∷ []) ∷ []
+
+-- version 0 sees nothing and is in no part
+abbrev pub later_plan : Plan
+later_plan = record {
+  labels = in_no_part ∷ 0 ∷ [];
+  parts = record { above = Some 0; leads = 1; entries = 1; least = 1 } ∷ [];
+}
+
+-- version 0 has a key, and the child three others
+abbrev pub wide_groups : List (List Entry)
+wide_groups =
+    (says 97 0 49 ∷ []) ∷ (says 98 1 49 ∷ []) ∷ (says 99 1 49 ∷ []) ∷ (says 100 1 49 ∷ []) ∷ []
+
+-- one array of all four entries would be too sparse for version 0
+abbrev pub wide_plan : Plan
+wide_plan = record {
+  labels = 0 ∷ 1 ∷ [];
+  parts =
+      record { above = None; leads = 1; entries = 1; least = 1 }
+      ∷ record { above = Some 0; leads = 3; entries = 4; least = 4 }
+      ∷ [];
+}
+
+-- one key, of which both versions have an entry
+abbrev pub same_groups : List (List Entry)
+same_groups = (says 97 1 50 ∷ says 97 0 49 ∷ []) ∷ []
+
+-- one array for both
+abbrev pub same_plan : Plan
+same_plan = record {
+  labels = 0 ∷ 0 ∷ [];
+  parts = record { above = None; leads = 2; entries = 2; least = 1 } ∷ [];
+}
