@@ -1,4 +1,9 @@
+pub mod BlockFacts
+pub mod CacheLemmas
+pub mod ExtentLemmas
+pub mod KeptLemmas
 pub mod OrderLemmas
+pub mod PlaceLemmas
+pub mod SearchLemmas
 pub mod SeekLemmas
 pub mod WalkLemmas
-pub mod CacheLemmas

@@ -2,7 +2,12 @@
 #![tactic(auto)]
 
 mod cache;
+mod place;
+mod reading;
 mod scratch;
+mod search;
 
 pub use cache::Cache;
+pub use place::Place;
 pub use scratch::Scratch;
+pub use search::seek;
