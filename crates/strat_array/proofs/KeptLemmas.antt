@@ -10,28 +10,29 @@ use Rattle.strat_crash.specs.Image.{Image}
 use Rattle.strat_crash.specs.Moments.{DiskView, OnlyReads}
 use Rattle.strat_crash.proofs.MomentLemmas.{reads_refl, reads_trans}
 use Rattle.strat_base.proofs.TreeLemmas.{option_cases}
-use Rattle.strat_array.specs.Blocks.{block_read, lists_on}
+use Rattle.strat_array.specs.Blocks.{lists_on}
+use Rattle.strat_format.specs.Arrays.{block_on}
 use Rattle.strat_array.specs.Kept.{Kept, Blocks, is_keyed, held_block, kept_block, AddsNone, AddsOnly, IsRead, IsCached, Looks, Stands}
 use Rattle.strat_array.proofs.CacheLemmas.{keyed_same}
 
 -- the first of the blocks that are read, and the others
 module _ (f : Image) (b : ℕ) (blocks : List ℕ) (lists : List (List Entry)) where
-  pub listed_parts : lists_on f (b ∷ blocks) ≡ Some lists → (x : List Entry) × (xs : List (List Entry)) × (block_read f b ≡ Some x) × (lists_on f blocks ≡ Some xs) × (lists ≡ x ∷ xs)
-  listed_parts is = go (block_read f b) (lists_on f blocks) refl refl is
+  pub listed_parts : lists_on f (b ∷ blocks) ≡ Some lists → (x : List Entry) × (xs : List (List Entry)) × (block_on f b ≡ Some x) × (lists_on f blocks ≡ Some xs) × (lists ≡ x ∷ xs)
+  listed_parts is = go (block_on f b) (lists_on f blocks) refl refl is
     where
-      go : (o : Option (List Entry)) (p : Option (List (List Entry))) → block_read f b ≡ o → lists_on f blocks ≡ p → option_and_then (λ x. option_map (λ xs. x ∷ xs) p) o ≡ Some lists
-          → (x : List Entry) × (xs : List (List Entry)) × (block_read f b ≡ Some x) × (lists_on f blocks ≡ Some xs) × (lists ≡ x ∷ xs)
+      go : (o : Option (List Entry)) (p : Option (List (List Entry))) → block_on f b ≡ o → lists_on f blocks ≡ p → option_and_then (λ x. option_map (λ xs. x ∷ xs) p) o ≡ Some lists
+          → (x : List Entry) × (xs : List (List Entry)) × (block_on f b ≡ Some x) × (lists_on f blocks ≡ Some xs) × (lists ≡ x ∷ xs)
       go None p r l h = absurd (cc)
       go (Some x) None r l h = absurd (cc)
       go (Some x) (Some xs) r l h = (x, xs, r, l, cc)
 
 -- a block that is listed is read as its list
-pub listed_at : (f : Image) (blocks : List ℕ) (lists : List (List Entry)) (i b : ℕ) → lists_on f blocks ≡ Some lists → slice_get blocks i ≡ Some b → (x : List Entry) × (slice_get lists i ≡ Some x) × (block_read f b ≡ Some x)
+pub listed_at : (f : Image) (blocks : List ℕ) (lists : List (List Entry)) (i b : ℕ) → lists_on f blocks ≡ Some lists → slice_get blocks i ≡ Some b → (x : List Entry) × (slice_get lists i ≡ Some x) × (block_on f b ≡ Some x)
 listed_at f [] lists i b is at = absurd (cc)
 listed_at f (d ∷ blocks) lists zero b is at =
     let parts = listed_parts f d blocks lists is in
     let same : d ≡ b = cc in
-    (parts.0, ap (λ (l : List (List Entry)). slice_get l 0) parts.4, ap (block_read f) (sym same) ∙ parts.2)
+    (parts.0, ap (λ (l : List (List Entry)). slice_get l 0) parts.4, ap (block_on f) (sym same) ∙ parts.2)
 listed_at f (d ∷ blocks) lists (suc i) b is at =
     let parts = listed_parts f d blocks lists is in
     let found = listed_at f blocks parts.1 i b parts.3 at in
@@ -96,7 +97,7 @@ stands_after old new array blocks c d s t lists looks stands = record {
                   at.1 ∙ ap (λ (l : List Entry). Some l) (sym same)
               | inr read ↦
                   let at = listed_at stands.image blocks lists index read.block stands.listed read.place in
-                  let here : block_read stands.image read.block ≡ Some x = read.read stands.image stands.exposed in
+                  let here : block_on stands.image read.block ≡ Some x = read.read stands.image stands.exposed in
                   at.1 ∙ sym at.2 ∙ here
             ]
       ];
@@ -105,7 +106,7 @@ stands_after old new array blocks c d s t lists looks stands = record {
     at_read : (index : ℕ) (x : List Entry) → IsRead old.content array blocks (array, index) x → (y : List Entry) → slice_get lists index ≡ Some y → x ≡ y
     at_read index x read y is =
         let at = listed_at stands.image blocks lists index read.block stands.listed read.place in
-        let here : block_read stands.image read.block ≡ Some x = read.read stands.image stands.exposed in
+        let here : block_on stands.image read.block ≡ Some x = read.read stands.image stands.exposed in
         let both : Some x ≡ Some y = sym here ∙ at.2 ∙ sym at.1 ∙ is in
         cc
 
@@ -185,7 +186,7 @@ module _ (old : DiskView) (array : ℕ) (blocks : List ℕ) (c d : Blocks) (s : 
   }
 
   pub looks_fetched : (new : DiskView) (index block : ℕ) (e : Blocks) (t : Option Kept) (y : List Entry) → OnlyReads old new → AddsOnly d e (array, index) y → IsSome t
-      → IfSome t (λ kept. (kept.0 ≡ (array, index)) × ((f : Image) → old.content ≡ Some f → block_read f block ≡ Some kept.1)) → IfSome t (λ kept. y ≡ kept.1)
+      → IfSome t (λ kept. (kept.0 ≡ (array, index)) × ((f : Image) → old.content ≡ Some f → block_on f block ≡ Some kept.1)) → IfSome t (λ kept. y ≡ kept.1)
       → slice_get blocks index ≡ Some block → Looks old new array blocks c e s t
   looks_fetched new index block e None y reads adds some fetched is place = absurd (true≢false (sym some))
   looks_fetched new index block e (Some kept) y reads adds some fetched is place = record {

@@ -8,7 +8,7 @@ use Rattle.strat_base.specs.Entries.{Entry}
 use Rattle.strat_base.proofs.ListFacts.{any_from, get_among}
 use Rattle.strat_crash.specs.Image.{Image}
 use Rattle.strat_crash.specs.Moments.{DiskView}
-use Rattle.strat_array.specs.Blocks.{block_read}
+use Rattle.strat_format.specs.Arrays.{block_on}
 use Rattle.strat_array.specs.Kept.{Kept, Blocks, kept_block, Looks, Stands}
 use Rattle.strat_array.specs.Left.{starts_below, Bound}
 use Rattle.strat_array.specs.Within.{IsNoBlock}
@@ -31,10 +31,10 @@ begins key k [] some is = absurd (omega arith)
 begins key k (e ∷ entries) some is = ap (λ (x : List ℕ). is_lt (key_cmp x key)) (is e)
 
 -- a block that was asked for and is none is one of the array's
-pub no_block : (content : Option Image) (blocks : List ℕ) (index block b : ℕ) → slice_get blocks index ≡ Some block → b ≡ block → ((f : Image) → content ≡ Some f → block_read f block ≡ None) → IsNoBlock content blocks b
+pub no_block : (content : Option Image) (blocks : List ℕ) (index block b : ℕ) → slice_get blocks index ≡ Some block → b ≡ block → ((f : Image) → content ≡ Some f → block_on f block ≡ None) → IsNoBlock content blocks b
 no_block content blocks index block b place same none = (
   any_from (λ other. eqb other b) block blocks (get_among blocks index block place) (eq-eqb block b (sym same)),
-  λ f exposed. ap (block_read f) same ∙ none f exposed,
+  λ f exposed. ap (block_on f) same ∙ none f exposed,
 )
 
 pub no_block_same : (old mid : Option Image) (blocks : List ℕ) (b : ℕ) → mid ≡ old → IsNoBlock mid blocks b → IsNoBlock old blocks b

@@ -5,7 +5,8 @@ use Rattle.std.specs.Option.{option_or}
 use Rattle.strat_base.specs.Entries.{Entry}
 use Rattle.strat_crash.specs.Image.{Image}
 use Rattle.strat_crash.specs.Moments.{DiskView, OnlyReads}
-use Rattle.strat_array.specs.Blocks.{block_read, lists_on}
+use Rattle.strat_array.specs.Blocks.{lists_on}
+use Rattle.strat_format.specs.Arrays.{block_on}
 
 -- a block that is kept: the number of its array and its index there, and its entries
 abbrev pub Kept : Type 0
@@ -47,7 +48,7 @@ pub record IsRead (content : Option Image) (array : ℕ) (blocks : List ℕ) (k 
   pub mine : k.0 ≡ array
   pub block : ℕ
   pub place : slice_get blocks k.1 ≡ Some block
-  pub read : (f : Image) → content ≡ Some f → block_read f block ≡ Some entries
+  pub read : (f : Image) → content ≡ Some f → block_on f block ≡ Some entries
 
 -- these are the entries of an array's block as a cache keeps it
 pub record IsCached (c : Blocks) (array : ℕ) (blocks : List ℕ) (k : ℕ × ℕ) (entries : List Entry)

@@ -3,8 +3,7 @@ use Rattle.std.specs.Prelude.{◌≡◌, ◌≤◌, ◌<◌, ℕ, ◌+◌, ◌==
 use Rattle.std.specs.List.{list_any}
 use Rattle.strat_base.specs.declared.descriptors.Extent.{Extent}
 use Rattle.strat_crash.specs.Image.{Image}
-use Rattle.strat_format.specs.Arrays.{blocks_of}
-use Rattle.strat_array.specs.Blocks.{block_read}
+use Rattle.strat_format.specs.Arrays.{block_on, blocks_of}
 
 -- each extent ends at 4,294,967,295 at most, and there are no more blocks
 pub record AreWithin (extents : List Extent) : Type 0 where
@@ -16,4 +15,4 @@ pub record AreWithin (extents : List Extent) : Type 0 where
 abbrev pub IsNoBlock : Option Image → List ℕ → ℕ → Type 0
 IsNoBlock content blocks b =
     IsTrue (list_any (λ other. other == b) blocks)
-    × ((f : Image) → content ≡ Some f → block_read f b ≡ None)
+    × ((f : Image) → content ≡ Some f → block_on f b ≡ None)

@@ -9,8 +9,7 @@ ghost use Rattle.strat_base.specs.declared.failures.Fault.TheVariants.{Damaged, 
 ghost use Rattle.strat_crash.specs.Faults.{HasCause, ReadsAtMost};
 ghost use Rattle.strat_crash.specs.Image.{Image};
 ghost use Rattle.strat_crash.specs.Moments.{Exposes};
-ghost use Rattle.strat_format.specs.Arrays.{blocks_of};
-ghost use Rattle.strat_array.specs.Blocks.{block_read};
+ghost use Rattle.strat_format.specs.Arrays.{block_on, blocks_of};
 ghost use Rattle.strat_array.specs.Kept.{kept_block, Looks, Stands};
 ghost use Rattle.strat_array.specs.Within.{AreWithin, IsNoBlock};
 
@@ -39,7 +38,7 @@ pub(crate) fn bring<D: Disk>(
         → Looks (D.view disk.old) (D.view disk.new) array blocks
         cache.old cache.new scratch.old scratch.new }
     ensures damaged { (b : ℕ) → IsErrOf result (Damaged b) → (b ≡ block)
-        × ((f : Image) → Exposes (D.view disk.old) f → block_read f block ≡ None) }
+        × ((f : Image) → Exposes (D.view disk.old) f → block_on f block ≡ None) }
     ensures cause { HasCause Device (D.faults disk.old) (D.faults disk.new) result }
     ensures reads { ReadsAtMost 1 (D.reads disk.old) (D.reads disk.new) }
 {

@@ -8,8 +8,8 @@ ghost use Rattle.strat_base.specs.declared.failures.Fault.TheVariants.{Damaged, 
 ghost use Rattle.strat_crash.specs.Faults.{HasCause, ReadsAtMost};
 ghost use Rattle.strat_crash.specs.Image.{Image};
 ghost use Rattle.strat_crash.specs.Moments.{Exposes, OnlyReads};
-ghost use Rattle.strat_block.specs.Block.{block_in};
-ghost use Rattle.strat_array.specs.Blocks.{block_read};
+ghost use Rattle.strat_format.specs.Block.{block_in};
+ghost use Rattle.strat_format.specs.Arrays.{block_on};
 ghost use Rattle.strat_array.specs.Kept.{held_block};
 
 use std::alloc::Global;
@@ -45,9 +45,9 @@ fn read_block<D: Disk>(disk: &mut D, block: u32, into: &mut [u8]) -> Result<(), 
     requires len { length into.old ≡ 4096 }
     ensures ok { OnOk result (IsSome (block_in into.new)) }
     ensures found { OnOk result ((f : Image) → Exposes (D.view disk.old) f
-        → block_read f block ≡ block_in into.new) }
+        → block_on f block ≡ block_in into.new) }
     ensures damaged { (b : ℕ) → IsErrOf result (Damaged b) → (b ≡ block)
-        × ((f : Image) → Exposes (D.view disk.old) f → block_read f block ≡ None) }
+        × ((f : Image) → Exposes (D.view disk.old) f → block_on f block ≡ None) }
     ensures same { OnlyReads (D.view disk.old) (D.view disk.new) }
     ensures cause { HasCause Device (D.faults disk.old) (D.faults disk.new) result }
     ensures reads { ReadsAtMost 1 (D.reads disk.old) (D.reads disk.new) }
@@ -103,11 +103,11 @@ impl Scratch {
     ) -> Result<(), Fault>
         requires fits { block < 2 ^ 32 - 1 }
         ensures ok { OnOk result (IfSome self.new (λ kept. (kept.0 ≡ (array, index))
-            × ((f : Image) → Exposes (D.view disk.old) f → block_read f block ≡ Some kept.1))) }
+            × ((f : Image) → Exposes (D.view disk.old) f → block_on f block ≡ Some kept.1))) }
         ensures found { OnOk result (IsSome self.new) }
         ensures err { OnErr result (self.new ≡ None) }
         ensures damaged { (b : ℕ) → IsErrOf result (Damaged b) → (b ≡ block)
-            × ((f : Image) → Exposes (D.view disk.old) f → block_read f block ≡ None) }
+            × ((f : Image) → Exposes (D.view disk.old) f → block_on f block ≡ None) }
         ensures same { OnlyReads (D.view disk.old) (D.view disk.new) }
         ensures cause { HasCause Device (D.faults disk.old) (D.faults disk.new) result }
         ensures reads { ReadsAtMost 1 (D.reads disk.old) (D.reads disk.new) }
