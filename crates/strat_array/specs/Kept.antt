@@ -58,6 +58,11 @@ pub record IsCached (c : Blocks) (array : ℕ) (blocks : List ℕ) (k : ℕ × �
   pub place : slice_get blocks k.1 ≡ Some block
   pub cached : Contains c.entries (k, entries)
 
+-- a scratch holds what it held, or the block of an array at an index as a cache keeps it
+pub record IsTaken (c : Blocks) (array index : ℕ) (old new : Option Kept) : Type 0 where
+  pub each : (k : ℕ × ℕ) (x : List Entry) → new ≡ Some (k, x)
+      → (old ≡ Some (k, x)) ⊎ ((k ≡ (array, index)) × Contains c.entries (k, x))
+
 -- a call that looked at blocks of an array left the disk as it was, and added to what is kept only such
 -- blocks as they stand on the disk; a scratch may have taken one from the cache
 pub record Looks (old new : DiskView) (array : ℕ) (blocks : List ℕ) (c d : Blocks)

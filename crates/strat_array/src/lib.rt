@@ -6,8 +6,10 @@ mod place;
 mod reading;
 mod scratch;
 mod search;
+mod walk;
 
 pub use cache::Cache;
 pub use place::Place;
 pub use scratch::Scratch;
 pub use search::seek;
+pub use walk::settle;

@@ -1,6 +1,6 @@
 //! Room for one block that was read, or copied from a cache.
 
-ghost use Rattle.std.specs.Prelude.{◌≡◌, ◌≤◌, ◌<◌, ◌*◌, ◌-◌, ◌^◌, ◌⊎◌, ℕ, length, is_some, None, Some, IsSome, IfOk, IfSome, OnOk, OnErr, IsErrOf, IsTrue};
+ghost use Rattle.std.specs.Prelude.{◌≡◌, ◌<◌, ◌-◌, ◌^◌, ℕ, length, slice_index_or, nat_lt, ◌≤◌, is_some, None, Some, IsSome, IfOk, IfSome, OnOk, OnErr, IsErrOf, IsTrue};
 ghost use Rattle.strat_base.specs.Entries.{Entry as TheEntry};
 ghost use Rattle.strat_base.specs.EntryBytes.{fits_fields};
 ghost use Rattle.strat_base.specs.EntryView.{entry_of};
@@ -125,4 +125,45 @@ impl Scratch {
         self.bytes.copy_from_slice(block.bytes());
         self.holds = Some((array, index));
     }
+
+    /// Whether the block that it holds has an entry at an index. O(1).
+    pub(crate) fn has(&self, index: u16) -> bool
+        requires { IsSome self.now }
+        ensures ok { IfSome self.now (λ kept. result ≡ nat_lt index (length kept.1)) }
+        ensures len { IfSome self.now (λ kept. 0 < length kept.1) }
+        ensures fits { IfSome self.now (λ kept. length kept.1 ≤ 2047) }
+    {
+        has_entry(&self.block(), index)
+    }
+
+    /// The entry at an index of the block that it holds. O(1).
+    pub fn entry(&self, index: u16) -> Entry<'_>
+        requires found { IsSome self.now }
+        requires fits { IfSome self.now (λ kept. index < length kept.1) }
+        ensures ok { IfSome self.now (λ kept. (d : TheEntry)
+            → entry_of result ≡ slice_index_or kept.1 index d) }
+        ensures fits { IsTrue (fits_fields (entry_of result)) }
+    {
+        entry_in(&self.block(), index)
+    }
+}
+
+/// Whether a block has an entry at an index.
+#[tactic(auto, using(crate::proofs::BlockFacts::block_few))]
+fn has_entry(block: &BlockView<'_>, index: u16) -> bool
+    ensures ok { result ≡ nat_lt index (length block.now) }
+    ensures len { 0 < length block.now }
+    ensures fits { length block.now ≤ 2047 }
+{
+    (index as usize) < block.len()
+}
+
+/// An entry of a block.
+fn entry_in<'a>(block: &BlockView<'a>, index: u16) -> Entry<'a>
+    requires { index < length block.now }
+    ensures ok { (d : TheEntry) → entry_of result ≡ slice_index_or block.now index d }
+    ensures fits { IsTrue (fits_fields (entry_of result)) }
+{
+    let _lawful = block.len();
+    block.entry(index as usize)
 }
