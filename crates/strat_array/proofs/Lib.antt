@@ -1,6 +1,7 @@
 pub mod BlockFacts
 pub mod CacheLemmas
 pub mod ExtentLemmas
+pub mod FindLemmas
 pub mod HoldLemmas
 pub mod KeptLemmas
 pub mod OrderLemmas

@@ -12,7 +12,7 @@ use Rattle.strat_base.specs.Tree.{Parents, path, is_ancestor, IsTree}
 use Rattle.strat_base.specs.Entries.{Entry, is_of, is_at, is_ascending}
 use Rattle.strat_base.proofs.ListFacts.{Among, find_some, find_none}
 use Rattle.strat_base.proofs.EntryLemmas.{same_bytes, is_of_key, at_key_version}
-use Rattle.strat_base.proofs.TreeLemmas.{option_cases, ancestor_among, among_ancestor}
+use Rattle.strat_base.proofs.TreeLemmas.{option_cases, path_le, ancestor_among, among_ancestor}
 use Rattle.strat_state.specs.Live.{deciding}
 use Rattle.strat_state.specs.Reading.{live_of}
 use Rattle.strat_state.proofs.LiveLemmas.{deciding_some, deciding_found, deciding_live}
@@ -174,3 +174,10 @@ stops parents key v first rest e going other =
     none (x ∷ xs) each =
         ap (λ (b : Bool). cond (b && is_ancestor parents x.version v) (Some x) (find (is_seen_at parents key v) xs)) (each x (inl refl))
         ∙ none xs (λ d among. each d (inr among))
+
+-- a version that is not there is no ancestor
+pub past_is_off : (parents : Parents) → IsTree parents → (u v : ℕ) → v < length parents → length parents ≤ u → is_ancestor parents u v ≡ false
+past_is_off parents tree u v known past' = elim (cases_Bool (is_ancestor parents u v)) [
+  | inl on ↦ let le : u ≤ v = path_le parents tree u v (ancestor_among parents tree u v on) in absurd (omega arith)
+  | inr off ↦ off
+]

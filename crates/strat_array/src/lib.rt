@@ -2,14 +2,18 @@
 #![tactic(auto)]
 
 mod cache;
+mod lookup;
 mod place;
 mod reading;
 mod scratch;
 mod search;
+mod seen;
 mod walk;
 
 pub use cache::Cache;
+pub use lookup::find;
 pub use place::Place;
 pub use scratch::Scratch;
 pub use search::seek;
+pub use seen::Seen;
 pub use walk::settle;

@@ -1,7 +1,7 @@
 //! A walk over the entries of an array, from a place on.
 
 ghost use Rattle.std.specs.Bool.{OnTrue};
-ghost use Rattle.std.specs.Prelude.{◌≡◌, ℕ, List, length, nat_lt, IsSome, IfOk, IfSome, IsErrOf};
+ghost use Rattle.std.specs.Prelude.{◌≡◌, ◌<◌, ℕ, List, length, nat_lt, IsSome, IfOk, IfSome, IsErrOf};
 ghost use Rattle.strat_base.specs.Entries.{Entry as TheEntry};
 ghost use Rattle.strat_base.specs.declared.failures.Fault.TheVariants.{Damaged, Device};
 ghost use Rattle.strat_crash.specs.Faults.{HasCause, ReadsAtMost};
@@ -83,6 +83,7 @@ pub fn settle<D: Disk>(
         cache.old scratch.old lists
         → Settles lists place r) }
     ensures end { IfOk result (λ r. IfSome r (λ at. IsNear place at)) }
+    ensures fits { IfOk result (λ r. IfSome r (λ at. at.index < 2047)) }
     ensures same { Looks (D.view disk.old) (D.view disk.new)
         desc.now.id (blocks_of desc.now.extents) cache.old cache.new scratch.old scratch.new }
     ensures damaged { (b : ℕ) → IsErrOf result (Damaged b)
