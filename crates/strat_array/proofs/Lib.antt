@@ -2,6 +2,7 @@ pub mod BlockFacts
 pub mod CacheLemmas
 pub mod ExtentLemmas
 pub mod FindLemmas
+pub mod FoundLemmas
 pub mod HoldLemmas
 pub mod KeptLemmas
 pub mod OrderLemmas

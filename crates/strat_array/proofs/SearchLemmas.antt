@@ -1,5 +1,5 @@
 -- A search over the blocks of an array, step by step.
-use Rattle.std.proofs.Common.{◌≡◌, ◌<◌, ◌≤◌, ◌+◌, ◌-◌, ◌*◌, ◌/◌, ◌^◌, ℕ, zero, suc, Bool, true, false, not, cond, eqb, get_or, inl, inr, ◌⊎◌, List, [], ◌∷◌, length, Option, Some, None, IsSome, IfSome, Result, Ok, Err, OnOk, IsErrAnd, refl, sym, ap, ◌∙◌, subst, arith, true≢false, eq-eqb}
+use Rattle.std.proofs.Common.{◌≡◌, ◌<◌, ◌≤◌, ◌+◌, ◌-◌, ◌*◌, ◌/◌, ◌^◌, ℕ, zero, suc, Bool, true, false, not, cond, eqb, get_or, inl, inr, ◌⊎◌, List, [], ◌∷◌, length, Option, Some, None, IsSome, IfSome, Result, Ok, Err, OnOk, IfOk, IsErrAnd, refl, sym, ap, ◌∙◌, subst, arith, true≢false, eq-eqb}
 use Rattle.std.specs.List.{slice_get, list_any}
 use Rattle.std.specs.Ordering.{is_lt}
 use Rattle.std.proofs.lemmas.Result.{err_from_is_err_and}
@@ -140,3 +140,7 @@ err_of r y z and is =
     let same : Err p.0 ≡ Err z = sym p.1 ∙ is in
     let one : p.0 ≡ z = cc in
     ap (λ (w : _). Err w) (sym p.2 ∙ one)
+
+pub if_ok_then : {T E : Type 0} {P Q : T → Type 0} (r : Result T E) → IfOk r P → ((x : T) → P x → Q x) → IfOk r Q
+if_ok_then (Ok x) is then = then x is
+if_ok_then (Err e) is then = tt
