@@ -11,7 +11,7 @@ use Rattle.strat_base.proofs.NumberLemmas.{length-be, number-be, number_at_some,
 use Rattle.strat_base.proofs.EntryBytesLemmas.{entry_in-some, entry_in-bytes}
 use Rattle.strat_base.proofs.TreeLemmas.{option_cases}
 use Rattle.strat_format.specs.Block.{offsets}
-use Rattle.strat_block.specs.Links.{may_follow, link_after, link_at, chain_end}
+use Rattle.strat_block.specs.Links.{may_stand_behind, link_after, linked_entry, chain_end}
 use Rattle.strat_block.proofs.OrderLemmas.{are_linked}
 use Rattle.strat_block.proofs.OffsetLemmas.{begins_within}
 
@@ -19,18 +19,18 @@ cond_found : {X : Type 0} (b : Bool) (o : Option X) (x : X) → cond b o None �
 cond_found true o x e = (refl, e)
 cond_found false o x e = absurd (cc)
 
-after_found : (before : Option Entry) (o : Option (Entry × ℕ)) (x : Entry × ℕ) → link_after before o ≡ Some x → (may_follow before x.0 ≡ true) × (o ≡ Some x)
+after_found : (before : Option Entry) (o : Option (Entry × ℕ)) (x : Entry × ℕ) → link_after before o ≡ Some x → (may_stand_behind before x.0 ≡ true) × (o ≡ Some x)
 after_found before None x e = absurd (cc)
 after_found before (Some y) x e =
-    let found = cond_found (may_follow before y.0) (Some y) x e in
+    let found = cond_found (may_stand_behind before y.0) (Some y) x e in
     let same : y ≡ x = cc in
-    (subst (λ (z : Entry × ℕ). may_follow before z.0 ≡ true) same found.0, found.1)
+    (subst (λ (z : Entry × ℕ). may_stand_behind before z.0 ≡ true) same found.0, found.1)
 
 -- what one link tells
 pub record LinkSays (bytes : List ℕ) (i at : ℕ) (before : Option Entry) (e : Entry) (next : ℕ) : Type 0 where
   pub table : drop (2 + 2 * i) bytes ≡ be 2 at ++ drop (2 + 2 * (i + 1)) bytes
   pub lawful : fits_fields e ≡ true
-  pub follows : may_follow before e ≡ true
+  pub follows : may_stand_behind before e ≡ true
   pub text : drop at bytes ≡ entry_bytes e ++ drop next bytes
   pub end : next ≡ at + length (entry_bytes e)
   pub within : next ≤ length bytes
@@ -47,7 +47,7 @@ module _ (bytes : List ℕ) (fit : AreBytes bytes) where
       ∙ ap (λ (z : List ℕ). z ++ drop 2 rest) front
       ∙ ap (λ (z : List ℕ). be 2 at ++ z) (drop-drop 2 (2 + 2 * i) bytes ∙ ap (λ (n : ℕ). drop n bytes) next)
 
-  link_says : (i at : ℕ) (before : Option Entry) (x : Entry × ℕ) → at ≤ length bytes → link_at bytes i at before ≡ Some x → LinkSays bytes i at before x.0 x.1
+  link_says : (i at : ℕ) (before : Option Entry) (x : Entry × ℕ) → at ≤ length bytes → linked_entry bytes i at before ≡ Some x → LinkSays bytes i at before x.0 x.1
   link_says i at before x le is =
       elim (option_cases (number_at 2 bytes (2 + 2 * i))) [
         | inl none ↦ absurd (let e = ap (λ (o : Option ℕ). option_and_then (λ offset. cond (eqb offset at) (link_after before (entry_at bytes at)) None) o) (sym none) ∙ is in cc)
@@ -65,7 +65,7 @@ module _ (bytes : List ℕ) (fit : AreBytes bytes) where
                   let begins = entry_in-some (drop at bytes) entry.0 (AreBytes-drop at bytes fit) entry.1 in
                   let next : ℕ = at + length (entry_bytes entry.0) in
                   let rest_is : drop next bytes ≡ begins.rest = sym (drop-drop (length (entry_bytes entry.0)) at bytes) ∙ ap (drop (length (entry_bytes entry.0))) begins.split ∙ drop_at (entry_bytes entry.0) begins.rest (length (entry_bytes entry.0)) refl in
-                  subst (λ (z : Entry × ℕ). may_follow before z.0 ≡ true → LinkSays bytes i at before z.0 z.1) same
+                  subst (λ (z : Entry × ℕ). may_stand_behind before z.0 ≡ true → LinkSays bytes i at before z.0 z.1) same
                   (λ follows. record {
                     table = table_is;
                     lawful = begins.lawful;
@@ -101,7 +101,7 @@ module _ (bytes : List ℕ) (fit : AreBytes bytes) where
         end = omega arith;
       }
   chain_says (suc k) i at before last le is =
-      elim (option_cases (link_at bytes i at before)) [
+      elim (option_cases (linked_entry bytes i at before)) [
         | inl none ↦ absurd (let e = ap (λ (o : Option (Entry × ℕ)). option_and_then (λ x. chain_end bytes k (i + 1) x.1 (Some x.0)) o) (sym none) ∙ is in cc)
         | inr link ↦
             let e = ap (λ (o : Option (Entry × ℕ)). option_and_then (λ x. chain_end bytes k (i + 1) x.1 (Some x.0)) o) (sym link.1) ∙ is in
@@ -113,7 +113,7 @@ module _ (bytes : List ℕ) (fit : AreBytes bytes) where
               entries = x ∷ rest.entries;
               count = ap suc rest.count;
               lawful = and_from (fits_fields x) (list_all fits_fields rest.entries) first.lawful rest.lawful;
-              linked = and_from (may_follow before x) (are_linked (Some x) rest.entries) first.follows rest.linked;
+              linked = and_from (may_stand_behind before x) (are_linked (Some x) rest.entries) first.follows rest.linked;
               table =
                   first.table
                   ∙ ap (λ (z : List ℕ). be 2 at ++ z) (rest.table ∙ ap (λ (n : ℕ). offsets n rest.entries ++ drop (2 + 2 * (i + 1 + k)) bytes) first.end)
@@ -138,7 +138,7 @@ module _ (bytes : List ℕ) where
       let flat : List ℕ = flat_map entry_bytes entries in
       let behind : List ℕ = offsets next entries in
       let fits = and_parts (fits_fields e) (list_all fits_fields entries) lawful in
-      let follows = and_parts (may_follow before e) (are_linked (Some e) entries) linked in
+      let follows = and_parts (may_stand_behind before e) (are_linked (Some e) entries) linked in
       let long = length-append (entry_bytes e) flat in
       let table' : drop (2 + 2 * i) bytes ≡ be 2 at ++ (behind ++ t) = table ∙ append_assoc (be 2 at) behind t in
       let text' : drop at bytes ≡ entry_bytes e ++ (flat ++ rest) = text ∙ append_assoc (entry_bytes e) flat rest in
@@ -147,11 +147,11 @@ module _ (bytes : List ℕ) where
       cond-true (leb (2 + 2 * i + 2) (length bytes)) (Some (number 2 (drop (2 + 2 * i) bytes))) None (le-leb (2 + 2 * i + 2) (length bytes) room)
       ∙ ap (λ (n : ℕ). Some n) (ap (number 2) table' ∙ number-be 2 at (behind ++ t) (omega arith)) in
       let entry_is : entry_at bytes at ≡ Some (e, next) = ap (λ (o : Option Entry). option_map (λ x. (x, at + length (entry_bytes x))) o) (ap entry_in text' ∙ entry_in-bytes e (flat ++ rest) fits.0) in
-      let link_is : link_at bytes i at before ≡ Some (e, next) =
+      let link_is : linked_entry bytes i at before ≡ Some (e, next) =
       ap (λ (o : Option ℕ). option_and_then (λ offset. cond (eqb offset at) (link_after before (entry_at bytes at)) None) o) number_is
       ∙ cond-true (eqb at at) (link_after before (entry_at bytes at)) None (eq-eqb at at refl)
       ∙ ap (link_after before) entry_is
-      ∙ cond-true (may_follow before e) (Some (e, next)) None follows.0 in
+      ∙ cond-true (may_stand_behind before e) (Some (e, next)) None follows.0 in
       let table_next : drop (2 + 2 * (i + 1)) bytes ≡ behind ++ t = ap (λ (n : ℕ). drop n bytes) (omega arith) ∙ sym (drop-drop 2 (2 + 2 * i) bytes) ∙ ap (drop 2) table' ∙ drop_at (be 2 at) (behind ++ t) 2 (length-be 2 at) in
       let text_next : drop next bytes ≡ flat ++ rest = sym (drop-drop (length (entry_bytes e)) at bytes) ∙ ap (drop (length (entry_bytes e))) text' ∙ drop_at (entry_bytes e) (flat ++ rest) (length (entry_bytes e)) refl in
       ap (λ (o : Option (Entry × ℕ)). option_and_then (λ x. chain_end bytes (length entries) (i + 1) x.1 (Some x.0)) o) link_is
@@ -159,14 +159,14 @@ module _ (bytes : List ℕ) where
       ∙ ap (λ (n : ℕ). Some n) (omega arith)
 
   -- one link of the loop
-  pub chain_on : (n i at : ℕ) (before : Option Entry) (x : Entry × ℕ) → i < n → link_at bytes i at before ≡ Some x → chain_end bytes (n - i) i at before ≡ chain_end bytes (n - (i + 1)) (i + 1) x.1 (Some x.0)
+  pub chain_on : (n i at : ℕ) (before : Option Entry) (x : Entry × ℕ) → i < n → linked_entry bytes i at before ≡ Some x → chain_end bytes (n - i) i at before ≡ chain_end bytes (n - (i + 1)) (i + 1) x.1 (Some x.0)
   unfolding chain_end
   chain_on n i at before x lt is =
       let left : n - i ≡ suc (n - (i + 1)) = omega arith in
       ap (λ (k : ℕ). chain_end bytes k i at before) left
       ∙ ap (λ (o : Option (Entry × ℕ)). option_and_then (λ y. chain_end bytes (n - (i + 1)) (i + 1) y.1 (Some y.0)) o) is
 
-  pub chain_broken : (n i at : ℕ) (before : Option Entry) → i < n → link_at bytes i at before ≡ None → chain_end bytes (n - i) i at before ≡ None
+  pub chain_broken : (n i at : ℕ) (before : Option Entry) → i < n → linked_entry bytes i at before ≡ None → chain_end bytes (n - i) i at before ≡ None
   unfolding chain_end
   chain_broken n i at before lt is =
       let left : n - i ≡ suc (n - (i + 1)) = omega arith in

@@ -10,7 +10,7 @@ use Rattle.std.proofs.lemmas.Cmp.{nat_list_cmp_total, nat_cmp_total}
 use Rattle.strat_base.specs.Order.{key_cmp, entry_cmp}
 use Rattle.strat_base.specs.Entries.{Entry, is_ascending}
 use Rattle.strat_base.proofs.ListFacts.{Among, all_at, all_from}
-use Rattle.strat_block.specs.Links.{may_follow}
+use Rattle.strat_block.specs.Links.{may_stand_behind}
 
 -- how two entries compare
 abbrev pub compares : Entry → Entry → Ordering
@@ -56,7 +56,7 @@ before_too e d entries less first =
 -- each entry may follow the one before
 abbrev pub are_linked : Option Entry → List Entry → Bool
 are_linked before [] = true
-are_linked before (e ∷ entries) = may_follow before e && are_linked (Some e) entries
+are_linked before (e ∷ entries) = may_stand_behind before e && are_linked (Some e) entries
 
 linked_after : (d : Entry) (entries : List Entry) → are_linked (Some d) entries ≡ true → is_ascending (d ∷ entries) ≡ true
 linked_after d [] linked = refl

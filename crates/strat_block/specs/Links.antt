@@ -8,18 +8,18 @@ use Rattle.strat_base.specs.Entries.{Entry}
 use Rattle.strat_base.specs.EntryBytes.{entry_at}
 
 -- an entry may stand behind another one, or first
-abbrev pub may_follow : Option Entry → Entry → Bool
-may_follow None e = true
-may_follow (Some d) e = is_lt (entry_cmp d.key d.version e.key e.version)
+abbrev pub may_stand_behind : Option Entry → Entry → Bool
+may_stand_behind None e = true
+may_stand_behind (Some d) e = is_lt (entry_cmp d.key d.version e.key e.version)
 
 -- an entry that may stand there, and the offset after it
 abbrev pub link_after : Option Entry → Option (Entry × ℕ) → Option (Entry × ℕ)
 link_after before None = None
-link_after before (Some x) = if may_follow before x.0 then Some x else None
+link_after before (Some x) = if may_stand_behind before x.0 then Some x else None
 
 -- the i-th entry, where its offset says that it begins at one, and the offset after it
-abbrev pub link_at : List ℕ → ℕ → ℕ → Option Entry → Option (Entry × ℕ)
-link_at bytes i at before =
+abbrev pub linked_entry : List ℕ → ℕ → ℕ → Option Entry → Option (Entry × ℕ)
+linked_entry bytes i at before =
     option_and_then
     (λ offset. if offset == at then link_after before (entry_at bytes at) else None)
     (number_at 2 bytes (2 + 2 * i))
@@ -28,7 +28,7 @@ link_at bytes i at before =
 unfoldable pub chain_end : List ℕ → ℕ → ℕ → ℕ → Option Entry → Option ℕ
 chain_end bytes zero i at before = Some at
 chain_end bytes (suc k) i at before =
-    option_and_then (λ x. chain_end bytes k (i + 1) x.1 (Some x.0)) (link_at bytes i at before)
+    option_and_then (λ x. chain_end bytes k (i + 1) x.1 (Some x.0)) (linked_entry bytes i at before)
 
 -- only zeros
 abbrev pub are_zeros : List ℕ → Bool

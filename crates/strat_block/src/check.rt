@@ -4,7 +4,7 @@ ghost use Rattle.std.specs.Prelude.{◌≡◌, ◌≤◌, length, drop, is_some,
 ghost use Rattle.strat_base.specs.Entries.{Entry as TheEntry};
 ghost use Rattle.strat_base.specs.EntryView.{entry_of};
 ghost use Rattle.strat_base.specs.Finds.{Finds};
-ghost use Rattle.strat_block.specs.Links.{may_follow, link_at, chain_end, are_zeros};
+ghost use Rattle.strat_block.specs.Links.{may_stand_behind, linked_entry, chain_end, are_zeros};
 ghost use Rattle.strat_format.specs.Block.{block_in};
 
 use std::cmp::Ordering;
@@ -13,7 +13,7 @@ use strat_base::{Entry, entry_order, get_entry, get_u16};
 
 /// Whether an entry stands after the one before it, where there is one.
 fn follows(before: &Option<Entry<'_>>, e: &Entry<'_>) -> bool
-    ensures ok { result ≡ may_follow (option_map entry_of before.now) (entry_of e.now) }
+    ensures ok { result ≡ may_stand_behind (option_map entry_of before.now) (entry_of e.now) }
 {
     match before {
         None => true,
@@ -32,7 +32,7 @@ fn link<'a>(
 ) -> Option<(Entry<'a>, usize)>
     requires { (i ≤ 65535) × (at ≤ length bytes.now) }
     ensures ok { Finds (λ r. (entry_of r.0, r.1)) result
-        (link_at bytes.now i at (option_map entry_of before.now)) }
+        (linked_entry bytes.now i at (option_map entry_of before.now)) }
     ensures end { IfSome result (λ r. r.1 ≤ length bytes.now) }
 {
     if get_u16(bytes, 2 + 2 * i)? as usize != at {

@@ -2,7 +2,9 @@
 
 ghost use Rattle.std.specs.Prelude.{◌≡◌, ◌<◌, ◌≤◌, length, IsSome, Some, IfOk, IsTrue, slice_index_or};
 ghost use Rattle.strat_base.specs.Entries.{Entry as TheEntry};
+ghost use Rattle.strat_base.specs.EntryBytes.{fits_fields, is_markable};
 ghost use Rattle.strat_base.specs.EntryView.{entry_of, val_of};
+ghost use Rattle.strat_base.specs.Sizes.{is_key};
 ghost use Rattle.strat_block.specs.Places.{entries_of_block, stands_below, IsFirstFrom};
 ghost use Rattle.strat_format.specs.Block.{block_in, fits_block};
 
@@ -26,6 +28,7 @@ fn entry_at_place(bytes: &[u8], i: usize) -> Entry<'_>
     requires fits { i < length (entries_of_block bytes.now) }
     ensures ok { (d : TheEntry) → entry_of result
         ≡ slice_index_or (entries_of_block bytes.now) i d }
+    ensures fits { IsTrue (fits_fields (entry_of result)) }
 {
     let at = get_u16(bytes, 2 + 2 * i).unwrap() as usize;
     get_entry(bytes, at).unwrap().0
@@ -83,6 +86,7 @@ impl<'a> BlockView<'a> {
     pub fn len(&self) -> usize
         ensures ok { result ≡ length self.now }
         ensures len { 0 < result }
+        ensures fits { result ≤ 454 }
         ensures kept { IsTrue (fits_block self.now) }
     {
         count(self.bytes)
@@ -92,6 +96,7 @@ impl<'a> BlockView<'a> {
     pub fn entry(&self, i: usize) -> Entry<'a>
         requires { i < length self.now }
         ensures ok { (d : TheEntry) → entry_of result ≡ slice_index_or self.now i d }
+        ensures fits { IsTrue (fits_fields (entry_of result)) }
     {
         entry_at_place(self.bytes, i)
     }
@@ -100,6 +105,7 @@ impl<'a> BlockView<'a> {
     pub fn key_at(&self, i: usize) -> &'a [u8]
         requires { i < length self.now }
         ensures ok { (d : TheEntry) → result.now ≡ (slice_index_or self.now i d).key }
+        ensures fits { IsTrue (is_key result.now) }
     {
         self.entry(i).key
     }
@@ -116,6 +122,7 @@ impl<'a> BlockView<'a> {
     pub fn val_at(&self, i: usize) -> Val<'a>
         requires { i < length self.now }
         ensures ok { (d : TheEntry) → val_of result ≡ (slice_index_or self.now i d).value }
+        ensures fits { IsTrue (is_markable (val_of result)) }
     {
         self.entry(i).val
     }

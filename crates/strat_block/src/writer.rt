@@ -98,10 +98,10 @@ impl BlockWriter {
     }
 
     /// The bytes of the block. O(bytes of a block): each byte of an entry is copied once more.
-    pub fn finish(self) -> [u8; BLOCK]
-        requires { 0 < length self }
-        ensures ok { block_in result ≡ Some self }
-        ensures kept { IsBlock result self }
+    pub fn spell(&self) -> [u8; BLOCK]
+        requires { 0 < length self.now }
+        ensures ok { block_in result ≡ Some self.now }
+        ensures kept { IsBlock result self.now }
     {
         let mut block = [0; BLOCK];
         let first = 2 + 2 * self.count;
@@ -109,5 +109,22 @@ impl BlockWriter {
         put_offsets(&mut block, first as u16, &self.starts[..self.count]);
         put_part(&mut block, first, &self.text[..self.used]);
         block
+    }
+
+    /// The bytes of the block, as `spell` gives them.
+    pub fn finish(self) -> [u8; BLOCK]
+        requires { 0 < length self }
+        ensures ok { block_in result ≡ Some self }
+        ensures kept { IsBlock result self }
+    {
+        self.spell()
+    }
+
+    /// Forgets all entries. O(1).
+    pub fn clear(&mut self)
+        ensures ok { self.new ≡ [] }
+    {
+        self.count = 0;
+        self.used = 0;
     }
 }

@@ -5,3 +5,7 @@ pub mod ReplacedLemmas
 pub mod PromotedLemmas
 pub mod MergingLemmas
 pub mod CutLemmas
+pub mod PaidLemmas
+pub mod SealedLemmas
+pub mod TargetLemmas
+pub mod ReadLemmas

@@ -1,7 +1,7 @@
 -- A planned level replaces what it was merged from.
-use Rattle.std.proofs.Common.{◌≡◌, ◌<◌, ◌≤◌, ◌*◌, ◌^◌, ℕ, Bool, true, false, ◌||◌, not, inl, inr, List, [], ◌∷◌, ◌++◌, length, map, reverse, filter, Option, Some, None, is_some, refl, sym, ap, ◌∙◌, subst, arith, length-append, append-nil, true≢false}
+use Rattle.std.proofs.Common.{◌≡◌, ◌+◌, ◌<◌, ◌≤◌, ◌*◌, ◌^◌, ℕ, Bool, true, false, ◌||◌, not, inl, inr, List, [], ◌∷◌, ◌++◌, length, map, reverse, filter, Option, Some, None, is_some, refl, sym, ap, ◌∙◌, subst, arith, length-append, append-nil, true≢false}
 use Rattle.std.proofs.lemmas.Bool.{and_parts, and_from, not-true, not_from_false, false_from_ne_true}
-use Rattle.std.specs.List.{list_any, list_all, flat_map, find, AllByRecursion}
+use Rattle.std.specs.List.{list_any, list_all, flat_map, find, AllByRecursion, sum_by}
 use Rattle.std.specs.Option.{option_and_then, option_map_or}
 use Rattle.std.proofs.lemmas.List.Concat.{length-flat_map}
 use Rattle.std.proofs.lemmas.List.Folds.{flat_map-map}
@@ -27,7 +27,7 @@ use Rattle.strat_plan.proofs.PlannedLemmas.{lead_served, made_among, lead_entry,
 use Rattle.strat_plan.proofs.SplitLemmas.{plan_of_groups}
 use Rattle.strat_promotion.specs.Union.{IsUnion}
 use Rattle.strat_promotion.specs.Purge.{is_valued, is_needed, purged, entries_over, groups_over}
-use Rattle.strat_promotion.specs.Promoted.{SaysTheSame, told_by, promoted, level_if, Takeable, Promotes, levels_after, PromotesGroups, levels_of_groups}
+use Rattle.strat_promotion.specs.Promoted.{SaysTheSame, told_by, promoted, level_if, Takeable, Promotes, fresh_after, levels_after, PromotesGroups, fresh_of_groups, levels_of_groups}
 use Rattle.strat_promotion.specs.Replaced.{IsNewLevel, Replaces}
 use Rattle.strat_promotion.proofs.UnionLemmas.{deciding_finds, find_before, find_at, find_alike, found_among, single_fits}
 use Rattle.strat_promotion.proofs.ReplacedLemmas.{over_among, replaced_says, replaced_sound}
@@ -54,17 +54,20 @@ module _ (s : State) (sound : IsSound s) (j : ℕ) (taken kept : List Level) (en
             (among_in_flat level_leads s.levels at.0 e (subst (λ (levels : List Level). Among at.0 levels) (sym takes.levels_are) (among_left taken kept at.0 at.1)) at.2)
       ])
 
-  -- and has room in level j
-  pub union_fits : (xs : List Entry) → is_single xs ≡ true → ((e : Entry) → Among e xs → Among e entries) → length xs ≤ s.mem * 2 ^ j
-  union_fits xs single inside =
+  -- is no more than what it was merged from
+  pub union_small : (xs : List Entry) → is_single xs ≡ true → ((e : Entry) → Among e xs → Among e entries) → length xs ≤ length (level_zero s) + sum_by (λ level. length (level_leads level)) taken
+  union_small xs single inside =
       let found : (key : List ℕ) (u : ℕ) → find (is_at key u) entries ≡ find (is_at key u) (level_zero s ++ flat_map level_leads taken) =
       λ key u. union.first key u ∙ sym (find_before (level_zero s) (reverse (journal_updates s)) (flat_map level_leads taken) key u (find-latest key u (journal_updates s))) in
       let less = single_fits xs (level_zero s ++ flat_map level_leads taken) single (λ e among.
       found_among entries (level_zero s ++ flat_map level_leads taken) found (ascending_single entries union.ascending) e (inside e among)) in
       let whole = length-append (level_zero s) (flat_map level_leads taken) in
       let leads = length-flat_map level_leads taken in
-      let room = takes.room in
-      omega (arith, less, whole, leads, room)
+      omega (arith, less, whole, leads)
+
+  -- and has room in level j
+  pub union_fits : (xs : List Entry) → is_single xs ≡ true → ((e : Entry) → Among e xs → Among e entries) → length xs ≤ s.mem * 2 ^ j
+  union_fits xs single inside = let small = union_small xs single inside in let room = takes.room in omega (arith, small, room)
 
 module _ (s : State) (sound : IsSound s) (j : ℕ) (taken kept : List Level) (entries : List Entry) (plan : Plan) (first : ℕ) (r : Promotes s j taken kept entries plan) where
   abbrev parents : Parents
@@ -118,7 +121,7 @@ module _ (s : State) (sound : IsSound s) (j : ℕ) (taken kept : List Level) (en
       ap (λ (es : List Entry). find (is_at key u) es) (sym none)
   if_leads (part ∷ parts) are key u = ap (λ (es : List Entry). find (is_at key u) es) (append-nil (level_leads made)) ∙ made_leads key u
 
-  pub promotion_replaces : Replaces s j taken kept (level_if plan.parts made) entries
+  pub promotion_replaces : Replaces s j taken kept (fresh_after s j kept entries plan first) entries
   promotion_replaces = record {
     takes = r.takes;
     union = r.union;
@@ -230,18 +233,22 @@ module _ (s : State) (sound : IsSound s) (j : ℕ) (taken kept : List Level) (gr
         (plan_of_groups (versions_of s) (sound_tree s sound) (groups_over (versions_of s) kept groups) own seen plan r.split).1;
   }
 
-  pub groups_levels : levels_of_groups s j kept groups plan first ≡ levels_after s j kept (grouped_entries groups) plan first
-  groups_levels =
-      ap (λ (level : Level). level_if plan.parts level ++ kept)
+  pub groups_fresh : fresh_of_groups s j kept groups plan first ≡ fresh_after s j kept (grouped_entries groups) plan first
+  groups_fresh =
+      ap (λ (level : Level). level_if plan.parts level)
       (sym (level_groups (versions_of s) (sound_tree s sound) (groups_over (versions_of s) kept groups) r.split.grouped plan j first)
       ∙ ap (λ (es : List Entry). planned_level (versions_of s) es plan j first) (over_groups (versions_of s) groups r.grouped kept))
 
+  pub groups_levels : levels_of_groups s j kept groups plan first ≡ levels_after s j kept (grouped_entries groups) plan first
+  groups_levels = ap (λ (fresh : List Level). fresh ++ kept) groups_fresh
+
+  pub groups_replace : Replaces s j taken kept (fresh_of_groups s j kept groups plan first) (grouped_entries groups)
+  groups_replace =
+      subst (λ (fresh : List Level). Replaces s j taken kept fresh (grouped_entries groups)) (sym groups_fresh)
+      (promotion_replaces s sound j taken kept (grouped_entries groups) plan first groups_promote)
+
   pub groups_say : (written next_array : ℕ) → SaysTheSame s (promoted s (levels_of_groups s j kept groups plan first) written next_array)
-  groups_say written next_array =
-      subst (λ (levels : List Level). SaysTheSame s (promoted s levels written next_array)) (sym groups_levels)
-      (promotion_says s sound j taken kept (grouped_entries groups) plan first groups_promote written next_array)
+  groups_say written next_array = replaced_says s sound j taken kept (fresh_of_groups s j kept groups plan first) (grouped_entries groups) groups_replace written next_array
 
   pub groups_sound : (written next_array : ℕ) → IsSound (promoted s (levels_of_groups s j kept groups plan first) written next_array)
-  groups_sound written next_array =
-      subst (λ (levels : List Level). IsSound (promoted s levels written next_array)) (sym groups_levels)
-      (promotion_sound s sound j taken kept (grouped_entries groups) plan first groups_promote written next_array)
+  groups_sound written next_array = replaced_sound s sound j taken kept (fresh_of_groups s j kept groups plan first) (grouped_entries groups) groups_replace written next_array

@@ -82,23 +82,23 @@ module _ (s : State) (sound : IsSound s) (j : ℕ) (taken kept fresh : List Leve
       changes_max = refl;
       versions_max = refl;
       versions = refl;
-      maps = λ v. maps_same parents parents tree tree (sources s) (sources new) v v (λ q. values_kept v q);
+      maps = λ v known. maps_same parents parents tree tree (sources s) (sources new) v v (λ q. values_kept v q);
       updates = omega arith;
       changes = omega arith;
     }
 
     -- the levels
 
-    fresh_is : (level : Level) → Among level fresh → IsNewLevel s j level
+    pub fresh_is : (level : Level) → Among level fresh → IsNewLevel s j level
     fresh_is level among = each_of (IsNewLevel s j) fresh level r.each among
 
-    kept_was : (level : Level) → Among level kept → Among level s.levels
+    pub kept_was : (level : Level) → Among level kept → Among level s.levels
     kept_was level among = subst (λ (levels : List Level). Among level levels) (sym r.takes.levels_are) (among_right taken kept level among)
 
     taken_was : (level : Level) → Among level taken → Among level s.levels
     taken_was level among = subst (λ (levels : List Level). Among level levels) (sym r.takes.levels_are) (among_left taken kept level among)
 
-    kept_deep : (level : Level) → Among level kept → j < level.number
+    pub kept_deep : (level : Level) → Among level kept → j < level.number
     kept_deep level among = ltb-true j level.number (all_at (λ l. ltb j l.number) level kept r.takes.deep among)
 
     -- a test that all levels pass
@@ -151,14 +151,17 @@ module _ (s : State) (sound : IsSound s) (j : ℕ) (taken kept fresh : List Leve
           | inr two ↦ inr (among_filter (λ l. ltb l.number level.number) s.levels other (kept_was other two) above.1)
         ]
 
-    fresh_single : is_single (flat_map level_leads fresh) ≡ true
+    pub fresh_single : is_single (flat_map level_leads fresh) ≡ true
     fresh_single = one_single fresh r.one (λ level among. (fresh_is level among).stratified.single)
 
-    -- the leads of a fresh level were said before
+    -- the leads of a fresh level are of the union
+    pub fresh_among : (e : Entry) → Among e (flat_map level_leads fresh) → Among e entries
+    fresh_among e among =
+        over_among parents kept entries e (found_among (flat_map level_leads fresh) (entries_over parents kept entries) r.leads fresh_single e among)
+
+    -- and were said before
     pub fresh_said : (e : Entry) → Among e (flat_map level_leads fresh) → Among e (told_by s taken)
-    fresh_said e among =
-        let over = found_among (flat_map level_leads fresh) (entries_over parents kept entries) r.leads fresh_single e among in
-        found_among entries (told_by s taken) r.union.first union_single e (over_among parents kept entries e over)
+    fresh_said e among = found_among entries (told_by s taken) r.union.first union_single e (fresh_among e among)
 
     -- and stood above each kept level
     stood_above : (level : Level) → Among level kept → (e : Entry) → Among e (told_by s taken) → Among e (journal_updates s ++ flat_map level_leads (shallower s level))

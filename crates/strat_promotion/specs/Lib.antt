@@ -4,3 +4,5 @@ pub mod Merging
 pub mod Promoted
 pub mod Replaced
 pub mod Begun
+pub mod Paid
+pub mod Sealed

@@ -1,5 +1,5 @@
 -- A promotion: the journal and the shallow levels become one level.
-use Rattle.std.specs.Prelude.{◌≡◌, ◌≤◌, ℕ, ◌+◌, ◌*◌, ◌^◌, nat_lt, nat_le, List, [], ◌∷◌, ◌++◌, length, reverse, sum_by, filter, flat_map, IsTrue}
+use Rattle.std.specs.Prelude.{◌≡◌, ◌<◌, ◌≤◌, ℕ, ◌+◌, ◌*◌, ◌^◌, nat_lt, nat_le, List, [], ◌∷◌, ◌++◌, length, reverse, sum_by, filter, flat_map, IsTrue}
 use Rattle.std.specs.List.{list_all}
 use Rattle.strat_base.specs.declared.limits.TheConstants.{LEVELS}
 use Rattle.strat_base.specs.Entries.{Entry}
@@ -18,7 +18,7 @@ pub record SaysTheSame (old new : State) : Type 0 where
   pub changes_max : new.changes_max ≡ old.changes_max
   pub versions_max : new.versions_max ≡ old.versions_max
   pub versions : versions_of new ≡ versions_of old
-  pub maps : (v : ℕ) → map_at new v ≡ map_at old v
+  pub maps : (v : ℕ) → v < length (versions_of old) → map_at new v ≡ map_at old v
   pub updates : updates_of new ≡ updates_of old
   pub changes : changes_of new ≡ changes_of old
 
@@ -70,12 +70,15 @@ pub record Promotes (s : State) (j : ℕ) (taken kept : List Level) (entries : L
   pub horizon : horizon_of plan ≡ length (versions_of s)
   pub split : IsPlan (versions_of s) (entries_over (versions_of s) kept entries) plan
 
--- the levels after it
-abbrev pub levels_after : State → ℕ → List Level → List Entry → Plan → ℕ → List Level
-levels_after s j kept entries plan first =
+-- the level that it writes, if there is one
+abbrev pub fresh_after : State → ℕ → List Level → List Entry → Plan → ℕ → List Level
+fresh_after s j kept entries plan first =
     level_if plan.parts
     (planned_level (versions_of s) (entries_over (versions_of s) kept entries) plan j first)
-    ++ kept
+
+-- the levels after it
+abbrev pub levels_after : State → ℕ → List Level → List Entry → Plan → ℕ → List Level
+levels_after s j kept entries plan first = fresh_after s j kept entries plan first ++ kept
 
 -- the same of groups whose versions were split by their numbers
 pub record PromotesGroups (s : State) (j : ℕ) (taken kept : List Level) (groups : List (List Entry))
@@ -86,9 +89,12 @@ pub record PromotesGroups (s : State) (j : ℕ) (taken kept : List Level) (group
   pub horizon : horizon_of plan ≡ length (versions_of s)
   pub split : SplitsGroups (versions_of s) (groups_over (versions_of s) kept groups) own live plan
 
--- the levels after that
-abbrev pub levels_of_groups : State → ℕ → List Level → List (List Entry) → Plan → ℕ → List Level
-levels_of_groups s j kept groups plan first =
+-- the level that this writes, if there is one
+abbrev pub fresh_of_groups : State → ℕ → List Level → List (List Entry) → Plan → ℕ → List Level
+fresh_of_groups s j kept groups plan first =
     level_if plan.parts
     (level_of_groups (versions_of s) (groups_over (versions_of s) kept groups) plan j first)
-    ++ kept
+
+-- the levels after that
+abbrev pub levels_of_groups : State → ℕ → List Level → List (List Entry) → Plan → ℕ → List Level
+levels_of_groups s j kept groups plan first = fresh_of_groups s j kept groups plan first ++ kept

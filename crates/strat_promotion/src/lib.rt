@@ -5,4 +5,5 @@
 
 pub mod laws;
 pub mod merging;
+pub mod sealing;
 pub mod worked;

@@ -1,6 +1,7 @@
 //! Laws of unions, of merging and of purging. Each is the contract of a function that does nothing.
 
-ghost use Rattle.std.specs.Prelude.{◌≡◌, ℕ, List, [], ◌∷◌, ◌++◌, map, find, option_and_then, IsTrue};
+ghost use Rattle.std.specs.Prelude.{◌≡◌, ◌<◌, ℕ, List, [], ◌∷◌, ◌++◌, length, map, find, option_and_then, IsTrue};
+ghost use Rattle.std.specs.Option.{option_or};
 ghost use Rattle.strat_base.specs.Entries.{Entry, is_at, is_single};
 ghost use Rattle.strat_base.specs.Tree.{Parents, IsTree};
 ghost use Rattle.strat_plan.specs.Groups.{grouped_entries, AreGroups};
@@ -10,7 +11,9 @@ ghost use Rattle.strat_promotion.specs.Purge.{purged, groups_over};
 ghost use Rattle.strat_promotion.specs.Union.{IsUnion};
 ghost use Rattle.strat_state.specs.Level.{Level};
 ghost use Rattle.strat_state.specs.Live.{deciding};
-ghost use Rattle.strat_state.specs.State.{State};
+ghost use Rattle.strat_state.specs.Reading.{live_of, level_zero, found_first};
+ghost use Rattle.strat_state.specs.Sound.{IsSound};
+ghost use Rattle.strat_state.specs.State.{State, versions_of};
 
 /// Some entries have one union.
 pub fn a_union_is_unique()
@@ -49,4 +52,15 @@ pub fn purging_changes_no_value()
         ≡ purged parents (grouped_entries groups) }
     ensures kept { (parents : Parents) (kept : List Level) (groups : List (List Entry))
         → AreGroups groups → AreGroups (groups_over parents kept groups) }
+{}
+
+/// Reading the union of the journal and the first levels finds what reading them one after another
+/// finds.
+pub fn a_union_is_read_as_its_places()
+    ensures { (s : State) (taken kept : List Level) (entries : List Entry) (v : ℕ)
+        (key : List ℕ) → IsSound s → s.levels ≡ taken ++ kept
+        → IsUnion (told_by s taken) entries → v < length (versions_of s)
+        → live_of (versions_of s) entries v key
+        ≡ option_or (live_of (versions_of s) (level_zero s) v key)
+        (found_first (versions_of s) taken v key) }
 {}

@@ -1,16 +1,18 @@
 //! Promotions worked out by the definitions. Each is the contract of a function that does nothing.
 
-#![tactic(auto, unfolding(strat_base::specs::Tree::climb))]
+#![tactic(auto, unfolding(strat_base::specs::Tree::climb, strat_state::specs::State::deep))]
 
 ghost use Rattle.std.specs.Prelude.{◌≡◌, [], ◌∷◌};
 ghost use Rattle.strat_base.specs.Samples.{says, gone};
-ghost use Rattle.strat_plan.specs.Groups.{group_versions};
-ghost use Rattle.strat_plan.specs.Splits.{pair, later_groups, later_plan};
+ghost use Rattle.strat_plan.specs.Groups.{group_versions, level_of_groups};
+ghost use Rattle.strat_plan.specs.Splits.{pair, later_groups, later_plan, wide_groups, wide_plan};
 ghost use Rattle.strat_promotion.specs.Begun.{first_writes};
 ghost use Rattle.strat_promotion.specs.Merging.{runs_taken, Merges};
-ghost use Rattle.strat_promotion.specs.Promoted.{PromotesGroups, levels_of_groups};
+ghost use Rattle.strat_promotion.specs.Paid.{entries_written, IsLeastTarget};
+ghost use Rattle.strat_promotion.specs.Promoted.{promoted, PromotesGroups, fresh_of_groups, levels_of_groups};
 ghost use Rattle.strat_promotion.specs.Purge.{purged};
 ghost use Rattle.strat_state.specs.Counted.{own_at, keys_at};
+ghost use Rattle.strat_state.specs.State.{IsPaid};
 ghost use Rattle.strat_state.specs.Worked.{array_of, first_level};
 
 /// A journal with a clone and a put at it becomes level 1, which has one array.
@@ -20,6 +22,21 @@ pub fn a_journal_becomes_a_level()
         later_plan }
     ensures levels { levels_of_groups first_writes 1 [] later_groups later_plan 1
         ≡ first_level 2 (array_of 1 (1 ∷ []) (says 97 1 49 ∷ []) 1 1 1 ∷ []) }
+{}
+
+/// That level is the target, since the journal is full, and its one entry is paid for.
+pub fn a_full_journal_pays_for_its_level()
+    ensures target { IsLeastTarget first_writes 1 }
+    ensures before { IsPaid first_writes }
+    ensures written { entries_written (fresh_of_groups first_writes 1 [] later_groups later_plan 1)
+        ≡ 1 }
+    ensures after { IsPaid (promoted first_writes
+        (levels_of_groups first_writes 1 [] later_groups later_plan 1) 1 2) }
+{}
+
+/// Copies are written too: an array of one entry, and one of three leads and a copy.
+pub fn copies_are_written_too()
+    ensures { entries_written (level_of_groups pair wide_groups wide_plan 1 1 ∷ []) ≡ 5 }
 {}
 
 /// Of a mark that a key is gone: it goes where nothing lies above, and stays below a value.

@@ -1,6 +1,6 @@
-use Rattle.std.proofs.Common.{◌≡◌, ◌+◌, ◌*◌, ℕ, IsSome, Option, Some, None, [], refl, sym, ◌∙◌, subst, arith, get_or}
+use Rattle.std.proofs.Common.{◌≡◌, ◌+◌, ◌*◌, ℕ, IsSome, IfSome, drop, Option, Some, None, [], refl, sym, ◌∙◌, subst, arith, get_or}
 use Rattle.strat_base.specs.Entries.{Entry}
-use Rattle.strat_base.specs.EntryBytes.{entry_at}
+use Rattle.strat_base.specs.EntryBytes.{entry_at, BeginsWithEntry}
 use Rattle.strat_base.specs.EntryView.{entry_of}
 use Rattle.strat_base.specs.Finds.{Finds}
 use Rattle.strat_base.specs.declared.entries.Entry.{Entry as Borrowed}
@@ -34,6 +34,8 @@ pub returns : goal.returns
 returns c =
     let at = offset_is c.unwrap-at.result c.get_u16.result _ c.unwrap-at.ensures c.get_u16.ensures in
     let found = subst (λ (o : Option (Borrowed × ℕ)). Finds (λ r. (entry_of r.0, r.1)) o (entry_at c.args.bytes.now c.unwrap-at.result)) c.unwrap.ensures c.get_entry.ensures.ok in
+    let begins = subst (λ (o : Option (Borrowed × ℕ)). IfSome o (λ r. BeginsWithEntry (drop c.unwrap-at.result c.args.bytes.now) (entry_of r.0))) c.unwrap.ensures c.get_entry.ensures.found in
     record {
+      fits = begins.lawful;
       ok = λ d. read_there c.args.bytes.now c.requires.kept c.args.i c.requires.fits c.unwrap-at.result at d (entry_of c.unwrap.result.0) c.unwrap.result.1 found;
     }

@@ -5,12 +5,12 @@ use Rattle.strat_format.specs.Block.{IsBlock}
 use Rattle.strat_format.proofs.BlockLemmas.{block_in-bytes}
 use Rattle.strat_block.specs.Collected.{shifted, collected}
 use Rattle.strat_block.proofs.WriterLemmas.{starts_fit, block_written}
-use Rattle.strat_block.proofs.writer.BlockWriter.finish.Goals as goal
+use Rattle.strat_block.proofs.writer.BlockWriter.spell.Goals as goal
 
 pub put_offsets-requires-clause-fits : goal.put_offsets-requires-clause-fits
 put_offsets-requires-clause-fits c = starts_fit _ _ _ _ _ c.self.invariant
 
-written : (c : goal.After-block-6-1) → IsBlock c.put_part.new.into c.args.self
+written : (c : goal.After-block-6-1) → IsBlock c.put_part.new.into c.args.self.now
 written c =
     let w = c.self.inside in
     let some : 0 < length (collected w.count w.text) = subst (λ (x : List Entry). 0 < length x) (sym c.self.view_is) c.requires in
@@ -24,4 +24,4 @@ pub returns-clause-kept : goal.returns-clause-kept
 returns-clause-kept c = written c
 
 pub returns-clause-ok : goal.returns-clause-ok
-returns-clause-ok c = block_in-bytes c.put_part.new.into c.args.self (written c)
+returns-clause-ok c = block_in-bytes c.put_part.new.into c.args.self.now (written c)
