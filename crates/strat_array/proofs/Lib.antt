@@ -5,6 +5,7 @@ pub mod FindLemmas
 pub mod FoundLemmas
 pub mod HoldLemmas
 pub mod KeptLemmas
+pub mod LawLemmas
 pub mod OrderLemmas
 pub mod PlaceLemmas
 pub mod SearchLemmas

@@ -7,7 +7,7 @@ use Rattle.strat_base.specs.Entries.{Entry, is_ascending}
 use Rattle.strat_crash.specs.Image.{Image, window}
 use Rattle.strat_array.specs.declared.place.Place.{Place}
 use Rattle.strat_array.specs.Blocks.{lists_on}
-use Rattle.strat_array.specs.Left.{all_in, left_at, is_filled, is_from, starts_below, Bound, Splits}
+use Rattle.strat_array.specs.Left.{all_in, left_at, is_filled, is_from, starts_below, Bound}
 use Rattle.strat_array.specs.Steps.{left_from, FirstIn, IsPlaceFrom, IsSettled}
 use Rattle.strat_array.proofs.BlockFacts.{block_filled}
 use Rattle.strat_array.proofs.KeptLemmas.{listed_parts}

@@ -9,7 +9,8 @@ use Rattle.strat_base.specs.Order.{key_cmp}
 use Rattle.strat_base.specs.Entries.{Entry, is_ascending}
 use Rattle.strat_base.proofs.ListFacts.{Among, among_left, among_right, all_at, all_from}
 use Rattle.strat_state.proofs.SettingLemmas.{order, stands_first, first_of}
-use Rattle.strat_array.specs.Left.{all_in, left_at, is_filled, is_from, starts_below, Bound, Splits}
+use Rattle.strat_block.specs.Places.{IsFirstFrom}
+use Rattle.strat_array.specs.Left.{all_in, left_at, is_filled, is_from, starts_below, Bound}
 use Rattle.strat_array.proofs.OrderLemmas.{ascending_right, ascending_across, below_before, filter_none, filter_each, all_after_first}
 
 -- where the first entry is not below a key, none is dropped
@@ -37,7 +38,7 @@ front_at (suc i) (y ∷ ys) x (inl here) = (0, omega arith, here)
 front_at (suc i) (y ∷ ys) x (inr there) = let found = front_at i ys x there in (suc found.0, omega (arith, found.1), found.2)
 
 -- the entries of a block from a key on are those from an index on
-split_block : (key : List ℕ) (i : ℕ) (entries : List Entry) → is_ascending entries ≡ true → Splits key i entries → filter (is_from key) entries ≡ drop i entries
+split_block : (key : List ℕ) (i : ℕ) (entries : List Entry) → is_ascending entries ≡ true → IsFirstFrom key entries i → filter (is_from key) entries ≡ drop i entries
 split_block key i entries up splits =
     ap (filter (is_from key)) (sym (take-append-drop i entries))
     ∙ filter-append (is_from key) (take i entries) (drop i entries)
@@ -45,13 +46,13 @@ split_block key i entries up splits =
     ∙ back (cases_lt i (length entries))
   where
     front : filter (is_from key) (take i entries) ≡ []
-    front = filter_none (is_from key) (take i entries) (λ e among. let at = front_at i entries e among in ap (is_from key) at.2 ∙ splits.below at.0 e at.1)
+    front = filter_none (is_from key) (take i entries) (λ e among. let at = front_at i entries e among in ap (is_from key) at.2 ∙ ap not (splits.before at.0 e at.1))
 
     rising : is_ascending (drop i entries) ≡ true
     rising = ascending_right (take i entries) (drop i entries) (ap is_ascending (take-append-drop i entries) ∙ up)
 
     back : (i < length entries) ⊎ (length entries ≤ i) → filter (is_from key) (drop i entries) ≡ drop i entries
-    back (inl lt) = go entries rising lt splits.above
+    back (inl lt) = go entries rising lt (λ d l. ap not (splits.after i d (omega arith) l))
       where
         go : (xs : List Entry) → is_ascending (drop i xs) ≡ true → i < length xs → ((d : Entry) → i < length xs → is_from key (get_or xs i d) ≡ true) → filter (is_from key) (drop i xs) ≡ drop i xs
         go [] r l above = absurd (omega arith)
@@ -88,7 +89,7 @@ first_below key (suc m) (entries ∷ lists) below =
     let found = first_below key m lists below in (found.0, among_right entries (all_in lists) found.0 found.1, found.2)
 
 -- from an index of the last block that starts below a key on, just the entries from the key on are left
-pub sought_left : (key : List ℕ) (m i : ℕ) (lists : List (List Entry)) → is_ascending (all_in lists) ≡ true → list_all is_filled lists ≡ true → m < length lists → Bound key (m + 1) lists → Splits key i (get_or lists m []) → left_at lists m i ≡ filter (is_from key) (all_in lists)
+pub sought_left : (key : List ℕ) (m i : ℕ) (lists : List (List Entry)) → is_ascending (all_in lists) ≡ true → list_all is_filled lists ≡ true → m < length lists → Bound key (m + 1) lists → IsFirstFrom key (get_or lists m []) i → left_at lists m i ≡ filter (is_from key) (all_in lists)
 sought_left key m i [] up filled within bound splits = absurd (omega arith)
 sought_left key zero i (entries ∷ lists) up filled within bound splits =
     let rest = ascending_right entries (all_in lists) up in

@@ -1,8 +1,7 @@
 -- Places in an array: what is left from there on, and where the entries from a key on begin.
 use Rattle.std.specs.Prelude.{◌≡◌, ◌≤◌, ◌<◌, ℕ, ◌+◌, ◌-◌, not, Bool, true, false, List, [], ◌∷◌, ◌++◌, length, drop, flat_map, slice_index_or}
-use Rattle.std.specs.Ordering.{is_lt}
-use Rattle.strat_base.specs.Order.{key_cmp}
 use Rattle.strat_base.specs.Entries.{Entry}
+use Rattle.strat_block.specs.Places.{stands_below}
 
 -- the entries of all blocks, one after the other
 abbrev pub all_in : List (List Entry) → List Entry
@@ -20,21 +19,15 @@ is_filled (e ∷ entries) = true
 
 -- an entry's key is a key or after it
 abbrev pub is_from : List ℕ → Entry → Bool
-is_from key e = not (is_lt (key_cmp e.key key))
+is_from key e = not (stands_below key e)
 
 -- the first key of a block is below a key
 abbrev pub starts_below : List ℕ → List Entry → Bool
 starts_below key [] = false
-starts_below key (e ∷ entries) = is_lt (key_cmp e.key key)
+starts_below key (e ∷ entries) = stands_below key e
 
 -- the block before a number starts below a key, and the block at it doesn't
 pub record Bound (key : List ℕ) (n : ℕ) (lists : List (List Entry)) : Type 0 where
   pub within : n ≤ length lists
   pub below : 0 < n → starts_below key (slice_index_or lists (n - 1) []) ≡ true
   pub above : n < length lists → starts_below key (slice_index_or lists n []) ≡ false
-
--- the entries of a block before an index are below a key, and that at it isn't
-pub record Splits (key : List ℕ) (i : ℕ) (entries : List Entry) : Type 0 where
-  pub within : i ≤ length entries
-  pub below : (k : ℕ) (d : Entry) → k < i → is_from key (slice_index_or entries k d) ≡ false
-  pub above : (d : Entry) → i < length entries → is_from key (slice_index_or entries i d) ≡ true

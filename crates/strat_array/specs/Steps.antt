@@ -1,8 +1,9 @@
 -- Places of entries, as a walk over an array steps from one to the next.
-use Rattle.std.specs.Prelude.{◌≡◌, ◌<◌, ℕ, ◌+◌, ◌⊎◌, List, [], length, slice_index_or, Option, Some, None}
+use Rattle.std.specs.Prelude.{◌≡◌, ◌<◌, ℕ, ◌+◌, ◌⊎◌, List, [], ◌∷◌, length, slice_index_or, Option, Some, None}
 use Rattle.strat_base.specs.Entries.{Entry}
+use Rattle.strat_block.specs.Places.{IsFirstFrom}
 use Rattle.strat_array.specs.Kept.{Kept, held_block}
-use Rattle.strat_array.specs.Left.{left_at, Splits}
+use Rattle.strat_array.specs.Left.{left_at}
 use Rattle.strat_array.specs.declared.place.Place.{Place}
 
 -- the entries from a place on
@@ -27,8 +28,8 @@ Settles lists place (Some at) = left_from lists place ≡ left_from lists at
 
 -- the index of the first entry of a block from a key on
 abbrev pub FirstIn : List ℕ → List Entry → Option ℕ → Type 0
-FirstIn key entries None = Splits key (length entries) entries
-FirstIn key entries (Some i) = Splits key i entries × (i < length entries)
+FirstIn key entries None = IsFirstFrom key entries (length entries)
+FirstIn key entries (Some i) = IsFirstFrom key entries i × (i < length entries)
 
 -- the place of an index in the last of n blocks, or else at the start of the block after them
 abbrev pub IsPlaceFrom : ℕ → Option ℕ → Place → Type 0
@@ -40,3 +41,8 @@ abbrev pub IsSettled : List (List Entry) → Place → Type 0
 IsSettled lists place =
     (place.index < length (slice_index_or lists place.block []))
     ⊎ ((place.block ≡ length lists) × (place.index ≡ 0))
+
+-- a step of a walk: the entry at a place and what is left behind it, or that nothing is left
+abbrev pub Steps : List (List Entry) → Place → Option (Entry × Place) → Type 0
+Steps lists place None = left_from lists place ≡ []
+Steps lists place (Some x) = left_from lists place ≡ x.0 ∷ left_from lists x.1

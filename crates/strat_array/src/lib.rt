@@ -2,6 +2,7 @@
 #![tactic(auto)]
 
 mod cache;
+pub mod laws;
 mod lookup;
 mod place;
 mod reading;
@@ -16,4 +17,4 @@ pub use place::Place;
 pub use scratch::Scratch;
 pub use search::seek;
 pub use seen::Seen;
-pub use walk::settle;
+pub use walk::{entry_at, settle};

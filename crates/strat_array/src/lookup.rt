@@ -53,13 +53,7 @@ fn is_on_path(tree: &Tree, u: Version, v: Version) -> bool
 }
 
 /// What an entry says of a key at a version, or `None` where the next one has to be asked.
-fn judge(
-    entry: &Entry<'_>,
-    tree: &Tree,
-    key: &[u8],
-    v: Version,
-    out: &mut PairBuf,
-) -> Option<Seen>
+fn judge(entry: &Entry<'_>, tree: &Tree, key: &[u8], v: Version, out: &mut PairBuf) -> Option<Seen>
     requires kept { v < length tree.now.parents }
     requires fits { IsTrue (fits_fields (entry_of entry.now)) }
     requires room { length out.old < PAIRS_MAX }
@@ -109,10 +103,7 @@ fn live_from<D: Disk>(
         if let Some(seen) = judge(&entry, tree, key, v, out) {
             return Ok(seen);
         }
-        place = Place {
-            block: at.block,
-            index: at.index + 1,
-        };
+        place = at.next();
     }
     Ok(Seen::None)
 }

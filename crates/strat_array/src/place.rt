@@ -1,7 +1,7 @@
 //! Places in an array: which block of the disk stands at an index of it, and how many there are.
 
 ghost use Rattle.std.specs.List.{slice_get};
-ghost use Rattle.std.specs.Prelude.{◌≡◌, ◌<◌, ◌-◌, ◌^◌, length, IfSome};
+ghost use Rattle.std.specs.Prelude.{◌≡◌, ◌<◌, ◌+◌, ◌-◌, ◌^◌, length, IfSome};
 ghost use Rattle.strat_format.specs.Arrays.{blocks_of};
 ghost use Rattle.strat_array.specs.Within.{AreWithin};
 
@@ -14,6 +14,19 @@ use strat_base::Extent;
 pub struct Place {
     pub block: u32,
     pub index: u16,
+}
+
+impl Place {
+    /// The place behind an entry. O(1).
+    pub(crate) fn next(self) -> Place
+        requires { self.index < 65535 }
+        ensures ok { result ≡ record { block = self.block; index = self.index + 1 } }
+    {
+        Place {
+            block: self.block,
+            index: self.index + 1,
+        }
+    }
 }
 
 /// The number of the block at an index, or `None` past the last. O(extents).

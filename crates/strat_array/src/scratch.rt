@@ -131,9 +131,9 @@ impl Scratch {
         requires { IsSome self.now }
         ensures ok { IfSome self.now (λ kept. result ≡ nat_lt index (length kept.1)) }
         ensures len { IfSome self.now (λ kept. 0 < length kept.1) }
-        ensures fits { IfSome self.now (λ kept. length kept.1 ≤ 2047) }
+        ensures fits { IfSome self.now (λ kept. length kept.1 ≤ 454) }
     {
-        has_entry(&self.block(), index)
+        (index as usize) < self.block().len()
     }
 
     /// The entry at an index of the block that it holds. O(1).
@@ -144,26 +144,6 @@ impl Scratch {
             → entry_of result ≡ slice_index_or kept.1 index d) }
         ensures fits { IsTrue (fits_fields (entry_of result)) }
     {
-        entry_in(&self.block(), index)
+        self.block().entry(index as usize)
     }
-}
-
-/// Whether a block has an entry at an index.
-#[tactic(auto, using(crate::proofs::BlockFacts::block_few))]
-fn has_entry(block: &BlockView<'_>, index: u16) -> bool
-    ensures ok { result ≡ nat_lt index (length block.now) }
-    ensures len { 0 < length block.now }
-    ensures fits { length block.now ≤ 2047 }
-{
-    (index as usize) < block.len()
-}
-
-/// An entry of a block.
-fn entry_in<'a>(block: &BlockView<'a>, index: u16) -> Entry<'a>
-    requires { index < length block.now }
-    ensures ok { (d : TheEntry) → entry_of result ≡ slice_index_or block.now index d }
-    ensures fits { IsTrue (fits_fields (entry_of result)) }
-{
-    let _lawful = block.len();
-    block.entry(index as usize)
 }

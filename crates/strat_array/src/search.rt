@@ -96,7 +96,6 @@ fn low_blocks<D: Disk>(
 }
 
 /// The index of a block's first entry whose key is this one or after it.
-#[tactic(auto, using(crate::proofs::BlockFacts::block_few))]
 fn index_in(block: &BlockView<'_>, key: &[u8]) -> Option<u16>
     ensures ok { FirstIn key.now block.now result }
 {

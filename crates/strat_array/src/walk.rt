@@ -1,20 +1,22 @@
 //! A walk over the entries of an array, from a place on.
 
 ghost use Rattle.std.specs.Bool.{OnTrue};
-ghost use Rattle.std.specs.Prelude.{◌≡◌, ◌<◌, ℕ, List, length, nat_lt, IsSome, IfOk, IfSome, IsErrOf};
+ghost use Rattle.std.specs.Prelude.{◌≡◌, ◌<◌, ℕ, List, length, nat_lt, Option, option_map, IsSome, IsTrue, IfOk, IfSome, IsErrOf};
 ghost use Rattle.strat_base.specs.Entries.{Entry as TheEntry};
+ghost use Rattle.strat_base.specs.EntryBytes.{fits_fields};
+ghost use Rattle.strat_base.specs.EntryView.{entry_of};
 ghost use Rattle.strat_base.specs.declared.failures.Fault.TheVariants.{Damaged, Device};
 ghost use Rattle.strat_crash.specs.Faults.{HasCause, ReadsAtMost};
 ghost use Rattle.strat_format.specs.Arrays.{blocks_of};
-ghost use Rattle.strat_array.specs.Kept.{held_block, kept_block, IsTaken, Looks, Stands};
-ghost use Rattle.strat_array.specs.Steps.{HoldsPlace, IsNear, Settles};
+ghost use Rattle.strat_array.specs.Kept.{Kept, held_block, kept_block, IsTaken, Looks, Stands};
+ghost use Rattle.strat_array.specs.Steps.{HoldsPlace, IsNear, Settles, Steps};
 ghost use Rattle.strat_array.specs.Within.{AreWithin, IsNoBlock};
 
 use crate::cache::Cache;
 use crate::place::{Place, block_at};
 use crate::reading::bring;
 use crate::scratch::Scratch;
-use strat_base::{ArrayDesc, Fault};
+use strat_base::{ArrayDesc, Entry, Fault};
 use strat_disk::Disk;
 
 /// Takes a copy of a block that is kept, unless the scratch holds it.
@@ -83,7 +85,7 @@ pub fn settle<D: Disk>(
         cache.old scratch.old lists
         → Settles lists place r) }
     ensures end { IfOk result (λ r. IfSome r (λ at. IsNear place at)) }
-    ensures fits { IfOk result (λ r. IfSome r (λ at. at.index < 2047)) }
+    ensures fits { IfOk result (λ r. IfSome r (λ at. at.index < 454)) }
     ensures same { Looks (D.view disk.old) (D.view disk.new)
         desc.now.id (blocks_of desc.now.extents) cache.old cache.new scratch.old scratch.new }
     ensures damaged { (b : ℕ) → IsErrOf result (Damaged b)
@@ -106,4 +108,35 @@ pub fn settle<D: Disk>(
     // What it says beside its answer: a block has an entry.
     let _some = scratch.has(0);
     Ok(Some(Place { block, index: 0 }))
+}
+
+/// The entry at a place and the place after it, or `None` at the end place. It costs what `settle` does, and O(1)
+/// more. What the scratch holds of the array has to be as the disk has it, as what the cache keeps has to; whoever
+/// walks over many entries calls `settle` and `Scratch::entry`, which say what the scratch holds afterwards.
+/// Device: the disk counted a fault. Damaged: this block of the array is no block of entries.
+pub fn entry_at<'s, D: Disk>(
+    disk: &mut D,
+    cache: &mut Cache,
+    desc: &ArrayDesc,
+    place: Place,
+    scratch: &'s mut Scratch,
+) -> Result<Option<(Entry<'s>, Place)>, Fault>
+    requires fits { AreWithin desc.now.extents }
+    ensures found { IfOk result (λ r. (lists : List (List TheEntry))
+        → Stands (D.view disk.old).content desc.now.id (blocks_of desc.now.extents)
+        cache.old scratch.old lists
+        → Steps lists place (option_map (λ x. (entry_of x.0, x.1)) r)) }
+    ensures fits { IfOk result (λ r. IfSome r (λ x. IsTrue (fits_fields (entry_of x.0)))) }
+    ensures same { (held : Option Kept) × Looks (D.view disk.old) (D.view disk.new)
+        desc.now.id (blocks_of desc.now.extents) cache.old cache.new scratch.old held }
+    ensures damaged { (b : ℕ) → IsErrOf result (Damaged b)
+        → IsNoBlock (D.view disk.old).content (blocks_of desc.now.extents) b }
+    ensures cause { HasCause Device (D.faults disk.old) (D.faults disk.new) result }
+    ensures reads { ReadsAtMost 2 (D.reads disk.old) (D.reads disk.new) }
+{
+    let Some(at) = settle(disk, cache, desc, place, scratch)? else {
+        return Ok(None);
+    };
+    let entry = scratch.entry(at.index);
+    Ok(Some((entry, at.next())))
 }

@@ -1,8 +1,9 @@
-use Rattle.std.proofs.Common.{◌+◌, refl, subst, ◌∙◌}
+use Rattle.std.proofs.Common.{◌+◌, refl, ap, subst, ◌∙◌}
 use Rattle.std.specs.List.{find}
 use Rattle.strat_base.specs.EntryView.{entry_of}
 use Rattle.strat_format.specs.Arrays.{blocks_of}
 use Rattle.strat_array.specs.Answers.{TheirPairs, Answers}
+use Rattle.strat_array.specs.declared.place.Place.{Place}
 use Rattle.strat_array.specs.Steps.{left_from}
 use Rattle.strat_array.specs.Walk.{is_seen_at}
 use Rattle.strat_array.proofs.KeptLemmas.{looks_trans}
@@ -32,7 +33,7 @@ pub loop-at-preserved : goal.loop-at-preserved
 loop-at-preserved g c =
     let on = c.in_ok-at.ensures in (
       walks_on _ _ _ _ _ _ _ _ _ _ _ _ _ _ _ _ c.loop-at.invariant.0 on.same c.in-Some.at (rw c.in-Some.is at on.ok) (rw c.in-Some.is at on.found) (entry_of c.entry-entry.result) c.entry-entry.ensures.ok
-          (record { block = c.in-Some.at.block; index = c.in-Some.at.index + 1 }) refl refl _ _ c.in_default-judge.ensures.ok,
+          c.next-place.result (ap (λ (p : Place). p.block) c.next-place.ensures.ok) (ap (λ (p : Place). p.index) c.next-place.ensures.ok) _ _ c.in_default-judge.ensures.ok,
       c.in_default-judge.ensures.ok.1 ∙ c.loop-at.invariant.1,
       on.cause.ok ∙ c.loop-at.invariant.2,
     )
