@@ -12,7 +12,7 @@ use Rattle.strat_base.proofs.EntryLemmas.{is_of_key}
 use Rattle.strat_state.specs.Reading.{live_of}
 use Rattle.strat_state.proofs.SettingLemmas.{order, stands_first}
 use Rattle.strat_array.specs.declared.seen.Seen.{Seen}
-use Rattle.strat_array.specs.Answers.{TheirPairs, Answers}
+use Rattle.strat_array.specs.Told.{TheirPairs, TellsFound}
 use Rattle.strat_array.specs.Left.{is_from}
 use Rattle.strat_array.specs.Walk.{is_seen_at}
 use Rattle.strat_array.proofs.WalkLemmas.{first_is_live}
@@ -53,9 +53,9 @@ module _ (parents : Parents) (key : List ℕ) (v : ℕ) where
 
   -- what is found in the entries that are left from a key on is what is live
   pub answers_live : IsTree parents → (entries left : List Entry) → is_ascending entries ≡ true → left ≡ filter (is_from key) entries → (old new : TheirPairs) (told : Seen)
-      → (IsTrue (is_ascending left) → IsTrue (list_all (is_from key) left) → Answers (find (is_seen_at parents key v) left) key old new told)
-      → Answers (live_of parents entries v key) key old new told
+      → (IsTrue (is_ascending left) → IsTrue (list_all (is_from key) left) → TellsFound (find (is_seen_at parents key v) left) key old new told)
+      → TellsFound (live_of parents entries v key) key old new told
   answers_live tree entries left up is old new told answers =
       let found = answers (ap is_ascending is ∙ ascending_filter (is_from key) entries up) (ap (list_all (is_from key)) is ∙ all_filtered (is_from key) entries) in
-      subst (λ (o : Option Entry). Answers o key old new told)
+      subst (λ (o : Option Entry). TellsFound o key old new told)
       (ap (find (is_seen_at parents key v)) is ∙ find_from entries ∙ first_is_live parents tree entries up key v) found

@@ -7,7 +7,7 @@ use Rattle.lru.proofs.CallerLemmas.{Contains-lookup}
 use Rattle.strat_base.specs.Entries.{Entry}
 use Rattle.strat_crash.specs.Moments.{DiskView}
 use Rattle.strat_array.specs.declared.place.Place.{Place}
-use Rattle.strat_array.specs.Kept.{Kept, Blocks, is_keyed, held_block, IsTaken, Looks, Stands}
+use Rattle.strat_array.specs.Kept.{Kept, Blocks, is_keyed, held_block, TakesOver, Looks, ArrayStands}
 use Rattle.strat_array.specs.Left.{left_at}
 use Rattle.strat_array.specs.Steps.{left_from, HoldsPlace}
 use Rattle.strat_array.proofs.CacheLemmas.{keyed_same}
@@ -15,7 +15,7 @@ use Rattle.strat_array.proofs.KeptLemmas.{listed_at, listed_length, held_is, sta
 use Rattle.strat_array.proofs.WalkLemmas.{left_past, left_end}
 
 -- a block that was copied out of a cache
-pub copy_taken : (c : Blocks) (array index : ℕ) (s t : Option Kept) (x : List Entry) → lookup (is_keyed array index) c.entries ≡ Some x → t ≡ Some ((array, index), x) → IsTaken c array index s t
+pub copy_taken : (c : Blocks) (array index : ℕ) (s t : Option Kept) (x : List Entry) → lookup (is_keyed array index) c.entries ≡ Some x → t ≡ Some ((array, index), x) → TakesOver c array index s t
 copy_taken c array index s t x found is = record {
   each = λ k y there.
       let both : Some ((array, index), x) ≡ Some (k, y) = sym is ∙ there in
@@ -28,7 +28,7 @@ copy_taken c array index s t x found is = record {
 }
 
 -- a call that looked at a block and then took a copy of it
-pub looks_taken : (old new : DiskView) (array : ℕ) (blocks : List ℕ) (c d : Blocks) (s t u : Option Kept) (index block : ℕ) → Looks old new array blocks c d s t → IsTaken d array index t u → slice_get blocks index ≡ Some block → Looks old new array blocks c d s u
+pub looks_taken : (old new : DiskView) (array : ℕ) (blocks : List ℕ) (c d : Blocks) (s t u : Option Kept) (index block : ℕ) → Looks old new array blocks c d s t → TakesOver d array index t u → slice_get blocks index ≡ Some block → Looks old new array blocks c d s u
 looks_taken old new array blocks c d s t u index block looks taken place = record {
   disk = looks.disk;
   cap = looks.cap;
@@ -84,7 +84,7 @@ held_has (Some kept) array index x P held is =
       | false ↦ λ t. let e : None ≡ Some x = sym (ap (λ (b : Bool). cond b (Some kept.1) None) t) ∙ held in absurd (cc)
     ] refl
 
-module _ (content : Option (ℕ → ℕ)) (array : ℕ) (blocks : List ℕ) (c : Blocks) (s : Option Kept) (lists : List (List Entry)) (stands : Stands content array blocks c s lists) (index : ℕ) where
+module _ (content : Option (ℕ → ℕ)) (array : ℕ) (blocks : List ℕ) (c : Blocks) (s : Option Kept) (lists : List (List Entry)) (stands : ArrayStands content array blocks c s lists) (index : ℕ) where
   pub held_within : is_some (held_block s array index) ≡ true → true ≡ ltb index (length lists)
   held_within some =
       let x = held_entries s array index some in
@@ -102,7 +102,7 @@ module _ (content : Option (ℕ → ℕ)) (array : ℕ) (blocks : List ℕ) (c :
       sym (le-ltb index (length lists) (omega (arith, len, le)))
 
 -- past the end of the block that a scratch holds
-pub left_past_held : (content : Option (ℕ → ℕ)) (array : ℕ) (blocks : List ℕ) (c : Blocks) (s : Option Kept) (lists : List (List Entry)) → Stands content array blocks c s lists → (block index next : ℕ) (b : Bool) → is_some (held_block s array block) ≡ true → IfSome s (λ kept. b ≡ ltb index (length kept.1)) → b ≡ false → next ≡ block + 1 → left_at lists block index ≡ left_at lists next 0
+pub left_past_held : (content : Option (ℕ → ℕ)) (array : ℕ) (blocks : List ℕ) (c : Blocks) (s : Option Kept) (lists : List (List Entry)) → ArrayStands content array blocks c s lists → (block index next : ℕ) (b : Bool) → is_some (held_block s array block) ≡ true → IfSome s (λ kept. b ≡ ltb index (length kept.1)) → b ≡ false → next ≡ block + 1 → left_at lists block index ≡ left_at lists next 0
 left_past_held content array blocks c s lists stands block index next b some has is step =
     let x = held_entries s array block some in
     let b_is : b ≡ ltb index (length x.0) = held_has s array block x.0 (λ entries. b ≡ ltb index (length entries)) x.1 has in

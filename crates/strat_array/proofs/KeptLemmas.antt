@@ -12,7 +12,7 @@ use Rattle.strat_crash.proofs.MomentLemmas.{reads_refl, reads_trans}
 use Rattle.strat_base.proofs.TreeLemmas.{option_cases}
 use Rattle.strat_array.specs.Blocks.{lists_on}
 use Rattle.strat_format.specs.Arrays.{block_on}
-use Rattle.strat_array.specs.Kept.{Kept, Blocks, is_keyed, held_block, kept_block, AddsNone, AddsOnly, IsRead, IsCached, Looks, Stands}
+use Rattle.strat_array.specs.Kept.{Kept, Blocks, is_keyed, held_block, kept_block, AddsNone, AddsOnly, IsBlockRead, IsBlockCached, Looks, ArrayStands}
 use Rattle.strat_array.proofs.CacheLemmas.{keyed_same}
 
 -- the first of the blocks that are read, and the others
@@ -48,7 +48,7 @@ listed_length f (b ∷ blocks) lists is =
 pub looks_refl : (v : DiskView) (array : ℕ) (blocks : List ℕ) (c : Blocks) (s : Option Kept) → Looks v v array blocks c c s s
 looks_refl v array blocks c s = record { disk = reads_refl v; cap = refl; cached = λ k x there. inl there; held = λ k x there. inl there }
 
-read_earlier : (old mid : Option Image) (array : ℕ) (blocks : List ℕ) (k : ℕ × ℕ) (x : List Entry) → mid ≡ old → IsRead mid array blocks k x → IsRead old array blocks k x
+read_earlier : (old mid : Option Image) (array : ℕ) (blocks : List ℕ) (k : ℕ × ℕ) (x : List Entry) → mid ≡ old → IsBlockRead mid array blocks k x → IsBlockRead old array blocks k x
 read_earlier old mid array blocks k x same is = record { mine = is.mine; block = is.block; place = is.place; read = λ f exposed. is.read f (same ∙ exposed) }
 
 pub looks_trans : (old mid new : DiskView) (array : ℕ) (blocks : List ℕ) (c d e : Blocks) (s t u : Option Kept) → Looks old mid array blocks c d s t → Looks mid new array blocks d e t u → Looks old new array blocks c e s u
@@ -76,7 +76,7 @@ looks_trans old mid new array blocks c d e s t u first second = record {
 }
 
 -- an array stands after it was looked at as before
-pub stands_after : (old new : DiskView) (array : ℕ) (blocks : List ℕ) (c d : Blocks) (s t : Option Kept) (lists : List (List Entry)) → Looks old new array blocks c d s t → Stands old.content array blocks c s lists → Stands new.content array blocks d t lists
+pub stands_after : (old new : DiskView) (array : ℕ) (blocks : List ℕ) (c d : Blocks) (s t : Option Kept) (lists : List (List Entry)) → Looks old new array blocks c d s t → ArrayStands old.content array blocks c s lists → ArrayStands new.content array blocks d t lists
 stands_after old new array blocks c d s t lists looks stands = record {
   image = stands.image;
   exposed = looks.disk.same ∙ stands.exposed;
@@ -103,7 +103,7 @@ stands_after old new array blocks c d s t lists looks stands = record {
       ];
 }
   where
-    at_read : (index : ℕ) (x : List Entry) → IsRead old.content array blocks (array, index) x → (y : List Entry) → slice_get lists index ≡ Some y → x ≡ y
+    at_read : (index : ℕ) (x : List Entry) → IsBlockRead old.content array blocks (array, index) x → (y : List Entry) → slice_get lists index ≡ Some y → x ≡ y
     at_read index x read y is =
         let at = listed_at stands.image blocks lists index read.block stands.listed read.place in
         let here : block_on stands.image read.block ≡ Some x = read.read stands.image stands.exposed in
@@ -112,13 +112,13 @@ stands_after old new array blocks c d s t lists looks stands = record {
 
 -- what is kept of a block is what stands there
 module _ (content : Option Image) (array : ℕ) (blocks : List ℕ) (c : Blocks) (lists : List (List Entry)) (index : ℕ) (x y : List Entry) where
-  cached_is : (s : Option Kept) → Stands content array blocks c s lists → lookup (is_keyed array index) c.entries ≡ Some x → slice_get lists index ≡ Some y → x ≡ y
+  cached_is : (s : Option Kept) → ArrayStands content array blocks c s lists → lookup (is_keyed array index) c.entries ≡ Some x → slice_get lists index ≡ Some y → x ≡ y
   cached_is s stands found at =
       let there = Contains-lookup (is_keyed array index) c.entries x found in
       let key : there.0 ≡ (array, index) = keyed_same array index there.0 there.2 in
       stands.cached index x y (subst (λ (k : ℕ × ℕ). Contains c.entries (k, x)) key there.1) at
 
-  pub kept_is : (s : Option Kept) → Stands content array blocks c s lists → kept_block c s array index ≡ Some x → slice_get lists index ≡ Some y → x ≡ y
+  pub kept_is : (s : Option Kept) → ArrayStands content array blocks c s lists → kept_block c s array index ≡ Some x → slice_get lists index ≡ Some y → x ≡ y
   kept_is None stands found at = cached_is None stands found at
   kept_is (Some kept) stands found at =
       elim (is_keyed array index kept.0) as (λ b. is_keyed array index kept.0 ≡ b → x ≡ y) [
@@ -137,7 +137,7 @@ module _ (content : Option Image) (array : ℕ) (blocks : List ℕ) (c : Blocks)
       other : is_keyed array index kept.0 ≡ false → lookup (is_keyed array index) c.entries ≡ Some x
       other t = sym (ap (λ (b : Bool). option_or (cond b (Some kept.1) None) (lookup (is_keyed array index) c.entries)) t) ∙ found
 
-pub held_is : (content : Option Image) (array : ℕ) (blocks : List ℕ) (c : Blocks) (lists : List (List Entry)) (index : ℕ) (x : List Entry) (s : Option Kept) → Stands content array blocks c s lists → held_block s array index ≡ Some x → slice_get lists index ≡ Some x
+pub held_is : (content : Option Image) (array : ℕ) (blocks : List ℕ) (c : Blocks) (lists : List (List Entry)) (index : ℕ) (x : List Entry) (s : Option Kept) → ArrayStands content array blocks c s lists → held_block s array index ≡ Some x → slice_get lists index ≡ Some x
 held_is content array blocks c lists index x None stands held = absurd (cc)
 held_is content array blocks c lists index x (Some kept) stands held =
     elim (is_keyed array index kept.0) as (λ b. is_keyed array index kept.0 ≡ b → slice_get lists index ≡ Some x) [
@@ -202,7 +202,7 @@ module _ (old : DiskView) (array : ℕ) (blocks : List ℕ) (c d : Blocks) (s : 
         inr (inr (mine k x (sym (ap (λ (p : Kept). p.0) one) ∙ fetched.0) (sym (ap (λ (p : Kept). p.1) one))));
   }
     where
-      mine : (k : ℕ × ℕ) (x : List Entry) → k ≡ (array, index) → x ≡ kept.1 → IsRead old.content array blocks k x
+      mine : (k : ℕ × ℕ) (x : List Entry) → k ≡ (array, index) → x ≡ kept.1 → IsBlockRead old.content array blocks k x
       mine k x key same = record {
         mine = ap (λ (p : ℕ × ℕ). p.0) key;
         block = block;

@@ -6,7 +6,7 @@ use Rattle.strat_base.specs.Entries.{Entry}
 use Rattle.strat_crash.specs.Image.{Image}
 use Rattle.strat_format.specs.Arrays.{block_on, entries_on}
 use Rattle.strat_array.specs.Blocks.{lists_on}
-use Rattle.strat_array.specs.Kept.{Blocks, Stands}
+use Rattle.strat_array.specs.Kept.{Blocks, ArrayStands}
 use Rattle.strat_array.specs.Left.{all_in}
 use Rattle.strat_array.proofs.KeptLemmas.{listed_parts, listed_at}
 
@@ -37,7 +37,7 @@ get_block f (b ∷ blocks) lists (suc i) y is at =
 
 pub array_stands : (content : Option Image) (f : Image) (array : ℕ) (blocks : List ℕ) (c : Blocks) (entries : List Entry) → content ≡ Some f → entries_on f blocks ≡ Some entries
     → ((index block : ℕ) (x : List Entry) → Contains c.entries ((array, index), x) → slice_get blocks index ≡ Some block → block_on f block ≡ Some x)
-    → (lists : List (List Entry)) × Stands content array blocks c None lists × (all_in lists ≡ entries)
+    → (lists : List (List Entry)) × ArrayStands content array blocks c None lists × (all_in lists ≡ entries)
 array_stands content f array blocks c entries exposed is right =
     let found = listed f blocks entries is in (
       found.0,

@@ -7,7 +7,7 @@ use Rattle.strat_base.specs.Entries.{Entry, is_ascending}
 use Rattle.strat_crash.specs.Image.{Image, window}
 use Rattle.strat_array.specs.declared.place.Place.{Place}
 use Rattle.strat_array.specs.Blocks.{lists_on}
-use Rattle.strat_array.specs.Left.{all_in, left_at, is_filled, is_from, starts_below, Bound}
+use Rattle.strat_array.specs.Left.{all_in, left_at, has_entry, is_from, starts_below, Bound}
 use Rattle.strat_array.specs.Steps.{left_from, FirstIn, IsPlaceFrom, IsSettled}
 use Rattle.strat_array.proofs.BlockFacts.{block_filled}
 use Rattle.strat_array.proofs.KeptLemmas.{listed_parts}
@@ -15,18 +15,18 @@ use Rattle.strat_array.proofs.SeekLemmas.{none_dropped, sought_left}
 use Rattle.strat_array.proofs.WalkLemmas.{left_past}
 
 -- each block that is read has an entry
-pub listed_filled : (f : Image) (blocks : List ℕ) (lists : List (List Entry)) → lists_on f blocks ≡ Some lists → list_all is_filled lists ≡ true
-listed_filled f [] lists is = let e : [] ≡ lists = cc in ap (list_all is_filled) (sym e)
+pub listed_filled : (f : Image) (blocks : List ℕ) (lists : List (List Entry)) → lists_on f blocks ≡ Some lists → list_all has_entry lists ≡ true
+listed_filled f [] lists is = let e : [] ≡ lists = cc in ap (list_all has_entry) (sym e)
 listed_filled f (b ∷ blocks) lists is =
     let parts = listed_parts f b blocks lists is in
-    ap (list_all is_filled) parts.4
-    ∙ and_from (is_filled parts.0) (list_all is_filled parts.1) (block_filled (window f (BLOCK * b) BLOCK) parts.0 parts.2) (listed_filled f blocks parts.1 parts.3)
+    ap (list_all has_entry) parts.4
+    ∙ and_from (has_entry parts.0) (list_all has_entry parts.1) (block_filled (window f (BLOCK * b) BLOCK) parts.0 parts.2) (listed_filled f blocks parts.1 parts.3)
 
-pub filled_at : (lists : List (List Entry)) (i : ℕ) → list_all is_filled lists ≡ true → i < length lists → 0 < length (get_or lists i [])
+pub filled_at : (lists : List (List Entry)) (i : ℕ) → list_all has_entry lists ≡ true → i < length lists → 0 < length (get_or lists i [])
 filled_at [] i filled lt = absurd (omega arith)
 filled_at ([] ∷ lists) zero filled lt = absurd (true≢false (sym filled))
 filled_at ((e ∷ entries) ∷ lists) zero filled lt = omega arith
-filled_at (entries ∷ lists) (suc i) filled lt = filled_at lists i (and_parts (is_filled entries) (list_all is_filled lists) filled).1 (omega arith)
+filled_at (entries ∷ lists) (suc i) filled lt = filled_at lists i (and_parts (has_entry entries) (list_all has_entry lists) filled).1 (omega arith)
 
 pub get_of : {X : Type 0} (xs : List X) (i : ℕ) (d : X) → i < length xs → slice_get xs i ≡ Some (get_or xs i d)
 get_of [] i d lt = absurd (omega arith)
@@ -38,7 +38,7 @@ pub left_start : (lists : List (List Entry)) → left_at lists 0 0 ≡ all_in li
 left_start [] = refl
 left_start (entries ∷ lists) = refl
 
-module _ (key : List ℕ) (lists : List (List Entry)) (filled : list_all is_filled lists ≡ true) where
+module _ (key : List ℕ) (lists : List (List Entry)) (filled : list_all has_entry lists ≡ true) where
   pub sought_at_start : is_ascending (all_in lists) ≡ true → (n : ℕ) → n ≡ 0 → Bound key n lists → left_at lists 0 0 ≡ filter (is_from key) (all_in lists)
   sought_at_start up n zero' bound =
       left_start lists ∙ sym (none_dropped lists key up filled (λ some. ap (λ (i : ℕ). starts_below key (get_or lists i [])) (sym zero') ∙ bound.above (omega arith)))

@@ -9,7 +9,7 @@ use Rattle.strat_base.proofs.ListFacts.{any_from, get_among}
 use Rattle.strat_crash.specs.Image.{Image}
 use Rattle.strat_crash.specs.Moments.{DiskView}
 use Rattle.strat_format.specs.Arrays.{block_on}
-use Rattle.strat_array.specs.Kept.{Kept, Blocks, kept_block, Looks, Stands}
+use Rattle.strat_array.specs.Kept.{Kept, Blocks, kept_block, Looks, ArrayStands}
 use Rattle.strat_array.specs.Left.{starts_below, Bound}
 use Rattle.strat_array.specs.Within.{IsNoBlock}
 use Rattle.strat_array.proofs.KeptLemmas.{listed_at, listed_length, looks_refl, looks_trans, stands_after, kept_is}
@@ -50,7 +50,7 @@ pub record Halving (old now : DiskView) (array : ℕ) (blocks : List ℕ) (c d :
   pub looks : Looks old now array blocks c d s t
   pub order : low ≤ high
   pub within : high ≤ length blocks
-  pub borders : (lists : List (List Entry)) → Stands old.content array blocks c s lists → Borders key low high lists
+  pub borders : (lists : List (List Entry)) → ArrayStands old.content array blocks c s lists → Borders key low high lists
   pub later : reads_old ≤ reads_now
   pub left : (n : ℕ) → length blocks < 2 ^ n → (m : ℕ) × (high - low < 2 ^ m) × (reads_now + m ≤ reads_old + n)
 
@@ -76,10 +76,10 @@ module _ (old v w : DiskView) (array : ℕ) (blocks : List ℕ) (c d e : Blocks)
       let k = half_more (high - low) at.0 (omega arith) at.1 in
       (k.0, omega (arith, k.2), omega (arith, at.2, k.1))
 
-  stands_now : (lists : List (List Entry)) → Stands old.content array blocks c s lists → Stands v.content array blocks d t lists
+  stands_now : (lists : List (List Entry)) → ArrayStands old.content array blocks c s lists → ArrayStands v.content array blocks d t lists
   stands_now lists stands = stands_after old v array blocks c d s t lists h.looks stands
 
-  pub halving_goes_on : (b : Bool) → ((lists : List (List Entry)) → Stands v.content array blocks d t lists → b ≡ starts_below key (get_or lists mid [])) → (first last : ℕ) → first ≡ cond b (mid + 1) low → last ≡ cond b high mid
+  pub halving_goes_on : (b : Bool) → ((lists : List (List Entry)) → ArrayStands v.content array blocks d t lists → b ≡ starts_below key (get_or lists mid [])) → (first last : ℕ) → first ≡ cond b (mid + 1) low → last ≡ cond b high mid
       → Halving old w array blocks c e s u key r0 r2 first last
   halving_goes_on true is first last low_is high_is = record {
     looks = looks_trans old v w array blocks c d e s t u h.looks looks;
@@ -105,7 +105,7 @@ module _ (old v w : DiskView) (array : ℕ) (blocks : List ℕ) (c d e : Blocks)
   }
 
 pub halving_ends : (old now : DiskView) (array : ℕ) (blocks : List ℕ) (c d : Blocks) (s t : Option Kept) (key : List ℕ) (r0 r1 low high : ℕ) → Halving old now array blocks c d s t key r0 r1 low high → high ≤ low
-    → (lists : List (List Entry)) → Stands old.content array blocks c s lists → Bound key low lists
+    → (lists : List (List Entry)) → ArrayStands old.content array blocks c s lists → Bound key low lists
 halving_ends old now array blocks c d s t key r0 r1 low high h closed lists stands =
     let same : low ≡ high = omega (arith, h.order) in
     let len = listed_length stands.image blocks lists stands.listed in
@@ -117,13 +117,13 @@ halving_ends old now array blocks c d s t key r0 r1 low high h closed lists stan
     }
 
 pub kept_listed : (old new : DiskView) (array : ℕ) (blocks : List ℕ) (c d : Blocks) (s t : Option Kept) (lists : List (List Entry)) (index block : ℕ)
-    → Looks old new array blocks c d s t → slice_get blocks index ≡ Some block → IsSome (kept_block d t array index) → Stands old.content array blocks c s lists → kept_block d t array index ≡ slice_get lists index
+    → Looks old new array blocks c d s t → slice_get blocks index ≡ Some block → IsSome (kept_block d t array index) → ArrayStands old.content array blocks c s lists → kept_block d t array index ≡ slice_get lists index
 kept_listed old new array blocks c d s t lists index block looks place some stands =
     let now = stands_after old new array blocks c d s t lists looks stands in
     let at = listed_at stands.image blocks lists index block stands.listed place in
     go (kept_block d t array index) some refl now at.0 at.1
   where
-    go : (o : Option (List Entry)) → IsSome o → kept_block d t array index ≡ o → Stands new.content array blocks d t lists → (y : List Entry) → slice_get lists index ≡ Some y → kept_block d t array index ≡ slice_get lists index
+    go : (o : Option (List Entry)) → IsSome o → kept_block d t array index ≡ o → ArrayStands new.content array blocks d t lists → (y : List Entry) → slice_get lists index ≡ Some y → kept_block d t array index ≡ slice_get lists index
     go None none is now y at = absurd (true≢false (sym none))
     go (Some x) some is now y at =
         let same : x ≡ y = kept_is new.content array blocks d lists index x y t now is at in

@@ -10,7 +10,7 @@ use Rattle.strat_base.specs.Entries.{Entry, is_ascending}
 use Rattle.strat_base.proofs.ListFacts.{Among, among_left, among_right, all_at, all_from}
 use Rattle.strat_state.proofs.SettingLemmas.{order, stands_first, first_of}
 use Rattle.strat_block.specs.Places.{IsFirstFrom}
-use Rattle.strat_array.specs.Left.{all_in, left_at, is_filled, is_from, starts_below, Bound}
+use Rattle.strat_array.specs.Left.{all_in, left_at, has_entry, is_from, starts_below, Bound}
 use Rattle.strat_array.proofs.OrderLemmas.{ascending_right, ascending_across, below_before, filter_none, filter_each, all_after_first}
 
 -- where the first entry is not below a key, none is dropped
@@ -19,16 +19,16 @@ from_first [] key up above = refl
 from_first (e ∷ entries) key up above = filter_each (is_from key) (e ∷ entries) (all_after_first e entries key up (ap not above))
 
 -- the first entry of blocks is that of the first block
-starts_flat : (entries : List Entry) (lists : List (List Entry)) (key : List ℕ) → is_filled entries ≡ true → starts_below key entries ≡ starts_below key (all_in (entries ∷ lists))
+starts_flat : (entries : List Entry) (lists : List (List Entry)) (key : List ℕ) → has_entry entries ≡ true → starts_below key entries ≡ starts_below key (all_in (entries ∷ lists))
 starts_flat [] lists key filled = absurd (true≢false (sym filled))
 starts_flat (e ∷ entries) lists key filled = refl
 
 -- blocks of which the first does not start below a key are all not below it
-pub none_dropped : (lists : List (List Entry)) (key : List ℕ) → is_ascending (all_in lists) ≡ true → list_all is_filled lists ≡ true → (0 < length lists → starts_below key (get_or lists 0 []) ≡ false) → filter (is_from key) (all_in lists) ≡ all_in lists
+pub none_dropped : (lists : List (List Entry)) (key : List ℕ) → is_ascending (all_in lists) ≡ true → list_all has_entry lists ≡ true → (0 < length lists → starts_below key (get_or lists 0 []) ≡ false) → filter (is_from key) (all_in lists) ≡ all_in lists
 none_dropped [] key up filled above = refl
 none_dropped (entries ∷ lists) key up filled above =
     from_first (all_in (entries ∷ lists)) key up
-    (sym (starts_flat entries lists key (and_parts (is_filled entries) (list_all is_filled lists) filled).0) ∙ above (omega arith))
+    (sym (starts_flat entries lists key (and_parts (has_entry entries) (list_all has_entry lists) filled).0) ∙ above (omega arith))
 
 -- an element of a front stands at an index below its length
 front_at : {X : Type 0} (i : ℕ) (xs : List X) (x : X) → Among x (take i xs) → (k : ℕ) × (k < i) × (x ≡ get_or xs k x)
@@ -89,17 +89,17 @@ first_below key (suc m) (entries ∷ lists) below =
     let found = first_below key m lists below in (found.0, among_right entries (all_in lists) found.0 found.1, found.2)
 
 -- from an index of the last block that starts below a key on, just the entries from the key on are left
-pub sought_left : (key : List ℕ) (m i : ℕ) (lists : List (List Entry)) → is_ascending (all_in lists) ≡ true → list_all is_filled lists ≡ true → m < length lists → Bound key (m + 1) lists → IsFirstFrom key (get_or lists m []) i → left_at lists m i ≡ filter (is_from key) (all_in lists)
+pub sought_left : (key : List ℕ) (m i : ℕ) (lists : List (List Entry)) → is_ascending (all_in lists) ≡ true → list_all has_entry lists ≡ true → m < length lists → Bound key (m + 1) lists → IsFirstFrom key (get_or lists m []) i → left_at lists m i ≡ filter (is_from key) (all_in lists)
 sought_left key m i [] up filled within bound splits = absurd (omega arith)
 sought_left key zero i (entries ∷ lists) up filled within bound splits =
     let rest = ascending_right entries (all_in lists) up in
-    let parts = and_parts (is_filled entries) (list_all is_filled lists) filled in
+    let parts = and_parts (has_entry entries) (list_all has_entry lists) filled in
     let others = none_dropped lists key rest parts.1 (λ some. bound.above (omega arith)) in
     sym (filter-append (is_from key) entries (all_in lists)
     ∙ (λ j. split_block key i entries (ascending_left entries (all_in lists) up) splits j ++ others j))
 sought_left key (suc m) i (entries ∷ lists) up filled within bound splits =
     let rest = ascending_right entries (all_in lists) up in
-    let parts = and_parts (is_filled entries) (list_all is_filled lists) filled in
+    let parts = and_parts (has_entry entries) (list_all has_entry lists) filled in
     let one : suc m + 1 - 1 ≡ suc (m + 1 - 1) = omega arith in
     let two : suc m + 1 ≡ suc (m + 1) = omega arith in
     let inner : Bound key (m + 1) lists = record {

@@ -19,7 +19,7 @@ use Rattle.strat_state.proofs.LiveLemmas.{deciding_some, deciding_found, decidin
 use Rattle.strat_state.proofs.MapLemmas.{same_key}
 use Rattle.strat_state.proofs.LevelLemmas.{ascending_single}
 use Rattle.strat_state.proofs.SettingLemmas.{order, stands_first, first_of, order_version}
-use Rattle.strat_array.specs.Left.{all_in, left_at, is_filled, is_from}
+use Rattle.strat_array.specs.Left.{all_in, left_at, has_entry, is_from}
 use Rattle.strat_array.specs.Walk.{is_seen_at, Going}
 use Rattle.strat_array.proofs.OrderLemmas.{all_after_first}
 

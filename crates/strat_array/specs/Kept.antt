@@ -34,7 +34,8 @@ kept_block c s array index =
 -- of all blocks that a cache keeps now, none is new
 pub record AddsNone (old new : Blocks) : Type 0 where
   pub cap : new.cap ≡ old.cap
-  pub each : (k : ℕ × ℕ) (x : List Entry) → Contains new.entries (k, x) → Contains old.entries (k, x)
+  pub each : (k : ℕ × ℕ) (x : List Entry) → Contains new.entries (k, x)
+      → Contains old.entries (k, x)
 
 -- a block that a cache keeps now was kept before, or is this one
 pub record AddsOnly (old new : Blocks) (key : ℕ × ℕ) (entries : List Entry) : Type 0 where
@@ -43,7 +44,7 @@ pub record AddsOnly (old new : Blocks) (key : ℕ × ℕ) (entries : List Entry)
       → Contains old.entries (k, x) ⊎ ((k ≡ key) × (x ≡ entries))
 
 -- these are the entries of an array's block as an exposed content has it
-pub record IsRead (content : Option Image) (array : ℕ) (blocks : List ℕ) (k : ℕ × ℕ)
+pub record IsBlockRead (content : Option Image) (array : ℕ) (blocks : List ℕ) (k : ℕ × ℕ)
     (entries : List Entry) : Type 0 where
   pub mine : k.0 ≡ array
   pub block : ℕ
@@ -51,15 +52,15 @@ pub record IsRead (content : Option Image) (array : ℕ) (blocks : List ℕ) (k 
   pub read : (f : Image) → content ≡ Some f → block_on f block ≡ Some entries
 
 -- these are the entries of an array's block as a cache keeps it
-pub record IsCached (c : Blocks) (array : ℕ) (blocks : List ℕ) (k : ℕ × ℕ) (entries : List Entry)
-    : Type 0 where
+pub record IsBlockCached (c : Blocks) (array : ℕ) (blocks : List ℕ) (k : ℕ × ℕ)
+    (entries : List Entry) : Type 0 where
   pub mine : k.0 ≡ array
   pub block : ℕ
   pub place : slice_get blocks k.1 ≡ Some block
   pub cached : Contains c.entries (k, entries)
 
 -- a scratch holds what it held, or the block of an array at an index as a cache keeps it
-pub record IsTaken (c : Blocks) (array index : ℕ) (old new : Option Kept) : Type 0 where
+pub record TakesOver (c : Blocks) (array index : ℕ) (old new : Option Kept) : Type 0 where
   pub each : (k : ℕ × ℕ) (x : List Entry) → new ≡ Some (k, x)
       → (old ≡ Some (k, x)) ⊎ ((k ≡ (array, index)) × Contains c.entries (k, x))
 
@@ -70,13 +71,14 @@ pub record Looks (old new : DiskView) (array : ℕ) (blocks : List ℕ) (c d : B
   pub disk : OnlyReads old new
   pub cap : d.cap ≡ c.cap
   pub cached : (k : ℕ × ℕ) (x : List Entry) → Contains d.entries (k, x)
-      → Contains c.entries (k, x) ⊎ IsRead old.content array blocks k x
+      → Contains c.entries (k, x) ⊎ IsBlockRead old.content array blocks k x
   pub held : (k : ℕ × ℕ) (x : List Entry) → t ≡ Some (k, x)
-      → (s ≡ Some (k, x)) ⊎ IsCached c array blocks k x ⊎ IsRead old.content array blocks k x
+      → (s ≡ Some (k, x)) ⊎ IsBlockCached c array blocks k x
+      ⊎ IsBlockRead old.content array blocks k x
 
 -- an array's blocks hold these entries on a disk that exposes its content, and each of them that is
 -- kept is kept so
-pub record Stands (content : Option Image) (array : ℕ) (blocks : List ℕ) (c : Blocks)
+pub record ArrayStands (content : Option Image) (array : ℕ) (blocks : List ℕ) (c : Blocks)
     (s : Option Kept) (lists : List (List Entry)) : Type 0 where
   pub image : Image
   pub exposed : content ≡ Some image

@@ -13,9 +13,9 @@ left_at lists block index =
     drop index (slice_index_or lists block []) ++ all_in (drop (block + 1) lists)
 
 -- a block has an entry
-abbrev pub is_filled : List Entry → Bool
-is_filled [] = false
-is_filled (e ∷ entries) = true
+abbrev pub has_entry : List Entry → Bool
+has_entry [] = false
+has_entry (e ∷ entries) = true
 
 -- an entry's key is a key or after it
 abbrev pub is_from : List ℕ → Entry → Bool

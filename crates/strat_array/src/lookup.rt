@@ -11,8 +11,8 @@ ghost use Rattle.strat_base.specs.declared.limits.TheConstants.{PAIRS_MAX};
 ghost use Rattle.strat_crash.specs.Faults.{HasCause};
 ghost use Rattle.strat_format.specs.Arrays.{blocks_of};
 ghost use Rattle.strat_state.specs.Reading.{live_of};
-ghost use Rattle.strat_array.specs.Answers.{Answers, Judges, Tells};
-ghost use Rattle.strat_array.specs.Kept.{Looks, Stands};
+ghost use Rattle.strat_array.specs.Told.{TellsFound, Judges, Tells};
+ghost use Rattle.strat_array.specs.Kept.{Looks, ArrayStands};
 ghost use Rattle.strat_array.specs.Left.{all_in, is_from};
 ghost use Rattle.strat_array.specs.Steps.{left_from};
 ghost use Rattle.strat_array.specs.Walk.{is_seen_at};
@@ -84,11 +84,11 @@ fn live_from<D: Disk>(
     requires kept { v < length tree.now.parents }
     requires room { length out.old < PAIRS_MAX }
     ensures found { IfOk result (λ seen. (lists : List (List TheEntry))
-        → Stands (D.view disk.old).content desc.now.id (blocks_of desc.now.extents)
+        → ArrayStands (D.view disk.old).content desc.now.id (blocks_of desc.now.extents)
         cache.old scratch.old lists
         → IsTrue (is_ascending (left_from lists place))
         → IsTrue (list_all (is_from key.now) (left_from lists place))
-        → Answers (find (is_seen_at tree.now.parents key.now v) (left_from lists place))
+        → TellsFound (find (is_seen_at tree.now.parents key.now v) (left_from lists place))
         key.now out.old out.new seen) }
     ensures err { OnErr result (out.new ≡ out.old) }
     ensures same { Looks (D.view disk.old) (D.view disk.new)
@@ -128,10 +128,10 @@ pub fn find<D: Disk>(
     requires kept { v < length tree.now.parents }
     requires room { length out.old < PAIRS_MAX }
     ensures found { IfOk result (λ seen. (lists : List (List TheEntry))
-        → Stands (D.view disk.old).content desc.now.id (blocks_of desc.now.extents)
+        → ArrayStands (D.view disk.old).content desc.now.id (blocks_of desc.now.extents)
         cache.old None lists
         → IsTrue (is_ascending (all_in lists))
-        → Answers (live_of tree.now.parents (all_in lists) v key.now)
+        → TellsFound (live_of tree.now.parents (all_in lists) v key.now)
         key.now out.old out.new seen) }
     ensures err { OnErr result (out.new ≡ out.old) }
     ensures same { Looks (D.view disk.old) (D.view disk.new)

@@ -10,7 +10,7 @@ ghost use Rattle.strat_crash.specs.Faults.{HasCause, ReadsAtMost};
 ghost use Rattle.strat_crash.specs.Image.{Image};
 ghost use Rattle.strat_crash.specs.Moments.{Exposes};
 ghost use Rattle.strat_format.specs.Arrays.{block_on, blocks_of};
-ghost use Rattle.strat_array.specs.Kept.{kept_block, Looks, Stands};
+ghost use Rattle.strat_array.specs.Kept.{kept_block, Looks, ArrayStands};
 ghost use Rattle.strat_array.specs.Within.{AreWithin, IsNoBlock};
 
 use crate::cache::Cache;
@@ -81,7 +81,7 @@ pub(crate) fn reach<D: Disk>(
     requires room { index < length (blocks_of desc.now.extents) }
     ensures found { OnOk result (IsSome (kept_block cache.new scratch.new desc.now.id index)) }
     ensures ok { OnOk result ((lists : List (List TheEntry))
-        → Stands (D.view disk.old).content desc.now.id (blocks_of desc.now.extents)
+        → ArrayStands (D.view disk.old).content desc.now.id (blocks_of desc.now.extents)
         cache.old scratch.old lists
         → kept_block cache.new scratch.new desc.now.id index ≡ slice_get lists index) }
     ensures same { Looks (D.view disk.old) (D.view disk.new)

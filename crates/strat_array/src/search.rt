@@ -5,7 +5,7 @@ ghost use Rattle.strat_base.specs.Entries.{Entry as TheEntry, is_ascending};
 ghost use Rattle.strat_base.specs.declared.failures.Fault.TheVariants.{Damaged, Device};
 ghost use Rattle.strat_crash.specs.Faults.{HasCause, ReadsAtMost};
 ghost use Rattle.strat_format.specs.Arrays.{blocks_of};
-ghost use Rattle.strat_array.specs.Kept.{Looks, Stands};
+ghost use Rattle.strat_array.specs.Kept.{Looks, ArrayStands};
 ghost use Rattle.strat_array.specs.Left.{all_in, is_from, starts_below, Bound};
 ghost use Rattle.strat_array.specs.Steps.{left_from, FirstIn, IsPlaceFrom, IsSettled};
 ghost use Rattle.strat_array.specs.Within.{AreWithin, IsNoBlock};
@@ -38,7 +38,7 @@ fn starts_before<D: Disk>(
     requires fits { AreWithin desc.now.extents }
     requires room { index < length (blocks_of desc.now.extents) }
     ensures ok { IfOk result (λ low. (lists : List (List TheEntry))
-        → Stands (D.view disk.old).content desc.now.id (blocks_of desc.now.extents)
+        → ArrayStands (D.view disk.old).content desc.now.id (blocks_of desc.now.extents)
         cache.old scratch.old lists
         → low ≡ starts_below key.now (slice_index_or lists index [])) }
     ensures same { Looks (D.view disk.old) (D.view disk.new)
@@ -71,7 +71,7 @@ fn low_blocks<D: Disk>(
 ) -> Result<u32, Fault>
     requires fits { AreWithin desc.now.extents }
     ensures ok { IfOk result (λ n. (lists : List (List TheEntry))
-        → Stands (D.view disk.old).content desc.now.id (blocks_of desc.now.extents)
+        → ArrayStands (D.view disk.old).content desc.now.id (blocks_of desc.now.extents)
         cache.old scratch.old lists
         → Bound key.now n lists) }
     ensures end { IfOk result (λ n. n ≤ length (blocks_of desc.now.extents)) }
@@ -119,7 +119,7 @@ fn first_in<D: Disk>(
     requires fits { AreWithin desc.now.extents }
     requires room { index < length (blocks_of desc.now.extents) }
     ensures ok { IfOk result (λ r. (lists : List (List TheEntry))
-        → Stands (D.view disk.old).content desc.now.id (blocks_of desc.now.extents)
+        → ArrayStands (D.view disk.old).content desc.now.id (blocks_of desc.now.extents)
         cache.old scratch.old lists
         → FirstIn key.now (slice_index_or lists index []) r) }
     ensures same { Looks (D.view disk.old) (D.view disk.new)
@@ -159,12 +159,12 @@ pub fn seek<D: Disk>(
 ) -> Result<Place, Fault>
     requires fits { AreWithin desc.now.extents }
     ensures ok { IfOk result (λ place. (lists : List (List TheEntry))
-        → Stands (D.view disk.old).content desc.now.id (blocks_of desc.now.extents)
+        → ArrayStands (D.view disk.old).content desc.now.id (blocks_of desc.now.extents)
         cache.old None lists
         → IsTrue (is_ascending (all_in lists))
         → left_from lists place ≡ filter (is_from key.now) (all_in lists)) }
     ensures end { IfOk result (λ place. (lists : List (List TheEntry))
-        → Stands (D.view disk.old).content desc.now.id (blocks_of desc.now.extents)
+        → ArrayStands (D.view disk.old).content desc.now.id (blocks_of desc.now.extents)
         cache.old None lists
         → IsSettled lists place) }
     ensures same { Looks (D.view disk.old) (D.view disk.new)

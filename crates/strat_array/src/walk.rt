@@ -8,7 +8,7 @@ ghost use Rattle.strat_base.specs.EntryView.{entry_of};
 ghost use Rattle.strat_base.specs.declared.failures.Fault.TheVariants.{Damaged, Device};
 ghost use Rattle.strat_crash.specs.Faults.{HasCause, ReadsAtMost};
 ghost use Rattle.strat_format.specs.Arrays.{blocks_of};
-ghost use Rattle.strat_array.specs.Kept.{Kept, held_block, kept_block, IsTaken, Looks, Stands};
+ghost use Rattle.strat_array.specs.Kept.{Kept, held_block, kept_block, TakesOver, Looks, ArrayStands};
 ghost use Rattle.strat_array.specs.Steps.{HoldsPlace, IsNear, Settles, Steps};
 ghost use Rattle.strat_array.specs.Within.{AreWithin, IsNoBlock};
 
@@ -23,7 +23,7 @@ use strat_disk::Disk;
 fn take_over(cache: &Cache, array: u64, index: u32, scratch: &mut Scratch)
     requires { IsSome (kept_block cache.now scratch.old array index) }
     ensures found { IsSome (held_block scratch.new array index) }
-    ensures kept { IsTaken cache.now array index scratch.old scratch.new }
+    ensures kept { TakesOver cache.now array index scratch.old scratch.new }
 {
     if !scratch.is_held(array, index) {
         scratch.copy(array, index, &cache.block(array, index));
@@ -43,7 +43,7 @@ fn hold<D: Disk>(
     ensures found { IfOk result (λ there. OnTrue there
         (IsSome (held_block scratch.new desc.now.id index))) }
     ensures ok { IfOk result (λ there. (lists : List (List TheEntry))
-        → Stands (D.view disk.old).content desc.now.id (blocks_of desc.now.extents)
+        → ArrayStands (D.view disk.old).content desc.now.id (blocks_of desc.now.extents)
         cache.old scratch.old lists
         → there ≡ nat_lt index (length lists)) }
     ensures none { IsSome (held_block scratch.old desc.now.id index)
@@ -81,7 +81,7 @@ pub fn settle<D: Disk>(
     requires fits { AreWithin desc.now.extents }
     ensures found { IfOk result (λ r. IfSome r (λ at. HoldsPlace scratch.new desc.now.id at)) }
     ensures ok { IfOk result (λ r. (lists : List (List TheEntry))
-        → Stands (D.view disk.old).content desc.now.id (blocks_of desc.now.extents)
+        → ArrayStands (D.view disk.old).content desc.now.id (blocks_of desc.now.extents)
         cache.old scratch.old lists
         → Settles lists place r) }
     ensures end { IfOk result (λ r. IfSome r (λ at. IsNear place at)) }
@@ -123,7 +123,7 @@ pub fn entry_at<'s, D: Disk>(
 ) -> Result<Option<(Entry<'s>, Place)>, Fault>
     requires fits { AreWithin desc.now.extents }
     ensures found { IfOk result (λ r. (lists : List (List TheEntry))
-        → Stands (D.view disk.old).content desc.now.id (blocks_of desc.now.extents)
+        → ArrayStands (D.view disk.old).content desc.now.id (blocks_of desc.now.extents)
         cache.old scratch.old lists
         → Steps lists place (option_map (λ x. (entry_of x.0, x.1)) r)) }
     ensures fits { IfOk result (λ r. IfSome r (λ x. IsTrue (fits_fields (entry_of x.0)))) }

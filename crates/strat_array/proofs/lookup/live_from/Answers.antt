@@ -2,7 +2,7 @@ use Rattle.std.proofs.Common.{◌+◌, refl, ap, subst, ◌∙◌}
 use Rattle.std.specs.List.{find}
 use Rattle.strat_base.specs.EntryView.{entry_of}
 use Rattle.strat_format.specs.Arrays.{blocks_of}
-use Rattle.strat_array.specs.Answers.{TheirPairs, Answers}
+use Rattle.strat_array.specs.Told.{TheirPairs, TellsFound}
 use Rattle.strat_array.specs.declared.place.Place.{Place}
 use Rattle.strat_array.specs.Steps.{left_from}
 use Rattle.strat_array.specs.Walk.{is_seen_at}
@@ -22,7 +22,7 @@ returns-in_err-at-clause-damaged g c = λ b torn.
 pub returns-in-Some-judge-clause-found : goal.returns-in-Some-judge-clause-found
 returns-in-Some-judge-clause-found g c = λ lists stands up from.
     let on = c.in_ok-at.ensures in
-    subst (λ (p : TheirPairs). Answers (find (is_seen_at c.args.tree.now.parents c.args.key.now c.args.v) (left_from lists c.args.place)) c.args.key.now p c.judge.new.out c.in-Some-judge.seen) c.loop-at.invariant.1
+    subst (λ (p : TheirPairs). TellsFound (find (is_seen_at c.args.tree.now.parents c.args.key.now c.args.v) (left_from lists c.args.place)) c.args.key.now p c.judge.new.out c.in-Some-judge.seen) c.loop-at.invariant.1
     (walk_answers _ _ _ _ _ _ _ _ _ _ _ _ _ _ _ _ c.loop-at.invariant.0 on.same c.in-Some.at (rw c.in-Some.is at on.ok) (rw c.in-Some.is at on.found) (entry_of c.entry-entry.result) c.entry-entry.ensures.ok
     (record { block = c.in-Some.at.block; index = c.in-Some.at.index + 1 }) refl refl _ _ c.in-Some-judge.seen c.in-Some-judge.ensures.ok lists stands up from)
 

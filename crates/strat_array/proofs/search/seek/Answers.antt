@@ -2,8 +2,8 @@ use Rattle.std.proofs.Common.{◌≡◌, ◌<◌, ℕ, true, List, None, refl, s
 use Rattle.std.specs.List.{list_all}
 use Rattle.strat_base.specs.Entries.{Entry}
 use Rattle.strat_format.specs.Arrays.{blocks_of}
-use Rattle.strat_array.specs.Kept.{Kept, Blocks, Looks, Stands}
-use Rattle.strat_array.specs.Left.{is_filled, Bound}
+use Rattle.strat_array.specs.Kept.{Kept, Blocks, Looks, ArrayStands}
+use Rattle.strat_array.specs.Left.{has_entry, Bound}
 use Rattle.strat_array.specs.declared.place.Place.{Place}
 use Rattle.strat_array.proofs.KeptLemmas.{looks_trans, stands_after}
 use Rattle.strat_array.proofs.PlaceLemmas.{listed_filled, sought_at_start, settled_at_start, sought_behind, settled_behind}
@@ -20,12 +20,12 @@ looked g c =
     subst (λ s. Looks (g.D.Disk.view c.args.disk.now) (g.D.Disk.view c.low_blocks.new.disk) c.args.desc.now.id (blocks_of c.args.desc.now.extents) c.args.cache.now c.low_blocks.new.cache s c.low_blocks.new.scratch)
     c.forget.ensures.ok c.low_blocks.ensures.same
 
-begun : (g : Over) (c : After-low_blocks g) (lists : List (List Entry)) → Stands (g.D.Disk.view c.args.disk.now).content c.args.desc.now.id (blocks_of c.args.desc.now.extents) c.args.cache.now None lists
-    → Stands (g.D.Disk.view c.args.disk.now).content c.args.desc.now.id (blocks_of c.args.desc.now.extents) c.args.cache.now c.forget.new.self lists
-begun g c lists stands = subst (λ s. Stands (g.D.Disk.view c.args.disk.now).content c.args.desc.now.id (blocks_of c.args.desc.now.extents) c.args.cache.now s lists) (sym c.forget.ensures.ok) stands
+begun : (g : Over) (c : After-low_blocks g) (lists : List (List Entry)) → ArrayStands (g.D.Disk.view c.args.disk.now).content c.args.desc.now.id (blocks_of c.args.desc.now.extents) c.args.cache.now None lists
+    → ArrayStands (g.D.Disk.view c.args.disk.now).content c.args.desc.now.id (blocks_of c.args.desc.now.extents) c.args.cache.now c.forget.new.self lists
+begun g c lists stands = subst (λ s. ArrayStands (g.D.Disk.view c.args.disk.now).content c.args.desc.now.id (blocks_of c.args.desc.now.extents) c.args.cache.now s lists) (sym c.forget.ensures.ok) stands
 
-gone_on : (g : Over) (c : After-low_blocks g) (lists : List (List Entry)) → Stands (g.D.Disk.view c.args.disk.now).content c.args.desc.now.id (blocks_of c.args.desc.now.extents) c.args.cache.now None lists
-    → Stands (g.D.Disk.view c.low_blocks.new.disk).content c.args.desc.now.id (blocks_of c.args.desc.now.extents) c.low_blocks.new.cache c.low_blocks.new.scratch lists
+gone_on : (g : Over) (c : After-low_blocks g) (lists : List (List Entry)) → ArrayStands (g.D.Disk.view c.args.disk.now).content c.args.desc.now.id (blocks_of c.args.desc.now.extents) c.args.cache.now None lists
+    → ArrayStands (g.D.Disk.view c.low_blocks.new.disk).content c.args.desc.now.id (blocks_of c.args.desc.now.extents) c.low_blocks.new.cache c.low_blocks.new.scratch lists
 gone_on g c lists stands = stands_after _ _ _ _ _ _ _ _ lists c.low_blocks.ensures.same (begun g c lists stands)
 
 pub returns-then-n-eq0-clause-ok : goal.returns-then-n-eq0-clause-ok

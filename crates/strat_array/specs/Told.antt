@@ -18,13 +18,13 @@ Tells e old new seen.Gone = (e.value ≡ None) × (new ≡ old)
 Tells e old new seen.None = ⊥
 
 -- what an entry that was found says is told, or that there is none
-abbrev pub Answers : Option Entry → List ℕ → TheirPairs → TheirPairs → Seen → Type 0
-Answers found key old new seen.Put =
+abbrev pub TellsFound : Option Entry → List ℕ → TheirPairs → TheirPairs → Seen → Type 0
+TellsFound found key old new seen.Put =
     (e : Entry) × (value : List ℕ) × (found ≡ Some e) × (e.value ≡ Some value)
     × (new ≡ old ++ (key, value) ∷ [])
-Answers found key old new seen.Gone =
+TellsFound found key old new seen.Gone =
     (e : Entry) × (found ≡ Some e) × (e.value ≡ None) × (new ≡ old)
-Answers found key old new seen.None = (found ≡ None) × (new ≡ old)
+TellsFound found key old new seen.None = (found ≡ None) × (new ≡ old)
 
 -- an entry decides a key at a version, or is of another key, or leaves it to those behind it
 abbrev pub Judges : Parents → List ℕ → ℕ → Entry → TheirPairs → TheirPairs → Option Seen → Type 0
