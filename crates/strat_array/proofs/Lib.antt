@@ -1,0 +1,13 @@
+pub mod BlockFacts
+pub mod CacheLemmas
+pub mod ExtentLemmas
+pub mod FindLemmas
+pub mod FoundLemmas
+pub mod HoldLemmas
+pub mod KeptLemmas
+pub mod LawLemmas
+pub mod OrderLemmas
+pub mod PlaceLemmas
+pub mod SearchLemmas
+pub mod SeekLemmas
+pub mod WalkLemmas

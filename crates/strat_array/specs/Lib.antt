@@ -1,0 +1,9 @@
+pub mod Blocks
+pub mod Kept
+pub mod Left
+pub mod ScratchFields
+pub mod Shown
+pub mod Steps
+pub mod Told
+pub mod Walk
+pub mod Within
