@@ -6,11 +6,14 @@ use Rattle.std.specs.Option.{is_some, option_or}
 use Rattle.std.proofs.lemmas.Bool.{cases_eq, eq-eqb, ne_eqb}
 use Rattle.std.proofs.lemmas.List.{get_or-set_same, get_or-set_other, length-take-le, take_all}
 use Rattle.std.proofs.lemmas.List.Folds.{find-append}
-use Rattle.std.proofs.lemmas.List.Sums.{sum_by-append}
+use Rattle.std.proofs.lemmas.List.Sums.{sum_by-append, sum_by-take-le, count_by_more_yes}
 use Rattle.std.proofs.Math.Seq.{take-suc}
 use Rattle.strat_base.specs.declared.descriptors.ArrayDesc.{ArrayDesc}
 use Rattle.strat_level.specs.Levels.{is_for, arrays_for, HaveDisjointTags}
-use Rattle.strat_level.specs.Index.{slot, IsIndexOf, IsTagAdded}
+use Rattle.strat_base.specs.Entries.{is_tagged}
+use Rattle.strat_level.specs.declared.index.LevelFault.{LevelFault}
+use Rattle.strat_level.specs.declared.index.LevelFault.TheVariants.{Overlap, NoMemory}
+use Rattle.strat_level.specs.Index.{slot, IsIndexOf, IsTagAdded, IfOverlap, IsTaken}
 
 -- an index that reaches to a version, after a number was put there
 pub slot_put : (old reached : List (Option ℕ)) (i n : ℕ) → i < length reached → ((v : ℕ) → slot reached v ≡ slot old v) → (v : ℕ)
@@ -148,6 +151,16 @@ module _ (before : List (Option ℕ)) (arrays : List ArrayDesc) (i : ℕ) (d : A
       indexed_more after
       (subst (λ (n : ℕ). IsTagAdded before after n (get_or arrays i d).versions) number_is
       (subst (λ (vs : List ℕ). IsTagAdded before after number vs) tag_is added))
+
+  -- a version of the next tag that has a number stands in two tags
+  pub stands_in_two : (tag : List ℕ) → tag ≡ (get_or arrays i d).versions → (e : LevelFault) → IfOverlap e (IsTaken before tag) → IfOverlap e (λ v. 1 < arrays_for arrays v)
+  stands_in_two tag tag_is NoMemory taken = tt
+  stands_in_two tag tag_is (Overlap v) taken =
+      let here : is_for v (get_or arrays i d) ≡ true = ap (λ (vs : List ℕ). is_tagged vs v) (sym tag_is) ∙ taken.0 in
+      let part : arrays_for (take (i + 1) arrays) v ≤ arrays_for arrays v = sum_by-take-le (λ x. cond (is_for v x) 1 0) arrays (i + 1) in
+      let more : arrays_for (take (i + 1) arrays) v ≡ arrays_for (take i arrays) v + 1 = count_by_more_yes (is_for v) arrays i d lt here in
+      let one : arrays_for (take i arrays) v ≡ 1 = indexed.counted v ∙ ap (λ (b : Bool). cond b 1 0) taken.1 in
+      omega arith
 
 -- no version stands in two tags of arrays that have an index
 pub disjoint_from : (index : List (Option ℕ)) (arrays : List ArrayDesc) (i : ℕ) → length arrays ≤ i → IsIndexOf index (take i arrays) → HaveDisjointTags arrays
