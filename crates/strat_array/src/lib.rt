@@ -1,6 +1,7 @@
 //! Arrays of entries on a disk: their writer, and the reading of keys and of entries in order.
 #![tactic(auto)]
 
+mod blocks;
 mod cache;
 pub mod laws;
 mod lookup;
@@ -10,6 +11,8 @@ mod scratch;
 mod search;
 mod seen;
 mod walk;
+mod writer;
+pub mod writer_laws;
 
 pub use cache::Cache;
 pub use lookup::find;
@@ -18,3 +21,4 @@ pub use scratch::Scratch;
 pub use search::seek;
 pub use seen::Seen;
 pub use walk::{entry_at, settle};
+pub use writer::ArrayWriter;

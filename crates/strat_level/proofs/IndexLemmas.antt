@@ -1,17 +1,19 @@
 -- An index over versions while tags are put into it, one version after another.
-use Rattle.std.proofs.Common.{◌≡◌, ℕ, zero, suc, length-append, ◌+◌, ◌<◌, ◌≤◌, Bool, true, false, ◌||◌, cond, eqb, List, [], ◌∷◌, ◌++◌, length, take, get_or, Option, Some, None, IfSome, option_and_then, refl, sym, ap, ◌∙◌, subst, ◌⊎◌, inl, inr, arith, add-one}
+use Rattle.std.proofs.Common.{◌≡◌, ℕ, zero, suc, length-append, ◌+◌, ◌<◌, ◌≤◌, Bool, true, false, cond, eqb, List, [], ◌∷◌, ◌++◌, length, take, get_or, Option, Some, None, IfSome, option_and_then, refl, sym, ap, ◌∙◌, subst, ◌⊎◌, inl, inr, arith, add-one}
 use Rattle.std.proofs.Math.ListN.{set}
 use Rattle.std.specs.List.{find, slice_get}
-use Rattle.std.specs.Option.{IsSome, is_some, option_or}
-use Rattle.std.proofs.lemmas.Bool.{cases_eq, eq-eqb, ne_eqb, eqb-true}
+use Rattle.std.specs.Option.{is_some, option_or}
+use Rattle.std.proofs.lemmas.Bool.{cases_eq, eq-eqb, ne_eqb}
 use Rattle.std.proofs.lemmas.List.{get_or-set_same, get_or-set_other, length-take-le, take_all}
-use Rattle.std.proofs.lemmas.List.Folds.{list_any-append, find-append}
+use Rattle.std.proofs.lemmas.List.Folds.{find-append}
 use Rattle.std.proofs.lemmas.List.Sums.{sum_by-append, sum_by-take-le, count_by_more_yes}
 use Rattle.std.proofs.Math.Seq.{take-suc}
-use Rattle.strat_base.specs.Entries.{is_tagged}
 use Rattle.strat_base.specs.declared.descriptors.ArrayDesc.{ArrayDesc}
 use Rattle.strat_level.specs.Levels.{is_for, arrays_for, HaveDisjointTags}
-use Rattle.strat_level.specs.Index.{slot, AreSlotsBelow, IsIndexOf, IsTagAdded, IsTaken}
+use Rattle.strat_base.specs.Entries.{is_tagged}
+use Rattle.strat_level.specs.declared.index.LevelFault.{LevelFault}
+use Rattle.strat_level.specs.declared.index.LevelFault.TheVariants.{Overlap, NoMemory}
+use Rattle.strat_level.specs.Index.{slot, IsIndexOf, IsTagAdded, IfOverlap, IsTaken}
 
 -- an index that reaches to a version, after a number was put there
 pub slot_put : (old reached : List (Option ℕ)) (i n : ℕ) → i < length reached → ((v : ℕ) → slot reached v ≡ slot old v) → (v : ℕ)
@@ -23,79 +25,6 @@ slot_put old reached i n lt same v = put (cases_eq v i)
         ap (slot (set reached i (Some n))) e ∙ get_or-set_same reached i (Some n) None lt ∙ ap (λ (b : Bool). cond b (Some n) (slot old v)) (sym (eq-eqb i v (sym e)))
     put (inr ne) =
         get_or-set_other reached i v (Some n) None ne ∙ same v ∙ ap (λ (b : Bool). cond b (Some n) (slot old v)) (sym (ne_eqb i v (λ e. ne (sym e))))
-
-tagged_more : (tag : List ℕ) (i d v : ℕ) → i < length tag → is_tagged (take (i + 1) tag) v ≡ (is_tagged (take i tag) v || eqb (get_or tag i d) v)
-tagged_more tag i d v lt =
-    ap (λ (n : ℕ). is_tagged (take n tag) v) (add-one i)
-    ∙ ap (λ (ws : List ℕ). is_tagged ws v) (take-suc tag i d lt)
-    ∙ list_any-append (λ w. eqb w v) (take i tag) (get_or tag i d ∷ [])
-    ∙ ap (λ (b : Bool). is_tagged (take i tag) v || b) (or_false (eqb (get_or tag i d) v))
-  where
-    or_false : (b : Bool) → (b || false) ≡ b
-    or_false true = refl
-    or_false false = refl
-
-tagged_at : (ws : List ℕ) (k d v : ℕ) → k < length ws → v ≡ get_or ws k d → is_tagged ws v ≡ true
-tagged_at [] k d v less e = absurd (omega arith)
-tagged_at (w ∷ ws) zero d v less e = ap (λ (b : Bool). b || is_tagged ws v) (eq-eqb w v (sym e))
-tagged_at (w ∷ ws) (suc k) d v less e = or_true (eqb w v) (is_tagged ws v) (tagged_at ws k d v (omega arith) e)
-  where
-    or_true : (b c : Bool) → c ≡ true → (b || c) ≡ true
-    or_true true c h = refl
-    or_true false c h = h
-
-either : (t e : Bool) (x y : Option ℕ) → cond e x (cond t x y) ≡ cond (t || e) x y
-either true true x y = refl
-either true false x y = refl
-either false true x y = refl
-either false false x y = refl
-
-module _ (before after : List (Option ℕ)) (number : ℕ) (tag : List ℕ) (i d : ℕ) (lt : i < length tag) (below : AreSlotsBelow before number) (added : IsTagAdded before after number (take i tag)) where
-  -- at a version that was not put so far stands what stood there before
-  untouched : (v : ℕ) → is_tagged (take i tag) v ≡ false → slot after v ≡ slot before v
-  untouched v away = added.slots v ∙ ap (λ (b : Bool). cond b (Some number) (slot before v)) away
-
-  touched : (v : ℕ) → is_tagged (take i tag) v ≡ true → slot after v ≡ Some number
-  touched v there = added.slots v ∙ ap (λ (b : Bool). cond b (Some number) (slot before v)) there
-
-  -- one more version of the tag
-  pub tag_added_more : (next : List (Option ℕ)) → ((v : ℕ) → slot next v ≡ cond (eqb (get_or tag i d) v) (Some number) (slot after v))
-      → (slot after (get_or tag i d) ≡ None) ⊎ (slot after (get_or tag i d) ≡ Some number) → IsTagAdded before next number (take (i + 1) tag)
-  unfolding untouched
-  tag_added_more next puts was = record { slots = slots; free = λ v there. free v (is_tagged (take i tag) v) refl (sym (tagged_more tag i d v lt) ∙ there) }
-    where
-      slots : (v : ℕ) → slot next v ≡ cond (is_tagged (take (i + 1) tag) v) (Some number) (slot before v)
-      slots v =
-          puts v ∙ ap (λ (o : Option ℕ). cond (eqb (get_or tag i d) v) (Some number) o) (added.slots v)
-          ∙ either (is_tagged (take i tag) v) (eqb (get_or tag i d) v) (Some number) (slot before v)
-          ∙ ap (λ (b : Bool). cond b (Some number) (slot before v)) (sym (tagged_more tag i d v lt))
-
-      was_free : (v : ℕ) → is_tagged (take i tag) v ≡ false → (slot after v ≡ None) ⊎ (slot after v ≡ Some number) → slot before v ≡ None
-      was_free v away (inl none) = sym (untouched v away) ∙ none
-      was_free v away (inr some) =
-          let bad : number < number = subst (λ (o : Option ℕ). IfSome o (λ n. n < number)) (sym (untouched v away) ∙ some) (below v) in
-          absurd (omega arith)
-
-      free : (v : ℕ) (t : Bool) → is_tagged (take i tag) v ≡ t → (is_tagged (take i tag) v || eqb (get_or tag i d) v) ≡ true → slot before v ≡ None
-      free v true e there = added.free v e
-      free v false e there =
-          let here = eqb-true (get_or tag i d) v (sym (ap (λ (b : Bool). b || eqb (get_or tag i d) v) e) ∙ there) in
-          was_free v e (subst (λ (w : ℕ). (slot after w ≡ None) ⊎ (slot after w ≡ Some number)) here was)
-
-  -- a version of the tag where another number stands had one before
-  pub tag_taken : (v n : ℕ) → v ≡ get_or tag i d → slot after v ≡ Some n → (n ≡ number → ⊥) → IsTaken before tag v
-  unfolding untouched touched
-  tag_taken v n here some other = (tagged, taken (is_tagged (take i tag) v) refl)
-    where
-      tagged : is_tagged tag v ≡ true
-      tagged = tagged_at tag i d v lt here
-
-      taken : (t : Bool) → is_tagged (take i tag) v ≡ t → IsSome (slot before v)
-      taken true e = absurd (other (some_same n number (sym some ∙ touched v e)))
-        where
-          some_same : (a b : ℕ) → Some a ≡ Some b → a ≡ b
-          some_same a b e = cc
-      taken false e = subst (λ (o : Option ℕ). IsSome o) (sym (sym (untouched v e) ∙ some)) refl
 
 get_left : (xs ys : List ArrayDesc) (k : ℕ) → k < length xs → slice_get (xs ++ ys) k ≡ slice_get xs k
 get_left [] ys k less = absurd (omega arith)
@@ -223,12 +152,14 @@ module _ (before : List (Option ℕ)) (arrays : List ArrayDesc) (i : ℕ) (d : A
       (subst (λ (n : ℕ). IsTagAdded before after n (get_or arrays i d).versions) number_is
       (subst (λ (vs : List ℕ). IsTagAdded before after number vs) tag_is added))
 
-  -- a version that is taken stands in two tags
-  pub stands_in_two : (v : ℕ) → IsTaken before (get_or arrays i d).versions v → 1 < arrays_for arrays v
-  stands_in_two v taken =
+  -- a version of the next tag that has a number stands in two tags
+  pub stands_in_two : (tag : List ℕ) → tag ≡ (get_or arrays i d).versions → (e : LevelFault) → IfOverlap e (IsTaken before tag) → IfOverlap e (λ v. 1 < arrays_for arrays v)
+  stands_in_two tag tag_is NoMemory taken = tt
+  stands_in_two tag tag_is (Overlap v) taken =
+      let here : is_for v (get_or arrays i d) ≡ true = ap (λ (vs : List ℕ). is_tagged vs v) (sym tag_is) ∙ taken.0 in
       let part : arrays_for (take (i + 1) arrays) v ≤ arrays_for arrays v = sum_by-take-le (λ x. cond (is_for v x) 1 0) arrays (i + 1) in
-      let here : arrays_for (take (i + 1) arrays) v ≡ arrays_for (take i arrays) v + 1 = count_by_more_yes (is_for v) arrays i d lt taken.0 in
-      let before : arrays_for (take i arrays) v ≡ 1 = indexed.counted v ∙ ap (λ (b : Bool). cond b 1 0) taken.1 in
+      let more : arrays_for (take (i + 1) arrays) v ≡ arrays_for (take i arrays) v + 1 = count_by_more_yes (is_for v) arrays i d lt here in
+      let one : arrays_for (take i arrays) v ≡ 1 = indexed.counted v ∙ ap (λ (b : Bool). cond b 1 0) taken.1 in
       omega arith
 
 -- no version stands in two tags of arrays that have an index

@@ -28,8 +28,8 @@ abbrev pub desc_leads : LevelDesc → ℕ
 desc_leads level = sum_by (λ a. a.leads) level.arrays
 
 -- the level of a number, counted from 1; none where it is empty or past the last
-abbrev pub level_desc : List (Option LevelDesc) → ℕ → Option LevelDesc
-level_desc levels number =
+abbrev pub level_numbered : List (Option LevelDesc) → ℕ → Option LevelDesc
+level_numbered levels number =
     if nat_le 1 number then slice_index_or levels (number - 1) None else None
 
 -- the leads of a level, or 0 where it is empty

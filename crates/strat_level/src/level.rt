@@ -56,7 +56,7 @@ impl Level {
     /// Its descriptor. O(1).
     pub fn desc(&self) -> &LevelDesc
         ensures ok { result.now ≡ self.now }
-        ensures none { HaveDisjointTags self.now.arrays }
+        ensures kept { HaveDisjointTags self.now.arrays }
         ensures fits { 1 ≤ self.now.horizon }
         ensures room { desc_leads self.now ≤ 4294967295 }
     {
@@ -66,7 +66,7 @@ impl Level {
     /// Its descriptor alone. O(1).
     pub fn into_desc(self) -> LevelDesc
         ensures ok { result ≡ self }
-        ensures none { HaveDisjointTags self.arrays }
+        ensures kept { HaveDisjointTags self.arrays }
         ensures fits { 1 ≤ self.horizon }
         ensures room { desc_leads self ≤ 4294967295 }
     {

@@ -2,7 +2,7 @@
 
 ghost use Rattle.std.specs.Prelude.{◌≡◌, ◌<◌, ◌≤◌, ◌-◌, length, None, replicate, slice_set, slice_index_or, option_and_then};
 ghost use Rattle.std.specs.Option.{option_copied};
-ghost use Rattle.strat_level.specs.Levels.{desc_for, level_desc, leads_if_any};
+ghost use Rattle.strat_level.specs.Levels.{desc_for, level_numbered, leads_if_any};
 
 use crate::level::Level;
 use std::marker::Model;
@@ -45,7 +45,7 @@ impl Levels {
     pub fn set(&mut self, number: usize, level: Option<Level>) -> Option<Level>
         requires fits { (1 ≤ number) × (number ≤ 22) }
         ensures ok { self.new ≡ slice_set self.old (number - 1) level }
-        ensures found { result ≡ level_desc self.old number }
+        ensures found { result ≡ level_numbered self.old number }
         ensures len { length self.new ≡ 22 }
     {
         mem::replace(&mut self.levels[number - 1], level)
@@ -53,7 +53,7 @@ impl Levels {
 
     /// The level of a number, or `None` where it is empty. O(1).
     pub fn get(&self, number: usize) -> Option<&Level>
-        ensures ok { option_copied result ≡ level_desc self.now number }
+        ensures ok { option_copied result ≡ level_numbered self.now number }
         ensures len { length self.now ≡ 22 }
     {
         if 1 <= number && number <= LEVELS {
@@ -65,7 +65,7 @@ impl Levels {
 
     /// The leads of a level, or 0 where it is empty. O(1).
     pub fn leads(&self, number: usize) -> u32
-        ensures ok { result ≡ leads_if_any (level_desc self.now number) }
+        ensures ok { result ≡ leads_if_any (level_numbered self.now number) }
     {
         match self.get(number) {
             Some(level) => level.leads(),
@@ -78,7 +78,7 @@ impl Levels {
     pub fn array_for(&self, tree: &Tree, number: usize, v: Version) -> Option<&ArrayDesc>
         requires fits { v < length tree.now.parents }
         ensures ok { option_copied result ≡ option_and_then
-            (λ level. desc_for tree.now.parents level v) (level_desc self.now number) }
+            (λ level. desc_for tree.now.parents level v) (level_numbered self.now number) }
     {
         self.get(number)?.array_for(tree, v)
     }

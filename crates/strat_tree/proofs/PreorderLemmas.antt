@@ -135,8 +135,11 @@ module _ (parents others : Parents) (tree : IsTree others) (n : ℕ) (same : (v 
             ∙ sym (ap (λ (o : Option ℕ). up o others) some.1)
       ]
 
+  pub path_same : (v : ℕ) → v < n → path parents v ≡ path others v
+  path_same v known = climb_same v v known
+
   pub ancestors_same : (u v : ℕ) → v < n → is_ancestor parents u v ≡ is_ancestor others u v
-  ancestors_same u v known = ap (λ (x : List ℕ). list_any (λ w. eqb w u) x) (climb_same v v known)
+  ancestors_same u v known = ap (λ (x : List ℕ). list_any (λ w. eqb w u) x) (path_same v known)
 
   -- intervals that were made of one tree order each that has the same parents
   pub intervals_order : (few : n ≤ length others) (starts ends : List ℕ) → length starts ≡ n → length ends ≡ n

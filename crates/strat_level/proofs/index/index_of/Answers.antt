@@ -1,5 +1,5 @@
-use Rattle.std.proofs.Common.{arith}
-use Rattle.strat_level.proofs.IndexLemmas.{indexed_next, disjoint_from}
+use Rattle.std.proofs.Common.{arith, rules}
+use Rattle.strat_level.proofs.IndexLemmas.{indexed_next, stands_in_two, disjoint_from}
 use Rattle.strat_level.proofs.index.index_of.Goals as goal
 
 pub loop-i-preserved : goal.loop-i-preserved
@@ -8,3 +8,7 @@ loop-i-preserved c =
 
 pub returns-clause-none : goal.returns-clause-none
 returns-clause-none c = disjoint_from c.loop-i.index.items c.args.arrays.now c.loop-i.i c.loop-i-test.false c.loop-i.invariant
+
+pub returns-in_err-add_tag-clause-err : goal.returns-in_err-add_tag-clause-err
+returns-in_err-add_tag-clause-err c =
+    let k = (stands_in_two c.loop-i.index.items c.args.arrays.now c.loop-i.i c.index-arrays-i.result c.loop-i-test.true c.loop-i.invariant c.as_slice.result.now c.as_slice.ensures.ok c.in_err-add_tag.field-0.0 c.in_err-add_tag.ensures.err) in search rules

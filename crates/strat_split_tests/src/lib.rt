@@ -1,0 +1,9 @@
+//! Tests of counts over the items of many keys, and of the split by them.
+#![tactic(auto)]
+
+#[cfg(test)]
+mod drawn;
+#[cfg(test)]
+mod rows;
+#[cfg(test)]
+mod trees;
