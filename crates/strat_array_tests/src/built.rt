@@ -5,8 +5,9 @@ ghost use Rattle.strat_base.specs.declared.descriptors.Extent.{Extent as AnExten
 ghost use Rattle.strat_array.specs.Within.{AreWithin};
 
 use std::alloc::{AllocError, Global};
+use strat_array::Scratch;
 use strat_base::limits::BLOCK;
-use strat_base::{ArrayDesc, Extent, Extents, NoMemory, Trouble, Version, Versions};
+use strat_base::{ArrayDesc, Extent, Extents, NoMemory, PairBuf, Trouble, Version, Versions};
 use strat_disk::{Disk, MemDisk};
 use strat_tree::Tree;
 
@@ -193,4 +194,49 @@ pub(crate) fn star(alloc: Global) -> Result<Tree, NoMemory>
         tree.add_child(0);
     }
     Ok(tree)
+}
+
+/// A disk with an array, and all that its readers need.
+#[derive(Drop)]
+pub(crate) struct Shelf {
+    pub disk: MemDisk,
+    pub desc: ArrayDesc,
+    pub tree: Tree,
+    pub scratch: Scratch,
+    pub out: PairBuf,
+}
+
+/// What stands beside an array's disk and its descriptor.
+fn beside(alloc: Global, disk: MemDisk, desc: ArrayDesc, tree: Tree) -> Result<Shelf, NoMemory>
+    ensures ok { IfOk result (λ s. (s.desc ≡ desc) × (s.tree ≡ tree)) }
+{
+    Ok(Shelf {
+        disk,
+        desc,
+        tree,
+        scratch: Scratch::new(alloc)?,
+        out: PairBuf::new(alloc)?,
+    })
+}
+
+/// A disk with an array of 3,000 entries in 40 blocks.
+pub(crate) fn many(alloc: Global) -> Result<Shelf, Trouble>
+    ensures fits { IfOk result (λ s. AreWithin s.desc.extents) }
+    ensures len { IfOk result (λ s. length s.tree.parents ≡ 7) }
+{
+    let mut disk = MemDisk::new(alloc, &[])?;
+    write_array(alloc, &mut disk, Shape::Many, 3000)?;
+    let shelf = beside(alloc, disk, described(alloc)?, seven(alloc)?)?;
+    Ok(shelf)
+}
+
+/// A disk with an array of one key's 201 entries in three blocks.
+pub(crate) fn one(alloc: Global) -> Result<Shelf, Trouble>
+    ensures fits { IfOk result (λ s. AreWithin s.desc.extents) }
+    ensures len { IfOk result (λ s. length s.tree.parents ≡ 202) }
+{
+    let mut disk = MemDisk::new(alloc, &[])?;
+    write_array(alloc, &mut disk, Shape::One, 201)?;
+    let shelf = beside(alloc, disk, single(alloc)?, star(alloc)?)?;
+    Ok(shelf)
 }

@@ -4,14 +4,13 @@
 ghost use Rattle.std.specs.Prelude.{◌≡◌, ◌<◌, ◌≤◌, length};
 ghost use Rattle.strat_array.specs.Within.{AreWithin};
 
-use crate::built::{
-    FULL, Shape, block_of, described, key_of, seven, single, star, value_of, version_of,
-    write_array,
-};
+use crate::built::{FULL, Shape, Shelf, block_of, key_of, many, one, value_of, version_of};
+use std::alloc::Global;
 use std::process::Abort;
 use std::test::Fail;
 use strat_array::{Cache, Place, Scratch, Seen, entry_at, find, seek};
-use strat_base::{ArrayDesc, Entry, Fault, PairBuf, Val, Version};
+use strat_base::limits::BLOCK;
+use strat_base::{ArrayDesc, Entry, Fault, NoMemory, PairBuf, Val, Version};
 use strat_disk::MemDisk;
 use strat_tree::Tree;
 
@@ -91,45 +90,6 @@ fn finds_all(
     true
 }
 
-#[test]
-fn each_key_is_found_at_each_version(rt: HostRuntime) -> Result<(), Fail> {
-    let alloc = rt.alloc();
-    let mut disk = MemDisk::new(alloc, &[])?;
-    write_array(alloc, &mut disk, Shape::Many, 3000)?;
-    let desc = described(alloc)?;
-    let tree = seven(alloc)?;
-    let mut scratch = Scratch::new(alloc)?;
-    let mut out = PairBuf::new(alloc)?;
-    let mut cache = Cache::new(alloc, 256)?;
-    assert!(rt;
-        finds_all(
-            &mut disk,
-            &mut cache,
-            &desc,
-            &tree,
-            &mut scratch,
-            &mut out,
-            1
-        )
-    );
-    // Each of the 40 blocks was read once.
-    assert!(rt; disk.reads() == 40 && cache.len() == 40);
-    // A cache of one block gives the same answers.
-    let mut small = Cache::new(alloc, 1)?;
-    assert!(rt;
-        finds_all(
-            &mut disk,
-            &mut small,
-            &desc,
-            &tree,
-            &mut scratch,
-            &mut out,
-            83
-        )
-    );
-    Ok(())
-}
-
 /// Whether an entry is entry number n.
 fn is_number(e: &Entry<'_>, shape: Shape, n: u32) -> bool {
     let value = match (e.val, value_of(shape, n)) {
@@ -177,20 +137,6 @@ fn walks(disk: &mut MemDisk, cache: &mut Cache, desc: &ArrayDesc, scratch: &mut 
         }
     }
     true
-}
-
-#[test]
-fn a_walk_reads_each_block_once(rt: HostRuntime) -> Result<(), Fail> {
-    let alloc = rt.alloc();
-    let mut disk = MemDisk::new(alloc, &[])?;
-    write_array(alloc, &mut disk, Shape::Many, 3000)?;
-    let desc = described(alloc)?;
-    let mut scratch = Scratch::new(alloc)?;
-    // With a cache of one block the scratch alone saves the reads.
-    let mut cache = Cache::new(alloc, 1)?;
-    assert!(rt; walks(&mut disk, &mut cache, &desc, &mut scratch));
-    assert!(rt; disk.reads() == 40);
-    Ok(())
 }
 
 /// Whether a search for these bytes gives the place of entry number n, or the end.
@@ -243,18 +189,6 @@ fn seeks_all(disk: &mut MemDisk, cache: &mut Cache, desc: &ArrayDesc, scratch: &
     seeks(disk, cache, desc, &[], scratch, 0) && seeks(disk, cache, desc, b"l", scratch, 3000)
 }
 
-#[test]
-fn places_are_those_of_keys(rt: HostRuntime) -> Result<(), Fail> {
-    let alloc = rt.alloc();
-    let mut disk = MemDisk::new(alloc, &[])?;
-    write_array(alloc, &mut disk, Shape::Many, 3000)?;
-    let desc = described(alloc)?;
-    let mut scratch = Scratch::new(alloc)?;
-    let mut cache = Cache::new(alloc, 256)?;
-    assert!(rt; seeks_all(&mut disk, &mut cache, &desc, &mut scratch));
-    Ok(())
-}
-
 /// How often a look-up of entry number n reads the disk, and does so again.
 fn reads_of(
     disk: &mut MemDisk,
@@ -281,77 +215,6 @@ fn reads_of(
     Some((cold, warm))
 }
 
-#[test]
-fn a_look_up_reads_few_blocks_and_none_again(rt: HostRuntime) -> Result<(), Fail> {
-    let alloc = rt.alloc();
-    let mut disk = MemDisk::new(alloc, &[])?;
-    write_array(alloc, &mut disk, Shape::Many, 3000)?;
-    let desc = described(alloc)?;
-    let tree = seven(alloc)?;
-    let mut scratch = Scratch::new(alloc)?;
-    let mut out = PairBuf::new(alloc)?;
-    for i in 0..80 {
-        let mut cache = Cache::new(alloc, 256)?;
-        let n = 37 * i;
-        let reads = reads_of(
-            &mut disk,
-            &mut cache,
-            &desc,
-            &tree,
-            &mut scratch,
-            &mut out,
-            n,
-        );
-        assert!(rt; matches!(&reads, Some((1..=7, 0))));
-    }
-    Ok(())
-}
-
-#[test]
-fn a_key_goes_on_in_later_blocks(rt: HostRuntime) -> Result<(), Fail> {
-    let alloc = rt.alloc();
-    let mut disk = MemDisk::new(alloc, &[])?;
-    write_array(alloc, &mut disk, Shape::One, 201)?;
-    let desc = single(alloc)?;
-    let tree = star(alloc)?;
-    let mut scratch = Scratch::new(alloc)?;
-    let mut out = PairBuf::new(alloc)?;
-    let mut cache = Cache::new(alloc, 256)?;
-    for n in 0..201 {
-        let v = version_of(Shape::One, n);
-        assert!(rt; v < tree.count());
-        assert!(rt;
-            finds(
-                &mut disk,
-                &mut cache,
-                &desc,
-                &tree,
-                v,
-                &mut scratch,
-                &mut out,
-                Shape::One,
-                n
-            )
-        );
-    }
-    assert!(rt; disk.reads() == 3);
-    // Version 201 has no entry of its own: it sees version 0's, the last.
-    assert!(rt;
-        finds(
-            &mut disk,
-            &mut cache,
-            &desc,
-            &tree,
-            201,
-            &mut scratch,
-            &mut out,
-            Shape::One,
-            200
-        )
-    );
-    Ok(())
-}
-
 /// Whether a look-up of entry number n names a block as damaged.
 fn blames(
     disk: &mut MemDisk,
@@ -373,36 +236,180 @@ fn blames(
 }
 
 #[test]
-fn a_damaged_block_is_named(rt: HostRuntime) -> Result<(), Fail> {
-    let alloc = rt.alloc();
-    let mut disk = MemDisk::new(alloc, &[])?;
-    write_array(alloc, &mut disk, Shape::Many, 3000)?;
-    let desc = described(alloc)?;
-    let tree = seven(alloc)?;
-    let mut scratch = Scratch::new(alloc)?;
-    let mut out = PairBuf::new(alloc)?;
-    for index in 0..40 {
-        let at = block_of(index) as usize * 4096 + 1;
-        let was = disk.bytes().get(at).copied().unwrap_or(0);
-        if at < disk.bytes().len() {
-            disk.alter(at as u64, 76);
-        }
+fn each_key_is_found_at_each_version(rt: HostRuntime) -> Result<(), Fail> {
+    let mut s = many(rt.alloc())?;
+    let mut cache = Cache::new(rt.alloc(), 256)?;
+    let found = finds_all(
+        &mut s.disk,
+        &mut cache,
+        &s.desc,
+        &s.tree,
+        &mut s.scratch,
+        &mut s.out,
+        1,
+    );
+    // Each of the 40 blocks was read once.
+    assert!(rt; found && s.disk.reads() == 40 && cache.len() == 40);
+    Ok(())
+}
+
+#[test]
+fn a_cache_of_one_block_gives_the_same(rt: HostRuntime) -> Result<(), Fail> {
+    let mut s = many(rt.alloc())?;
+    let mut cache = Cache::new(rt.alloc(), 1)?;
+    assert!(rt;
+        finds_all(
+            &mut s.disk,
+            &mut cache,
+            &s.desc,
+            &s.tree,
+            &mut s.scratch,
+            &mut s.out,
+            83
+        )
+    );
+    Ok(())
+}
+
+#[test]
+fn a_walk_reads_each_block_once(rt: HostRuntime) -> Result<(), Fail> {
+    let mut s = many(rt.alloc())?;
+    // With a cache of one block the scratch alone saves the reads.
+    let mut cache = Cache::new(rt.alloc(), 1)?;
+    assert!(rt; walks(&mut s.disk, &mut cache, &s.desc, &mut s.scratch));
+    assert!(rt; s.disk.reads() == 40);
+    Ok(())
+}
+
+#[test]
+fn places_are_those_of_keys(rt: HostRuntime) -> Result<(), Fail> {
+    let mut s = many(rt.alloc())?;
+    let mut cache = Cache::new(rt.alloc(), 256)?;
+    assert!(rt; seeks_all(&mut s.disk, &mut cache, &s.desc, &mut s.scratch));
+    Ok(())
+}
+
+/// Whether look-ups of many entries, each with a new cache, read seven blocks at most, and none again.
+fn reads_few(alloc: Global, s: &mut Shelf) -> Result<bool, NoMemory>
+    requires fits { AreWithin s.old.desc.extents }
+    requires kept { 7 ≤ length s.old.tree.parents }
+{
+    for i in 0..80 {
         let mut cache = Cache::new(alloc, 256)?;
-        assert!(rt;
-            blames(
-                &mut disk,
-                &mut cache,
-                &desc,
-                &tree,
-                &mut scratch,
-                &mut out,
-                FULL * index + 40,
-                block_of(index)
-            )
+        let reads = reads_of(
+            &mut s.disk,
+            &mut cache,
+            &s.desc,
+            &s.tree,
+            &mut s.scratch,
+            &mut s.out,
+            37 * i,
         );
-        if at < disk.bytes().len() {
-            disk.alter(at as u64, was);
+        if !matches!(&reads, Some((1..=7, 0))) {
+            return Ok(false);
         }
     }
+    Ok(true)
+}
+
+#[test]
+fn a_look_up_reads_few_blocks_and_none_again(rt: HostRuntime) -> Result<(), Fail> {
+    let mut s = many(rt.alloc())?;
+    assert!(rt; reads_few(rt.alloc(), &mut s)?);
+    Ok(())
+}
+
+/// Whether the key is found at each version, with its entries in three blocks.
+fn finds_each(
+    disk: &mut MemDisk,
+    cache: &mut Cache,
+    desc: &ArrayDesc,
+    tree: &Tree,
+    scratch: &mut Scratch,
+    out: &mut PairBuf,
+) -> bool
+    requires fits { AreWithin desc.now.extents }
+    requires kept { 202 ≤ length tree.now.parents }
+{
+    for v in 0..201 {
+        if !finds(
+            disk,
+            cache,
+            desc,
+            tree,
+            v,
+            scratch,
+            out,
+            Shape::One,
+            200 - v,
+        ) {
+            return false;
+        }
+    }
+    // Version 201 has no entry of its own: it sees version 0's, the last.
+    finds(disk, cache, desc, tree, 201, scratch, out, Shape::One, 200)
+}
+
+#[test]
+fn a_key_goes_on_in_later_blocks(rt: HostRuntime) -> Result<(), Fail> {
+    let mut s = one(rt.alloc())?;
+    let mut cache = Cache::new(rt.alloc(), 256)?;
+    assert!(rt;
+        finds_each(
+            &mut s.disk,
+            &mut cache,
+            &s.desc,
+            &s.tree,
+            &mut s.scratch,
+            &mut s.out
+        )
+    );
+    assert!(rt; s.disk.reads() == 3);
+    Ok(())
+}
+
+/// Sets the number of entries of a block, if it is there, and gives what it was.
+fn set_count(disk: &mut MemDisk, block: u32, count: u8) -> u8 {
+    let at = block as usize * BLOCK + 1;
+    match disk.bytes().get(at).copied() {
+        None => 0,
+        Some(was) => {
+            disk.alter(at as u64, count);
+            was
+        }
+    }
+}
+
+/// Whether each block with one entry too many is named as damaged, with a new cache each time.
+fn blames_each(alloc: Global, s: &mut Shelf) -> Result<bool, NoMemory>
+    requires fits { AreWithin s.old.desc.extents }
+    requires kept { 7 ≤ length s.old.tree.parents }
+{
+    for index in 0..40 {
+        let mut cache = Cache::new(alloc, 256)?;
+        let block = block_of(index);
+        let was = set_count(&mut s.disk, block, 76);
+        let n = FULL * index + 40;
+        if !blames(
+            &mut s.disk,
+            &mut cache,
+            &s.desc,
+            &s.tree,
+            &mut s.scratch,
+            &mut s.out,
+            n,
+            block,
+        ) {
+            return Ok(false);
+        }
+        set_count(&mut s.disk, block, was);
+    }
+    Ok(true)
+}
+
+#[test]
+fn a_damaged_block_is_named(rt: HostRuntime) -> Result<(), Fail> {
+    let mut s = many(rt.alloc())?;
+    assert!(rt; blames_each(rt.alloc(), &mut s)?);
     Ok(())
 }
