@@ -2,7 +2,7 @@
 
 ghost use Rattle.std.specs.Prelude.{◌≡◌, ◌<◌, ◌≤◌, ◌+◌, ◌-◌, ◌*◌, ◌^◌, [], length, map, IsTrue, OnOk};
 ghost use Rattle.std.specs.List.{list_all};
-ghost use Rattle.strat_array.specs.Taking.{HasRoom, AreUsed};
+ghost use Rattle.strat_array.specs.Taking.{HasFreeBlock, AreUsed};
 ghost use Rattle.strat_base.specs.Entries.{is_ascending};
 ghost use Rattle.strat_base.specs.EntryBytes.{fits_fields};
 ghost use Rattle.strat_base.specs.EntryView.{entry_of};
@@ -33,7 +33,7 @@ fn push_all(
     requires room { used_count space.old + length entries.now + 1 ≤ 4294967295 - space.old.first }
     requires found { AreUsed space.old (blocks_of writer.old.extents) }
     ensures len { OnOk result (writer.new.count ≡ length entries.now) }
-    ensures room { OnOk result (HasRoom space.new) }
+    ensures room { OnOk result (HasFreeBlock space.new) }
     ensures found { OnOk result (AreUsed space.new (blocks_of writer.new.extents)) }
 {
     for (i, e) in entries.iter().enumerate() {
@@ -42,22 +42,31 @@ fn push_all(
     Ok(())
 }
 
-/// Writes an array of these entries where block 8 is used, and tells its blocks and whether it was written.
+/// A space from block 7 on, of which block 8 may be used.
+fn space_of(alloc: Global, with_used: bool) -> Result<Space, Trouble> {
+    let mut space = Space::new(alloc, 7);
+    if with_used {
+        let mut used = Extents::new(alloc);
+        if used.push(Extent { start: 8, len: 1 }).is_err() {
+            return Err(Trouble::NoMemory);
+        }
+        let _ = space.mark(&used)?;
+    }
+    Ok(space)
+}
+
+/// Writes an array of these entries, and tells its blocks and whether it was written.
 fn written(
     alloc: Global,
     entries: &[Entry<'_>],
+    with_used: bool,
     disk: &mut MemDisk,
 ) -> Result<(bool, Extents), Trouble>
     requires kept { IsTrue (is_ascending (map entry_of entries.now)) }
     requires fits { IsTrue (list_all fits_fields (map entry_of entries.now))
         × (length entries.now < 1000) × (0 < length entries.now) }
 {
-    let mut space = Space::new(alloc, 7);
-    let mut used = Extents::new(alloc);
-    if used.push(Extent { start: 8, len: 1 }).is_err() {
-        return Err(Trouble::NoMemory);
-    }
-    let _ = space.mark(&used)?;
+    let mut space = space_of(alloc, with_used)?;
     if space.free() < 2000 {
         return Err(Trouble::NoMemory);
     }
@@ -96,6 +105,37 @@ fn has_entries(disk: &mut MemDisk, block: u32, entries: &[Entry<'_>]) -> bool {
         }
     }
     true
+}
+
+/// The blocks of four of the largest entries, of which three fit into a block, and whether they stand there.
+fn largest(alloc: Global) -> Result<(bool, Extents), Trouble> {
+    let entries = [
+        Entry {
+            key: &[1; 255],
+            version: 0,
+            val: Val::Put(&[7; 1024]),
+        },
+        Entry {
+            key: &[2; 255],
+            version: 0,
+            val: Val::Put(&[7; 1024]),
+        },
+        Entry {
+            key: &[3; 255],
+            version: 0,
+            val: Val::Put(&[7; 1024]),
+        },
+        Entry {
+            key: &[4; 255],
+            version: 0,
+            val: Val::Put(&[7; 1024]),
+        },
+    ];
+    let mut disk = MemDisk::new(alloc, &[])?;
+    let (ok, extents) = written(alloc, &entries, false, &mut disk)?;
+    let stands = has_entries(&mut disk, 7, &entries[..3])
+        && has_entries(&mut disk, 8, &entries[3..]);
+    Ok((ok && stands, extents))
 }
 
 /// What becomes of seven entries of which three fit into a block, where these calls of the disk fail.
@@ -138,7 +178,7 @@ fn seven(alloc: Global, failing: &[u64]) -> Result<(bool, Extents), Trouble> {
         },
     ];
     let mut disk = MemDisk::new(alloc, failing)?;
-    let (ok, extents) = written(alloc, &entries, &mut disk)?;
+    let (ok, extents) = written(alloc, &entries, true, &mut disk)?;
     let stands = has_entries(&mut disk, 7, &entries[..3])
         && has_entries(&mut disk, 9, &entries[3..6])
         && has_entries(&mut disk, 10, &entries[6..]);
@@ -164,6 +204,14 @@ fn entries_stand_in_the_lowest_free_blocks(rt: HostRuntime) -> Result<(), Fail> 
     let (ok, extents) = seven(rt.alloc(), &[])?;
     assert!(rt; ok);
     assert!(rt; are(&extents, &[(7, 1), (9, 2)]));
+    Ok(())
+}
+
+#[test]
+fn three_of_the_largest_entries_fill_a_block(rt: HostRuntime) -> Result<(), Fail> {
+    let (ok, extents) = largest(rt.alloc())?;
+    assert!(rt; ok);
+    assert!(rt; are(&extents, &[(7, 2)]));
     Ok(())
 }
 
