@@ -5,3 +5,4 @@ pub mod PlaceLemmas
 pub mod LeastLemmas
 pub mod SplitLemmas
 pub mod TakenLemmas
+pub mod HangingLemmas

@@ -3,3 +3,5 @@ pub mod Greedy
 pub mod Placing
 pub mod Shown
 pub mod Taken
+pub mod Hanging
+pub mod HangingFields

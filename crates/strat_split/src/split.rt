@@ -27,6 +27,7 @@ pub fn plan(alloc: Global, tree: &Tree, counts: &Counts, horizon: u32) -> Result
         → IfOk result (λ plan. IsSplit parents (own_at groups) (keys_at parents groups)
         (shown plan)) }
     ensures len { IfOk result (λ plan. length plan.part_of ≡ horizon) }
+    ensures room { IfOk result (λ plan. length plan.parts ≤ horizon) }
 {
     let survey = survey_of(tree, counts, horizon);
     split(alloc, &survey)
@@ -57,6 +58,7 @@ fn split(alloc: Global, survey: &Survey) -> Result<Plan, NoMemory>
     ensures ok { IsLawful (told survey.now)
         → IfOk result (λ plan. IsDivided (told survey.now) plan.part_of plan.parts) }
     ensures len { IfOk result (λ plan. length plan.part_of ≡ length survey.now.own.now) }
+    ensures room { IfOk result (λ plan. length plan.parts ≤ length survey.now.own.now) }
 {
     let gathered = gather(alloc, survey)?;
     let mut draft = place(alloc, survey, &gathered)?;
