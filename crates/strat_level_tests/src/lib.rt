@@ -5,3 +5,5 @@
 mod group;
 #[cfg(test)]
 mod level;
+#[cfg(test)]
+mod levels;

@@ -1,10 +1,10 @@
 -- Counts of items and of keys, and how they are kept.
-use Rattle.std.proofs.Common.{◌≡◌, ◌<◌, ◌≤◌, ◌+◌, ℕ, zero, suc, Bool, true, false, cond, ltb, eqb, ◌&&◌, ◌||◌, not, inl, inr, List, [], ◌∷◌, ◌++◌, length, filter, sum, get_or, set, take, min, Option, Some, None, refl, sym, ap, ◌∙◌, subst, arith}
+use Rattle.std.proofs.Common.{◌≡◌, ◌<◌, ◌≤◌, ◌+◌, ℕ, zero, suc, Bool, true, false, cond, ltb, eqb, ◌&&◌, ◌||◌, not, inl, inr, List, [], ◌∷◌, ◌++◌, length, sum, get_or, set, take, min, Option, Some, None, refl, sym, ap, ◌∙◌, subst, arith}
 use Rattle.std.specs.List.{list_any, list_all, fold, sum_by, count_by}
 use Rattle.std.specs.Option.{option_map_or}
 use Rattle.std.proofs.lemmas.Bool.{and_parts, and_from, cases_lt, ltb-true, eqb-true, eq-eqb, false_from_ne_true, ne_eqb, cases_eq}
 use Rattle.std.proofs.lemmas.List.{get_or-set_same, get_or-set_other, get_or_past, length-set, length-map, length-take, take-take}
-use Rattle.std.proofs.lemmas.List.Sums.{sum_by-cons, sum_by_push, sum_by_more, sum_by-set, sum_by-take-le, get_or-le-sum_by, count_by-le-length, length-filter}
+use Rattle.std.proofs.lemmas.List.Sums.{sum_by-cons, sum_by_push, sum_by_more, sum_by-set, sum_by-take-le, get_or-le-sum_by}
 use Rattle.std.proofs.lemmas.List.Folds.{list_all-append, list_all-map}
 use Rattle.strat_base.specs.Tree.{Parents, parent_of, IsTree}
 use Rattle.strat_base.proofs.ListFacts.{any_among, all_at, fold-push}
@@ -12,7 +12,10 @@ use Rattle.strat_base.proofs.TreeLemmas.{option_cases, parent_older, along_path}
 use Rattle.strat_arena.specs.declared.items.Item.{Item}
 use Rattle.strat_live.specs.Group.{is_descending}
 use Rattle.strat_live.specs.CountFields.{AreSmall}
-use Rattle.strat_live.specs.Counting.{item_versions, are_below, descends, is_seen_above, is_begun, begun_count, tallied, SameParents, IsTally, IsCount, AreSummed}
+use Rattle.strat_tree.specs.Preorder.{Numbering, IsPreorder}
+use Rattle.strat_tree.proofs.PreorderLemmas.{ancestors_same}
+use Rattle.strat_live.specs.Tallies.{Tallies}
+use Rattle.strat_live.specs.Counting.{item_versions, are_below, descends, is_seen_above, is_begun, begun_count, tallied, SameParents, IsTally, IsCount, AreAdded, AreSummed}
 use Rattle.strat_state.specs.Counted.{sees_one, keys_at}
 use Rattle.strat_live.proofs.SeenLemmas.{seen_parts, seen_same, begun_same}
 
@@ -71,24 +74,10 @@ descends_from (x ∷ items) down =
 pub below_from : (n : ℕ) (items : List Item) → are_below n items ≡ true → list_all (λ u. ltb u n) (item_versions items) ≡ true
 below_from n items below = list_all-map (λ u. ltb u n) (λ (item : Item). item.version) items ∙ below
 
-pub all_filter : (p q : ℕ → Bool) (us : List ℕ) → list_all p us ≡ true → list_all p (filter q us) ≡ true
-all_filter p q [] all = refl
-all_filter p q (u ∷ us) all =
-    elim (q u) as (λ b. list_all p (cond b (u ∷ filter q us) (filter q us)) ≡ true) [
-      | true ↦ and_from (p u) (list_all p (filter q us)) parts.0 (all_filter p q us parts.1)
-      | false ↦ all_filter p q us parts.1
-    ]
-  where
-    parts : (p u ≡ true) × (list_all p us ≡ true)
-    parts = and_parts (p u) (list_all p us) all
-
 all_take : {X : Type 0} (p : X → Bool) (i : ℕ) (xs : List X) → list_all p xs ≡ true → list_all p (take i xs) ≡ true
 all_take p zero xs all = refl
 all_take p (suc i) [] all = refl
 all_take p (suc i) (x ∷ xs) all = let parts = and_parts (p x) (list_all p xs) all in and_from (p x) (list_all p (take i xs)) parts.0 (all_take p i xs parts.1)
-
-filter_short : (q : ℕ → Bool) (us : List ℕ) → length (filter q us) ≤ length us
-filter_short q us = let P : ℕ → Type 0 = λ n. n ≤ length us in subst P (sym (length-filter q us)) (count_by-le-length q us)
 
 -- counts stay small while few items are added
 tallied_fits : (counts places : List ℕ) (v m : ℕ) → list_all (λ u. ltb u (length counts)) places ≡ true → sum counts + length places ≤ m → get_or (tallied counts places) v 0 ≤ m
@@ -114,13 +103,6 @@ own_fits counts items i m now below room is v =
     let le : get_or (tallied counts (item_versions (take i items))) v 0 ≤ m = tallied_fits counts (item_versions (take i items)) v m (part_below (length counts) i items below) (omega arith) in
     subst (λ (ns : List ℕ). get_or ns v 0 ≤ m) (sym is) le
 
-pub begun_fits : (counts : List ℕ) (items : List Item) (q : ℕ → Bool) (i m : ℕ) (now : List ℕ) → are_below (length counts) items ≡ true → sum counts + length items ≤ m → now ≡ tallied counts (filter q (item_versions (take i items))) → (v : ℕ) → get_or now v 0 ≤ m
-begun_fits counts items q i m now below room is v =
-    let short = part_short i items in
-    let fewer = filter_short q (item_versions (take i items)) in
-    let le : get_or (tallied counts (filter q (item_versions (take i items)))) v 0 ≤ m = tallied_fits counts (filter q (item_versions (take i items))) v m (all_filter (λ u. ltb u (length counts)) q (item_versions (take i items)) (part_below (length counts) i items below)) (omega arith) in
-    subst (λ (ns : List ℕ). get_or ns v 0 ≤ m) (sym is) le
-
 -- and sum up to the items that were added
 pub own_sum : (counts : List ℕ) (items : List Item) → are_below (length counts) items ≡ true → sum (tallied counts (item_versions items)) ≡ sum counts + length items
 own_sum counts items below =
@@ -128,15 +110,11 @@ own_sum counts items below =
     let b : sum (tallied counts (item_versions items)) ≡ sum counts + length (item_versions items) = sum_tallied counts (item_versions items) (below_from (length counts) items below) in
     omega arith
 
-pub small_more : (own begun live : List ℕ) (items : List Item) (q : ℕ → Bool) → AreSmall own begun live → are_below (length own) items ≡ true → sum own + length items ≤ 16777216 → AreSmall (tallied own (item_versions items)) (tallied begun (filter q (item_versions items))) live
-small_more own begun live items q small below room =
+pub small_added : (own begun live after : List ℕ) (items : List Item) → AreSmall own begun live → are_below (length own) items ≡ true → sum own + length items ≤ 16777216 → length after ≡ length begun → sum after ≤ sum begun + length items
+    → AreSmall (tallied own (item_versions items)) after live
+small_added own begun live after items small below room same more =
     let all : sum (tallied own (item_versions items)) ≡ sum own + length items = own_sum own items below in
-    let same : length (item_versions items) ≡ length items = length-map items (λ (item : Item). item.version) in
-    let fewer : length (filter q (item_versions items)) ≤ length (item_versions items) = filter_short q (item_versions items) in
-    let fits : list_all (λ u. ltb u (length begun)) (filter q (item_versions items)) ≡ true = all_filter (λ u. ltb u (length begun)) q (item_versions items) (ap (λ (n : ℕ). list_all (λ u. ltb u n) (item_versions items)) small.begun_len ∙ below_from (length own) items below) in
-    let some : sum (tallied begun (filter q (item_versions items))) ≡ sum begun + length (filter q (item_versions items)) = sum_tallied begun (filter q (item_versions items)) fits in
     let own_len : length (tallied own (item_versions items)) ≡ length own = length_tallied own (item_versions items) in
-    let begun_len' : length (tallied begun (filter q (item_versions items))) ≡ length begun = length_tallied begun (filter q (item_versions items)) in
     let few' = small.few in
     let begun_few' = small.begun_few in
     let lens = small.begun_len in
@@ -157,46 +135,34 @@ none_equal v us less = false_from_ne_true (list_any (λ u. eqb u v) us) (λ any.
     let same : found.0 ≡ v = eqb-true found.0 v found.2 in
     absurd (omega arith))
 
-pub count_one : (q : ℕ → Bool) (v : ℕ) (us : List ℕ) → descends us ≡ true → count_by (λ u. eqb u v) (filter q us) ≡ one_if (list_any (λ u. eqb u v) us && q v)
-count_one q v [] down = refl
-count_one q v (x ∷ us) down =
-    elim (cases_eq x v) [
-      | inl here ↦
-          let none : list_any (λ u. eqb u v) us ≡ false = none_equal v us (ap (λ (w : ℕ). list_all (λ u. ltb u w) us) (sym here) ∙ parts.0) in
-          let rest : count_by (λ u. eqb u v) (filter q us) ≡ 0 = count_one q v us parts.1 ∙ ap (λ (b : Bool). one_if (b && q v)) none in
-          let on : eqb x v ≡ true = eq-eqb x v here in
-          at_first (q x) (q v) (ap q here) rest on ∙ ap (λ (b : Bool). one_if ((b || list_any (λ u. eqb u v) us) && q v)) (sym on)
-      | inr apart ↦
-          let off : eqb x v ≡ false = ne_eqb x v apart in
-          at_later (q x) off ∙ count_one q v us parts.1 ∙ ap (λ (b : Bool). one_if ((b || list_any (λ u. eqb u v) us) && q v)) (sym off)
-    ]
-  where
-    parts : (list_all (λ u. ltb u x) us ≡ true) × (descends us ≡ true)
-    parts = and_parts (list_all (λ u. ltb u x) us) (descends us) down
-
-    at_first : (b c : Bool) → b ≡ c → count_by (λ u. eqb u v) (filter q us) ≡ 0 → eqb x v ≡ true → count_by (λ u. eqb u v) (cond b (x ∷ filter q us) (filter q us)) ≡ one_if c
-    at_first true c e rest on = sum_by-cons (λ u. one_if (eqb u v)) x (filter q us) ∙ (λ i. one_if (on i) + rest i) ∙ ap one_if e
-    at_first false c e rest on = rest ∙ ap one_if e
-
-    at_later : (b : Bool) → eqb x v ≡ false → count_by (λ u. eqb u v) (cond b (x ∷ filter q us) (filter q us)) ≡ count_by (λ u. eqb u v) (filter q us)
-    at_later true off = sum_by-cons (λ u. one_if (eqb u v)) x (filter q us) ∙ (let zero_is : one_if (eqb x v) ≡ 0 = ap one_if off in omega arith)
-    at_later false off = refl
-
 -- a key more
-pub tally_more : (parents others : Parents) (tree : IsTree others) (n : ℕ) (groups : List (List ℕ)) (versions own begun : List ℕ) (live after : List ℕ)
-    → SameParents n parents others → length own ≡ n → length begun ≡ n → descends versions ≡ true → list_all (λ u. ltb u n) versions ≡ true
-    → IsTally parents groups (record { own = own; begun = begun; live = live })
-    → IsTally parents (groups ++ versions ∷ []) (record { own = tallied own versions; begun = tallied begun (filter (λ u. not (is_seen_above others u versions)) versions); live = after })
-tally_more parents others tree n groups versions own begun live after same own_len begun_len down below tally =
+pub tally_added : (parents others : Parents) (tree : IsTree others) (n : ℕ) (groups : List (List ℕ)) (versions : List ℕ) (tallies : Tallies) (after : List ℕ) (order : Numbering)
+    → SameParents n parents others → length tallies.own ≡ n → length tallies.begun ≡ n → descends versions ≡ true → list_all (λ u. ltb u n) versions ≡ true
+    → IsTally parents groups tallies → AreAdded others versions tallies.begun after → IsPreorder n parents order
+    → IsTally parents (groups ++ versions ∷ []) (record { own = tallied tallies.own versions; begun = after; live = tallies.live; is_numbered = true; order = order })
+tally_added parents others tree n groups versions tallies after order same own_len begun_len down below tally added placed =
+    let longer : length (tallied tallies.own versions) ≡ length tallies.own = length_tallied tallies.own versions in
     record {
       descending = list_all-append descends groups (versions ∷ []) ∙ (λ i. tally.descending i && (down i && true));
       own = λ v lt.
-          let few : v < length own = omega (arith, lt, length_tallied own versions) in
-          tallied_at own versions v (ap (λ (m : ℕ). list_all (λ u. ltb u m) versions) own_len ∙ below) ∙ (λ i. tally.own v few i + count_by (λ u. eqb u v) versions) ∙ sym (sum_by_push (λ group. count_by (λ u. eqb u v) group) groups versions);
+          tallied_at tallies.own versions v (ap (λ (m : ℕ). list_all (λ u. ltb u m) versions) own_len ∙ below)
+          ∙ (λ i. tally.own v (omega (arith, lt)) i + count_by (λ u. eqb u v) versions)
+          ∙ sym (sum_by_push (λ group. count_by (λ u. eqb u v) group) groups versions);
       begun = λ v lt.
-          let few : v < length own = omega (arith, lt, length_tallied own versions) in
-          let under : v < n = omega arith in
-          tallied_at begun (filter (λ u. not (is_seen_above others u versions)) versions) v (all_filter (λ u. ltb u (length begun)) (λ u. not (is_seen_above others u versions)) versions (ap (λ (m : ℕ). list_all (λ u. ltb u m) versions) begun_len ∙ below)) ∙ (λ i. tally.begun v few i + count_one (λ u. not (is_seen_above others u versions)) v versions down i) ∙ ap (λ (b : Bool). begun_count parents groups v + one_if b) (sym (begun_same others tree n parents same v under versions)) ∙ sym (sum_by_push (λ group. one_if (is_begun parents v group)) groups versions);
+          let few : v < length tallies.own = omega (arith, lt) in
+          added v (omega arith)
+          ∙ (λ i. tally.begun v few i + one_if (sym (begun_same others tree n parents same v (omega arith) versions) i))
+          ∙ sym (sum_by_push (λ group. one_if (is_begun parents v group)) groups versions);
+      placed = λ yes'. subst (λ (m : ℕ). IsPreorder m parents order) (sym (longer ∙ own_len)) placed;
+    }
+
+-- an order of versions is one for each tree that gives them the same parents
+pub order_moved : (parents others : Parents) (tree : IsTree others) (n : ℕ) (order : Numbering) → SameParents n parents others → IsPreorder n parents order → IsPreorder n others order
+order_moved parents others tree n order same placed =
+    record {
+      starts_len = placed.starts_len;
+      ends_len = placed.ends_len;
+      law = λ u v known_u known_v. sym (ancestors_same parents others tree n same u v known_v) ∙ placed.law u v known_u known_v;
     }
 
 module _ (parents : Parents) (tree : IsTree parents) where
@@ -314,9 +280,10 @@ module _ (parents : Parents) (tree : IsTree parents) where
   begun_count_same n others same groups v lt = same_sum (λ g. one_if (is_begun others v g)) (λ g. one_if (is_begun parents v g)) (λ g. ap one_if (begun_same parents tree n others same v lt g)) groups
 
   -- a finished count
-  pub finished : (others : Parents) (groups : List (List ℕ)) (own begun before live : List ℕ) → SameParents (length own) others parents → length begun ≡ length own → AreSummed parents begun live (length begun)
-      → IsTally others groups (record { own = own; begun = begun; live = before }) → IsCount others groups (record { own = own; begun = begun; live = live })
-  finished others groups own begun before live same len summed tally =
+  pub finished : (others : Parents) (groups : List (List ℕ)) (own begun before live : List ℕ) (is_numbered : Bool) (order : Numbering) → SameParents (length own) others parents → length begun ≡ length own → AreSummed parents begun live (length begun)
+      → IsTally others groups (record { own = own; begun = begun; live = before; is_numbered = is_numbered; order = order })
+      → IsCount others groups (record { own = own; begun = begun; live = live; is_numbered = is_numbered; order = order })
+  finished others groups own begun before live is_numbered order same len summed tally =
       record {
         descending = tally.descending;
         own = tally.own;

@@ -1,11 +1,12 @@
 -- What is counted over the items of many keys. Of each key a list has the versions of its items, the
 -- greatest first.
-use Rattle.std.specs.Prelude.{◌≡◌, ℕ, ◌<◌, ◌+◌, nat_lt, ◌==◌, ◌&&◌, not, Bool, true, false, List, [], ◌∷◌, map, fold, length, count_by, slice_index, slice_set, IsTrue}
+use Rattle.std.specs.Prelude.{◌≡◌, ℕ, ◌<◌, ◌+◌, nat_lt, ◌==◌, ◌&&◌, not, if◌then◌else◌, Bool, true, false, List, [], ◌∷◌, map, fold, length, count_by, slice_index, slice_set, IsTrue}
 use Rattle.std.specs.List.{list_any, list_all}
 use Rattle.std.specs.Option.{option_map_or}
 use Rattle.strat_base.specs.Tree.{Parents, parent_of}
 use Rattle.strat_state.specs.Counted.{own_at, sees_one, keys_at}
 use Rattle.strat_arena.specs.declared.items.Item.{Item}
+use Rattle.strat_tree.specs.Preorder.{IsPreorder}
 use Rattle.strat_live.specs.Tallies.{Tallies}
 
 -- the versions of items
@@ -38,6 +39,12 @@ begun_count parents groups v = count_by (is_begun parents v) groups
 abbrev pub tallied : List ℕ → List ℕ → List ℕ
 tallied counts places = fold (λ ns v. slice_set ns v (slice_index ns v + 1)) counts places
 
+-- counts have one more at each version at which a key begins
+abbrev pub AreAdded : Parents → List ℕ → List ℕ → List ℕ → Type 0
+AreAdded parents versions before after = (v : ℕ) → v < length before
+    → slice_index after v
+    ≡ slice_index before v + (if is_begun parents v versions then 1 else 0)
+
 -- two trees give the versions below n the same parents
 abbrev pub SameParents : ℕ → Parents → Parents → Type 0
 SameParents n parents others = (v : ℕ) → v < n → parent_of parents v ≡ parent_of others v
@@ -48,6 +55,8 @@ pub record IsTally (parents : Parents) (groups : List (List ℕ)) (tallies : Tal
   pub own : (v : ℕ) → v < length tallies.own → slice_index tallies.own v ≡ own_at groups v
   pub begun : (v : ℕ) → v < length tallies.own
       → slice_index tallies.begun v ≡ begun_count parents groups v
+  pub placed : tallies.is_numbered ≡ true
+      → IsPreorder (length tallies.own) parents tallies.order
 
 -- these count all keys, also those that are live at each version
 pub record IsCount (parents : Parents) (groups : List (List ℕ)) (tallies : Tallies) : Type 0 where

@@ -4,6 +4,7 @@
 mod counts;
 pub mod laws;
 mod live;
+mod tops;
 
 pub use counts::Counts;
 pub use live::live_in;

@@ -12,7 +12,7 @@ use Rattle.strat_state.specs.State.{State}
 use Rattle.strat_state.specs.Worked.{array_of, first_level, chain}
 use Rattle.strat_recovery.specs.Disks.{chain_super, chain_manifest, published_by, published}
 use Rattle.strat_recovery.specs.Head.{Head}
-use Rattle.strat_pins.specs.Formats.{from_block, level_desc}
+use Rattle.strat_pins.specs.Formats.{from_block, odd_level}
 
 -- what recovery finds after the chain was published
 abbrev pub chain_head : Head
@@ -52,7 +52,7 @@ split_manifest = record chain_manifest {
   changes = 5;
   updates = 2;
   written = 2;
-  levels = level_desc 1 4 (split_array ∷ []) ∷ [];
+  levels = odd_level 1 4 (split_array ∷ []) ∷ [];
 }
 
 -- its superblock: the manifest is longer by an extent

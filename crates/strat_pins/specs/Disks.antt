@@ -6,7 +6,7 @@ use Rattle.strat_format.specs.Manifest.{Manifest}
 use Rattle.strat_base.specs.declared.descriptors.ArrayDesc.{ArrayDesc}
 use Rattle.strat_format.specs.SuperBlock.{spelled, fields}
 use Rattle.strat_recovery.specs.Disks.{formatted, new_super, chain_manifest}
-use Rattle.strat_pins.specs.Formats.{from_block, level_desc}
+use Rattle.strat_pins.specs.Formats.{from_block, odd_level}
 
 -- an array of a number, a version and a block, with three entries and two leads
 abbrev pub array_at : ℕ → ℕ → ℕ → ArrayDesc
@@ -24,7 +24,7 @@ abbrev pub having : List ArrayDesc → Manifest
 having arrays = record chain_manifest {
   updates = 4;
   next_array = 9;
-  levels = level_desc 1 4 arrays ∷ [];
+  levels = odd_level 1 4 arrays ∷ [];
 }
 
 -- a manifest in block 8

@@ -42,8 +42,8 @@ abbrev pub for_versions : List ℕ → ArrayDesc
 for_versions versions = record two_leads { versions = versions }
 
 -- a level with this number and horizon, and these arrays
-abbrev pub level_desc : ℕ → ℕ → List ArrayDesc → LevelDesc
-level_desc number horizon arrays = record { number = number; horizon = horizon; arrays = arrays }
+abbrev pub odd_level : ℕ → ℕ → List ArrayDesc → LevelDesc
+odd_level number horizon arrays = record { number = number; horizon = horizon; arrays = arrays }
 
 -- a manifest of two updates and three versions with these arrays in level 1
 abbrev pub with_arrays : List ArrayDesc → Manifest
@@ -53,7 +53,7 @@ with_arrays arrays = record {
   written = 2;
   next_array = 2;
   parents = 0 ∷ 1 ∷ [];
-  levels = level_desc 1 3 arrays ∷ [];
+  levels = odd_level 1 3 arrays ∷ [];
 }
 
 -- the same in two extents: block 7, and this block
@@ -79,7 +79,7 @@ two_arrays = record {
   written = 5;
   next_array = 3;
   parents = 0 ∷ [];
-  levels = level_desc 1 2 (
+  levels = odd_level 1 2 (
       record {
         id = 1;
         entries = 1;

@@ -7,7 +7,7 @@ ghost use Rattle.std.specs.Prelude.{◌≡◌, [], ◌∷◌, ◌++◌, map, rep
 ghost use Rattle.strat_base.specs.Samples.{says, gone};
 ghost use Rattle.strat_format.specs.Block.{fits_block, block_bytes};
 ghost use Rattle.strat_format.specs.Manifest.{is_lawful_extent, is_lawful_array, is_lawful_level, is_lawful_manifest, manifest_bytes, manifest_in};
-ghost use Rattle.strat_pins.specs.Formats.{four_entries, from_block, two_leads, in_extents, for_versions, level_desc, with_arrays, second_extent_at, without_levels, two_arrays, two_arrays_bytes, least_super, greatest_super, slot_with, slot_of_generation, put_of, with_puts, bytes_from, chain_links};
+ghost use Rattle.strat_pins.specs.Formats.{four_entries, from_block, two_leads, in_extents, for_versions, odd_level, with_arrays, second_extent_at, without_levels, two_arrays, two_arrays_bytes, least_super, greatest_super, slot_with, slot_of_generation, put_of, with_puts, bytes_from, chain_links};
 ghost use Rattle.strat_format.specs.Chain.{chain_length};
 ghost use Rattle.strat_format.specs.Chained.{may_follow, chain_from};
 ghost use Rattle.strat_format.specs.Layout.{region_size};
@@ -110,17 +110,17 @@ pub fn descriptors_are_lawful_up_to_their_bounds()
 /// The bounds of a level: numbers from 1 to 22, horizons from 1 to the number of versions, arrays by the
 /// first version of their tags.
 pub fn levels_are_lawful_up_to_their_bounds()
-    ensures least { is_lawful_level 3 2 (level_desc 1 1 (two_leads ∷ [])) ≡ true }
-    ensures most { is_lawful_level 3 2 (level_desc 22 3 (two_leads ∷ [])) ≡ true }
-    ensures number { (is_lawful_level 3 2 (level_desc 0 3 (two_leads ∷ [])) ≡ false)
-        × (is_lawful_level 3 2 (level_desc 23 3 (two_leads ∷ [])) ≡ false) }
-    ensures horizon { (is_lawful_level 3 2 (level_desc 1 0 (two_leads ∷ [])) ≡ false)
-        × (is_lawful_level 3 2 (level_desc 1 4 (two_leads ∷ [])) ≡ false) }
-    ensures arrays { (is_lawful_level 3 2 (level_desc 1 3 []) ≡ false)
-        × (is_lawful_level 3 1 (level_desc 1 3 (two_leads ∷ [])) ≡ false) }
+    ensures least { is_lawful_level 3 2 (odd_level 1 1 (two_leads ∷ [])) ≡ true }
+    ensures most { is_lawful_level 3 2 (odd_level 22 3 (two_leads ∷ [])) ≡ true }
+    ensures number { (is_lawful_level 3 2 (odd_level 0 3 (two_leads ∷ [])) ≡ false)
+        × (is_lawful_level 3 2 (odd_level 23 3 (two_leads ∷ [])) ≡ false) }
+    ensures horizon { (is_lawful_level 3 2 (odd_level 1 0 (two_leads ∷ [])) ≡ false)
+        × (is_lawful_level 3 2 (odd_level 1 4 (two_leads ∷ [])) ≡ false) }
+    ensures arrays { (is_lawful_level 3 2 (odd_level 1 3 []) ≡ false)
+        × (is_lawful_level 3 1 (odd_level 1 3 (two_leads ∷ [])) ≡ false) }
     ensures rising { (is_lawful_level 3 2
-        (level_desc 1 3 (two_leads ∷ for_versions (1 ∷ []) ∷ [])) ≡ true)
-        × (is_lawful_level 3 2 (level_desc 1 3 (two_leads ∷ for_versions (0 ∷ []) ∷ [])) ≡ false) }
+        (odd_level 1 3 (two_leads ∷ for_versions (1 ∷ []) ∷ [])) ≡ true)
+        × (is_lawful_level 3 2 (odd_level 1 3 (two_leads ∷ for_versions (0 ∷ []) ∷ [])) ≡ false) }
 {}
 
 /// The bounds of a manifest's numbers, of its tree and of its levels.
@@ -148,7 +148,7 @@ pub fn manifests_are_lawful_up_to_their_bounds()
     ensures horizon { is_lawful_manifest
         (record (with_arrays (two_leads ∷ [])) { parents = 0 ∷ [] }) ≡ false }
     ensures rising { is_lawful_manifest (record (with_arrays (two_leads ∷ [])) {
-      levels = level_desc 1 3 (two_leads ∷ []) ∷ level_desc 1 3 (two_leads ∷ []) ∷ [];
+      levels = odd_level 1 3 (two_leads ∷ []) ∷ odd_level 1 3 (two_leads ∷ []) ∷ [];
     }) ≡ false }
 {}
 

@@ -5,3 +5,4 @@ pub mod GroupedLemmas
 pub mod CountedLemmas
 pub mod SplitLemmas
 pub mod LawLemmas
+pub mod TwoPartsLemmas

@@ -113,7 +113,7 @@ module _ (parents : Parents) (tree : IsTree parents) (entries : List Entry) (pla
     among_made : (a : TaggedArray) → Among a level.arrays → (q : ℕ) × (q < length plan.parts) × (a ≡ made q)
     among_made a among = let found = map_among made numbers a among in (found.0, number_low found.0 found.1, found.2)
 
-    made_among : (q : ℕ) → q < length plan.parts → Among (made q) level.arrays
+    pub made_among : (q : ℕ) → q < length plan.parts → Among (made q) level.arrays
     made_among q lt = among_map made numbers q (among_range 0 (length plan.parts) q (omega arith) (omega (arith, lt)))
 
     -- at the versions of its tag an array has the entries live that all the entries have

@@ -2,5 +2,6 @@
 //! Definitions and laws: the crate has no code that runs.
 #![tactic(auto)]
 
+pub mod bounds;
 pub mod laws;
 pub mod worked;

@@ -1,2 +1,4 @@
 pub mod AncestorLemmas
 pub mod GrownLemmas
+pub mod PreorderLemmas
+pub mod PassLemmas

@@ -2,3 +2,6 @@ pub mod Ancestor
 pub mod TreeView
 pub mod Jumps
 pub mod TreeFields
+pub mod Preorder
+pub mod Intervals
+pub mod PreorderFields

@@ -7,7 +7,7 @@ use std::alloc::Global;
 use std::process::Abort;
 use std::test::Fail;
 use strat_base::{NoMemory, Version};
-use strat_tree::Tree;
+use strat_tree::{Preorder, Tree};
 
 #[derive(Clone, Copy)]
 enum Shape {
@@ -290,6 +290,92 @@ fn a_full_chain_is_one_path(rt: HostRuntime) -> Result<(), Fail> {
         (8192, 8191, false),
     ] {
         assert!(rt; is_on_path(&tree, u, v) == wanted);
+    }
+    Ok(())
+}
+
+/// The versions of a tree in order.
+fn order_of(alloc: Global, tree: &Tree) -> Result<Preorder, NoMemory>
+    ensures len { IfOk result (λ order. length order.starts ≡ length tree.now.parents) }
+{
+    let mut order = Preorder::new(alloc, tree.count())?;
+    order.number(tree);
+    Ok(order)
+}
+
+/// Whether v has one of the numbers of u and its descendants.
+fn spans(order: &Preorder, u: Version, v: Version) -> bool
+    requires { (u < length order.now.starts) × (v < length order.now.starts) }
+{
+    order.start(u) <= order.start(v) && order.start(v) < order.end(u)
+}
+
+/// Whether the order tells the ancestors of v as the tree does.
+fn tells_ancestors(order: &Preorder, tree: &Tree, v: Version) -> bool
+    requires fits { v < length tree.now.parents }
+    requires len { length order.now.starts ≡ length tree.now.parents }
+{
+    for u in 0..tree.count() {
+        if spans(order, u, v) != tree.is_ancestor(u, v) {
+            return false;
+        }
+    }
+    true
+}
+
+/// The first version whose ancestors the order tells otherwise than the tree.
+fn first_misplaced(order: &Preorder, tree: &Tree) -> Option<Version>
+    requires { length order.now.starts ≡ length tree.now.parents }
+{
+    for v in 0..tree.count() {
+        if !tells_ancestors(order, tree, v) {
+            return Some(v);
+        }
+    }
+    None
+}
+
+/// The order of a tree of this shape tells ancestors as the tree does.
+fn try_order(rt: &impl Abort, alloc: Global, shape: Shape, versions: u32) -> Result<(), Fail>
+    requires { (1 ≤ versions) × (versions ≤ 16384) }
+{
+    let tree = grown(alloc, shape, versions)?;
+    let order = order_of(alloc, &tree)?;
+    assert!(rt; first_misplaced(&order, &tree) == None);
+    Ok(())
+}
+
+#[test]
+fn orders_tell_ancestors_as_trees_do(rt: HostRuntime) -> Result<(), Fail> {
+    for shape in [Shape::Chain, Shape::Star, Shape::Comb, Shape::Mixed] {
+        for versions in [1, 2, 17, 200] {
+            try_order(&rt, rt.alloc(), shape, versions)?;
+        }
+    }
+    Ok(())
+}
+
+/// Whether a version has these numbers.
+fn is_placed(order: &Preorder, tree: &Tree, v: Version, start: u32, end: u32) -> bool
+    requires { length order.now.starts ≡ length tree.now.parents }
+{
+    v < tree.count() && order.start(v) == start && order.end(v) == end
+}
+
+#[test]
+fn a_worked_tree_has_its_order(rt: HostRuntime) -> Result<(), Fail> {
+    let tree = worked(rt.alloc())?;
+    let order = order_of(rt.alloc(), &tree)?;
+    for (v, start, end) in [
+        (0, 0, 7),
+        (1, 1, 6),
+        (2, 2, 3),
+        (3, 3, 6),
+        (4, 6, 7),
+        (5, 4, 6),
+        (6, 5, 6),
+    ] {
+        assert!(rt; is_placed(&order, &tree, v, start, end));
     }
     Ok(())
 }

@@ -1,0 +1,13 @@
+use Rattle.std.proofs.Common.{◌≡◌, ◌+◌, ◌-◌, ◌*◌, ◌^◌}
+use Rattle.strat_format.specs.Arrays.{blocks_of}
+use Rattle.strat_array.proofs.FindLemmas.{Walking}
+use Rattle.strat_array.proofs.lookup.live_from.Given as goal
+
+abbrev pub invariant-loop-at : goal.invariant-loop-at
+invariant-loop-at g l =
+    Walking (g.D.Disk.view l.initial.disk) (g.D.Disk.view l.disk) l.desc.id (blocks_of l.desc.extents) l.initial.cache l.cache l.initial.scratch l.scratch
+    l.tree.parents l.key l.v l.fn.place l.place
+    × (l.out ≡ l.initial.out) × (g.D.Disk.faults l.disk ≡ g.D.Disk.faults l.initial.disk)
+
+abbrev pub decreases-loop-at : goal.decreases-loop-at
+decreases-loop-at g l = 65536 * (2 ^ 32 - l.place.block) + (65536 - l.place.index)

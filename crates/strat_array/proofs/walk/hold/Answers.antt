@@ -1,0 +1,32 @@
+use Rattle.std.proofs.Common.{◌≡◌, List, Some, None, Option, ap, sym, ◌∙◌}
+use Rattle.std.specs.List.{slice_get}
+use Rattle.strat_base.specs.declared.descriptors.Extent.{Extent}
+use Rattle.strat_format.specs.Arrays.{blocks_of}
+use Rattle.strat_array.proofs.HoldLemmas.{looks_taken, held_within, place_within, place_past}
+use Rattle.strat_array.proofs.SearchLemmas.{no_block, err_of}
+use Rattle.strat_array.proofs.walk.hold.Given.{Over}
+use Rattle.strat_array.proofs.walk.hold.Goals as goal
+use Rattle.strat_array.proofs.walk.hold.Goals.{After-bring}
+
+place : (g : Over) (c : After-bring g) → slice_get (blocks_of c.args.desc.now.extents) c.args.index ≡ Some c.in-Some.block
+place g c = ap (λ (x : List Extent). slice_get (blocks_of x) c.args.index) (sym c.as_slice.ensures.ok) ∙ sym c.block_at.ensures.ok ∙ c.in-Some.is
+
+pub returns-then-is_held-clause-ok : goal.returns-then-is_held-clause-ok
+returns-then-is_held-clause-ok g c = λ lists stands. held_within _ _ _ _ _ lists stands c.args.index (sym c.is_held.ensures.ok ∙ c.if-is_held.true)
+
+pub returns-in_default-clause-ok : goal.returns-in_default-clause-ok
+returns-in_default-clause-ok g c = λ lists stands.
+    place_past _ _ _ _ _ lists stands c.args.index (ap (λ (x : List Extent). slice_get (blocks_of x) c.args.index) (sym c.as_slice.ensures.ok) ∙ sym c.block_at.ensures.ok ∙ c.in_default.is)
+
+pub returns-in_err-bring-clause-damaged : goal.returns-in_err-bring-clause-damaged
+returns-in_err-bring-clause-damaged g c = λ b torn.
+    let at = c.in_err-bring.ensures.damaged b (err_of c.from_residual.result _ _ c.from_residual.ensures.1 torn) in
+    no_block (g.D.Disk.view c.args.disk.now).content (blocks_of c.args.desc.now.extents) c.args.index c.in-Some.block b (place g (goal.at.returns-in_err-bring-clause-damaged g c).After-bring) at.0 at.1
+
+pub returns-clause-ok : goal.returns-clause-ok
+returns-clause-ok g c = λ lists stands. place_within _ _ _ _ _ lists stands c.args.index c.in-Some.block (place g (goal.at.returns-clause-ok g c).After-bring)
+
+pub returns-clause-same : goal.returns-clause-same
+returns-clause-same g c =
+    let at = place g (goal.at.returns-clause-same g c).After-bring in
+    looks_taken _ _ _ (blocks_of c.args.desc.now.extents) _ _ _ _ _ c.args.index c.in-Some.block (c.bring.ensures.same (blocks_of c.args.desc.now.extents) at) c.take_over.ensures.kept at

@@ -1,0 +1,14 @@
+pub mod Blocks
+pub mod Kept
+pub mod Left
+pub mod Progress
+pub mod Pushed
+pub mod ScratchFields
+pub mod Shown
+pub mod Sparing
+pub mod Steps
+pub mod Taking
+pub mod Told
+pub mod Walk
+pub mod Within
+pub mod WriterFields

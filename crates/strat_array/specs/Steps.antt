@@ -1,0 +1,48 @@
+-- Places of entries, as a walk over an array steps from one to the next.
+use Rattle.std.specs.Prelude.{◌≡◌, ◌<◌, ℕ, ◌+◌, ◌⊎◌, List, [], ◌∷◌, length, slice_index_or, Option, Some, None}
+use Rattle.strat_base.specs.Entries.{Entry}
+use Rattle.strat_block.specs.Places.{IsFirstFrom}
+use Rattle.strat_array.specs.Kept.{Kept, held_block}
+use Rattle.strat_array.specs.Left.{left_at}
+use Rattle.strat_array.specs.declared.place.Place.{Place}
+
+-- the entries from a place on
+abbrev pub left_from : List (List Entry) → Place → List Entry
+left_from lists place = left_at lists place.block place.index
+
+-- a scratch holds the entry at a place
+pub record HoldsPlace (s : Option Kept) (array : ℕ) (place : Place) : Type 0 where
+  pub entries : List Entry
+  pub held : held_block s array place.block ≡ Some entries
+  pub within : place.index < length entries
+
+-- a place is another one, or at the start of the block after it
+abbrev pub IsNear : Place → Place → Type 0
+IsNear old new =
+    (new ≡ old) ⊎ ((new.block ≡ old.block + 1) × (new.index ≡ 0))
+
+-- where the entries from a place on begin, if any are left
+abbrev pub Settles : List (List Entry) → Place → Option Place → Type 0
+Settles lists place None = left_from lists place ≡ []
+Settles lists place (Some at) = left_from lists place ≡ left_from lists at
+
+-- the index of the first entry of a block from a key on
+abbrev pub FirstIn : List ℕ → List Entry → Option ℕ → Type 0
+FirstIn key entries None = IsFirstFrom key entries (length entries)
+FirstIn key entries (Some i) = IsFirstFrom key entries i × (i < length entries)
+
+-- the place of an index in the last of n blocks, or else at the start of the block after them
+abbrev pub IsPlaceFrom : ℕ → Option ℕ → Place → Type 0
+IsPlaceFrom n None place = (place.block ≡ n) × (place.index ≡ 0)
+IsPlaceFrom n (Some i) place = (place.block + 1 ≡ n) × (place.index ≡ i)
+
+-- a place is that of an entry, or the end: past the last block
+abbrev pub IsSettled : List (List Entry) → Place → Type 0
+IsSettled lists place =
+    (place.index < length (slice_index_or lists place.block []))
+    ⊎ ((place.block ≡ length lists) × (place.index ≡ 0))
+
+-- a step of a walk: the entry at a place and what is left behind it, or that nothing is left
+abbrev pub Steps : List (List Entry) → Place → Option (Entry × Place) → Type 0
+Steps lists place None = left_from lists place ≡ []
+Steps lists place (Some x) = left_from lists place ≡ x.0 ∷ left_from lists x.1

@@ -1,0 +1,104 @@
+//! A bounded cache of blocks of arrays.
+
+ghost use Rattle.std.specs.Bool.{OnTrue};
+ghost use Rattle.std.specs.Map.{lookup};
+ghost use Rattle.std.specs.Prelude.{◌≡◌, ◌≤◌, [], length, is_some, IsSome, IfOk};
+ghost use Rattle.lru.specs.LruCache.{LruCache as Shown};
+ghost use Rattle.strat_array.specs.Kept.{AddsNone, AddsOnly, Blocks, is_keyed};
+ghost use Rattle.strat_array.specs.Shown.{blocks_in};
+
+use lru::LruCache;
+use std::alloc::Global;
+use std::marker::Model;
+use std::num::NonZeroUsize;
+use strat_base::NoMemory;
+use strat_block::{Block, BlockView};
+
+/// Blocks of arrays, by the number of the array and the index of the block in it. When it is full, the block that
+/// was used least recently makes room. A block in it was tested when it was read, and is neither tested nor
+/// copied again.
+#[derive(Drop)]
+pub struct Cache {
+    blocks: LruCache<(u64, u32), Block>,
+    alloc: Global,
+}
+
+impl Model for Cache {
+    ghost use Rattle.std.specs.Prelude.{◌≤◌, length};
+    ghost use Rattle.strat_array.specs.Kept.{Blocks};
+    ghost use Rattle.strat_array.specs.Shown.{blocks_in};
+
+    ghost Value = { Blocks };
+
+    ghost view = { λ c. blocks_in c.blocks };
+
+    ghost invariant = { λ c. length c.blocks.entries ≤ c.blocks.cap };
+}
+
+/// Makes a block the most recently used, and says whether it is there.
+fn touch(blocks: &mut LruCache<(u64, u32), Block>, array: u64, index: u32) -> bool
+    ensures ok { result ≡ is_some (lookup (is_keyed array index) blocks.old.entries) }
+    ensures found { OnTrue result (IsSome (lookup (is_keyed array index) blocks.new.entries)) }
+    ensures kept { AddsNone (blocks_in blocks.old) (blocks_in blocks.new) }
+    ensures len { length blocks.new.entries ≤ blocks.new.cap }
+{
+    let there = blocks.promote(&(array, index));
+    let _len = blocks.len();
+    there
+}
+
+/// Keeps a block, where memory is found for it.
+fn store(blocks: &mut LruCache<(u64, u32), Block>, array: u64, index: u32, block: Block)
+    ensures kept { AddsOnly (blocks_in blocks.old) (blocks_in blocks.new) (array, index) block }
+    ensures len { length blocks.new.entries ≤ blocks.new.cap }
+{
+    let _kept = blocks.put((array, index), block).is_ok();
+    let _len = blocks.len();
+}
+
+impl Cache {
+    /// An empty cache for so many blocks of 4,096 bytes; it takes memory for a block when it keeps it. The only
+    /// error is want of memory.
+    pub fn new(alloc: Global, blocks: usize) -> Result<Cache, NoMemory>
+        requires { 1 ≤ blocks }
+        ensures ok { IfOk result (λ c. c ≡ record { entries = []; cap = blocks }) }
+    {
+        let cap = NonZeroUsize::new(blocks).unwrap();
+        let blocks = LruCache::new(alloc, cap)?;
+        Ok(Cache { blocks, alloc })
+    }
+
+    /// Makes a block the most recently used, and says whether it is there. O(1).
+    pub(crate) fn recall(&mut self, array: u64, index: u32) -> bool
+        ensures ok { result ≡ is_some (lookup (is_keyed array index) self.old.entries) }
+        ensures found { OnTrue result (IsSome (lookup (is_keyed array index) self.new.entries)) }
+        ensures kept { AddsNone self.old self.new }
+    {
+        touch(&mut self.blocks, array, index)
+    }
+
+    /// Keeps a copy of a block, where memory is found for it. O(1) and one copy of 4,096 bytes.
+    pub(crate) fn keep(&mut self, array: u64, index: u32, block: &BlockView<'_>)
+        ensures kept { AddsOnly self.old self.new (array, index) block.now }
+    {
+        if let Ok(copy) = Block::new(self.alloc, block.bytes()) {
+            store(&mut self.blocks, array, index, copy);
+        }
+    }
+
+    /// A block that is there. O(1).
+    pub(crate) fn block(&self, array: u64, index: u32) -> BlockView<'_>
+        requires found { IsSome (lookup (is_keyed array index) self.now.entries) }
+        ensures ok { lookup (is_keyed array index) self.now.entries ≡ Some result }
+    {
+        self.blocks.peek(&(array, index)).unwrap().view()
+    }
+
+    /// How many blocks are kept: never more than `new` was told. O(1).
+    pub fn len(&self) -> usize
+        ensures ok { result ≡ length self.now.entries }
+        ensures room { result ≤ self.now.cap }
+    {
+        self.blocks.len()
+    }
+}

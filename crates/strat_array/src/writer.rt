@@ -1,0 +1,205 @@
+//! Writing an array.
+
+ghost use Rattle.std.specs.Prelude.{◌≡◌, ◌<◌, ◌+◌, ℕ, List, ◌++◌, ◌∷◌, [], length, Some, OnOk, OnErr, IfOk, IsErrOf, IsTrue, MatchResult};
+ghost use Rattle.strat_array.specs.Pushed.{AreMaximal, IsWritten, IsPushed, HasReason, with_entry};
+ghost use Rattle.strat_array.specs.Sparing.{ChangesOnly};
+ghost use Rattle.strat_array.specs.Taking.{HasRoom, AreUsed, Takes};
+ghost use Rattle.strat_base.specs.declared.failures.Trouble.TheVariants.{Device, Damaged};
+ghost use Rattle.strat_base.specs.Entries.{Entry as TheEntry, is_ascending};
+ghost use Rattle.strat_base.specs.EntryBytes.{fits_fields};
+ghost use Rattle.strat_base.specs.EntryView.{entry_of};
+ghost use Rattle.strat_crash.specs.Faults.{HasCause};
+ghost use Rattle.strat_crash.specs.Image.{Image};
+ghost use Rattle.strat_crash.specs.Moments.{Exposes};
+ghost use Rattle.strat_format.specs.Arrays.{blocks_of, entries_on};
+
+use crate::blocks::{take_block, write_block};
+use std::alloc::Global;
+use std::marker::Model;
+use strat_base::{ArrayDesc, Entry, Extents, NoMemory, Trouble, Versions};
+use strat_block::BlockWriter;
+use strat_disk::Disk;
+use strat_extent::Space;
+
+/// Takes a block, writes these entries into it, and begins anew.
+fn write_pending<D: Disk>(
+    pending: &mut BlockWriter,
+    extents: &mut Extents,
+    space: &mut Space,
+    disk: &mut D,
+) -> Result<(), Trouble>
+    requires len { 0 < length pending.old }
+    requires room { HasRoom space.old }
+    requires found { AreUsed space.old (blocks_of extents.old) }
+    ensures ok { OnOk result ((f g : Image) (es : List TheEntry) → Exposes (D.view disk.old) f
+        → Exposes (D.view disk.new) g → entries_on f (blocks_of extents.old) ≡ Some es
+        → entries_on g (blocks_of extents.new) ≡ Some (es ++ pending.old)) }
+    ensures end { MatchResult result (λ _. pending.new ≡ []) (λ _. pending.new ≡ pending.old) }
+    ensures found { Takes space.old space.new (blocks_of extents.old) (blocks_of extents.new) }
+    ensures kept { AreMaximal extents.old → AreMaximal extents.new }
+    ensures same { ChangesOnly (blocks_of extents.new) (D.view disk.old) (D.view disk.new) }
+    ensures cause { HasCause Device (D.faults disk.old) (D.faults disk.new) result }
+    ensures damaged { (b : ℕ) → IsErrOf result (Damaged b) → ⊥ }
+    ensures reads { D.reads disk.new ≡ D.reads disk.old }
+{
+    let block = take_block(extents, space)?;
+    write_block(disk, block, &pending.spell())?;
+    pending.clear();
+    Ok(())
+}
+
+/// Adds an entry behind those that are in no block, and writes these before where it has no room.
+fn push_entry<D: Disk>(
+    pending: &mut BlockWriter,
+    extents: &mut Extents,
+    e: &Entry<'_>,
+    space: &mut Space,
+    disk: &mut D,
+) -> Result<(), Trouble>
+    requires fits { IsTrue (fits_fields (entry_of e.now)) }
+    requires kept { IsTrue (is_ascending (pending.old ++ entry_of e.now ∷ [])) }
+    requires room { HasRoom space.old }
+    requires found { AreUsed space.old (blocks_of extents.old) }
+    ensures ok { OnOk result ((f g : Image) (es : List TheEntry) → Exposes (D.view disk.old) f
+        → Exposes (D.view disk.new) g → IsWritten f extents.old pending.old es
+        → IsWritten g extents.new pending.new (es ++ entry_of e.now ∷ [])) }
+    ensures end { MatchResult result
+        (λ _. pending.new ≡ with_entry pending.old (entry_of e.now))
+        (λ _. pending.new ≡ pending.old) }
+    ensures found { Takes space.old space.new (blocks_of extents.old) (blocks_of extents.new) }
+    ensures kept { AreMaximal extents.old → AreMaximal extents.new }
+    ensures same { ChangesOnly (blocks_of extents.new) (D.view disk.old) (D.view disk.new) }
+    ensures cause { HasCause Device (D.faults disk.old) (D.faults disk.new) result }
+    ensures damaged { (b : ℕ) → IsErrOf result (Damaged b) → ⊥ }
+    ensures reads { D.reads disk.new ≡ D.reads disk.old }
+{
+    if pending.push(e) {
+        return Ok(());
+    }
+    write_pending(pending, extents, space, disk)?;
+    pending.push(e);
+    Ok(())
+}
+
+/// An array that is being written. Its last entries stand in memory until their block is full.
+#[derive(Drop)]
+pub struct ArrayWriter {
+    id: u64,
+    count: u32,
+    pending: Box<BlockWriter>,
+    extents: Extents,
+}
+
+impl Model for ArrayWriter {
+    ghost use Rattle.strat_array.specs.Progress.{ArrayProgress};
+
+    ghost Value = { ArrayProgress };
+
+    ghost use Rattle.strat_array.specs.WriterFields.{progress_of, IsWriter};
+
+    ghost view = { progress_of };
+
+    ghost invariant = { IsWriter };
+}
+
+impl ArrayWriter {
+    /// A writer of the array of this number. The only error is want of memory.
+    pub fn new(alloc: Global, id: u64) -> Result<ArrayWriter, NoMemory>
+        ensures ok { IfOk result (λ w. w
+            ≡ record { id = id; count = 0; pending = []; extents = [] }) }
+    {
+        let pending = Box::new(alloc, BlockWriter::new())?;
+        Ok(ArrayWriter {
+            id,
+            count: 0,
+            pending,
+            extents: Extents::new(alloc),
+        })
+    }
+
+    /// Adds an entry that stands behind all others. O(bytes of the entry), and where it has no room in
+    /// the block so far, that block is written into the lowest free one: one write. After an error the
+    /// writer is good for nothing but `into_extents`.
+    pub fn push<D: Disk>(
+        &mut self,
+        e: &Entry<'_>,
+        space: &mut Space,
+        disk: &mut D,
+    ) -> Result<(), Trouble>
+        requires fits { IsTrue (fits_fields (entry_of e.now)) × (self.old.count < 33554432) }
+        requires kept { IsTrue (is_ascending (self.old.pending ++ entry_of e.now ∷ [])) }
+        requires room { HasRoom space.old }
+        requires found { AreUsed space.old (blocks_of self.old.extents) }
+        ensures ok { OnOk result ((f g : Image) (es : List TheEntry) → Exposes (D.view disk.old) f
+            → Exposes (D.view disk.new) g → IsPushed f self.old es
+            → IsPushed g self.new (es ++ entry_of e.now ∷ [])) }
+        ensures end { OnOk result (
+            self.new.pending ≡ with_entry self.old.pending (entry_of e.now)) }
+        ensures len { OnOk result (self.new.count ≡ self.old.count + 1) }
+        ensures found { Takes space.old space.new (blocks_of self.old.extents)
+            (blocks_of self.new.extents) }
+        ensures same { ChangesOnly (blocks_of self.new.extents) (D.view disk.old) (D.view disk.new)
+            × (self.new.id ≡ self.old.id) }
+        ensures cause { HasCause Device (D.faults disk.old) (D.faults disk.new) result }
+        ensures damaged { (b : ℕ) → IsErrOf result (Damaged b) → ⊥ }
+        ensures reads { D.reads disk.new ≡ D.reads disk.old }
+    {
+        push_entry(&mut self.pending, &mut self.extents, e, space, disk)?;
+        self.count += 1;
+        Ok(())
+    }
+
+    /// Writes the last block, and gives the array's descriptor: one write. After an error it gives the
+    /// blocks that were taken.
+    pub fn finish<D: Disk>(
+        self,
+        leads: u32,
+        least: u32,
+        versions: Versions,
+        space: &mut Space,
+        disk: &mut D,
+    ) -> Result<ArrayDesc, (Trouble, Extents)>
+        requires len { 0 < self.count }
+        requires room { HasRoom space.old }
+        requires found { AreUsed space.old (blocks_of self.extents) }
+        ensures ok { IfOk result (λ a. (a.id ≡ self.id) × (a.entries ≡ self.count)
+            × (a.leads ≡ leads) × (a.least ≡ least) × (a.versions ≡ versions)) }
+        ensures found { IfOk result (λ a. (f g : Image) (es : List TheEntry)
+            → Exposes (D.view disk.old) f → Exposes (D.view disk.new) g → IsPushed f self es
+            → entries_on g (blocks_of a.extents) ≡ Some es) }
+        ensures kept { IfOk result (λ a. AreMaximal a.extents) }
+        ensures same { MatchResult result
+            (λ a. ChangesOnly (blocks_of a.extents) (D.view disk.old) (D.view disk.new)
+            × Takes space.old space.new (blocks_of self.extents) (blocks_of a.extents))
+            (λ e. ChangesOnly (blocks_of e.1) (D.view disk.old) (D.view disk.new)
+            × Takes space.old space.new (blocks_of self.extents) (blocks_of e.1)) }
+        ensures cause { MatchResult result (λ a. D.faults disk.new ≡ D.faults disk.old)
+            (λ e. HasReason e.0 (D.faults disk.old) (D.faults disk.new)) }
+        ensures reads { D.reads disk.new ≡ D.reads disk.old }
+    {
+        let ArrayWriter {
+            id,
+            count,
+            mut pending,
+            mut extents,
+        } = self;
+        match write_pending(&mut pending, &mut extents, space, disk) {
+            Ok(()) => Ok(ArrayDesc {
+                id,
+                entries: count,
+                leads,
+                least,
+                extents,
+                versions,
+            }),
+            Err(failed) => Err((failed, extents)),
+        }
+    }
+
+    /// The blocks that were taken.
+    pub fn into_extents(self) -> Extents
+        ensures ok { result ≡ self.extents }
+    {
+        self.extents
+    }
+}

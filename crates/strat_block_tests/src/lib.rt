@@ -1,0 +1,7 @@
+//! Tests of blocks.
+#![tactic(auto)]
+
+#[cfg(test)]
+mod blocks;
+#[cfg(test)]
+mod worked;

@@ -1,0 +1,5 @@
+pub mod CountLemmas
+pub mod RunLemmas
+pub mod ChangeLemmas
+pub mod TakeLemmas
+pub mod BlockLemmas

@@ -1,0 +1,4 @@
+pub mod Blocks
+pub mod Change
+pub mod Fields
+pub mod Gap

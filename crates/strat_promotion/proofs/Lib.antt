@@ -1,0 +1,11 @@
+pub mod UnionLemmas
+pub mod PurgeLemmas
+pub mod LevelsLemmas
+pub mod ReplacedLemmas
+pub mod PromotedLemmas
+pub mod MergingLemmas
+pub mod CutLemmas
+pub mod PaidLemmas
+pub mod SealedLemmas
+pub mod TargetLemmas
+pub mod ReadLemmas

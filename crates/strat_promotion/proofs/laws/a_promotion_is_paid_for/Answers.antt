@@ -1,0 +1,16 @@
+use Rattle.std.proofs.Common.{arith}
+use Rattle.strat_plan.specs.Groups.{grouped_entries}
+use Rattle.strat_promotion.specs.Promoted.{fresh_after, fresh_of_groups}
+use Rattle.strat_promotion.proofs.PromotedLemmas.{promotion_replaces, groups_replace}
+use Rattle.strat_promotion.proofs.PaidLemmas.{paid_after, updates_few}
+use Rattle.strat_promotion.proofs.laws.a_promotion_is_paid_for.Goals as goal
+
+pub returns : goal.returns
+returns c = record {
+  replaced = λ s j taken kept fresh entries next_array sound paid some honest r least. paid_after s sound some honest paid j taken kept fresh entries r least next_array;
+  promoted = λ s j taken kept entries plan first next_array sound paid some honest r least.
+      paid_after s sound some honest paid j taken kept (fresh_after s j kept entries plan first) entries (promotion_replaces s sound j taken kept entries plan first r) least next_array;
+  groups = λ s j taken kept groups own seen plan first next_array sound paid some honest r least.
+      paid_after s sound some honest paid j taken kept (fresh_of_groups s j kept groups plan first) (grouped_entries groups) (groups_replace s sound j taken kept groups own seen plan first r) least next_array;
+  updates = λ s honest. let few = updates_few s.journal in omega (arith, few, honest);
+}

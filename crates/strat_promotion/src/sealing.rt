@@ -1,0 +1,52 @@
+//! Laws of changes that come while a promotion runs. Each is the contract of a function that does
+//! nothing.
+
+ghost use Rattle.std.specs.Prelude.{◌≡◌, ◌≤◌, ℕ, ◌+◌, List, ◌++◌, length, IsTrue};
+ghost use Rattle.strat_base.specs.Change.{Change};
+ghost use Rattle.strat_base.specs.Entries.{Entry};
+ghost use Rattle.strat_plan.specs.Plan.{Plan};
+ghost use Rattle.strat_promotion.specs.Promoted.{SaysTheSame, promoted, PromotesGroups, levels_of_groups};
+ghost use Rattle.strat_promotion.specs.Sealed.{sealed_at, grown_by};
+ghost use Rattle.strat_state.specs.Level.{Level};
+ghost use Rattle.strat_state.specs.Sound.{are_accepted, IsSound};
+ghost use Rattle.strat_state.specs.State.{State, versions_of, changes_of};
+
+/// A sound state was sound before the last changes in its journal.
+pub fn a_state_was_sound_before_its_last_changes()
+    ensures { (s : State) (sealed rest : List Change) → IsSound s → s.journal ≡ sealed ++ rest
+        → IsSound (sealed_at s sealed) }
+{}
+
+/// Two sound states that say the same still do, and are sound, after the same accepted changes.
+pub fn the_same_changes_keep_states_the_same()
+    ensures { (rest : List Change) (a b : State) → IsSound a → IsSound b → SaysTheSame a b
+        → IsTrue
+        (are_accepted a.changes_max a.versions_max (versions_of a) (changes_of a) rest)
+        → length a.journal + length rest ≤ a.mem → length b.journal + length rest ≤ b.mem
+        → IsSound (grown_by b rest) × SaysTheSame (grown_by a rest) (grown_by b rest) }
+{}
+
+/// A promotion of the first changes of a journal, with the other changes put behind it, leaves a
+/// sound state that says the same.
+pub fn a_promotion_lets_later_changes_follow()
+    ensures says { (s : State) (sealed rest : List Change) (j : ℕ) (taken kept : List Level)
+        (groups : List (List Entry)) (own seen : ℕ → ℕ) (plan : Plan)
+        (first written next_array : ℕ) → IsSound s → s.journal ≡ sealed ++ rest
+        → PromotesGroups (sealed_at s sealed) j taken kept groups own seen plan
+        → SaysTheSame s
+        (grown_by
+        (promoted (sealed_at s sealed)
+        (levels_of_groups (sealed_at s sealed) j kept groups plan first)
+        written next_array)
+        rest) }
+    ensures sound { (s : State) (sealed rest : List Change) (j : ℕ) (taken kept : List Level)
+        (groups : List (List Entry)) (own seen : ℕ → ℕ) (plan : Plan)
+        (first written next_array : ℕ) → IsSound s → s.journal ≡ sealed ++ rest
+        → PromotesGroups (sealed_at s sealed) j taken kept groups own seen plan
+        → IsSound
+        (grown_by
+        (promoted (sealed_at s sealed)
+        (levels_of_groups (sealed_at s sealed) j kept groups plan first)
+        written next_array)
+        rest) }
+{}
