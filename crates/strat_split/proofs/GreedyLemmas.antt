@@ -1,13 +1,13 @@
 -- What the pass from the greatest version down leaves.
-use Rattle.std.proofs.Common.{◌≡◌, ◌<◌, ◌≤◌, ◌+◌, ◌-◌, ◌*◌, ◌^◌, ℕ, zero, suc, Bool, true, false, cond, ltb, leb, ◌&&◌, ◌⊎◌, inl, inr, List, length, get_or, set, replicate, Option, Some, None, refl, sym, ap, ◌∙◌, subst, arith, unwrap_or}
-use Rattle.std.proofs.lemmas.Bool.{and_parts, and_cases, ltb-true, ltb-false, leb-true, leb-false, cases_eq, cases_lt, cases_Bool}
+use Rattle.std.proofs.Common.{◌≡◌, ◌<◌, ◌≤◌, ◌+◌, ◌-◌, ℕ, zero, suc, true, false, cond, ltb, leb, ◌⊎◌, inl, inr, List, length, get_or, set, replicate, Option, Some, refl, sym, ap, ◌∙◌, subst, arith, unwrap_or}
+use Rattle.std.proofs.lemmas.Bool.{and_parts, and_cases, ltb-true, ltb-false, leb-true, leb-false, cases_eq, cases_lt}
 use Rattle.std.proofs.lemmas.List.{get_or-set_same, get_or-set_other, get_or-replicate, get_or_past, set_past, length-set, length-replicate}
 use Rattle.std.specs.List.{slice_get}
 use Rattle.std.proofs.lemmas.Option.{slice_get-get_or}
 use Rattle.strat_base.specs.Tree.{Parents, parent_of, IsTree}
 use Rattle.strat_base.proofs.TreeLemmas.{option_cases, parent_older, root_is_zero}
 use Rattle.strat_tree.specs.Ancestor.{up}
-use Rattle.strat_split.specs.Survey.{Told, AreCounted}
+use Rattle.strat_split.specs.Survey.{Told}
 use Rattle.strat_split.specs.Greedy.{is_enough, fate_after, open_after, sums_taken, sums_after, sums_from, leads_of_rest, fate_of}
 use Rattle.strat_split.specs.declared.gather.Fate.{Fate}
 use Rattle.strat_split.specs.declared.gather.Fate.TheVariants.{Joins, Closes, Alone}

@@ -1,12 +1,12 @@
 -- A part takes the same items of a key in a tree that grew.
-use Rattle.std.proofs.Common.{◌≡◌, ◌<◌, ℕ, zero, suc, Bool, true, false, eqb, ltb, ◌&&◌, ◌||◌, not, inl, inr, List, [], ◌∷◌, length, Option, Some, None, refl, sym, ap, ◌∙◌, arith}
+use Rattle.std.proofs.Common.{◌≡◌, ◌<◌, ℕ, zero, suc, Bool, eqb, ltb, ◌&&◌, ◌||◌, not, inl, inr, List, [], ◌∷◌, length, Option, Some, None, refl, sym, ap, ◌∙◌, arith}
 use Rattle.std.specs.List.{list_any}
 use Rattle.std.specs.Option.{option_map_or}
-use Rattle.strat_base.specs.Tree.{Parents, parent_of, climb, path, is_ancestor, IsTree}
+use Rattle.strat_base.specs.Tree.{Parents, parent_of, climb, IsTree}
 use Rattle.strat_base.proofs.TreeLemmas.{option_cases, parent_older}
 use Rattle.strat_arena.specs.declared.items.Item.{Item}
 use Rattle.strat_live.specs.Counting.{SameParents}
-use Rattle.strat_live.specs.Group.{is_nearer, is_live_item}
+use Rattle.strat_live.specs.Group.{is_live_item}
 use Rattle.strat_plan.specs.Plan.{Plan, horizon_of, part_of, part_at, IsSplit}
 use Rattle.strat_split.specs.Taken.{is_inherited_item, is_taken_item}
 

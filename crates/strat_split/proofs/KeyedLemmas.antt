@@ -1,36 +1,23 @@
 -- Of the items of one key those are taken whose entries are; nothing is asked of other items.
-use Rattle.std.proofs.Common.{◌≡◌, ℕ, Bool, true, false, cond, eqb, ltb, ◌&&◌, ◌||◌, not, List, [], ◌∷◌, map, filter, Option, Some, None, refl, sym, ap, ◌∙◌, true≢false}
-use Rattle.std.specs.List.{list_any, list_all}
+use Rattle.std.proofs.Common.{◌≡◌, ℕ, Bool, true, false, cond, eqb, ◌||◌, List, [], ◌∷◌, map, filter, Option, Some, None, refl, sym, ap, true≢false}
+use Rattle.std.specs.List.{list_all}
 use Rattle.std.proofs.lemmas.Bool.{and_parts}
-use Rattle.strat_base.specs.Tree.{Parents, is_ancestor}
+use Rattle.strat_base.specs.Tree.{Parents}
 use Rattle.strat_base.specs.Entries.{Entry, is_of}
-use Rattle.strat_base.proofs.EntryLemmas.{same_bytes, is_of_key}
 use Rattle.strat_arena.specs.declared.items.Item.{Item}
-use Rattle.strat_state.specs.Live.{is_hidden_by, is_live}
-use Rattle.strat_live.specs.Group.{is_nearer, is_live_item}
+use Rattle.strat_live.proofs.GroupLemmas.{live_keyed}
 use Rattle.strat_plan.specs.Plan.{Plan, part_of, part_at}
 use Rattle.strat_plan.specs.Planned.{is_inherited, is_taken}
 use Rattle.strat_split.specs.Taken.{is_inherited_item, is_taken_item}
 
 module _ (parents : Parents) (items : List Item) (key : List ℕ) (entry : Item → Entry) (keyed : list_all (λ y. is_of key (entry y)) items ≡ true) (at : (item : Item) → (entry item).version ≡ item.version) where
-  hidden_keyed : (v : ℕ) (item : Item) → is_of key (entry item) ≡ true → (others : List Item) → list_all (λ y. is_of key (entry y)) others ≡ true
-      → list_any (is_hidden_by parents v (entry item)) (map entry others) ≡ list_any (is_nearer parents v item.version) others
-  hidden_keyed v item of_key [] all = refl
-  hidden_keyed v item of_key (y ∷ others) all =
-      let parts = and_parts (is_of key (entry y)) (list_all (λ z. is_of key (entry z)) others) all in
-      let same : is_of (entry item).key (entry y) ≡ true = same_bytes (entry y).key (entry item).key (is_of_key key (entry y) parts.0 ∙ sym (is_of_key key (entry item) of_key)) in
-      (λ i. ((same i && ltb (at item i) (at y i)) && is_ancestor parents (at y i) v) || hidden_keyed v item of_key others parts.1 i)
-
-  pub live_keyed : (v : ℕ) (item : Item) → is_of key (entry item) ≡ true → is_live parents (map entry items) v (entry item) ≡ is_live_item parents items v item
-  live_keyed v item of_key = λ i. is_ancestor parents (at item i) v && not (hidden_keyed v item of_key items keyed i)
-
   module _ (plan : Plan) (q : ℕ) where
     pub taken_keyed : (item : Item) → is_of key (entry item) ≡ true → is_taken parents plan (map entry items) q (entry item) ≡ is_taken_item parents plan items q item
     taken_keyed item of_key = λ i. eqb (part_of plan (at item i)) q || inherited (part_at plan q).above i
       where
         inherited : (above : Option ℕ) → is_inherited parents (map entry items) above (entry item) ≡ is_inherited_item parents items above item
         inherited None = refl
-        inherited (Some p) = live_keyed p item of_key
+        inherited (Some p) = live_keyed parents items key entry keyed at p item of_key
 
     step_taken : (x : Item) (es : List Entry) (xs : List Item) (a b : Bool) → a ≡ b → es ≡ map entry xs → cond a (entry x ∷ es) es ≡ map entry (cond b (x ∷ xs) xs)
     step_taken x es xs true true e more = ap (λ (ds : List Entry). entry x ∷ ds) more

@@ -1,13 +1,12 @@
 -- A version placed as its fate says.
-use Rattle.std.proofs.Common.{◌≡◌, ◌<◌, ◌≤◌, ◌+◌, ◌-◌, ◌*◌, ◌^◌, ℕ, zero, suc, Bool, true, false, cond, eqb, ◌⊎◌, inl, inr, List, [], ◌∷◌, ◌++◌, length, get_or, set, replicate, Option, Some, None, refl, sym, ap, ◌∙◌, subst, arith}
-use Rattle.std.specs.Option.{option_map_or}
-use Rattle.std.proofs.lemmas.Bool.{eq-eqb, ne_eqb, cases_eq, cases_lt}
+use Rattle.std.proofs.Common.{◌≡◌, ◌<◌, ◌≤◌, ◌+◌, ◌-◌, ◌*◌, ℕ, Bool, true, false, eqb, inl, inr, List, [], ◌∷◌, ◌++◌, length, get_or, set, replicate, Some, None, refl, sym, ap, ◌∙◌, subst, arith}
+use Rattle.std.proofs.lemmas.Bool.{eq-eqb, ne_eqb, cases_eq}
 use Rattle.std.proofs.lemmas.List.{get_or-set_same, get_or-set_other, get_or-replicate, length-set, length-replicate, length_push}
-use Rattle.strat_base.specs.Tree.{Parents, parent_of, IsTree}
+use Rattle.strat_base.specs.Tree.{IsTree}
 use Rattle.strat_tree.specs.Ancestor.{up}
 use Rattle.strat_plan.specs.Plan.{in_no_part}
-use Rattle.strat_split.specs.Survey.{Told, IsSized, AreCounted}
-use Rattle.strat_split.specs.Greedy.{sums_from, sums_after, leads_of_rest, fate_of, open_after, fate_after}
+use Rattle.strat_split.specs.Survey.{Told, AreCounted}
+use Rattle.strat_split.specs.Greedy.{sums_from, leads_of_rest, fate_of, open_after, fate_after}
 use Rattle.strat_split.specs.Placing.{nth_part, part_sum, part_below, top_part, IsFit, IsServed, IsSoFar, IsDrafted, IsPlaced}
 use Rattle.strat_split.specs.declared.parts.Part.{Part}
 use Rattle.strat_split.specs.declared.gather.Fate.{Fate}

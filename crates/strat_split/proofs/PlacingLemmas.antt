@@ -1,17 +1,17 @@
 -- Versions placed in parts from the least up: what one more version keeps.
-use Rattle.std.proofs.Common.{◌≡◌, ◌<◌, ◌≤◌, ◌+◌, ◌-◌, ◌*◌, ◌^◌, ℕ, zero, suc, Bool, true, false, cond, eqb, ◌⊎◌, inl, inr, List, [], ◌∷◌, ◌++◌, length, get_or, set, Option, Some, None, refl, sym, ap, ◌∙◌, subst, arith}
+use Rattle.std.proofs.Common.{◌≡◌, ◌<◌, ◌≤◌, ◌+◌, ◌-◌, ◌*◌, ℕ, Bool, true, false, eqb, ◌⊎◌, inl, inr, List, [], ◌∷◌, ◌++◌, length, get_or, set, Option, Some, None, refl, sym, ap, ◌∙◌, subst, arith}
 use Rattle.std.specs.Option.{option_map_or}
 use Rattle.std.proofs.lemmas.Bool.{eq-eqb, ne_eqb, cases_eq, cases_lt}
 use Rattle.std.proofs.lemmas.List.{get_or-set_same, get_or-set_other, get_or_append_left, get_or_push, length_push, length-set}
-use Rattle.strat_base.specs.Tree.{Parents, parent_of, IsTree}
+use Rattle.strat_base.specs.Tree.{parent_of}
 use Rattle.strat_tree.specs.Ancestor.{up}
 use Rattle.strat_plan.specs.Plan.{in_no_part}
 use Rattle.strat_split.specs.Survey.{Told, AreCounted}
-use Rattle.strat_split.specs.Greedy.{sums_taken, sums_from, leads_of_rest, fate_of, open_after, fate_after}
+use Rattle.strat_split.specs.Greedy.{sums_from, leads_of_rest, open_after}
 use Rattle.strat_split.specs.Placing.{nth_part, part_sum, IsFit, IsServed, IsSoFar}
 use Rattle.strat_split.specs.declared.parts.Part.{Part}
 use Rattle.strat_split.proofs.SumLemmas.{taken, part_sum_more, part_sum_change, part_sum_same, part_sum_none}
-use Rattle.strat_split.proofs.GreedyLemmas.{up_is, length_sums, sums_next, sums_low, fate_cases, IsAlone, IsClosing, IsJoining}
+use Rattle.strat_split.proofs.GreedyLemmas.{up_is, sums_next}
 
 -- what holds of each number below c in a list, once place c is set
 set_each : (P : ℕ → ℕ → Type 0) (xs : List ℕ) (c x : ℕ) → c < length xs → ((v : ℕ) → v < c → P v (get_or xs v 0)) → P c x → (v : ℕ) → v < c + 1 → P v (get_or (set xs c x) v 0)

@@ -1,22 +1,21 @@
 -- What the passes leave is a split, and counts are what a split can go by.
-use Rattle.std.proofs.Common.{◌≡◌, ◌<◌, ◌≤◌, ◌+◌, ◌-◌, ◌*◌, ◌^◌, ℕ, zero, suc, ◌⊎◌, inl, inr, List, [], ◌∷◌, length, map, get_or, Option, Some, None, refl, sym, ap, ◌∙◌, subst, arith}
-use Rattle.std.specs.List.{sum_by, list_all}
+use Rattle.std.proofs.Common.{◌≡◌, ◌<◌, ◌+◌, ℕ, zero, suc, ◌⊎◌, inl, inr, List, [], ◌∷◌, length, map, get_or, Option, Some, None, refl, sym, ap, ◌∙◌, subst, arith}
+use Rattle.std.specs.List.{sum_by}
 use Rattle.std.specs.Option.{option_map_or}
-use Rattle.std.proofs.lemmas.Bool.{cases_lt}
 use Rattle.std.proofs.lemmas.List.{length-map}
-use Rattle.strat_base.specs.Tree.{Parents, parent_of, IsTree}
+use Rattle.strat_base.specs.Tree.{Parents, parent_of}
 use Rattle.strat_base.proofs.TreeLemmas.{option_cases, root_is_zero, parent_older}
 use Rattle.strat_tree.specs.Ancestor.{up}
 use Rattle.strat_state.specs.Counted.{own_at, keys_at}
 use Rattle.strat_live.specs.Tallies.{Tallies}
-use Rattle.strat_live.specs.Counting.{descends, IsCount, SameParents}
+use Rattle.strat_live.specs.Counting.{IsCount, SameParents}
 use Rattle.strat_live.proofs.CountingLemmas.{live_same}
 use Rattle.strat_live.proofs.CountingLaws.{live_grows, live_grows_by_own, root_live, own_live}
 use Rattle.strat_plan.specs.Plan.{IsSplit, in_no_part, horizon_of, part_of, part_at, members}
 use Rattle.strat_plan.specs.Plan as defined
 use Rattle.strat_split.specs.Survey.{Told, IsSized, AreCounted}
 use Rattle.strat_split.specs.Greedy.{sums_from}
-use Rattle.strat_split.specs.Placing.{nth_part, part_sum, IsFit, IsServed, IsSoFar, IsLowered, IsDivided}
+use Rattle.strat_split.specs.Placing.{nth_part, part_sum, IsSoFar, IsDivided}
 use Rattle.strat_split.specs.PlanSeen.{part_seen}
 use Rattle.strat_split.specs.declared.parts.Part.{Part}
 use Rattle.strat_split.proofs.SumLemmas.{part_sum_zeros, sum_members}

@@ -1,14 +1,14 @@
 -- Of the items of one key one at most is live at a version.
-use Rattle.std.proofs.Common.{◌≡◌, ◌<◌, ◌≤◌, ◌+◌, ℕ, zero, suc, Bool, true, false, cond, eqb, ltb, ◌&&◌, ◌||◌, not, ◌⊎◌, inl, inr, List, [], ◌∷◌, length, map, get_or, Option, Some, None, refl, sym, ap, ◌∙◌, subst, arith, true≢false}
-use Rattle.std.specs.List.{list_any, list_all, position, position_or_len, slice_get}
-use Rattle.std.specs.Option.{option_map_or, option_and_then}
-use Rattle.std.proofs.lemmas.Bool.{and_parts, and_from, ltb-true, lt-ltb, eqb-true, eq-eqb, ne_eqb, false_from_ne_true, not_from_true, not_from_false, not-true, or_left, or_right, and_left, and_right, cases_eq, cases_lt, cases_order}
+use Rattle.std.proofs.Common.{◌≡◌, ◌<◌, ◌≤◌, ℕ, zero, suc, Bool, true, false, cond, eqb, ltb, not, inl, inr, List, [], ◌∷◌, length, get_or, Option, Some, None, refl, sym, ap, ◌∙◌, subst, arith, true≢false}
+use Rattle.std.specs.List.{list_any, list_all, position, position_or_len}
+use Rattle.std.specs.Option.{option_and_then}
+use Rattle.std.proofs.lemmas.Bool.{and_parts, and_from, ltb-true, lt-ltb, eq-eqb, ne_eqb, false_from_ne_true, not_from_true, not_from_false, not-true, or_left, or_right, and_left, and_right, cases_eq, cases_lt, cases_order}
 use Rattle.std.proofs.lemmas.List.Quantifiers.{position-Some}
 use Rattle.std.proofs.lemmas.List.Sums.{fails_before_first}
 use Rattle.std.proofs.lemmas.Option.{slice_get_past}
 use Rattle.strat_base.specs.Tree.{Parents, parent_of, path, is_ancestor, IsTree}
 use Rattle.strat_base.proofs.ListFacts.{Among, any_from, any_among, all_at}
-use Rattle.strat_base.proofs.TreeLemmas.{option_cases, path_root, ancestor_among, among_ancestor, on_root, on_path, from_path, along_path, parent_older}
+use Rattle.strat_base.proofs.TreeLemmas.{ancestor_among, among_ancestor, on_root, on_path, from_path, along_path, parent_older}
 use Rattle.strat_arena.specs.declared.items.Item.{Item}
 use Rattle.strat_live.specs.Counting.{are_below}
 use Rattle.strat_live.specs.Group.{is_descending, is_nearer, is_live_item}

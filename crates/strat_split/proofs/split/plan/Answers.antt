@@ -1,7 +1,7 @@
-use Rattle.std.proofs.Common.{◌≡◌, ℕ, List, length, map, sym, ap, ◌∙◌, subst, arith}
+use Rattle.std.proofs.Common.{◌≡◌, ℕ, List, length, sym, ap, ◌∙◌, arith}
 use Rattle.std.proofs.lemmas.Result.{IfOk-weaker}
 use Rattle.strat_base.specs.Tree.{Parents, parent_of}
-use Rattle.strat_live.specs.Counting.{SameParents, IsCount}
+use Rattle.strat_live.specs.Counting.{SameParents}
 use Rattle.strat_plan.specs.Plan.{IsSplit}
 use Rattle.strat_state.specs.Counted.{own_at, keys_at}
 use Rattle.strat_split.specs.Placing.{IsDivided}
