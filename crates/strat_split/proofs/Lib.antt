@@ -6,3 +6,6 @@ pub mod LeastLemmas
 pub mod SplitLemmas
 pub mod TakenLemmas
 pub mod HangingLemmas
+pub mod CarrierLemmas
+pub mod GrownLemmas
+pub mod KeyedLemmas

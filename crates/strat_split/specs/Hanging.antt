@@ -1,8 +1,7 @@
 -- Which parts hang below the versions of each part.
 use Rattle.std.specs.Prelude.{◌≡◌, ◌<◌, ◌≤◌, ℕ, ◌+◌, ◌-◌, ◌==◌, List, length, map, find, slice_get, slice_index, slice_index_or, Option, None, unwrap_or, option_and_then}
 use Rattle.std.specs.List.{range_with_len}
-use Rattle.strat_plan.specs.Plan.{Plan, in_no_part}
-use Rattle.strat_split.specs.Shown.{shown}
+use Rattle.strat_plan.specs.Plan.{in_no_part}
 use Rattle.strat_split.specs.declared.parts.Part.{Part}
 
 -- the part of the version that a part hangs below, by these labels

@@ -14,10 +14,10 @@ use strat_base::{NoMemory, Version, Versions};
 ///
 /// Who fills the arrays of a plan with the items of one key begins with the parts of these items, whose
 /// leads they are, and then asks, from each part that takes something, for each part that hangs from it
-/// whether one of what the carrier takes is live where it hangs. No other part takes anything, as
-/// `what_is_live_in_a_part_is_taken` says. Over all keys this looks at no more than three times the
-/// entries that are written: a part is asked for once with each entry of its carrier, and since the
-/// carrier is dense, at least a third of these are live where the part hangs and become its entries.
+/// whether one of what the carrier takes is live where it hangs: `live_in` over those items alone. No
+/// other part takes anything, and no other item, as two laws say. Over all keys this looks at no more than
+/// three times the entries that are written: a part is asked for with each entry of its carrier, and
+/// since the carrier is dense, at least a third of these are live where the part hangs and become its own.
 #[derive(Drop)]
 pub struct Hanging {
     carriers: Vec<u32>,

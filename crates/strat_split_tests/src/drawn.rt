@@ -224,6 +224,19 @@ fn are_well_filled(alloc: Global, tree: &Tree, plan: &Plan, keys: u32) -> Result
     Ok(plan.parts.len() <= tree.count() as usize)
 }
 
+/// Whether parts are numbered in the order in which their first versions come.
+fn is_well_numbered(plan: &Plan) -> bool {
+    let mut met: u32 = 0;
+    for q in plan.part_of.as_slice() {
+        if *q == met {
+            met = met.wrapping_add(1);
+        } else if *q > met && *q != IN_NO_PART {
+            return false;
+        }
+    }
+    met as usize == plan.parts.len()
+}
+
 /// How many parts hang from a part, along its chain.
 fn hung(hanging: &Hanging, part: u32) -> u32
     requires { part < length hanging.now }
@@ -270,6 +283,7 @@ fn agrees(alloc: Global, shape: Shape, versions: u32, keys: u32) -> Result<bool,
     let made = plan(alloc, &tree, &counts, versions)?;
     Ok(
         counts_agree(&tree, &counts, versions, keys)
+            && is_well_numbered(&made)
             && is_well_split(alloc, &tree, &made, keys)?
             && is_well_hung(alloc, &made)?,
     )

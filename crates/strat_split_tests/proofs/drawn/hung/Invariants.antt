@@ -3,8 +3,8 @@ use Rattle.std.proofs.Common.{◌≡◌, ◌<◌, ◌-◌, length, slice_index}
 use Rattle.std.specs.Option.{IfSome, option_map_or}
 use Rattle.strat_split_tests.proofs.drawn.hung.Given as goal
 
-abbrev pub invariant-loop-q : goal.invariant-loop-q
-invariant-loop-q l = IfSome l.at (λ q. (q < length l.hanging) × (slice_index l.hanging q ≡ l.part))
+abbrev pub invariant-loop-at : goal.invariant-loop-at
+invariant-loop-at l = IfSome l.at (λ q. (q < length l.hanging) × (slice_index l.hanging q ≡ l.part))
 
-abbrev pub decreases-loop-q : goal.decreases-loop-q
-decreases-loop-q l = option_map_or (λ q. length l.hanging - q) l.at 0
+abbrev pub decreases-loop-at : goal.decreases-loop-at
+decreases-loop-at l = option_map_or (λ q. length l.hanging - q) l.at 0

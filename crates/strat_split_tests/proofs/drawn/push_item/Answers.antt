@@ -1,4 +1,4 @@
-use Rattle.std.proofs.Common.{List, ◌++◌, ◌∷◌, [], sym, subst}
+use Rattle.std.proofs.Common.{List, sym, subst}
 use Rattle.strat_arena.specs.declared.items.Item.{Item}
 use Rattle.strat_split_tests.specs.Groups.{IsGroupFrom}
 use Rattle.strat_split_tests.proofs.GroupLemmas.{from_less, from_push}
