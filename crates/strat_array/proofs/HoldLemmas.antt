@@ -49,7 +49,7 @@ looks_taken old new array blocks c d s t u index block looks taken place = recor
       ];
 }
 
-get_within : {X : Type 0} (xs : List X) (i : ℕ) (x : X) → slice_get xs i ≡ Some x → i < length xs
+pub get_within : {X : Type 0} (xs : List X) (i : ℕ) (x : X) → slice_get xs i ≡ Some x → i < length xs
 get_within [] i x e = absurd (cc)
 get_within (y ∷ ys) zero x e = omega arith
 get_within (y ∷ ys) (suc i) x e = let rest = get_within ys i x e in omega arith

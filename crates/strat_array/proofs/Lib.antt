@@ -1,3 +1,4 @@
+pub mod AheadLemmas
 pub mod BlockFacts
 pub mod CacheLemmas
 pub mod EntriesOnLemmas

@@ -1,5 +1,5 @@
 -- Places of entries, as a walk over an array steps from one to the next.
-use Rattle.std.specs.Prelude.{◌≡◌, ◌<◌, ℕ, ◌+◌, ◌⊎◌, List, [], ◌∷◌, length, slice_index_or, Option, Some, None}
+use Rattle.std.specs.Prelude.{◌≡◌, ◌≤◌, ◌<◌, ℕ, ◌+◌, ◌-◌, if◌then◌else◌, is_some, ◌⊎◌, List, [], ◌∷◌, length, slice_index_or, Option, Some, None}
 use Rattle.strat_base.specs.Entries.{Entry}
 use Rattle.strat_block.specs.Places.{IsFirstFrom}
 use Rattle.strat_array.specs.Kept.{Kept, held_block}
@@ -46,3 +46,10 @@ IsSettled lists place =
 abbrev pub Steps : List (List Entry) → Place → Option (Entry × Place) → Type 0
 Steps lists place None = left_from lists place ≡ []
 Steps lists place (Some x) = left_from lists place ≡ x.0 ∷ left_from lists x.1
+
+-- how many blocks of an array, which has so many, a walk from a place on has still to read: not the one
+-- that a scratch holds
+abbrev pub blocks_ahead : Option Kept → ℕ → ℕ → Place → ℕ
+blocks_ahead s array count place =
+    if is_some (held_block s array place.block) then count - (place.block + 1)
+    else count - place.block

@@ -1,20 +1,20 @@
 //! The look-up of a key at a version in one array.
 
 ghost use Rattle.std.specs.List.{find, list_all};
-ghost use Rattle.std.specs.Prelude.{◌≡◌, ◌<◌, ℕ, List, length, None, IfOk, OnErr, IsErrOf, IsTrue};
+ghost use Rattle.std.specs.Prelude.{◌≡◌, ◌<◌, ◌+◌, ◌^◌, ℕ, List, length, None, IfOk, OnErr, IsErrOf, IsTrue};
 ghost use Rattle.strat_base.specs.Entries.{Entry as TheEntry, is_ascending};
 ghost use Rattle.strat_base.specs.EntryBytes.{fits_fields};
 ghost use Rattle.strat_base.specs.EntryView.{entry_of};
 ghost use Rattle.strat_base.specs.Tree.{is_ancestor};
 ghost use Rattle.strat_base.specs.declared.failures.Fault.TheVariants.{Damaged, Device};
 ghost use Rattle.strat_base.specs.declared.limits.TheConstants.{PAIRS_MAX};
-ghost use Rattle.strat_crash.specs.Faults.{HasCause};
+ghost use Rattle.strat_crash.specs.Faults.{HasCause, ReadsAtMost};
 ghost use Rattle.strat_format.specs.Arrays.{blocks_of};
 ghost use Rattle.strat_state.specs.Reading.{live_of};
 ghost use Rattle.strat_array.specs.Told.{TellsFound, Judges, Tells};
 ghost use Rattle.strat_array.specs.Kept.{Looks, ArrayStands};
 ghost use Rattle.strat_array.specs.Left.{all_in, is_from};
-ghost use Rattle.strat_array.specs.Steps.{left_from};
+ghost use Rattle.strat_array.specs.Steps.{blocks_ahead, left_from};
 ghost use Rattle.strat_array.specs.Walk.{is_seen_at};
 ghost use Rattle.strat_array.specs.Within.{AreWithin, IsNoBlock};
 
@@ -96,6 +96,9 @@ fn live_from<D: Disk>(
     ensures damaged { (b : ℕ) → IsErrOf result (Damaged b)
         → IsNoBlock (D.view disk.old).content (blocks_of desc.now.extents) b }
     ensures cause { HasCause Device (D.faults disk.old) (D.faults disk.new) result }
+    ensures reads { ReadsAtMost
+        (blocks_ahead scratch.old desc.now.id (length (blocks_of desc.now.extents)) place)
+        (D.reads disk.old) (D.reads disk.new) }
 {
     let mut place = place;
     while let Some(at) = settle(disk, cache, desc, place, scratch)? {
@@ -139,6 +142,9 @@ pub fn find<D: Disk>(
     ensures damaged { (b : ℕ) → IsErrOf result (Damaged b)
         → IsNoBlock (D.view disk.old).content (blocks_of desc.now.extents) b }
     ensures cause { HasCause Device (D.faults disk.old) (D.faults disk.new) result }
+    ensures reads { (n : ℕ) → length (blocks_of desc.now.extents) < 2 ^ n
+        → ReadsAtMost (n + 1 + length (blocks_of desc.now.extents))
+        (D.reads disk.old) (D.reads disk.new) }
 {
     let _versions = tree.count();
     let place = seek(disk, cache, desc, key, scratch)?;

@@ -1,7 +1,7 @@
 //! A walk over the entries of an array, from a place on.
 
 ghost use Rattle.std.specs.Bool.{OnTrue};
-ghost use Rattle.std.specs.Prelude.{◌≡◌, ◌<◌, ℕ, List, length, nat_lt, Option, option_map, IsSome, IsTrue, IfOk, IfSome, IsErrOf};
+ghost use Rattle.std.specs.Prelude.{◌≡◌, ◌≤◌, ◌<◌, ◌+◌, ℕ, List, length, nat_lt, Option, option_map, IsSome, IsTrue, IfOk, IfSome, IsErrOf};
 ghost use Rattle.strat_base.specs.Entries.{Entry as TheEntry};
 ghost use Rattle.strat_base.specs.EntryBytes.{fits_fields};
 ghost use Rattle.strat_base.specs.EntryView.{entry_of};
@@ -9,7 +9,7 @@ ghost use Rattle.strat_base.specs.declared.failures.Fault.TheVariants.{Damaged, 
 ghost use Rattle.strat_crash.specs.Faults.{HasCause, ReadsAtMost};
 ghost use Rattle.strat_format.specs.Arrays.{blocks_of};
 ghost use Rattle.strat_array.specs.Kept.{Kept, held_block, kept_block, TakesOver, Looks, ArrayStands};
-ghost use Rattle.strat_array.specs.Steps.{HoldsPlace, IsNear, Settles, Steps};
+ghost use Rattle.strat_array.specs.Steps.{blocks_ahead, HoldsPlace, IsNear, Settles, Steps};
 ghost use Rattle.strat_array.specs.Within.{AreWithin, IsNoBlock};
 
 use crate::cache::Cache;
@@ -47,6 +47,8 @@ fn hold<D: Disk>(
         cache.old scratch.old lists
         → there ≡ nat_lt index (length lists)) }
     ensures none { IsSome (held_block scratch.old desc.now.id index)
+        → D.reads disk.new ≡ D.reads disk.old }
+    ensures len { length (blocks_of desc.now.extents) ≤ index
         → D.reads disk.new ≡ D.reads disk.old }
     ensures same { Looks (D.view disk.old) (D.view disk.new)
         desc.now.id (blocks_of desc.now.extents) cache.old cache.new scratch.old scratch.new }
@@ -92,6 +94,12 @@ pub fn settle<D: Disk>(
         → IsNoBlock (D.view disk.old).content (blocks_of desc.now.extents) b }
     ensures cause { HasCause Device (D.faults disk.old) (D.faults disk.new) result }
     ensures reads { ReadsAtMost 2 (D.reads disk.old) (D.reads disk.new) }
+    ensures len { D.reads disk.new ≤ D.reads disk.old
+        + blocks_ahead scratch.old desc.now.id (length (blocks_of desc.now.extents)) place }
+    ensures room { IfOk result (λ r. IfSome r (λ at. D.reads disk.new
+        + blocks_ahead scratch.new desc.now.id (length (blocks_of desc.now.extents)) at
+        ≤ D.reads disk.old
+        + blocks_ahead scratch.old desc.now.id (length (blocks_of desc.now.extents)) place)) }
 {
     if !hold(disk, cache, desc, place.block, scratch)? {
         return Ok(None);

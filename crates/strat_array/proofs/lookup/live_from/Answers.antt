@@ -1,10 +1,10 @@
-use Rattle.std.proofs.Common.{◌+◌, refl, ap, subst, ◌∙◌}
+use Rattle.std.proofs.Common.{◌+◌, length, refl, ap, subst, ◌∙◌, arith}
 use Rattle.std.specs.List.{find}
 use Rattle.strat_base.specs.EntryView.{entry_of}
 use Rattle.strat_format.specs.Arrays.{blocks_of}
 use Rattle.strat_array.specs.Told.{TheirPairs, TellsFound}
 use Rattle.strat_array.specs.declared.place.Place.{Place}
-use Rattle.strat_array.specs.Steps.{left_from}
+use Rattle.strat_array.specs.Steps.{blocks_ahead, left_from}
 use Rattle.strat_array.specs.Walk.{is_seen_at}
 use Rattle.strat_array.proofs.KeptLemmas.{looks_trans}
 use Rattle.strat_array.proofs.FindLemmas.{walks_on, walk_answers, walk_ends}
@@ -36,6 +36,10 @@ loop-at-preserved g c =
           c.next-place.result (ap (λ (p : Place). p.block) c.next-place.ensures.ok) (ap (λ (p : Place). p.index) c.next-place.ensures.ok) _ _ c.in_default-judge.ensures.ok,
       c.in_default-judge.ensures.ok.1 ∙ c.loop-at.invariant.1,
       on.cause.ok ∙ c.loop-at.invariant.2,
+      omega (arith, on.reads.later, c.loop-at.invariant.3),
+      (let room = rw c.in-Some.is at on.room in
+          let same = ap (λ (p : Place). blocks_ahead c.settle.new.scratch c.args.desc.now.id (length (blocks_of c.args.desc.now.extents)) (record { block = p.block; index = 0 })) c.next-place.ensures.ok in
+          omega (arith, room, same, c.loop-at.invariant.4)),
     )
 
 pub returns-clause-found : goal.returns-clause-found

@@ -1,8 +1,8 @@
-use Rattle.std.proofs.Common.{◌≡◌, List, Some, ap, sym, ◌∙◌}
+use Rattle.std.proofs.Common.{◌≡◌, List, Some, None, Option, ap, sym, ◌∙◌, arith}
 use Rattle.std.specs.List.{slice_get}
 use Rattle.strat_base.specs.declared.descriptors.Extent.{Extent}
 use Rattle.strat_format.specs.Arrays.{blocks_of}
-use Rattle.strat_array.proofs.HoldLemmas.{looks_taken, held_within, place_within, place_past}
+use Rattle.strat_array.proofs.HoldLemmas.{get_within, looks_taken, held_within, place_within, place_past}
 use Rattle.strat_array.proofs.SearchLemmas.{no_block, err_of}
 use Rattle.strat_array.proofs.walk.hold.Given.{Over}
 use Rattle.strat_array.proofs.walk.hold.Goals as goal
@@ -30,3 +30,13 @@ pub returns-clause-same : goal.returns-clause-same
 returns-clause-same g c =
     let at = place g (goal.at.returns-clause-same g c).After-bring in
     looks_taken _ _ _ (blocks_of c.args.desc.now.extents) _ _ _ _ _ c.args.index c.in-Some.block (c.bring.ensures.same (blocks_of c.args.desc.now.extents) at) c.take_over.ensures.kept at
+
+pub returns-in_err-bring-clause-len : goal.returns-in_err-bring-clause-len
+returns-in_err-bring-clause-len g c = λ past.
+    let lt = get_within (blocks_of c.args.desc.now.extents) c.args.index c.in-Some.block (place g (goal.at.returns-in_err-bring-clause-len g c).After-bring) in
+    absurd (omega (arith, lt, past))
+
+pub returns-clause-len : goal.returns-clause-len
+returns-clause-len g c = λ past.
+    let lt = get_within (blocks_of c.args.desc.now.extents) c.args.index c.in-Some.block (place g (goal.at.returns-clause-len g c).After-bring) in
+    absurd (omega (arith, lt, past))

@@ -1,10 +1,15 @@
-use Rattle.std.proofs.Common.{◌<◌, length, sym, ◌∙◌, arith}
+use Rattle.std.proofs.Common.{◌≤◌, ◌<◌, ◌+◌, ◌-◌, length, is_some, sym, ◌∙◌, arith}
 use Rattle.std.proofs.lemmas.Bool.{OnTrue_at, ltb-true}
 use Rattle.strat_format.specs.Arrays.{blocks_of}
+use Rattle.strat_array.specs.Kept.{held_block}
+use Rattle.strat_array.specs.Steps.{blocks_ahead}
+use Rattle.strat_array.proofs.AheadLemmas.{held_ahead, next_ahead, ahead_held}
 use Rattle.strat_array.proofs.KeptLemmas.{listed_length, looks_trans, stands_after}
 use Rattle.strat_array.proofs.HoldLemmas.{left_past_held, left_none, holds_place}
 use Rattle.strat_array.proofs.SearchLemmas.{no_block_same, err_of}
+use Rattle.strat_array.proofs.walk.settle.Given.{Over}
 use Rattle.strat_array.proofs.walk.settle.Goals as goal
+use Rattle.strat_array.proofs.walk.settle.Goals.{After-hold, After-hold-2}
 
 pub returns-in_err-hold-clause-damaged : goal.returns-in_err-hold-clause-damaged
 returns-in_err-hold-clause-damaged g c = λ b torn. c.in_err-hold.ensures.damaged b (err_of c.from_residual.result _ _ c.from_residual.ensures.1 torn)
@@ -42,3 +47,51 @@ returns-clause-ok g c = λ lists stands.
 
 pub returns-clause-same : goal.returns-clause-same
 returns-clause-same g c = looks_trans _ _ _ _ _ _ _ _ _ _ _ c.hold.ensures.same c.hold-2.ensures.same
+
+-- the reads up to the first block that is held
+first : (g : Over) (c : After-hold g) → g.D.Disk.reads c.hold.new.disk + (length (blocks_of c.args.desc.now.extents) - (c.args.place.block + 1))
+    ≤ g.D.Disk.reads c.args.disk.now + blocks_ahead c.args.scratch.now c.args.desc.now.id (length (blocks_of c.args.desc.now.extents)) c.args.place
+first g c =
+    held_ahead (is_some (held_block c.args.scratch.now c.args.desc.now.id c.args.place.block)) (length (blocks_of c.args.desc.now.extents)) c.args.place.block _ _
+    c.hold.ensures.reads.bound c.hold.ensures.none c.hold.ensures.len
+
+pub returns-in_err-hold-clause-len : goal.returns-in_err-hold-clause-len
+returns-in_err-hold-clause-len g c = let before = first g (goal.at.returns-in_err-hold-clause-len g c).After-hold in omega (arith, before)
+
+pub returns-then-not-branch-clause-len : goal.returns-then-not-branch-clause-len
+returns-then-not-branch-clause-len g c = let before = first g (goal.at.returns-then-not-branch-clause-len g c).After-hold in omega (arith, before)
+
+pub returns-then-has-clause-len : goal.returns-then-has-clause-len
+returns-then-has-clause-len g c = let before = first g (goal.at.returns-then-has-clause-len g c).After-hold in omega (arith, before)
+
+pub returns-then-has-clause-room : goal.returns-then-has-clause-room
+returns-then-has-clause-room g c =
+    let before = first g (goal.at.returns-then-has-clause-room g c).After-hold in
+    let held = ahead_held c.hold.new.scratch c.args.desc.now.id (length (blocks_of c.args.desc.now.extents)) c.args.place (OnTrue_at c.if-not-branch.false c.in_ok-hold.ensures.found) in
+    omega (arith, before, held)
+
+pub returns-in_default-clause-len : goal.returns-in_default-clause-len
+returns-in_default-clause-len g c = let before = first g (goal.at.returns-in_default-clause-len g c).After-hold in omega (arith, before)
+
+second : (g : Over) (c : After-hold-2 g) → g.D.Disk.reads c.hold-2.new.disk + (length (blocks_of c.args.desc.now.extents) - (c.in-Some.block + 1))
+    ≤ g.D.Disk.reads c.args.disk.now + blocks_ahead c.args.scratch.now c.args.desc.now.id (length (blocks_of c.args.desc.now.extents)) c.args.place
+second g c =
+    next_ahead (is_some (held_block c.hold.new.scratch c.args.desc.now.id c.in-Some.block)) (length (blocks_of c.args.desc.now.extents)) c.args.place.block c.in-Some.block _ _ _ (omega arith)
+    (held_ahead (is_some (held_block c.args.scratch.now c.args.desc.now.id c.args.place.block)) (length (blocks_of c.args.desc.now.extents)) c.args.place.block _ _
+    c.hold.ensures.reads.bound c.hold.ensures.none c.hold.ensures.len)
+    c.hold-2.ensures.reads.bound c.hold-2.ensures.none c.hold-2.ensures.len
+
+pub returns-in_err-hold-2-clause-len : goal.returns-in_err-hold-2-clause-len
+returns-in_err-hold-2-clause-len g c = let before = second g (goal.at.returns-in_err-hold-2-clause-len g c).After-hold-2 in omega (arith, before)
+
+pub returns-then-not-branch-2-clause-len : goal.returns-then-not-branch-2-clause-len
+returns-then-not-branch-2-clause-len g c = let before = second g (goal.at.returns-then-not-branch-2-clause-len g c).After-hold-2 in omega (arith, before)
+
+pub returns-clause-len : goal.returns-clause-len
+returns-clause-len g c = let before = second g (goal.at.returns-clause-len g c).After-hold-2 in omega (arith, before)
+
+pub returns-clause-room : goal.returns-clause-room
+returns-clause-room g c =
+    let before = second g (goal.at.returns-clause-room g c).After-hold-2 in
+    let held = ahead_held c.hold-2.new.scratch c.args.desc.now.id (length (blocks_of c.args.desc.now.extents)) (record { block = c.in-Some.block; index = 0 }) (OnTrue_at c.if-not-branch-2.false c.in_ok-hold-2.ensures.found) in
+    omega (arith, before, held)
