@@ -1,5 +1,5 @@
 -- A block has an entry.
-use Rattle.std.proofs.Common.{◌≡◌, ◌≤◌, ◌<◌, ◌+◌, ◌-◌, ◌*◌, ℕ, zero, suc, Bool, true, ltb, leb, ◌&&◌, List, [], ◌∷◌, ◌++◌, length, get_or, Some, refl, arith, length-append}
+use Rattle.std.proofs.Common.{◌≡◌, ◌<◌, ℕ, true, ltb, leb, ◌&&◌, List, [], ◌∷◌, length, Some, refl, arith}
 use Rattle.std.specs.List.{list_all}
 use Rattle.std.proofs.lemmas.Bool.{and_parts, ltb-true}
 use Rattle.strat_base.specs.Entries.{Entry, is_ascending}

@@ -1,12 +1,12 @@
 -- What a cache keeps after a block was used, or put into it.
-use Rattle.std.proofs.Common.{◌≡◌, ℕ, Bool, true, false, cond, eqb, ◌&&◌, ◌⊎◌, inl, inr, List, [], ◌∷◌, Contains, Option, Some, None, IsSome, Result, Ok, Err, OnOk, OnErr, is_some, refl, sym, ap, ◌∙◌, subst, true≢false}
+use Rattle.std.proofs.Common.{◌≡◌, ℕ, Bool, true, cond, eqb, inl, inr, List, ◌∷◌, Option, Some, None, IsSome, Result, Ok, Err, OnOk, OnErr, is_some, refl, sym, subst}
 use Rattle.std.specs.Map.{lookup, lookup_entry, remove_entry}
 use Rattle.std.specs.Option.{option_map_or}
 use Rattle.std.proofs.lemmas.Bool.{and_parts, eqb-true}
 use Rattle.lru.specs.LruCache.{LruCache, lru_cache, promoted, put_entries}
-use Rattle.lru.proofs.CallerLemmas.{Contains-promoted, Contains-lookup_entry, Contains-put_entries, IsPut}
+use Rattle.lru.proofs.CallerLemmas.{Contains-promoted, Contains-lookup_entry, Contains-put_entries}
 use Rattle.strat_base.specs.Entries.{Entry}
-use Rattle.strat_array.specs.Kept.{Kept, Blocks, is_keyed, AddsNone, AddsOnly}
+use Rattle.strat_array.specs.Kept.{Kept, is_keyed, AddsNone, AddsOnly}
 use Rattle.strat_array.specs.Shown.{blocks_in}
 
 -- a key that passes the test of an array and an index is these two

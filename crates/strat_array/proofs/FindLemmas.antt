@@ -1,5 +1,5 @@
 -- A walk to the entry that decides a key at a version.
-use Rattle.std.proofs.Common.{◌≡◌, ◌<◌, ◌+◌, ℕ, Bool, true, false, get_or, inl, inr, List, [], ◌∷◌, ◌++◌, length, Option, Some, None, IfSome, IsTrue, refl, sym, ap, ◌∙◌, subst}
+use Rattle.std.proofs.Common.{◌≡◌, ◌+◌, ℕ, get_or, List, [], ◌∷◌, ◌++◌, Option, Some, None, IfSome, IsTrue, refl, sym, ap, ◌∙◌, subst}
 use Rattle.std.specs.List.{list_all, find, slice_get}
 use Rattle.std.proofs.lemmas.Bool.{and_parts}
 use Rattle.strat_base.specs.Tree.{Parents, is_ancestor}
@@ -9,8 +9,8 @@ use Rattle.strat_crash.specs.Moments.{DiskView}
 use Rattle.strat_array.specs.declared.place.Place.{Place}
 use Rattle.strat_array.specs.declared.seen.Seen.{Seen}
 use Rattle.strat_array.specs.declared.seen.Seen.TheVariants as seen
-use Rattle.strat_array.specs.Told.{TheirPairs, Tells, TellsFound, Judges}
-use Rattle.strat_array.specs.Kept.{Kept, Blocks, held_block, Looks, ArrayStands}
+use Rattle.strat_array.specs.Told.{TheirPairs, TellsFound, Judges}
+use Rattle.strat_array.specs.Kept.{Kept, Blocks, Looks, ArrayStands}
 use Rattle.strat_array.specs.Left.{is_from}
 use Rattle.strat_array.specs.Steps.{left_from, Settles, HoldsPlace}
 use Rattle.strat_array.specs.Walk.{is_seen_at, Going}

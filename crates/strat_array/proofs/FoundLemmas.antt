@@ -1,5 +1,5 @@
 -- The entries from a key on say of the key what all entries say.
-use Rattle.std.proofs.Common.{◌≡◌, ◌<◌, ℕ, Bool, true, false, cond, not, ◌&&◌, inl, inr, List, [], ◌∷◌, length, Option, Some, None, IsTrue, refl, sym, ap, ◌∙◌, subst, true≢false}
+use Rattle.std.proofs.Common.{◌≡◌, ℕ, Bool, true, false, cond, not, inl, inr, List, [], ◌∷◌, Option, Some, IsTrue, refl, sym, ap, ◌∙◌, subst, true≢false}
 use Rattle.std.specs.List.{filter, find, list_all}
 use Rattle.std.specs.Ordering.{is_lt}
 use Rattle.std.proofs.lemmas.Bool.{and_parts, and_from, cases_Bool}
@@ -7,7 +7,7 @@ use Rattle.std.proofs.lemmas.Cmp.{tied_itself, nat_list_cmp_total}
 use Rattle.strat_base.specs.Order.{key_cmp}
 use Rattle.strat_base.specs.Tree.{Parents, is_ancestor, IsTree}
 use Rattle.strat_base.specs.Entries.{Entry, is_of, is_ascending}
-use Rattle.strat_base.proofs.ListFacts.{Among, all_at, all_from, filter_among}
+use Rattle.strat_base.proofs.ListFacts.{all_at, all_from, filter_among}
 use Rattle.strat_base.proofs.EntryLemmas.{is_of_key}
 use Rattle.strat_state.specs.Reading.{live_of}
 use Rattle.strat_state.proofs.SettingLemmas.{order, stands_first}

@@ -1,17 +1,17 @@
 -- The block that a scratch holds, and what is left at a place in it.
-use Rattle.std.proofs.Common.{◌≡◌, ◌<◌, ◌≤◌, ◌+◌, ℕ, zero, suc, Bool, true, false, cond, ltb, get_or, ◌⊎◌, inl, inr, List, [], ◌∷◌, length, Contains, Option, Some, None, IsSome, IfSome, is_some, refl, sym, ap, ◌∙◌, subst, arith, true≢false}
+use Rattle.std.proofs.Common.{◌≡◌, ◌<◌, ◌≤◌, ◌+◌, ℕ, zero, suc, Bool, true, false, cond, ltb, inl, inr, List, [], ◌∷◌, length, Contains, Option, Some, None, IfSome, is_some, refl, sym, ap, ◌∙◌, subst, arith, true≢false}
 use Rattle.std.specs.List.{slice_get}
 use Rattle.std.specs.Map.{lookup}
-use Rattle.std.proofs.lemmas.Bool.{ltb-true, lt-ltb, le-ltb, ltb-false}
+use Rattle.std.proofs.lemmas.Bool.{lt-ltb, le-ltb, ltb-false}
 use Rattle.lru.proofs.CallerLemmas.{Contains-lookup}
 use Rattle.strat_base.specs.Entries.{Entry}
 use Rattle.strat_crash.specs.Moments.{DiskView}
 use Rattle.strat_array.specs.declared.place.Place.{Place}
 use Rattle.strat_array.specs.Kept.{Kept, Blocks, is_keyed, held_block, TakesOver, Looks, ArrayStands}
 use Rattle.strat_array.specs.Left.{left_at}
-use Rattle.strat_array.specs.Steps.{left_from, HoldsPlace}
+use Rattle.strat_array.specs.Steps.{HoldsPlace}
 use Rattle.strat_array.proofs.CacheLemmas.{keyed_same}
-use Rattle.strat_array.proofs.KeptLemmas.{listed_at, listed_length, held_is, stands_after}
+use Rattle.strat_array.proofs.KeptLemmas.{listed_at, listed_length, held_is}
 use Rattle.strat_array.proofs.WalkLemmas.{left_past, left_end}
 
 -- a block that was copied out of a cache

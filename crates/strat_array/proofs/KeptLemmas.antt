@@ -1,6 +1,6 @@
 -- Blocks that are kept stay right while an array is looked at.
-use Rattle.std.proofs.Common.{◌≡◌, ◌<◌, ◌+◌, ℕ, zero, suc, Bool, true, false, cond, eqb, ltb, ◌⊎◌, inl, inr, List, [], ◌∷◌, length, Contains, Option, Some, None, IsSome, IfSome, is_some, refl, sym, ap, ◌∙◌, subst, arith, true≢false, eq-eqb}
-use Rattle.std.specs.List.{slice_get, list_all}
+use Rattle.std.proofs.Common.{◌≡◌, ℕ, zero, suc, Bool, true, false, cond, eqb, inl, inr, List, [], ◌∷◌, length, Contains, Option, Some, None, IsSome, IfSome, is_some, refl, sym, ap, ◌∙◌, subst, arith, true≢false, eq-eqb}
+use Rattle.std.specs.List.{slice_get}
 use Rattle.std.specs.Map.{lookup}
 use Rattle.std.specs.Option.{option_map, option_and_then, option_or}
 use Rattle.std.proofs.lemmas.Bool.{and_from}
@@ -9,10 +9,9 @@ use Rattle.strat_base.specs.Entries.{Entry}
 use Rattle.strat_crash.specs.Image.{Image}
 use Rattle.strat_crash.specs.Moments.{DiskView, OnlyReads}
 use Rattle.strat_crash.proofs.MomentLemmas.{reads_refl, reads_trans}
-use Rattle.strat_base.proofs.TreeLemmas.{option_cases}
 use Rattle.strat_array.specs.Blocks.{lists_on}
 use Rattle.strat_format.specs.Arrays.{block_on}
-use Rattle.strat_array.specs.Kept.{Kept, Blocks, is_keyed, held_block, kept_block, AddsNone, AddsOnly, IsBlockRead, IsBlockCached, Looks, ArrayStands}
+use Rattle.strat_array.specs.Kept.{Kept, Blocks, is_keyed, held_block, kept_block, AddsNone, AddsOnly, IsBlockRead, Looks, ArrayStands}
 use Rattle.strat_array.proofs.CacheLemmas.{keyed_same}
 
 -- the first of the blocks that are read, and the others

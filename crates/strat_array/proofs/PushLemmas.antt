@@ -17,7 +17,7 @@ use Rattle.strat_format.specs.Block.{block_in, block_front}
 use Rattle.strat_format.specs.Arrays.{blocks_of, block_on, entries_on}
 use Rattle.strat_block.proofs.BlockFacts.{length-front}
 use Rattle.strat_array.specs.Sparing.{is_among, ChangesOnly}
-use Rattle.strat_array.specs.Taking.{AreUsed, IsTaken, Takes}
+use Rattle.strat_array.specs.Taking.{AreUsed, IsLowestTaken, TakesBlock}
 use Rattle.strat_array.specs.Pushed.{IsWritten}
 use Rattle.strat_array.proofs.SparingLemmas.{block_kept, changes_more}
 use Rattle.strat_array.proofs.EntriesOnLemmas.{entries_on-append, entries_on-one, entries_on-kept}
@@ -27,7 +27,7 @@ or_none true = refl
 or_none false = refl
 
 -- no block was taken
-pub takes_nothing : (s t : SpaceView) (old new : List ℕ) → SameBlocks s t → new ≡ old → Takes s t old new
+pub takes_nothing : (s t : SpaceView) (old new : List ℕ) → SameBlocks s t → new ≡ old → TakesBlock s t old new
 takes_nothing s t old new same blocks' = record {
   taken = [];
   few = omega arith;
@@ -42,7 +42,7 @@ pub changes_behind : (olds new : List ℕ) (b : ℕ) (v w : DiskView) → new �
 changes_behind olds new b v w is changes = subst (λ (x : List ℕ). ChangesOnly x v w) (sym is) (changes_more olds (b ∷ []) v w changes)
 
 -- a block that was taken is none of those that are used
-pub not_among : (s t : SpaceView) (b : ℕ) (olds : List ℕ) → IsTaken s b t → AreUsed s olds → is_among olds b ≡ false
+pub not_among : (s t : SpaceView) (b : ℕ) (olds : List ℕ) → IsLowestTaken s b t → AreUsed s olds → is_among olds b ≡ false
 not_among s t b olds taken used =
     false_from_ne_true (is_among olds b)
     (λ among.

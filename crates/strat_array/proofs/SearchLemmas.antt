@@ -1,6 +1,6 @@
 -- A search over the blocks of an array, step by step.
-use Rattle.std.proofs.Common.{◌≡◌, ◌<◌, ◌≤◌, ◌+◌, ◌-◌, ◌*◌, ◌/◌, ◌^◌, ℕ, zero, suc, Bool, true, false, not, cond, eqb, get_or, inl, inr, ◌⊎◌, List, [], ◌∷◌, length, Option, Some, None, IsSome, IfSome, Result, Ok, Err, OnOk, IfOk, IsErrAnd, refl, sym, ap, ◌∙◌, subst, arith, true≢false, eq-eqb}
-use Rattle.std.specs.List.{slice_get, list_any}
+use Rattle.std.proofs.Common.{◌≡◌, ◌<◌, ◌≤◌, ◌+◌, ◌-◌, ◌*◌, ◌/◌, ◌^◌, ℕ, zero, suc, Bool, true, false, cond, eqb, get_or, List, [], ◌∷◌, length, Option, Some, None, IsSome, Result, Ok, Err, OnOk, IfOk, IsErrAnd, refl, sym, ap, ◌∙◌, arith, true≢false, eq-eqb}
+use Rattle.std.specs.List.{slice_get}
 use Rattle.std.specs.Ordering.{is_lt}
 use Rattle.std.proofs.lemmas.Result.{err_from_is_err_and}
 use Rattle.strat_base.specs.Order.{key_cmp}

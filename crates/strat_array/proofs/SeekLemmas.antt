@@ -1,6 +1,6 @@
 -- Two borders decide where the entries from a key on begin.
-use Rattle.std.proofs.Common.{◌≡◌, ◌<◌, ◌≤◌, ◌+◌, ◌-◌, ℕ, zero, suc, Bool, true, false, not, get_or, inl, inr, ◌⊎◌, List, [], ◌∷◌, ◌++◌, length, take, drop, Option, Some, None, refl, sym, ap, ◌∙◌, subst, arith, true≢false, append-nil, take-append-drop}
-use Rattle.std.specs.List.{filter, list_all, slice_get}
+use Rattle.std.proofs.Common.{◌≡◌, ◌<◌, ◌≤◌, ◌+◌, ◌-◌, ℕ, zero, suc, true, false, not, get_or, inl, inr, ◌⊎◌, List, [], ◌∷◌, ◌++◌, length, take, drop, refl, sym, ap, ◌∙◌, subst, arith, true≢false, take-append-drop}
+use Rattle.std.specs.List.{filter, list_all}
 use Rattle.std.specs.Ordering.{is_lt}
 use Rattle.std.proofs.lemmas.Bool.{and_parts, and_from, cases_lt}
 use Rattle.std.proofs.lemmas.List.{drop_all, drop_more}
@@ -8,7 +8,7 @@ use Rattle.std.proofs.lemmas.List.Elements.{filter-append}
 use Rattle.strat_base.specs.Order.{key_cmp}
 use Rattle.strat_base.specs.Entries.{Entry, is_ascending}
 use Rattle.strat_base.proofs.ListFacts.{Among, among_left, among_right, all_at, all_from}
-use Rattle.strat_state.proofs.SettingLemmas.{order, stands_first, first_of}
+use Rattle.strat_state.proofs.SettingLemmas.{order, stands_first}
 use Rattle.strat_block.specs.Places.{IsFirstFrom}
 use Rattle.strat_array.specs.Left.{all_in, left_at, has_entry, is_from, starts_below, Bound}
 use Rattle.strat_array.proofs.OrderLemmas.{ascending_right, ascending_across, below_before, filter_none, filter_each, all_after_first}

@@ -15,7 +15,7 @@ use Rattle.strat_format.specs.Arrays.{blocks_of, entries_on}
 use Rattle.strat_array.specs.Progress.{ArrayProgress}
 use Rattle.strat_array.specs.Pushed.{IsPushed}
 use Rattle.strat_array.specs.Sparing.{is_among, SameBut, ReadsSame, ChangesOnly}
-use Rattle.strat_array.specs.Taking.{AreUsed, Takes}
+use Rattle.strat_array.specs.Taking.{AreUsed, TakesBlock}
 use Rattle.strat_array.proofs.EntriesOnLemmas.{entries_on-kept}
 
 pub pushed_stay : (f g : Image) (w : ArrayProgress) (es : List Entry) → ReadsSame (blocks_of w.extents) f g → IsPushed f w es → IsPushed g w es
@@ -62,7 +62,7 @@ or_second : (p q : Bool) → q ≡ true → (p || q) ≡ true
 or_second true q e = refl
 or_second false q e = e
 
-pub used_once_taken : (s t : SpaceView) (old new : List ℕ) → Takes s t old new → AreUsed s old → AreUsed t new
+pub used_once_taken : (s t : SpaceView) (old new : List ℕ) → TakesBlock s t old new → AreUsed s old → AreUsed t new
 used_once_taken s t old new takes used = λ b among.
     elim (among_either old takes.taken b (ap (λ (l : List ℕ). is_among l b) (sym takes.blocks) ∙ among)) [
       | inl first ↦ takes.used b ∙ or_first (is_used s b) (is_among takes.taken b) (used b first)

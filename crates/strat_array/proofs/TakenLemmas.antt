@@ -4,7 +4,7 @@ use Rattle.std.proofs.lemmas.Bool.{cases_order, eqb-true, eq-eqb, le-leb, lt-ltb
 use Rattle.strat_base.specs.declared.descriptors.Extent.{Extent}
 use Rattle.strat_extent.specs.Blocks.{SpaceView, AreRuns, inside, times_in, total_len, is_used, uses}
 use Rattle.strat_extent.specs.Change.{IsMarked, AreLowest}
-use Rattle.strat_array.specs.Taking.{IsTaken}
+use Rattle.strat_array.specs.Taking.{IsLowestTaken}
 
 bit : Bool → ℕ
 bit b = cond b 1 0
@@ -57,7 +57,7 @@ module _ (before after : SpaceView) (x : Extent) (size : x.len ≡ 1) (from : be
   was_free : is_used before x.start ≡ false
   was_free = unused (is_used after x.start) (is_used before x.start) (marked.used x.start ∙ ap (λ (n : ℕ). uses before x.start + n) (times x.start ∙ ap (λ (t : Bool). cond t 1 0) (eq-eqb x.start x.start refl)))
 
-  pub is_taken : IsTaken before x.start after
+  pub is_taken : IsLowestTaken before x.start after
   unfolding times used_then was_free
   is_taken = record {
     free = and_from (leb before.first x.start && ltb x.start 4294967295) (not (is_used before x.start))
@@ -78,7 +78,7 @@ module _ (before after : SpaceView) (x : Extent) (size : x.len ≡ 1) (from : be
       without false q e f = absurd (true≢false (sym e ∙ f))
 
 -- the lowest free block, taken alone
-pub lowest_taken : (before after : SpaceView) (xs : List Extent) (x : Extent) → x ≡ get_or xs 0 x → total_len xs ≡ 1 → AreRuns before.first xs (2 ^ 32) → IsMarked before xs after → AreLowest xs after → IsTaken before x.start after
+pub lowest_taken : (before after : SpaceView) (xs : List Extent) (x : Extent) → x ≡ get_or xs 0 x → total_len xs ≡ 1 → AreRuns before.first xs (2 ^ 32) → IsMarked before xs after → AreLowest xs after → IsLowestTaken before x.start after
 lowest_taken before after xs x here one runs marked lowest =
     let run = one_run before.first (2 ^ 32) xs x here one runs in
     is_taken before after x run.1 run.2 run.3 (subst (λ (l : List Extent). IsMarked before l after) run.0 marked) (subst (λ (l : List Extent). AreLowest l after) run.0 lowest)

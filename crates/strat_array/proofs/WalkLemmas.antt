@@ -1,14 +1,13 @@
 -- The first entry of a key at a version or one of its ancestors is the one that is live.
-use Rattle.std.proofs.Common.{◌≡◌, ◌<◌, ◌≤◌, ◌+◌, ℕ, zero, suc, Bool, true, false, cond, not, ◌&&◌, get_or, inl, inr, ◌⊎◌, List, [], ◌∷◌, ◌++◌, length, drop, Option, Some, None, refl, sym, ap, ◌∙◌, subst, arith, true≢false, append_assoc}
+use Rattle.std.proofs.Common.{◌≡◌, ◌<◌, ◌≤◌, ◌+◌, ℕ, zero, suc, Bool, true, false, cond, ◌&&◌, get_or, inl, inr, ◌⊎◌, List, [], ◌∷◌, ◌++◌, length, drop, Some, None, refl, sym, ap, ◌∙◌, subst, arith, true≢false}
 use Rattle.std.specs.List.{list_all, find, slice_get}
 use Rattle.std.specs.Ordering.{is_lt, ordering_then, nat_cmp}
 use Rattle.std.specs.declared.cmp.Ordering.{Ordering}
 use Rattle.std.specs.declared.cmp.Ordering.TheVariants.{Less, Equal, Greater}
 use Rattle.std.proofs.lemmas.Bool.{and_parts, and_from, cases_lt, cases_Bool, not-true}
-use Rattle.std.proofs.lemmas.Cmp.{tied_itself, nat_list_cmp_total}
 use Rattle.std.proofs.lemmas.List.{drop_all, drop_more}
 use Rattle.strat_base.specs.Order.{key_cmp}
-use Rattle.strat_base.specs.Tree.{Parents, path, is_ancestor, IsTree}
+use Rattle.strat_base.specs.Tree.{Parents, is_ancestor, IsTree}
 use Rattle.strat_base.specs.Entries.{Entry, is_of, is_at, is_ascending}
 use Rattle.strat_base.proofs.ListFacts.{Among, find_some, find_none}
 use Rattle.strat_base.proofs.EntryLemmas.{same_bytes, is_of_key, at_key_version}
@@ -19,9 +18,8 @@ use Rattle.strat_state.proofs.LiveLemmas.{deciding_some, deciding_found, decidin
 use Rattle.strat_state.proofs.MapLemmas.{same_key}
 use Rattle.strat_state.proofs.LevelLemmas.{ascending_single}
 use Rattle.strat_state.proofs.SettingLemmas.{order, stands_first, first_of, order_version}
-use Rattle.strat_array.specs.Left.{all_in, left_at, has_entry, is_from}
+use Rattle.strat_array.specs.Left.{all_in, left_at, is_from}
 use Rattle.strat_array.specs.Walk.{is_seen_at, Going}
-use Rattle.strat_array.proofs.OrderLemmas.{all_after_first}
 
 -- of entries in order the first that passes is one, or stands before it
 first_before : (p : Entry → Bool) (entries : List Entry) (e d : Entry) → is_ascending entries ≡ true → find p entries ≡ Some e → Among d entries → p d ≡ true → (d ≡ e) ⊎ (order e d ≡ Less)

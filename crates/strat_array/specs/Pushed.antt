@@ -12,7 +12,8 @@ use Rattle.strat_format.specs.Arrays.{blocks_of, entries_on}
 use Rattle.strat_array.specs.Progress.{ArrayProgress}
 
 -- an image has some of these entries in the blocks of extents, and the others are in no block yet
-pub record IsWritten (f : Image) (extents : List Extent) (pending entries : List Entry) : Type 0 where
+pub record IsWritten (f : Image) (extents : List Extent) (pending entries : List Entry)
+    : Type 0 where
   pub written : List Entry
   pub read : entries_on f (blocks_of extents) ≡ Some written
   pub all : entries ≡ written ++ pending

@@ -14,7 +14,8 @@ pub record SameBut (blocks : List ℕ) (old new : Image) : Type 0 where
 
 -- a call changed a disk in these blocks alone, in each image since its start and in the content
 pub record ChangesOnly (blocks : List ℕ) (old new : DiskView) : Type 0 where
-  pub images : (c : Image) → Since new old.moment c → (d : Image) × Images old d × SameBut blocks d c
+  pub images : (c : Image) → Since new old.moment c
+      → (d : Image) × Images old d × SameBut blocks d c
   pub content : (f g : Image) → Exposes old f → Exposes new g → SameBut blocks f g
   pub time : Passes old new
 

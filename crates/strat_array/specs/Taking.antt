@@ -4,15 +4,15 @@ use Rattle.strat_extent.specs.Blocks.{SpaceView, is_used, is_free, used_count}
 use Rattle.strat_array.specs.Sparing.{is_among}
 
 -- a block may be taken
-abbrev pub HasRoom : SpaceView → Type 0
-HasRoom s = used_count s + 1 ≤ 4294967295 - s.first
+abbrev pub HasFreeBlock : SpaceView → Type 0
+HasFreeBlock s = used_count s + 1 ≤ 4294967295 - s.first
 
 -- these blocks are used
 abbrev pub AreUsed : SpaceView → List ℕ → Type 0
 AreUsed s blocks = (b : ℕ) → is_among blocks b ≡ true → is_used s b ≡ true
 
 -- the lowest free block became used
-pub record IsTaken (before : SpaceView) (b : ℕ) (after : SpaceView) : Type 0 where
+pub record IsLowestTaken (before : SpaceView) (b : ℕ) (after : SpaceView) : Type 0 where
   pub free : is_free before b ≡ true
   pub used : (c : ℕ) → is_used after c ≡ (is_used before c || (b == c))
   pub lowest : (c : ℕ) → before.first ≤ c → c < b → is_used before c ≡ true
@@ -20,7 +20,7 @@ pub record IsTaken (before : SpaceView) (b : ℕ) (after : SpaceView) : Type 0 w
   pub count : used_count after ≡ used_count before + 1
 
 -- at most one block became used, which was free, and stands behind the others now
-pub record Takes (before after : SpaceView) (old new : List ℕ) : Type 0 where
+pub record TakesBlock (before after : SpaceView) (old new : List ℕ) : Type 0 where
   pub taken : List ℕ
   pub few : length taken ≤ 1
   pub blocks : new ≡ old ++ taken

@@ -3,7 +3,7 @@
 ghost use Rattle.std.specs.Prelude.{◌≡◌, ◌≢◌, ◌<◌, ◌+◌, ◌*◌, List, ◌++◌, ◌∷◌, [], length, OnOk, OnErr, IfOk, IfSome, IfNone};
 ghost use Rattle.strat_array.specs.Pushed.{AreMaximal};
 ghost use Rattle.strat_array.specs.Sparing.{ChangesOnly};
-ghost use Rattle.strat_array.specs.Taking.{HasRoom, IsTaken};
+ghost use Rattle.strat_array.specs.Taking.{HasFreeBlock, IsLowestTaken};
 ghost use Rattle.strat_base.specs.declared.descriptors.Extent.{Extent as TheExtent};
 ghost use Rattle.strat_crash.specs.Faults.{CountsFaults};
 ghost use Rattle.strat_crash.specs.Moments.{Writes};
@@ -28,8 +28,8 @@ pub(crate) fn write_block<D: Disk>(disk: &mut D, block: u32, bytes: &[u8]) -> Re
 
 /// Takes the lowest free block.
 fn take_lowest(space: &mut Space) -> Result<u32, NoMemory>
-    requires { HasRoom space.old }
-    ensures ok { IfOk result (λ b. IsTaken space.old b space.new) }
+    requires { HasFreeBlock space.old }
+    ensures ok { IfOk result (λ b. IsLowestTaken space.old b space.new) }
     ensures fits { IfOk result (λ b. b < 4294967295) }
     ensures err { OnErr result (SameBlocks space.old space.new) }
 {
@@ -79,9 +79,9 @@ fn put_block(extents: &mut Extents, block: u32)
 
 /// Takes the lowest free block, and adds it behind those of the extents. Without memory nothing has changed.
 pub(crate) fn take_block(extents: &mut Extents, space: &mut Space) -> Result<u32, NoMemory>
-    requires { HasRoom space.old }
+    requires { HasFreeBlock space.old }
     ensures ok { IfOk result (λ b. blocks_of extents.new ≡ blocks_of extents.old ++ b ∷ []) }
-    ensures found { IfOk result (λ b. IsTaken space.old b space.new) }
+    ensures found { IfOk result (λ b. IsLowestTaken space.old b space.new) }
     ensures fits { IfOk result (λ b. b < 4294967295) }
     ensures kept { AreMaximal extents.old → AreMaximal extents.new }
     ensures err { OnErr result (SameBlocks space.old space.new × (extents.new ≡ extents.old)) }

@@ -3,7 +3,7 @@
 ghost use Rattle.std.specs.Prelude.{◌≡◌, ◌<◌, ◌+◌, ℕ, List, ◌++◌, ◌∷◌, [], length, Some, OnOk, OnErr, IfOk, IsErrOf, IsTrue, MatchResult};
 ghost use Rattle.strat_array.specs.Pushed.{AreMaximal, IsWritten, IsPushed, HasReason, with_entry};
 ghost use Rattle.strat_array.specs.Sparing.{ChangesOnly};
-ghost use Rattle.strat_array.specs.Taking.{HasRoom, AreUsed, Takes};
+ghost use Rattle.strat_array.specs.Taking.{HasFreeBlock, AreUsed, TakesBlock};
 ghost use Rattle.strat_base.specs.declared.failures.Trouble.TheVariants.{Device, Damaged};
 ghost use Rattle.strat_base.specs.Entries.{Entry as TheEntry, is_ascending};
 ghost use Rattle.strat_base.specs.EntryBytes.{fits_fields};
@@ -29,13 +29,14 @@ fn write_pending<D: Disk>(
     disk: &mut D,
 ) -> Result<(), Trouble>
     requires len { 0 < length pending.old }
-    requires room { HasRoom space.old }
+    requires room { HasFreeBlock space.old }
     requires found { AreUsed space.old (blocks_of extents.old) }
     ensures ok { OnOk result ((f g : Image) (es : List TheEntry) → Exposes (D.view disk.old) f
         → Exposes (D.view disk.new) g → entries_on f (blocks_of extents.old) ≡ Some es
         → entries_on g (blocks_of extents.new) ≡ Some (es ++ pending.old)) }
     ensures end { MatchResult result (λ _. pending.new ≡ []) (λ _. pending.new ≡ pending.old) }
-    ensures found { Takes space.old space.new (blocks_of extents.old) (blocks_of extents.new) }
+    ensures found { TakesBlock space.old space.new
+        (blocks_of extents.old) (blocks_of extents.new) }
     ensures kept { AreMaximal extents.old → AreMaximal extents.new }
     ensures same { ChangesOnly (blocks_of extents.new) (D.view disk.old) (D.view disk.new) }
     ensures cause { HasCause Device (D.faults disk.old) (D.faults disk.new) result }
@@ -58,7 +59,7 @@ fn push_entry<D: Disk>(
 ) -> Result<(), Trouble>
     requires fits { IsTrue (fits_fields (entry_of e.now)) }
     requires kept { IsTrue (is_ascending (pending.old ++ entry_of e.now ∷ [])) }
-    requires room { HasRoom space.old }
+    requires room { HasFreeBlock space.old }
     requires found { AreUsed space.old (blocks_of extents.old) }
     ensures ok { OnOk result ((f g : Image) (es : List TheEntry) → Exposes (D.view disk.old) f
         → Exposes (D.view disk.new) g → IsWritten f extents.old pending.old es
@@ -66,7 +67,8 @@ fn push_entry<D: Disk>(
     ensures end { MatchResult result
         (λ _. pending.new ≡ with_entry pending.old (entry_of e.now))
         (λ _. pending.new ≡ pending.old) }
-    ensures found { Takes space.old space.new (blocks_of extents.old) (blocks_of extents.new) }
+    ensures found { TakesBlock space.old space.new
+        (blocks_of extents.old) (blocks_of extents.new) }
     ensures kept { AreMaximal extents.old → AreMaximal extents.new }
     ensures same { ChangesOnly (blocks_of extents.new) (D.view disk.old) (D.view disk.new) }
     ensures cause { HasCause Device (D.faults disk.old) (D.faults disk.new) result }
@@ -128,7 +130,7 @@ impl ArrayWriter {
     ) -> Result<(), Trouble>
         requires fits { IsTrue (fits_fields (entry_of e.now)) × (self.old.count < 33554432) }
         requires kept { IsTrue (is_ascending (self.old.pending ++ entry_of e.now ∷ [])) }
-        requires room { HasRoom space.old }
+        requires room { HasFreeBlock space.old }
         requires found { AreUsed space.old (blocks_of self.old.extents) }
         ensures ok { OnOk result ((f g : Image) (es : List TheEntry) → Exposes (D.view disk.old) f
             → Exposes (D.view disk.new) g → IsPushed f self.old es
@@ -136,9 +138,10 @@ impl ArrayWriter {
         ensures end { OnOk result (
             self.new.pending ≡ with_entry self.old.pending (entry_of e.now)) }
         ensures len { OnOk result (self.new.count ≡ self.old.count + 1) }
-        ensures found { Takes space.old space.new (blocks_of self.old.extents)
+        ensures found { TakesBlock space.old space.new (blocks_of self.old.extents)
             (blocks_of self.new.extents) }
-        ensures same { ChangesOnly (blocks_of self.new.extents) (D.view disk.old) (D.view disk.new)
+        ensures same { ChangesOnly (blocks_of self.new.extents)
+            (D.view disk.old) (D.view disk.new)
             × (self.new.id ≡ self.old.id) }
         ensures cause { HasCause Device (D.faults disk.old) (D.faults disk.new) result }
         ensures damaged { (b : ℕ) → IsErrOf result (Damaged b) → ⊥ }
@@ -160,7 +163,7 @@ impl ArrayWriter {
         disk: &mut D,
     ) -> Result<ArrayDesc, (Trouble, Extents)>
         requires len { 0 < self.count }
-        requires room { HasRoom space.old }
+        requires room { HasFreeBlock space.old }
         requires found { AreUsed space.old (blocks_of self.extents) }
         ensures ok { IfOk result (λ a. (a.id ≡ self.id) × (a.entries ≡ self.count)
             × (a.leads ≡ leads) × (a.least ≡ least) × (a.versions ≡ versions)) }
@@ -170,9 +173,9 @@ impl ArrayWriter {
         ensures kept { IfOk result (λ a. AreMaximal a.extents) }
         ensures same { MatchResult result
             (λ a. ChangesOnly (blocks_of a.extents) (D.view disk.old) (D.view disk.new)
-            × Takes space.old space.new (blocks_of self.extents) (blocks_of a.extents))
+            × TakesBlock space.old space.new (blocks_of self.extents) (blocks_of a.extents))
             (λ e. ChangesOnly (blocks_of e.1) (D.view disk.old) (D.view disk.new)
-            × Takes space.old space.new (blocks_of self.extents) (blocks_of e.1)) }
+            × TakesBlock space.old space.new (blocks_of self.extents) (blocks_of e.1)) }
         ensures cause { MatchResult result (λ a. D.faults disk.new ≡ D.faults disk.old)
             (λ e. HasReason e.0 (D.faults disk.old) (D.faults disk.new)) }
         ensures reads { D.reads disk.new ≡ D.reads disk.old }

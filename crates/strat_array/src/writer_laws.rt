@@ -4,7 +4,7 @@ ghost use Rattle.std.specs.Prelude.{◌≡◌, ℕ, List, [], IsTrue};
 ghost use Rattle.strat_array.specs.Progress.{ArrayProgress};
 ghost use Rattle.strat_array.specs.Pushed.{IsPushed};
 ghost use Rattle.strat_array.specs.Sparing.{ReadsSame};
-ghost use Rattle.strat_array.specs.Taking.{AreUsed, Takes};
+ghost use Rattle.strat_array.specs.Taking.{AreUsed, TakesBlock};
 ghost use Rattle.strat_base.specs.Entries.{Entry as TheEntry, is_ascending};
 ghost use Rattle.strat_crash.specs.Image.{Image};
 ghost use Rattle.strat_extent.specs.Blocks.{SpaceView};
@@ -22,6 +22,6 @@ pub fn entries_stay_pushed()
 
 /// The blocks of a writer are used once they are taken, and stay so while no used block becomes free.
 pub fn taken_blocks_are_used()
-    ensures ok { (s t : SpaceView) (old new : List ℕ) → Takes s t old new → AreUsed s old
+    ensures ok { (s t : SpaceView) (old new : List ℕ) → TakesBlock s t old new → AreUsed s old
         → AreUsed t new }
 {}

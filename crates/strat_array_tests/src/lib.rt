@@ -5,3 +5,5 @@
 mod built;
 #[cfg(test)]
 mod reads;
+#[cfg(test)]
+mod writer;

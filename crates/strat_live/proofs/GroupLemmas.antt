@@ -3,9 +3,9 @@ use Rattle.std.proofs.Common.{◌≡◌, ◌<◌, ◌≤◌, ◌+◌, ℕ, Bool,
 use Rattle.std.specs.List.{list_any, list_all, prefix_len, position_or_len, position}
 use Rattle.std.proofs.lemmas.Bool.{and_parts, ltb-true, false_from_ne_true}
 use Rattle.strat_base.specs.Tree.{Parents, is_ancestor, IsTree}
-use Rattle.strat_base.specs.Entries.{Entry}
+use Rattle.strat_base.specs.Entries.{Entry, is_of}
 use Rattle.strat_base.proofs.ListFacts.{Among, any_among, all_at}
-use Rattle.strat_base.proofs.EntryLemmas.{same_bytes}
+use Rattle.strat_base.proofs.EntryLemmas.{same_bytes, is_of_key}
 use Rattle.strat_base.proofs.TreeLemmas.{ancestor_among, path_le}
 use Rattle.strat_arena.specs.declared.items.Item.{Item}
 use Rattle.strat_state.specs.Live.{is_hidden_by, is_live}
@@ -53,15 +53,17 @@ live_first parents v items down =
     ap (λ (n : ℕ). cond (ltb n (length items)) (Some n) None) (sym (live_places parents v items items down (λ y among passes. among)))
 
 -- among entries of one key the tests of the key say nothing
-pub live_as_entries : (parents : Parents) (items : List Item) (v : ℕ) (key : List ℕ) (entry : Item → Entry) → ((item : Item) → (entry item).key ≡ key) → ((item : Item) → (entry item).version ≡ item.version)
-    → (item : Item) → is_live parents (map entry items) v (entry item) ≡ is_live_item parents items v item
-live_as_entries parents items v key entry of_key at item =
-    λ i. is_ancestor parents (at item i) v && not (hidden items i)
-  where
-    hidden : (others : List Item) → list_any (is_hidden_by parents v (entry item)) (map entry others) ≡ list_any (is_nearer parents v item.version) others
-    hidden [] = refl
-    hidden (y ∷ others) =
-        (λ i. ((same_bytes (entry y).key (entry item).key (of_key y ∙ sym (of_key item)) i && ltb (at item i) (at y i)) && is_ancestor parents (at y i) v) || hidden others i)
+module _ (parents : Parents) (items : List Item) (key : List ℕ) (entry : Item → Entry) (keyed : list_all (λ y. is_of key (entry y)) items ≡ true) (at : (item : Item) → (entry item).version ≡ item.version) where
+  hidden_keyed : (v : ℕ) (item : Item) → is_of key (entry item) ≡ true → (others : List Item) → list_all (λ y. is_of key (entry y)) others ≡ true
+      → list_any (is_hidden_by parents v (entry item)) (map entry others) ≡ list_any (is_nearer parents v item.version) others
+  hidden_keyed v item of_key [] all = refl
+  hidden_keyed v item of_key (y ∷ others) all =
+      let parts = and_parts (is_of key (entry y)) (list_all (λ z. is_of key (entry z)) others) all in
+      let same : is_of (entry item).key (entry y) ≡ true = same_bytes (entry y).key (entry item).key (is_of_key key (entry y) parts.0 ∙ sym (is_of_key key (entry item) of_key)) in
+      (λ i. ((same i && ltb (at item i) (at y i)) && is_ancestor parents (at y i) v) || hidden_keyed v item of_key others parts.1 i)
+
+  pub live_keyed : (v : ℕ) (item : Item) → is_of key (entry item) ≡ true → is_live parents (map entry items) v (entry item) ≡ is_live_item parents items v item
+  live_keyed v item of_key = λ i. is_ancestor parents (at item i) v && not (hidden_keyed v item of_key items keyed i)
 
 -- no version past the tree's is on a path
 pub past_is_off : (parents : Parents) → IsTree parents → (u v : ℕ) → v < length parents → length parents ≤ u → is_ancestor parents u v ≡ false

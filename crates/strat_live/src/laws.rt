@@ -3,19 +3,20 @@
 ghost use Rattle.std.specs.List.{list_all};
 ghost use Rattle.std.specs.Prelude.{◌≡◌, ℕ, ◌+◌, ◌≤◌, List, map, Some, None, IsTrue};
 ghost use Rattle.strat_arena.specs.declared.items.Item.{Item};
-ghost use Rattle.strat_base.specs.Entries.{Entry};
+ghost use Rattle.strat_base.specs.Entries.{Entry, is_of};
 ghost use Rattle.strat_base.specs.Tree.{Parents, parent_of, IsTree};
 ghost use Rattle.strat_live.specs.Counting.{descends};
 ghost use Rattle.strat_state.specs.Counted.{own_at, keys_at};
 ghost use Rattle.strat_live.specs.Group.{is_live_item};
 ghost use Rattle.strat_state.specs.Live.{is_live};
 
-/// An item is live among those of its key exactly where its entry is live among theirs, whatever key
-/// and values they stand for.
+/// An item of a key is live among those of its key exactly where its entry is live among theirs,
+/// whatever values they stand for. Nothing is asked of other items.
 pub fn items_are_live_as_their_entries()
-    ensures { (parents : Parents) (items : List Item) (v : ℕ) (key : List ℕ) (entry : Item → Entry)
-        → ((item : Item) → (entry item).key ≡ key)
-        → ((item : Item) → (entry item).version ≡ item.version) → (item : Item)
+    ensures { (parents : Parents) (items : List Item) (key : List ℕ) (entry : Item → Entry)
+        → IsTrue (list_all (λ item. is_of key (entry item)) items)
+        → ((item : Item) → (entry item).version ≡ item.version) → (v : ℕ) (item : Item)
+        → IsTrue (is_of key (entry item))
         → is_live parents (map entry items) v (entry item) ≡ is_live_item parents items v item }
 {}
 

@@ -25,7 +25,7 @@ are_keyed_apart (group ∷ groups) =
     list_all (λ e. not (list_any (is_of e.key) (grouped_entries groups))) group
     && are_keyed_apart groups
 
--- these are groups
+-- each group has entries of one key, no key stands in two groups, and all ascend
 pub record AreGroups (groups : List (List Entry)) : Type 0 where
   pub keyed : IsTrue (list_all has_one_key groups)
   pub apart : IsTrue (are_keyed_apart groups)

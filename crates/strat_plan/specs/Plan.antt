@@ -4,8 +4,8 @@ use Rattle.std.specs.List.{range_with_len}
 use Rattle.std.specs.Option.{option_map_or}
 use Rattle.strat_base.specs.Tree.{Parents, parent_of}
 
--- a part: the version whose live entries its array takes over, and how many leads, entries and least
--- live ones its array has
+-- a part: the version that it hangs below, whose live entries its array takes over; how many leads and
+-- entries its array has; and the least number of keys live at one of its versions
 pub record Part : Type 0 where
   pub above : Option ℕ
   pub leads : ℕ

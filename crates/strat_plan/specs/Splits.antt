@@ -123,3 +123,10 @@ late_plan = record {
 -- a version with a key is in no part
 abbrev pub lost_plan : Plan
 lost_plan = record { labels = in_no_part ∷ []; parts = [] }
+
+-- one array for both: the child's two leads were enough for an array of its own
+abbrev pub joint_plan : Plan
+joint_plan = record {
+  labels = 0 ∷ 0 ∷ [];
+  parts = record { above = None; leads = 4; entries = 4; least = 2 } ∷ [];
+}

@@ -6,7 +6,7 @@
 ghost use Rattle.std.specs.Prelude.{ℕ, [], ◌∷◌, None};
 ghost use Rattle.strat_plan.specs.Groups.{group_versions, SplitsGroups};
 ghost use Rattle.strat_plan.specs.Plan.{IsSplit};
-ghost use Rattle.strat_plan.specs.Splits.{pair, wide_groups, third_groups, third_plan, half_groups, half_plan, sparse_plan, copied_plan, hung_plan, idle_plan, turned_plan, late_plan, lost_plan};
+ghost use Rattle.strat_plan.specs.Splits.{pair, wide_groups, third_groups, third_plan, half_groups, half_plan, joint_plan, sparse_plan, copied_plan, hung_plan, idle_plan, turned_plan, late_plan, lost_plan};
 ghost use Rattle.strat_state.specs.Counted.{own_at, keys_at};
 
 /// An array may be a third live at a version, and no less.
@@ -49,4 +49,10 @@ pub fn the_least_is_that_of_all_versions()
 pub fn a_version_with_a_key_is_in_a_part()
     ensures { IsSplit (None ∷ [])
         (own_at ((0 ∷ []) ∷ [])) (keys_at (None ∷ []) ((0 ∷ []) ∷ [])) lost_plan → ⊥ }
+{}
+
+/// Two plans may split the same versions.
+pub fn a_later_part_is_lawful_too()
+    ensures met { SplitsGroups pair half_groups (own_at (group_versions half_groups))
+        (keys_at pair (group_versions half_groups)) joint_plan }
 {}

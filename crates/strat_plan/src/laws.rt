@@ -44,8 +44,8 @@ pub fn the_level_of_a_plan_is_stratified()
         ≡ holds_entry entries e }
 {}
 
-/// The same of groups whose versions are split by their numbers, and of a level whose arrays are
-/// filled group by group.
+/// The same where the versions of groups are split by two numbers each, and the arrays are filled
+/// group by group.
 pub fn groups_that_are_split_make_a_stratified_level()
     ensures stratified { (parents : Parents) (groups : List (List Entry)) (own seen : ℕ → ℕ)
         (plan : Plan) (number first : ℕ) → IsTree parents

@@ -26,7 +26,7 @@ pub record SaysTheSame (old new : State) : Type 0 where
 abbrev pub levels_to : ℕ → List Level → List Level
 levels_to j levels = filter (λ level. nat_le level.number j) levels
 
--- the levels behind a number
+-- the levels deeper than a number
 abbrev pub levels_behind : ℕ → List Level → List Level
 levels_behind j levels = filter (λ level. nat_lt j level.number) levels
 

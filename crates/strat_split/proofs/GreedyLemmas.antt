@@ -1,14 +1,14 @@
 -- What the pass from the greatest version down leaves.
-use Rattle.std.proofs.Common.{◌≡◌, ◌<◌, ◌≤◌, ◌+◌, ◌-◌, ◌*◌, ◌^◌, ℕ, zero, suc, Bool, true, false, cond, ltb, leb, ◌&&◌, ◌⊎◌, inl, inr, List, length, get_or, set, replicate, Option, Some, None, refl, sym, ap, ◌∙◌, subst, arith, unwrap_or}
-use Rattle.std.proofs.lemmas.Bool.{and_parts, and_cases, ltb-true, ltb-false, leb-true, leb-false, cases_eq, cases_lt, cases_Bool}
+use Rattle.std.proofs.Common.{◌≡◌, ◌<◌, ◌≤◌, ◌+◌, ◌-◌, ℕ, zero, suc, true, false, cond, ltb, leb, ◌⊎◌, inl, inr, List, length, get_or, set, replicate, Option, Some, refl, sym, ap, ◌∙◌, subst, arith, unwrap_or}
+use Rattle.std.proofs.lemmas.Bool.{and_parts, and_cases, ltb-true, ltb-false, leb-true, leb-false, cases_eq, cases_lt}
 use Rattle.std.proofs.lemmas.List.{get_or-set_same, get_or-set_other, get_or-replicate, get_or_past, set_past, length-set, length-replicate}
 use Rattle.std.specs.List.{slice_get}
 use Rattle.std.proofs.lemmas.Option.{slice_get-get_or}
 use Rattle.strat_base.specs.Tree.{Parents, parent_of, IsTree}
 use Rattle.strat_base.proofs.TreeLemmas.{option_cases, parent_older, root_is_zero}
 use Rattle.strat_tree.specs.Ancestor.{up}
-use Rattle.strat_split.specs.Survey.{Told, IsLawful}
-use Rattle.strat_split.specs.Greedy.{is_enough, fate_after, open_after, sums_taken, sums_after, sums_from, rest_of, fate_of}
+use Rattle.strat_split.specs.Survey.{Told}
+use Rattle.strat_split.specs.Greedy.{is_enough, fate_after, open_after, sums_taken, sums_after, sums_from, leads_of_rest, fate_of}
 use Rattle.strat_split.specs.declared.gather.Fate.{Fate}
 use Rattle.strat_split.specs.declared.gather.Fate.TheVariants.{Joins, Closes, Alone}
 
@@ -134,12 +134,12 @@ module _ (t : Told) where
   pub sums_len : (c : ℕ) (sums : List ℕ) → sums ≡ sums_from t c → length sums ≡ length t.own
   sums_len c sums is = ap (λ (xs : List ℕ). length xs) is ∙ length_sums (length t.own - c)
 
-  pub taken_is : (c p rest after : ℕ) (sums : List ℕ) → c < length t.own → sums ≡ sums_from t (c + 1) → p ≡ up t.parents c → rest ≡ rest_of t c → after ≡ open_after rest (get_or sums p 0) (get_or t.live p 0) → set sums p after ≡ sums_from t c
+  pub taken_is : (c p rest after : ℕ) (sums : List ℕ) → c < length t.own → sums ≡ sums_from t (c + 1) → p ≡ up t.parents c → rest ≡ leads_of_rest t c → after ≡ open_after rest (get_or sums p 0) (get_or t.live p 0) → set sums p after ≡ sums_from t c
   taken_is c p rest after sums lt sums_is p_is rest_is after_is = ap (set sums p) after_is
       ∙ (λ i. set (sums_is i) (p_is i) (open_after (rest_is i) (get_or (sums_is i) (p_is i) 0) (get_or t.live (p_is i) 0)))
       ∙ sym (sums_next c lt)
 
-  pub fate_as : (c p rest : ℕ) (sums : List ℕ) (fate : Fate) → sums ≡ sums_from t (c + 1) → p ≡ up t.parents c → rest ≡ rest_of t c → fate ≡ fate_after rest (get_or sums p 0) (get_or t.live p 0) → fate ≡ fate_of t c
+  pub fate_as : (c p rest : ℕ) (sums : List ℕ) (fate : Fate) → sums ≡ sums_from t (c + 1) → p ≡ up t.parents c → rest ≡ leads_of_rest t c → fate ≡ fate_after rest (get_or sums p 0) (get_or t.live p 0) → fate ≡ fate_of t c
   fate_as c p rest sums fate sums_is p_is rest_is fate_is = fate_is ∙ (λ i. fate_after (rest_is i) (get_or (sums_is i) (p_is i) 0) (get_or t.live (p_is i) 0))
 
   -- one more fate

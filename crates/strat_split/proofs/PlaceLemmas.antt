@@ -1,13 +1,12 @@
 -- A version placed as its fate says.
-use Rattle.std.proofs.Common.{◌≡◌, ◌<◌, ◌≤◌, ◌+◌, ◌-◌, ◌*◌, ◌^◌, ℕ, zero, suc, Bool, true, false, cond, eqb, ◌⊎◌, inl, inr, List, [], ◌∷◌, ◌++◌, length, get_or, set, replicate, Option, Some, None, refl, sym, ap, ◌∙◌, subst, arith}
-use Rattle.std.specs.Option.{option_map_or}
-use Rattle.std.proofs.lemmas.Bool.{eq-eqb, ne_eqb, cases_eq, cases_lt}
+use Rattle.std.proofs.Common.{◌≡◌, ◌<◌, ◌≤◌, ◌+◌, ◌-◌, ◌*◌, ℕ, Bool, true, false, eqb, inl, inr, List, [], ◌∷◌, ◌++◌, length, get_or, set, replicate, Some, None, refl, sym, ap, ◌∙◌, subst, arith}
+use Rattle.std.proofs.lemmas.Bool.{eq-eqb, ne_eqb, cases_eq}
 use Rattle.std.proofs.lemmas.List.{get_or-set_same, get_or-set_other, get_or-replicate, length-set, length-replicate, length_push}
-use Rattle.strat_base.specs.Tree.{Parents, parent_of, IsTree}
+use Rattle.strat_base.specs.Tree.{IsTree}
 use Rattle.strat_tree.specs.Ancestor.{up}
 use Rattle.strat_plan.specs.Plan.{in_no_part}
-use Rattle.strat_split.specs.Survey.{Told, IsSized, IsLawful}
-use Rattle.strat_split.specs.Greedy.{sums_from, sums_after, rest_of, fate_of, open_after, fate_after}
+use Rattle.strat_split.specs.Survey.{Told, AreCounted}
+use Rattle.strat_split.specs.Greedy.{sums_from, leads_of_rest, fate_of, open_after, fate_after}
 use Rattle.strat_split.specs.Placing.{nth_part, part_sum, part_below, top_part, IsFit, IsServed, IsSoFar, IsDrafted, IsPlaced}
 use Rattle.strat_split.specs.declared.parts.Part.{Part}
 use Rattle.strat_split.specs.declared.gather.Fate.{Fate}
@@ -47,27 +46,27 @@ module _ (t : Told) (c p : ℕ) (tree : IsTree t.parents) (fits : length t.own �
   p_less = let less = (up_is t.parents tree c positive (omega arith)).1 in omega arith
 
   -- the sum of the parent's open group once c is taken
-  sum_after : get_or (sums_from t c) p 0 ≡ open_after (rest_of t c) (get_or (sums_from t (c + 1)) p 0) (get_or t.live p 0)
+  sum_after : get_or (sums_from t c) p 0 ≡ open_after (leads_of_rest t c) (get_or (sums_from t (c + 1)) p 0) (get_or t.live p 0)
   sum_after =
       let len : length (sums_from t (c + 1)) ≡ length t.own = length_sums t (length t.own - (c + 1)) in
       let less = p_less in
-      ap (λ (xs : List ℕ). get_or xs p 0) (sums_next t c lt) ∙ (λ i. get_or (set (sums_from t (c + 1)) (sym p_is i) (open_after (rest_of t c) (get_or (sums_from t (c + 1)) (sym p_is i) 0) (get_or t.live (sym p_is i) 0))) p 0) ∙ get_or-set_same (sums_from t (c + 1)) p (open_after (rest_of t c) (get_or (sums_from t (c + 1)) p 0) (get_or t.live p 0)) 0 (omega arith)
+      ap (λ (xs : List ℕ). get_or xs p 0) (sums_next t c lt) ∙ (λ i. get_or (set (sums_from t (c + 1)) (sym p_is i) (open_after (leads_of_rest t c) (get_or (sums_from t (c + 1)) (sym p_is i) 0) (get_or t.live (sym p_is i) 0))) p 0) ∙ get_or-set_same (sums_from t (c + 1)) p (open_after (leads_of_rest t c) (get_or (sums_from t (c + 1)) p 0) (get_or t.live p 0)) 0 (omega arith)
 
-  fate_at : (fate : Fate) → fate ≡ fate_of t c → fate ≡ fate_after (rest_of t c) (get_or (sums_from t (c + 1)) p 0) (get_or t.live p 0)
-  fate_at fate is = is ∙ (λ i. fate_after (rest_of t c) (get_or (sums_from t (c + 1)) (sym p_is i) 0) (get_or t.live (sym p_is i) 0))
+  fate_at : (fate : Fate) → fate ≡ fate_of t c → fate ≡ fate_after (leads_of_rest t c) (get_or (sums_from t (c + 1)) p 0) (get_or t.live p 0)
+  fate_at fate is = is ∙ (λ i. fate_after (leads_of_rest t c) (get_or (sums_from t (c + 1)) (sym p_is i) 0) (get_or t.live (sym p_is i) 0))
 
-  joining : Joins ≡ fate_of t c → IsJoining (rest_of t c) (get_or (sums_from t (c + 1)) p 0) (get_or t.live p 0) Joins (get_or (sums_from t c) p 0)
-  joining is = joining_of (rest_of t c) (get_or (sums_from t (c + 1)) p 0) (get_or t.live p 0) (get_or (sums_from t c) p 0) Joins (fate_at Joins is) sum_after refl
+  joining : Joins ≡ fate_of t c → IsJoining (leads_of_rest t c) (get_or (sums_from t (c + 1)) p 0) (get_or t.live p 0) Joins (get_or (sums_from t c) p 0)
+  joining is = joining_of (leads_of_rest t c) (get_or (sums_from t (c + 1)) p 0) (get_or t.live p 0) (get_or (sums_from t c) p 0) Joins (fate_at Joins is) sum_after refl
 
-  closing : (leads : ℕ) → Closes leads ≡ fate_of t c → IsClosing (rest_of t c) (get_or (sums_from t (c + 1)) p 0) (get_or t.live p 0) (Closes leads) (get_or (sums_from t c) p 0) × (leads ≡ get_or (sums_from t (c + 1)) p 0 + rest_of t c)
-  closing leads is = closing_of (rest_of t c) (get_or (sums_from t (c + 1)) p 0) (get_or t.live p 0) (get_or (sums_from t c) p 0) leads (Closes leads) (fate_at (Closes leads) is) sum_after refl
+  closing : (leads : ℕ) → Closes leads ≡ fate_of t c → IsClosing (leads_of_rest t c) (get_or (sums_from t (c + 1)) p 0) (get_or t.live p 0) (Closes leads) (get_or (sums_from t c) p 0) × (leads ≡ get_or (sums_from t (c + 1)) p 0 + leads_of_rest t c)
+  closing leads is = closing_of (leads_of_rest t c) (get_or (sums_from t (c + 1)) p 0) (get_or t.live p 0) (get_or (sums_from t c) p 0) leads (Closes leads) (fate_at (Closes leads) is) sum_after refl
 
-  alone : (leads : ℕ) → Alone leads ≡ fate_of t c → IsAlone (rest_of t c) (get_or (sums_from t (c + 1)) p 0) (get_or t.live p 0) (Alone leads) (get_or (sums_from t c) p 0) × (leads ≡ rest_of t c)
-  alone leads is = alone_of (rest_of t c) (get_or (sums_from t (c + 1)) p 0) (get_or t.live p 0) (get_or (sums_from t c) p 0) leads (Alone leads) (fate_at (Alone leads) is) sum_after refl
+  alone : (leads : ℕ) → Alone leads ≡ fate_of t c → IsAlone (leads_of_rest t c) (get_or (sums_from t (c + 1)) p 0) (get_or t.live p 0) (Alone leads) (get_or (sums_from t c) p 0) × (leads ≡ leads_of_rest t c)
+  alone leads is = alone_of (leads_of_rest t c) (get_or (sums_from t (c + 1)) p 0) (get_or t.live p 0) (get_or (sums_from t c) p 0) leads (Alone leads) (fate_at (Alone leads) is) sum_after refl
 
   -- leads are few enough for a sum
   module _ (own_small : (v : ℕ) → get_or t.own v 0 ≤ 16777216) (small : (v : ℕ) → get_or t.live v 0 ≤ 16777216) where
-    rest_small : rest_of t c ≤ 33554432
+    rest_small : leads_of_rest t c ≤ 33554432
     rest_small =
         let a = own_small c in
         let b : get_or (sums_from t (c + 1)) c 0 ≤ 16777216 = sums_small t (c + 1) c (sums_from t (c + 1)) small refl in
@@ -84,7 +83,7 @@ module _ (t : Told) (c p : ℕ) (tree : IsTree t.parents) (fits : length t.own �
     pub alone_small : (leads : ℕ) → Alone leads ≡ fate_of t c → leads ≤ 67108864
     alone_small leads is = let facts = alone leads is in let same = facts.1 in let a = rest_small in omega arith
 
-module _ (t : Told) (lawful : IsLawful t) (c p : ℕ) (labels joins : List ℕ) (parts : List Part) (positive : 0 < c) (lt : c < length t.own) (far : IsSoFar t c labels joins parts) (p_is : p ≡ up t.parents c) where
+module _ (t : Told) (lawful : AreCounted t) (c p : ℕ) (labels joins : List ℕ) (parts : List Part) (positive : 0 < c) (lt : c < length t.own) (far : IsSoFar t c labels joins parts) (p_is : p ≡ up t.parents c) where
   below : p < c
   below = p_less t c p lawful.tree lawful.fits positive lt p_is
 
@@ -168,17 +167,17 @@ so_far_at : (t : Told) (c : ℕ) (labels joins labels' joins' : List ℕ) (parts
 so_far_at t c labels joins labels' joins' parts parts' a b d far =
     subst (λ (x : List Part). IsSoFar t c labels' joins' x) (sym d) (subst (λ (x : List ℕ). IsSoFar t c labels' x parts) (sym b) (subst (λ (x : List ℕ). IsSoFar t c x joins parts) (sym a) far))
 
-pub joins_placed : (t : Told) → IsLawful t → (c p label : ℕ) (labels joins labels' joins' : List ℕ) (parts parts' : List Part) → 0 < c → c < length t.own → IsSoFar t c labels joins parts → p ≡ up t.parents c → Joins ≡ fate_of t c
+pub joins_placed : (t : Told) → AreCounted t → (c p label : ℕ) (labels joins labels' joins' : List ℕ) (parts parts' : List Part) → 0 < c → c < length t.own → IsSoFar t c labels joins parts → p ≡ up t.parents c → Joins ≡ fate_of t c
     → label ≡ get_or joins p 0 → labels' ≡ set labels c label → joins' ≡ set joins c label → parts' ≡ parts → IsSoFar t (c + 1) labels' joins' parts'
 joins_placed t lawful c p label labels joins labels' joins' parts parts' positive lt far p_is is label_is a b d =
     so_far_at t (c + 1) (set labels c (get_or joins p 0)) (set joins c (get_or joins p 0)) labels' joins' parts parts' (a ∙ ap (set labels c) label_is) (b ∙ ap (set joins c) label_is) d (placed_joins t lawful c p labels joins parts positive lt far p_is is)
 
-pub alone_placed : (t : Told) → IsLawful t → (c p leads : ℕ) (part : Part) (labels joins labels' joins' : List ℕ) (parts parts' : List Part) → 0 < c → c < length t.own → IsSoFar t c labels joins parts → p ≡ up t.parents c → Alone leads ≡ fate_of t c
+pub alone_placed : (t : Told) → AreCounted t → (c p leads : ℕ) (part : Part) (labels joins labels' joins' : List ℕ) (parts parts' : List Part) → 0 < c → c < length t.own → IsSoFar t c labels joins parts → p ≡ up t.parents c → Alone leads ≡ fate_of t c
     → part ≡ part_below t p c leads → IsPlaced c (length parts) part labels joins parts labels' joins' parts' → IsSoFar t (c + 1) labels' joins' parts'
 alone_placed t lawful c p leads part labels joins labels' joins' parts parts' positive lt far p_is is part_is placed =
     so_far_at t (c + 1) (set labels c (length parts)) (set joins c (length parts)) labels' joins' (parts ++ part_below t p c leads ∷ []) parts' placed.labels_are placed.joins_are (placed.parts_are ∙ ap (λ (x : Part). parts ++ x ∷ []) part_is) (placed_alone t lawful c p labels joins parts positive lt far p_is leads is)
 
-pub closes_placed : (t : Told) → IsLawful t → (c p leads : ℕ) (part : Part) (labels joins labels' joins' : List ℕ) (parts parts' : List Part) → 0 < c → c < length t.own → IsSoFar t c labels joins parts → p ≡ up t.parents c → Closes leads ≡ fate_of t c
+pub closes_placed : (t : Told) → AreCounted t → (c p leads : ℕ) (part : Part) (labels joins labels' joins' : List ℕ) (parts parts' : List Part) → 0 < c → c < length t.own → IsSoFar t c labels joins parts → p ≡ up t.parents c → Closes leads ≡ fate_of t c
     → part ≡ part_below t p c leads → IsPlaced c (length parts) part labels (set joins p (length parts)) parts labels' joins' parts' → IsSoFar t (c + 1) labels' joins' parts'
 closes_placed t lawful c p leads part labels joins labels' joins' parts parts' positive lt far p_is is part_is placed =
     so_far_at t (c + 1) (set labels c (length parts)) (set (set joins p (length parts)) c (length parts)) labels' joins' (parts ++ part_below t p c leads ∷ []) parts' placed.labels_are placed.joins_are (placed.parts_are ∙ ap (λ (x : Part). parts ++ x ∷ []) part_is) (placed_closes t lawful c p labels joins parts positive lt far p_is leads is)
@@ -194,7 +193,7 @@ drafted_more n c label part labels joins labels' joins' parts parts' a b d place
     }
 
 -- version 0
-module _ (t : Told) (lawful : IsLawful t) (first : ℕ) (first_is : first ≡ rest_of t 0) where
+module _ (t : Told) (lawful : AreCounted t) (first : ℕ) (first_is : first ≡ leads_of_rest t 0) where
   first_le : first ≤ 3 * get_or t.live 0 0
   first_le =
       let low : get_or (sums_from t 1) 0 0 ≤ get_or t.live 0 0 - 1 = sums_low t (length t.own - 1) 0 in

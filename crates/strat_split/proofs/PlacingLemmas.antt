@@ -1,17 +1,17 @@
 -- Versions placed in parts from the least up: what one more version keeps.
-use Rattle.std.proofs.Common.{◌≡◌, ◌<◌, ◌≤◌, ◌+◌, ◌-◌, ◌*◌, ◌^◌, ℕ, zero, suc, Bool, true, false, cond, eqb, ◌⊎◌, inl, inr, List, [], ◌∷◌, ◌++◌, length, get_or, set, Option, Some, None, refl, sym, ap, ◌∙◌, subst, arith}
+use Rattle.std.proofs.Common.{◌≡◌, ◌<◌, ◌≤◌, ◌+◌, ◌-◌, ◌*◌, ℕ, Bool, true, false, eqb, ◌⊎◌, inl, inr, List, [], ◌∷◌, ◌++◌, length, get_or, set, Option, Some, None, refl, sym, ap, ◌∙◌, subst, arith}
 use Rattle.std.specs.Option.{option_map_or}
 use Rattle.std.proofs.lemmas.Bool.{eq-eqb, ne_eqb, cases_eq, cases_lt}
 use Rattle.std.proofs.lemmas.List.{get_or-set_same, get_or-set_other, get_or_append_left, get_or_push, length_push, length-set}
-use Rattle.strat_base.specs.Tree.{Parents, parent_of, IsTree}
+use Rattle.strat_base.specs.Tree.{parent_of}
 use Rattle.strat_tree.specs.Ancestor.{up}
 use Rattle.strat_plan.specs.Plan.{in_no_part}
-use Rattle.strat_split.specs.Survey.{Told, IsLawful}
-use Rattle.strat_split.specs.Greedy.{sums_taken, sums_from, rest_of, fate_of, open_after, fate_after}
+use Rattle.strat_split.specs.Survey.{Told, AreCounted}
+use Rattle.strat_split.specs.Greedy.{sums_from, leads_of_rest, open_after}
 use Rattle.strat_split.specs.Placing.{nth_part, part_sum, IsFit, IsServed, IsSoFar}
 use Rattle.strat_split.specs.declared.parts.Part.{Part}
 use Rattle.strat_split.proofs.SumLemmas.{taken, part_sum_more, part_sum_change, part_sum_same, part_sum_none}
-use Rattle.strat_split.proofs.GreedyLemmas.{up_is, length_sums, sums_next, sums_low, fate_cases, IsAlone, IsClosing, IsJoining}
+use Rattle.strat_split.proofs.GreedyLemmas.{up_is, sums_next}
 
 -- what holds of each number below c in a list, once place c is set
 set_each : (P : ℕ → ℕ → Type 0) (xs : List ℕ) (c x : ℕ) → c < length xs → ((v : ℕ) → v < c → P v (get_or xs v 0)) → P c x → (v : ℕ) → v < c + 1 → P v (get_or (set xs c x) v 0)
@@ -69,9 +69,9 @@ served_below t parts p v label le none (inr out) = inr (out.0, none out.1)
 -- the open sums before and after version c differ at its parent alone
 pub sums_off : (t : Told) (c v : ℕ) → c < length t.own → (v ≡ up t.parents c → ⊥) → get_or (sums_from t c) v 0 ≡ get_or (sums_from t (c + 1)) v 0
 sums_off t c v lt apart =
-    ap (λ (xs : List ℕ). get_or xs v 0) (sums_next t c lt) ∙ get_or-set_other (sums_from t (c + 1)) (up t.parents c) v (open_after (rest_of t c) (get_or (sums_from t (c + 1)) (up t.parents c) 0) (get_or t.live (up t.parents c) 0)) 0 apart
+    ap (λ (xs : List ℕ). get_or xs v 0) (sums_next t c lt) ∙ get_or-set_other (sums_from t (c + 1)) (up t.parents c) v (open_after (leads_of_rest t c) (get_or (sums_from t (c + 1)) (up t.parents c) 0) (get_or t.live (up t.parents c) 0)) 0 apart
 
-module _ (t : Told) (lawful : IsLawful t) (c p : ℕ) (labels joins : List ℕ) (parts : List Part) (positive : 0 < c) (lt : c < length t.own) (far : IsSoFar t c labels joins parts) (p_is : p ≡ up t.parents c) where
+module _ (t : Told) (lawful : AreCounted t) (c p : ℕ) (labels joins : List ℕ) (parts : List Part) (positive : 0 < c) (lt : c < length t.own) (far : IsSoFar t c labels joins parts) (p_is : p ≡ up t.parents c) where
   parent_is : parent_of t.parents c ≡ Some p
   parent_is = (up_is t.parents lawful.tree c positive (omega (arith, lawful.fits))).0 ∙ ap (λ (v : ℕ). Some v) (sym p_is)
 
@@ -92,8 +92,8 @@ module _ (t : Told) (lawful : IsLawful t) (c p : ℕ) (labels joins : List ℕ) 
 
   -- one more version joins what joins its parent
   module _ (q : ℕ) (q_is : q ≡ get_or joins p 0)
-      (sum_is : get_or (sums_from t c) p 0 ≡ get_or (sums_from t (c + 1)) p 0 + rest_of t c)
-      (low : get_or (sums_from t (c + 1)) p 0 + rest_of t c ≤ get_or t.live p 0 - 1) where
+      (sum_is : get_or (sums_from t c) p 0 ≡ get_or (sums_from t (c + 1)) p 0 + leads_of_rest t c)
+      (low : get_or (sums_from t (c + 1)) p 0 + leads_of_rest t c ≤ get_or t.live p 0 - 1) where
     served_here : IsServed t parts c q
     served_here = subst (IsServed t parts c) (sym q_is) (served_below t parts p c (get_or joins p 0) live_le (λ none. let le = live_less in omega arith) (far.joins_served p parent_less))
 
@@ -160,7 +160,7 @@ module _ (t : Told) (lawful : IsLawful t) (c p : ℕ) (labels joins : List ℕ) 
       (joins1_len : length joins1 ≡ length t.own)
       (each : (v : ℕ) → v < c → (get_or joins1 v 0 ≡ get_or joins v 0) ⊎ ((v ≡ p) × (get_or joins1 v 0 ≡ length parts) × (part.entries ≤ 3 * get_or t.live p 0)))
       (old_sums : (r : ℕ) → r < length parts → part_sum r joins1 (sums_from t (c + 1)) c ≡ part_sum r joins (sums_from t c) c)
-      (new_sum : part_sum (length parts) joins1 (sums_from t (c + 1)) c + rest_of t c ≡ part.leads) where
+      (new_sum : part_sum (length parts) joins1 (sums_from t (c + 1)) c + leads_of_rest t c ≡ part.leads) where
     few_parts : length parts ≤ 16384
     few_parts = let a = far.few in let b = lawful.few in omega arith
 

@@ -1,34 +1,33 @@
 -- What the passes leave is a split, and counts are what a split can go by.
-use Rattle.std.proofs.Common.{◌≡◌, ◌<◌, ◌≤◌, ◌+◌, ◌-◌, ◌*◌, ◌^◌, ℕ, zero, suc, ◌⊎◌, inl, inr, List, [], ◌∷◌, length, map, get_or, Option, Some, None, refl, sym, ap, ◌∙◌, subst, arith}
-use Rattle.std.specs.List.{sum_by, list_all}
+use Rattle.std.proofs.Common.{◌≡◌, ◌<◌, ◌+◌, ℕ, zero, suc, ◌⊎◌, inl, inr, List, [], ◌∷◌, length, map, get_or, Option, Some, None, refl, sym, ap, ◌∙◌, subst, arith}
+use Rattle.std.specs.List.{sum_by}
 use Rattle.std.specs.Option.{option_map_or}
-use Rattle.std.proofs.lemmas.Bool.{cases_lt}
 use Rattle.std.proofs.lemmas.List.{length-map}
-use Rattle.strat_base.specs.Tree.{Parents, parent_of, IsTree}
+use Rattle.strat_base.specs.Tree.{Parents, parent_of}
 use Rattle.strat_base.proofs.TreeLemmas.{option_cases, root_is_zero, parent_older}
 use Rattle.strat_tree.specs.Ancestor.{up}
 use Rattle.strat_state.specs.Counted.{own_at, keys_at}
 use Rattle.strat_live.specs.Tallies.{Tallies}
-use Rattle.strat_live.specs.Counting.{descends, IsCount, SameParents}
+use Rattle.strat_live.specs.Counting.{IsCount, SameParents}
 use Rattle.strat_live.proofs.CountingLemmas.{live_same}
 use Rattle.strat_live.proofs.CountingLaws.{live_grows, live_grows_by_own, root_live, own_live}
 use Rattle.strat_plan.specs.Plan.{IsSplit, in_no_part, horizon_of, part_of, part_at, members}
 use Rattle.strat_plan.specs.Plan as defined
-use Rattle.strat_split.specs.Survey.{Told, IsSized, IsLawful}
+use Rattle.strat_split.specs.Survey.{Told, IsSized, AreCounted}
 use Rattle.strat_split.specs.Greedy.{sums_from}
-use Rattle.strat_split.specs.Placing.{nth_part, part_sum, IsFit, IsServed, IsSoFar, IsLowered, IsDivided}
-use Rattle.strat_split.specs.Shown.{shown_part}
+use Rattle.strat_split.specs.Placing.{nth_part, part_sum, IsSoFar, IsDivided}
+use Rattle.strat_split.specs.PlanSeen.{part_seen}
 use Rattle.strat_split.specs.declared.parts.Part.{Part}
 use Rattle.strat_split.proofs.SumLemmas.{part_sum_zeros, sum_members}
 use Rattle.strat_split.proofs.GreedyLemmas.{up_is, sums_end}
 
--- a part that is shown
-shown_at : (parts : List Part) (q : ℕ) → get_or (map shown_part parts) q (record { above = None; leads = 0; entries = 0; least = 0 }) ≡ shown_part (nth_part parts q)
+-- a part that is plan_seen
+shown_at : (parts : List Part) (q : ℕ) → get_or (map part_seen parts) q (record { above = None; leads = 0; entries = 0; least = 0 }) ≡ part_seen (nth_part parts q)
 shown_at [] q = refl
 shown_at (part ∷ parts) zero = refl
 shown_at (part ∷ parts) (suc q) = shown_at parts q
 
-module _ (t : Told) (lawful : IsLawful t) (labels : List ℕ) (parts : List Part) (divided : IsDivided t labels parts)
+module _ (t : Told) (lawful : AreCounted t) (labels : List ℕ) (parts : List Part) (divided : IsDivided t labels parts)
     (others : Parents) (same : SameParents (length t.own) others t.parents) (own live : ℕ → ℕ)
     (own_is : (v : ℕ) → v < length t.own → own v ≡ get_or t.own v 0) (live_is : (v : ℕ) → v < length t.own → live v ≡ get_or t.live v 0) where
   far : IsSoFar t (length t.own) labels divided.joins divided.before
@@ -37,19 +36,19 @@ module _ (t : Told) (lawful : IsLawful t) (labels : List ℕ) (parts : List Part
   labels_len : length labels ≡ length t.own
   labels_len = far.labels_len
 
-  parts_len : length (map shown_part parts) ≡ length divided.before
-  parts_len = length-map parts shown_part ∙ divided.lowered.len
+  parts_len : length (map part_seen parts) ≡ length divided.before
+  parts_len = length-map parts part_seen ∙ divided.lowered.len
 
-  above_is : (q : ℕ) → q < length divided.before → (get_or (map shown_part parts) q (record { above = None; leads = 0; entries = 0; least = 0 })).above ≡ (nth_part divided.before q).above
+  above_is : (q : ℕ) → q < length divided.before → (get_or (map part_seen parts) q (record { above = None; leads = 0; entries = 0; least = 0 })).above ≡ (nth_part divided.before q).above
   above_is q lt = ap (λ (x : defined.Part). x.above) (shown_at parts q) ∙ (divided.lowered.same q lt).0
 
-  leads_is : (q : ℕ) → q < length divided.before → (get_or (map shown_part parts) q (record { above = None; leads = 0; entries = 0; least = 0 })).leads ≡ (nth_part divided.before q).leads
+  leads_is : (q : ℕ) → q < length divided.before → (get_or (map part_seen parts) q (record { above = None; leads = 0; entries = 0; least = 0 })).leads ≡ (nth_part divided.before q).leads
   leads_is q lt = ap (λ (x : defined.Part). x.leads) (shown_at parts q) ∙ (divided.lowered.same q lt).1
 
-  entries_is : (q : ℕ) → q < length divided.before → (get_or (map shown_part parts) q (record { above = None; leads = 0; entries = 0; least = 0 })).entries ≡ (nth_part divided.before q).entries
+  entries_is : (q : ℕ) → q < length divided.before → (get_or (map part_seen parts) q (record { above = None; leads = 0; entries = 0; least = 0 })).entries ≡ (nth_part divided.before q).entries
   entries_is q lt = ap (λ (x : defined.Part). x.entries) (shown_at parts q) ∙ (divided.lowered.same q lt).2
 
-  least_is : (q : ℕ) → (get_or (map shown_part parts) q (record { above = None; leads = 0; entries = 0; least = 0 })).least ≡ (nth_part parts q).least
+  least_is : (q : ℕ) → (get_or (map part_seen parts) q (record { above = None; leads = 0; entries = 0; least = 0 })).least ≡ (nth_part parts q).least
   least_is q = ap (λ (x : defined.Part). x.least) (shown_at parts q)
 
   -- what is live where a part hangs
@@ -57,10 +56,10 @@ module _ (t : Told) (lawful : IsLawful t) (labels : List ℕ) (parts : List Part
   inherited_is None placed = refl
   inherited_is (Some p) placed = sym (live_is p (placed p refl))
 
-  labelled : (v : ℕ) → v < length labels → (get_or labels v 0 < length (map shown_part parts)) ⊎ (get_or labels v 0 ≡ in_no_part)
+  labelled : (v : ℕ) → v < length labels → (get_or labels v 0 < length (map part_seen parts)) ⊎ (get_or labels v 0 ≡ in_no_part)
   labelled v lt = elim (far.served v (omega (arith, labels_len))) [ inl there ↦ inl (omega (arith, there.0, parts_len)) | inr out ↦ inr out.0 ]
 
-  pub divided_split : IsSplit others own live (record { labels = labels; parts = map shown_part parts })
+  pub divided_split : IsSplit others own live (record { labels = labels; parts = map part_seen parts })
   divided_split = record {
     labelled = labelled;
     root = λ v lt is_part none.
@@ -91,13 +90,13 @@ module _ (t : Told) (lawful : IsLawful t) (labels : List ℕ) (parts : List Part
         let old : q < length divided.before = omega (arith, parts_len) in
         let sum : part_sum q labels t.own (length t.own) + part_sum q divided.joins (sums_from t (length t.own)) (length t.own) ≡ (nth_part divided.before q).leads = far.leads q old in
         let none : part_sum q divided.joins (sums_from t (length t.own)) (length t.own) ≡ 0 = ap (λ (ns : List ℕ). part_sum q divided.joins ns (length t.own)) (sums_end t (length t.own) (omega arith)) ∙ part_sum_zeros q (length t.own) divided.joins (length t.own) in
-        let all : sum_by own (members (record { labels = labels; parts = map shown_part parts }) q) ≡ part_sum q labels t.own (length labels) = sum_members own q labels t.own (length labels) (λ v under. own_is v (omega (arith, labels_len))) in
+        let all : sum_by own (members (record { labels = labels; parts = map part_seen parts }) q) ≡ part_sum q labels t.own (length labels) = sum_members own q labels t.own (length labels) (λ v under. own_is v (omega (arith, labels_len))) in
         let len : part_sum q labels t.own (length labels) ≡ part_sum q labels t.own (length t.own) = ap (part_sum q labels t.own) labels_len in
         let is = leads_is q old in
         omega arith;
     entries = λ q lt.
         let old : q < length divided.before = omega (arith, parts_len) in
-        entries_is q old ∙ (far.fit q old).entries ∙ (λ i. sym (leads_is q old) i + inherited_is (nth_part divided.before q).above (far.fit q old).placed i) ∙ ap (λ (o : Option ℕ). (part_at (record { labels = labels; parts = map shown_part parts }) q).leads + option_map_or live o 0) (sym (above_is q old));
+        entries_is q old ∙ (far.fit q old).entries ∙ (λ i. sym (leads_is q old) i + inherited_is (nth_part divided.before q).above (far.fit q old).placed i) ∙ ap (λ (o : Option ℕ). (part_at (record { labels = labels; parts = map part_seen parts }) q).leads + option_map_or live o 0) (sym (above_is q old));
     dense = λ v lt is_part.
         let old : get_or labels v 0 < length divided.before = omega (arith, parts_len) in
         let entries' = entries_is (get_or labels v 0) old in
@@ -135,7 +134,7 @@ module _ (t : Told) (sized : IsSized t) (others : Parents) (groups : List (List 
   live_at : (v : ℕ) → v < length t.own → get_or t.live v 0 ≡ keys_at t.parents groups v
   live_at v lt = sym (live_counted v lt) ∙ live_same t.parents sized.tree (length t.own) others same groups v lt
 
-  pub counted_lawful : IsLawful t
+  pub counted_lawful : AreCounted t
   counted_lawful = record {
     tree = sized.tree;
     some = sized.some;

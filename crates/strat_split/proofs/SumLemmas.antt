@@ -1,7 +1,7 @@
 -- Sums of the numbers that have a label.
-use Rattle.std.proofs.Common.{◌≡◌, ◌<◌, ◌≤◌, ◌+◌, ℕ, zero, suc, Bool, true, false, cond, eqb, ◌⊎◌, inl, inr, List, [], ◌∷◌, ◌++◌, length, filter, get_or, replicate, refl, sym, ap, ◌∙◌, arith, add-one}
+use Rattle.std.proofs.Common.{◌≡◌, ◌<◌, ◌+◌, ℕ, zero, suc, Bool, true, false, cond, eqb, inl, inr, List, [], ◌∷◌, ◌++◌, filter, get_or, replicate, refl, ap, ◌∙◌, arith, add-one}
 use Rattle.std.specs.List.{sum_by, range_with_len}
-use Rattle.std.proofs.lemmas.Bool.{eq-eqb, ne_eqb, cases_eq, cases_lt}
+use Rattle.std.proofs.lemmas.Bool.{ne_eqb, cases_eq, cases_lt}
 use Rattle.std.proofs.lemmas.List.{get_or-replicate, get_or_past, length-replicate}
 use Rattle.std.proofs.lemmas.List.Elements.{filter-append}
 use Rattle.std.proofs.lemmas.List.Sums.{sum_by-append}

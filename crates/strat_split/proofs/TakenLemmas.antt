@@ -1,22 +1,18 @@
 -- Of the items of one key one at most is live at a version.
-use Rattle.std.proofs.Common.{◌≡◌, ◌<◌, ◌≤◌, ◌+◌, ℕ, zero, suc, Bool, true, false, cond, eqb, ltb, ◌&&◌, ◌||◌, not, ◌⊎◌, inl, inr, List, [], ◌∷◌, length, map, get_or, Option, Some, None, refl, sym, ap, ◌∙◌, subst, arith, true≢false}
-use Rattle.std.specs.List.{list_any, list_all, position, position_or_len, slice_get}
-use Rattle.std.specs.Option.{option_map_or, option_and_then}
-use Rattle.std.proofs.lemmas.Bool.{and_parts, and_from, ltb-true, lt-ltb, eqb-true, eq-eqb, ne_eqb, false_from_ne_true, not_from_true, not_from_false, not-true, or_left, or_right, and_left, and_right, cases_eq, cases_lt, cases_order}
+use Rattle.std.proofs.Common.{◌≡◌, ◌<◌, ◌≤◌, ℕ, zero, suc, Bool, true, false, cond, eqb, ltb, not, inl, inr, List, [], ◌∷◌, length, get_or, Option, Some, None, refl, sym, ap, ◌∙◌, subst, arith, true≢false}
+use Rattle.std.specs.List.{list_any, list_all, position, position_or_len}
+use Rattle.std.specs.Option.{option_and_then}
+use Rattle.std.proofs.lemmas.Bool.{and_parts, and_from, ltb-true, lt-ltb, eq-eqb, ne_eqb, false_from_ne_true, not_from_true, not_from_false, not-true, or_left, or_right, and_left, and_right, cases_eq, cases_lt, cases_order}
 use Rattle.std.proofs.lemmas.List.Quantifiers.{position-Some}
 use Rattle.std.proofs.lemmas.List.Sums.{fails_before_first}
 use Rattle.std.proofs.lemmas.Option.{slice_get_past}
 use Rattle.strat_base.specs.Tree.{Parents, parent_of, path, is_ancestor, IsTree}
-use Rattle.strat_base.specs.Entries.{Entry}
 use Rattle.strat_base.proofs.ListFacts.{Among, any_from, any_among, all_at}
-use Rattle.strat_base.proofs.TreeLemmas.{option_cases, path_root, ancestor_among, among_ancestor, on_root, on_path, from_path, along_path, parent_older}
+use Rattle.strat_base.proofs.TreeLemmas.{ancestor_among, among_ancestor, on_root, on_path, from_path, along_path, parent_older}
 use Rattle.strat_arena.specs.declared.items.Item.{Item}
-use Rattle.strat_state.specs.Live.{is_live}
 use Rattle.strat_live.specs.Counting.{are_below}
 use Rattle.strat_live.specs.Group.{is_descending, is_nearer, is_live_item}
-use Rattle.strat_live.proofs.GroupLemmas.{live_as_entries}
 use Rattle.strat_plan.specs.Plan.{Plan, horizon_of, part_of, part_at, IsSplit}
-use Rattle.strat_plan.specs.Planned.{is_inherited, is_taken}
 use Rattle.strat_split.specs.Taken.{is_inherited_item, is_taken_item}
 
 item_among : (items : List Item) (j : ℕ) (d : Item) → j < length items → Among (get_or items j d) items
@@ -66,15 +62,6 @@ live_past parents tree items v i d below lt past =
     let less : (get_or items i d).version < length parents = ltb-true (get_or items i d).version (length parents) (all_at (λ (item : Item). ltb item.version (length parents)) (get_or items i d) items below (item_among items i d lt)) in
     let off : is_ancestor parents (get_or items i d).version v ≡ false = false_from_ne_true (is_ancestor parents (get_or items i d).version v) (λ on. let same : (get_or items i d).version ≡ v = on_root parents tree (get_or items i d).version v root (ancestor_among parents tree (get_or items i d).version v on) in omega arith) in
     sym (and_left (is_ancestor parents (get_or items i d).version v) (not (list_any (is_nearer parents v (get_or items i d).version) items)) off)
-
--- of the entries of one key those are taken whose items are
-pub taken_as_entries : (parents : Parents) (plan : Plan) (items : List Item) (q : ℕ) (key : List ℕ) (entry : Item → Entry) → ((item : Item) → (entry item).key ≡ key) → ((item : Item) → (entry item).version ≡ item.version)
-    → (item : Item) → is_taken parents plan (map entry items) q (entry item) ≡ is_taken_item parents plan items q item
-taken_as_entries parents plan items q key entry of_key at item = λ i. eqb (part_of plan (at item i)) q || inherited (part_at plan q).above i
-  where
-    inherited : (above : Option ℕ) → is_inherited parents (map entry items) above (entry item) ≡ is_inherited_item parents items above item
-    inherited None = refl
-    inherited (Some p) = live_as_entries parents items p key entry of_key at item
 
 -- what is live at a version and isn't its own is live at its parent
 live_above : (parents : Parents) (tree : IsTree parents) (items : List Item) (v p : ℕ) (item : Item) → parent_of parents v ≡ Some p → (item.version ≡ v → ⊥) → is_live_item parents items v item ≡ true → is_live_item parents items p item ≡ true

@@ -38,17 +38,17 @@ abbrev pub sums_from : Told → ℕ → List ℕ
 sums_from t c = sums_after t (length t.own - c)
 
 -- the leads of a version's rest
-abbrev pub rest_of : Told → ℕ → ℕ
-rest_of t c = slice_index t.own c + slice_index (sums_from t (c + 1)) c
+abbrev pub leads_of_rest : Told → ℕ → ℕ
+leads_of_rest t c = slice_index t.own c + slice_index (sums_from t (c + 1)) c
 
 -- what becomes of a version's rest
 abbrev pub fate_of : Told → ℕ → Fate
 fate_of t c =
-    fate_after (rest_of t c) (slice_index (sums_from t (c + 1)) (up t.parents c))
+    fate_after (leads_of_rest t c) (slice_index (sums_from t (c + 1)) (up t.parents c))
     (slice_index t.live (up t.parents c))
 
 -- what becomes of the rest of each version but 0, and the leads of the rest of version 0
 pub record IsGathered (t : Told) (first : ℕ) (fates : List Fate) : Type 0 where
-  pub first_is : first ≡ rest_of t 0
+  pub first_is : first ≡ leads_of_rest t 0
   pub fates_len : length fates ≡ length t.own
   pub fate_is : (v : ℕ) → 0 < v → v < length t.own → slice_get fates v ≡ Some (fate_of t v)

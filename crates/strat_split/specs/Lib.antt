@@ -1,5 +1,7 @@
 pub mod Survey
 pub mod Greedy
 pub mod Placing
-pub mod Shown
+pub mod PlanSeen
 pub mod Taken
+pub mod Hanging
+pub mod HangingFields

@@ -29,7 +29,7 @@ pub record IsSized (t : Told) : Type 0 where
   pub small : (v : ℕ) → slice_index t.live v ≤ 2 ^ 24
 
 -- the numbers are those of keys and items in a tree
-pub record IsLawful (t : Told) : Type 0 where
+pub record AreCounted (t : Told) : Type 0 where
   pub tree : IsTree t.parents
   pub some : 0 < length t.own
   pub live_len : length t.live ≡ length t.own

@@ -1,7 +1,7 @@
 //! The first pass of a split: from the greatest version down, what becomes of each version's rest.
 
 ghost use Rattle.std.specs.Prelude.{◌≡◌, ◌<◌, ◌≤◌, ◌+◌, length, replicate, IfOk};
-ghost use Rattle.strat_split.specs.Greedy.{is_enough, fate_after, open_after, sums_from, rest_of, fate_of, IsGathered};
+ghost use Rattle.strat_split.specs.Greedy.{is_enough, fate_after, open_after, sums_from, leads_of_rest, fate_of, IsGathered};
 ghost use Rattle.strat_split.specs.Survey.{told, IsSized};
 
 use crate::survey::{Survey, parent_of};
@@ -76,7 +76,7 @@ fn rest(survey: &Survey, sums: &[u32], c: usize) -> u32
     requires kept { IsSized (told survey.now) }
     requires fits { c < length survey.now.own.now }
     requires same { sums.now ≡ sums_from (told survey.now) (c + 1) }
-    ensures ok { result ≡ rest_of (told survey.now) c }
+    ensures ok { result ≡ leads_of_rest (told survey.now) c }
     ensures room { result ≤ 33554432 }
 {
     survey.own[c] + sums[c]

@@ -2,6 +2,7 @@
 #![tactic(auto)]
 
 mod gather;
+mod hanging;
 pub mod laws;
 pub mod parts;
 mod place;
@@ -9,5 +10,6 @@ mod split;
 mod survey;
 mod taken;
 
+pub use hanging::Hanging;
 pub use split::plan;
 pub use taken::takes;

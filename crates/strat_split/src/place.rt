@@ -2,9 +2,9 @@
 //! number of live keys of each part.
 
 ghost use Rattle.std.specs.Prelude.{◌≡◌, ◌<◌, ◌≤◌, ◌+◌, ◌++◌, [], ◌∷◌, length, replicate, slice_index, slice_set, IfOk, OnOk};
-ghost use Rattle.strat_split.specs.Greedy.{rest_of, fate_of, IsGathered};
+ghost use Rattle.strat_split.specs.Greedy.{leads_of_rest, fate_of, IsGathered};
 ghost use Rattle.strat_split.specs.Placing.{part_below, top_part, IsDrafted, IsPlaced, IsSoFar, IsLowered};
-ghost use Rattle.strat_split.specs.Survey.{told, IsSized, IsLawful};
+ghost use Rattle.strat_split.specs.Survey.{told, IsSized, AreCounted};
 
 use crate::gather::{Fate, Gathered};
 use crate::parts::{IN_NO_PART, Part};
@@ -24,7 +24,7 @@ pub(crate) struct Draft {
 pub(crate) fn place(alloc: Global, survey: &Survey, gathered: &Gathered) -> Result<Draft, NoMemory>
     requires kept { IsSized (told survey.now) }
     requires found { IsGathered (told survey.now) gathered.now.first gathered.now.fates.items }
-    ensures ok { IsLawful (told survey.now) → IfOk result (λ draft. IsSoFar (told survey.now)
+    ensures ok { AreCounted (told survey.now) → IfOk result (λ draft. IsSoFar (told survey.now)
         (length survey.now.own.now) draft.labels.items draft.joins.items draft.parts.items) }
     ensures len { IfOk result (λ draft. IsDrafted (length survey.now.own.now)
         (length survey.now.own.now) draft.labels.items draft.joins.items draft.parts.items) }
@@ -39,8 +39,8 @@ pub(crate) fn place(alloc: Global, survey: &Survey, gathered: &Gathered) -> Resu
 /// Version 0 placed: it has a part if leads were left with it.
 fn first_placed(alloc: Global, survey: &Survey, first: u32) -> Result<Draft, NoMemory>
     requires kept { IsSized (told survey.now) }
-    requires found { first ≡ rest_of (told survey.now) 0 }
-    ensures ok { IsLawful (told survey.now) → IfOk result (λ draft. IsSoFar (told survey.now) 1
+    requires found { first ≡ leads_of_rest (told survey.now) 0 }
+    ensures ok { AreCounted (told survey.now) → IfOk result (λ draft. IsSoFar (told survey.now) 1
         draft.labels.items draft.joins.items draft.parts.items) }
     ensures len { IfOk result (λ draft. IsDrafted (length survey.now.own.now) 1
         draft.labels.items draft.joins.items draft.parts.items) }
@@ -81,7 +81,7 @@ fn place_version(draft: &mut Draft, survey: &Survey, fate: Fate, c: usize) -> Re
     requires found { fate ≡ fate_of (told survey.now) c }
     requires len { IsDrafted (length survey.now.own.now) c
         draft.old.labels.items draft.old.joins.items draft.old.parts.items }
-    ensures ok { IsLawful (told survey.now)
+    ensures ok { AreCounted (told survey.now)
         → IsSoFar (told survey.now) c
         draft.old.labels.items draft.old.joins.items draft.old.parts.items
         → OnOk result (IsSoFar (told survey.now) (c + 1)

@@ -5,7 +5,7 @@ ghost use Rattle.strat_arena.specs.declared.items.Item.{Item};
 ghost use Rattle.strat_live.specs.Counting.{are_below};
 ghost use Rattle.strat_live.specs.Group.{is_descending, is_live_item};
 ghost use Rattle.strat_plan.specs.Plan.{part_of};
-ghost use Rattle.strat_split.specs.Shown.{shown};
+ghost use Rattle.strat_split.specs.PlanSeen.{plan_seen};
 ghost use Rattle.strat_split.specs.Taken.{is_inherited_item, is_taken_item};
 
 use crate::parts::Plan;
@@ -21,8 +21,8 @@ pub fn takes(plan: &Plan, group: &[Item], tree: &Tree, part: u32, i: usize) -> b
     requires fits { (part < length plan.now.parts) × (i < length group.now) }
     requires len { IsTrue (are_below (length plan.now.part_of) group.now) }
     requires found { IsTrue (are_below (length tree.now.parents) group.now) }
-    ensures ok { (d : Item) → result ≡ is_taken_item tree.now.parents (shown plan.now) group.now part
-        (slice_index_or group.now i d) }
+    ensures ok { (d : Item) → result ≡ is_taken_item tree.now.parents (plan_seen plan.now)
+        group.now part (slice_index_or group.now i d) }
 {
     is_lead(plan, part, group[i].version)
         || is_inherited(plan.parts.get(part as usize).above, group, tree, i)
@@ -31,7 +31,7 @@ pub fn takes(plan: &Plan, group: &[Item], tree: &Tree, part: u32, i: usize) -> b
 /// Whether a version is in a part.
 fn is_lead(plan: &Plan, part: u32, v: Version) -> bool
     requires { v < length plan.now.part_of }
-    ensures ok { result ≡ (part_of (shown plan.now) v == part) }
+    ensures ok { result ≡ (part_of (plan_seen plan.now) v == part) }
 {
     *plan.part_of.get(v as usize) == part
 }

@@ -1,9 +1,9 @@
 //! Counts and splits of drawn keys in trees of several shapes, against slow scans from parent to parent.
 
-ghost use Rattle.std.specs.Prelude.{◌≡◌, ◌<◌, ◌≤◌, ◌+◌, ◌*◌, length, IfOk, IsTrue};
+ghost use Rattle.std.specs.Prelude.{◌≡◌, ◌<◌, ◌≤◌, ◌+◌, length, IfOk, OnOk, IsTrue};
 ghost use Rattle.strat_live.specs.Counting.{are_below};
 ghost use Rattle.strat_live.specs.Group.{is_descending};
-ghost use Rattle.strat_live.specs.Tallies.{items_counted};
+ghost use Rattle.strat_split_tests.specs.Groups.{IsGroupFrom};
 
 use crate::trees::{Shape, grown, item};
 use std::alloc::Global;
@@ -13,7 +13,7 @@ use strat_arena::Item;
 use strat_base::{NoMemory, Version};
 use strat_live::Counts;
 use strat_split::parts::{IN_NO_PART, Part, Plan};
-use strat_split::{plan, takes};
+use strat_split::{Hanging, plan, takes};
 use strat_tree::Tree;
 
 /// Whether a key has an item at a version: about one in four has.
@@ -27,19 +27,26 @@ fn has(key: u32, v: Version) -> bool {
 
 /// The items of a key, the greatest version first.
 fn group_of(alloc: Global, key: u32, versions: u32) -> Result<Vec<Item>, NoMemory>
-    ensures kept { IfOk result (λ group. IsTrue (is_descending group.items)) }
-    ensures fits { IfOk result (λ group. IsTrue (are_below versions group.items)) }
-    ensures len { IfOk result (λ group. length group.items ≤ versions) }
+    ensures kept { IfOk result (λ group. IsGroupFrom 0 versions group.items) }
 {
     let mut group = Vec::new(alloc);
     let mut v = versions;
     while v > 0 {
         v -= 1;
-        if has(key, v) {
-            group.push(item(v))?;
-        }
+        push_item(&mut group, key, v, versions)?;
     }
     Ok(group)
+}
+
+/// Adds the item of a key at a version below all others, if it has one.
+fn push_item(group: &mut Vec<Item>, key: u32, v: Version, versions: u32) -> Result<(), NoMemory>
+    requires { IsGroupFrom (v + 1) versions group.old.items }
+    ensures kept { OnOk result (IsGroupFrom v versions group.new.items) }
+{
+    if has(key, v) {
+        group.push(item(v))?;
+    }
+    Ok(())
 }
 
 /// Counts over so many keys.
@@ -165,7 +172,7 @@ fn is_well_counted(tree: &Tree, plan: &Plan, q: u32, part: &Part, keys: u32) -> 
 fn taken(plan: &Plan, group: &[Item], tree: &Tree, q: u32) -> u32
     requires kept { IsTrue (is_descending group.now) }
     requires fits { q < length plan.now.parts }
-    requires len { IsTrue (are_below (length plan.now.part_of) group.now) }
+    requires len { length plan.now.part_of ≡ length tree.now.parents }
     requires found { IsTrue (are_below (length tree.now.parents) group.now) }
 {
     let mut n: u32 = 0;
@@ -176,13 +183,7 @@ fn taken(plan: &Plan, group: &[Item], tree: &Tree, q: u32) -> u32
 }
 
 /// How many items a part takes.
-fn taken_of_all(
-    alloc: Global,
-    plan: &Plan,
-    tree: &Tree,
-    q: u32,
-    keys: u32,
-) -> Result<u32, NoMemory>
+fn taken_of_all(alloc: Global, plan: &Plan, tree: &Tree, q: u32, keys: u32) -> Result<u32, NoMemory>
     requires fits { q < length plan.now.parts }
     requires len { length plan.now.part_of ≡ length tree.now.parents }
 {
@@ -223,6 +224,56 @@ fn are_well_filled(alloc: Global, tree: &Tree, plan: &Plan, keys: u32) -> Result
     Ok(plan.parts.len() <= tree.count() as usize)
 }
 
+/// Whether parts are numbered in the order in which their first versions come.
+fn is_well_numbered(plan: &Plan) -> bool {
+    let mut met: u32 = 0;
+    for q in plan.part_of.as_slice() {
+        if *q == met {
+            met = met.wrapping_add(1);
+        } else if *q > met && *q != IN_NO_PART {
+            return false;
+        }
+    }
+    met as usize == plan.parts.len()
+}
+
+/// How many parts hang from a part, along its chain.
+fn hung(hanging: &Hanging, part: u32) -> u32
+    requires { part < length hanging.now }
+{
+    let mut n: u32 = 0;
+    let mut at = hanging.first_below(part);
+    while let Some(q) = at {
+        n = n.wrapping_add(1);
+        at = hanging.next_beside(q);
+    }
+    n
+}
+
+/// How many parts hang from a part, by a scan of all parts.
+fn hung_slowly(plan: &Plan, part: u32) -> u32 {
+    let mut n: u32 = 0;
+    for other in plan.parts.as_slice() {
+        if let Some(p) = other.above {
+            n = n.wrapping_add((label(plan, p) == part) as u32);
+        }
+    }
+    n
+}
+
+/// Whether each chain of parts has as many as a scan finds.
+fn is_well_hung(alloc: Global, plan: &Plan) -> Result<bool, NoMemory>
+    requires { length plan.now.parts ≤ 64 }
+{
+    let hanging = Hanging::new(alloc, plan)?;
+    for part in 0..plan.parts.len() as u32 {
+        if hung(&hanging, part) != hung_slowly(plan, part) {
+            return Ok(false);
+        }
+    }
+    Ok(true)
+}
+
 /// Whether counts and split of so many keys agree with scans in a tree of so many versions.
 fn agrees(alloc: Global, shape: Shape, versions: u32, keys: u32) -> Result<bool, NoMemory>
     requires { (1 ≤ versions) × (versions ≤ 64) × (keys ≤ 1000) }
@@ -230,7 +281,12 @@ fn agrees(alloc: Global, shape: Shape, versions: u32, keys: u32) -> Result<bool,
     let tree = grown(alloc, shape, versions)?;
     let counts = counted(alloc, &tree, versions, keys)?;
     let made = plan(alloc, &tree, &counts, versions)?;
-    Ok(counts_agree(&tree, &counts, versions, keys) && is_well_split(alloc, &tree, &made, keys)?)
+    Ok(
+        counts_agree(&tree, &counts, versions, keys)
+            && is_well_numbered(&made)
+            && is_well_split(alloc, &tree, &made, keys)?
+            && is_well_hung(alloc, &made)?,
+    )
 }
 
 #[test]

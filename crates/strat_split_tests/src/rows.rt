@@ -26,18 +26,19 @@ fn add_keys(counts: &mut Counts, tree: &Tree, v: Version, keys: u32)
     }
 }
 
-/// The split of a star of so many versions, of which version 0 has some keys and each child others.
-fn star(alloc: Global, versions: u32, top: u32, each: u32) -> Result<Plan, NoMemory>
-    requires { (1 ≤ versions) × (versions ≤ 16384) × (top ≤ 1000) × (each ≤ 1000) }
+/// The split of the first versions of a star that has some more, of which version 0 has some keys and
+/// each child others.
+fn star(alloc: Global, horizon: u32, more: u32, top: u32, each: u32) -> Result<Plan, NoMemory>
+    requires { (1 ≤ horizon) × (horizon + more ≤ 16384) × (top ≤ 1000) × (each ≤ 1000) }
 {
-    let tree = grown(alloc, Shape::Star, versions)?;
-    let mut counts = Counts::new(alloc, versions)?;
+    let tree = grown(alloc, Shape::Star, horizon + more)?;
+    let mut counts = Counts::new(alloc, horizon)?;
     add_keys(&mut counts, &tree, 0, top);
-    for v in 1..versions {
+    for v in 1..horizon {
         add_keys(&mut counts, &tree, v, each);
     }
     counts.finish(&tree);
-    plan(alloc, &tree, &counts, versions)
+    plan(alloc, &tree, &counts, horizon)
 }
 
 /// Whether a plan has this part under this number.
@@ -84,17 +85,18 @@ fn top(leads: u32, entries: u32, least: u32) -> Part {
 
 #[test]
 fn a_child_with_more_keys_is_a_part(rt: HostRuntime) -> Result<(), Fail> {
-    let plan = star(rt.alloc(), 2, 1, 3)?;
+    let plan = star(rt.alloc(), 2, 0, 1, 3)?;
     assert!(rt; has_part(&plan, 0, top(1, 1, 1)) && has_part(&plan, 1, below_zero(3, 4, 4)));
     assert!(rt; plan.parts.len() == 2 && are_in(&plan, 0, 1, 0) && are_in(&plan, 1, 2, 1));
     Ok(())
 }
 
 #[test]
-fn version_0_without_keys_is_in_no_part(rt: HostRuntime) -> Result<(), Fail> {
-    let plan = star(rt.alloc(), 2, 0, 1)?;
+fn version_0_without_keys_is_in_no_part_below_a_horizon(rt: HostRuntime) -> Result<(), Fail> {
+    let plan = star(rt.alloc(), 2, 7, 0, 1)?;
     assert!(rt; plan.parts.len() == 1 && has_part(&plan, 0, below_zero(1, 1, 1)));
     assert!(rt; are_in(&plan, 0, 1, IN_NO_PART) && are_in(&plan, 1, 2, 0));
+    assert!(rt; plan.part_of.len() == 2);
     Ok(())
 }
 
@@ -113,7 +115,7 @@ fn are_in_tens(plan: &Plan) -> bool {
 
 #[test]
 fn a_thousand_children_are_ten_parts(rt: HostRuntime) -> Result<(), Fail> {
-    let plan = star(rt.alloc(), 1001, 100, 1)?;
+    let plan = star(rt.alloc(), 1001, 0, 100, 1)?;
     assert!(rt; has_part(&plan, 0, top(100, 100, 100)) && are_in(&plan, 0, 1, 0));
     assert!(rt; are_in_tens(&plan));
     Ok(())

@@ -1,4 +1,4 @@
-use Rattle.std.proofs.Common.{◌≡◌, List, length, refl, ap, ◌∙◌, arith}
+use Rattle.std.proofs.Common.{List, length, refl, ap, ◌∙◌}
 use Rattle.strat_base.specs.declared.descriptors.Extent.{Extent}
 use Rattle.strat_format.specs.Arrays.{blocks_of}
 use Rattle.strat_array.proofs.KeptLemmas.{looks_trans}

@@ -1,10 +1,7 @@
-use Rattle.std.proofs.Common.{◌≡◌, ◌<◌, ℕ, true, List, None, refl, subst, sym, arith}
-use Rattle.std.specs.List.{list_all}
+use Rattle.std.proofs.Common.{List, None, refl, subst, sym, arith}
 use Rattle.strat_base.specs.Entries.{Entry}
 use Rattle.strat_format.specs.Arrays.{blocks_of}
-use Rattle.strat_array.specs.Kept.{Kept, Blocks, Looks, ArrayStands}
-use Rattle.strat_array.specs.Left.{has_entry, Bound}
-use Rattle.strat_array.specs.declared.place.Place.{Place}
+use Rattle.strat_array.specs.Kept.{Looks, ArrayStands}
 use Rattle.strat_array.proofs.KeptLemmas.{looks_trans, stands_after}
 use Rattle.strat_array.proofs.PlaceLemmas.{listed_filled, sought_at_start, settled_at_start, sought_behind, settled_behind}
 use Rattle.strat_array.proofs.SearchLemmas.{no_block_same, err_of}

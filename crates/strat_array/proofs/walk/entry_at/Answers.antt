@@ -1,4 +1,4 @@
-use Rattle.std.proofs.Common.{◌≡◌, ℕ, ap, ◌∙◌}
+use Rattle.std.proofs.Common.{ap, ◌∙◌}
 use Rattle.strat_base.specs.EntryView.{entry_of}
 use Rattle.strat_array.specs.declared.place.Place.{Place}
 use Rattle.strat_array.proofs.KeptLemmas.{stands_after}

@@ -1,9 +1,7 @@
-use Rattle.std.proofs.Common.{◌≡◌, ◌≤◌, ◌<◌, ◌+◌, ◌-◌, ℕ, List, length, get_or, ap, sym, ◌∙◌, arith, subst, rules}
-use Rattle.std.specs.List.{slice_get}
+use Rattle.std.proofs.Common.{◌≡◌, ◌-◌, length, sym, ◌∙◌, arith, rules}
 use Rattle.std.proofs.lemmas.List.{with_items_is}
 use Rattle.strat_split.specs.Survey.{told}
-use Rattle.strat_split.specs.Greedy.{sums_from, fate_of}
-use Rattle.strat_split.proofs.GreedyLemmas.{sums_end, sums_len, sums_small, fates_more}
+use Rattle.strat_split.proofs.GreedyLemmas.{sums_end, fates_more}
 use Rattle.strat_split.proofs.gather.gather.Goals as goal
 
 pub loop-c-init : goal.loop-c-init

@@ -1,4 +1,4 @@
-use Rattle.std.proofs.Common.{◌≡◌, ◌≤◌, ◌+◌, ℕ, length, get_or, arith}
+use Rattle.std.proofs.Common.{◌≡◌, ◌≤◌, ◌+◌, length, get_or, arith}
 use Rattle.strat_split.specs.Survey.{told}
 use Rattle.strat_split.proofs.GreedyLemmas.{sums_len, sums_small, taken_is, fate_as}
 use Rattle.strat_split.proofs.gather.take_rest.Goals as goal

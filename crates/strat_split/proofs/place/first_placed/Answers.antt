@@ -1,4 +1,4 @@
-use Rattle.std.proofs.Common.{◌≡◌, ◌<◌, ◌≤◌, ℕ, List, [], ◌∷◌, ◌++◌, length, get_or, set, replicate, sym, ap, ◌∙◌, subst, arith}
+use Rattle.std.proofs.Common.{◌≡◌, List, [], ◌∷◌, ◌++◌, length, set, replicate, sym, ap, ◌∙◌, subst}
 use Rattle.strat_split.specs.Survey.{told}
 use Rattle.strat_split.specs.Placing.{IsSoFar, top_part}
 use Rattle.strat_split.specs.declared.place.Draft.{Draft}
