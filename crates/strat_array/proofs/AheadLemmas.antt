@@ -1,5 +1,5 @@
 -- How many blocks a walk has still to read.
-use Rattle.std.proofs.Common.{◌≡◌, ◌≤◌, ◌<◌, ◌+◌, ◌-◌, ℕ, Bool, true, false, cond, is_some, Option, inl, inr, refl, sym, ap, ◌∙◌, arith}
+use Rattle.std.proofs.Common.{◌≡◌, ◌≤◌, ◌+◌, ◌-◌, ℕ, Bool, true, false, cond, is_some, Option, inl, inr, refl, ap, arith}
 use Rattle.std.proofs.lemmas.Bool.{cases_lt}
 use Rattle.strat_array.specs.declared.place.Place.{Place}
 use Rattle.strat_array.specs.Kept.{Kept, held_block}

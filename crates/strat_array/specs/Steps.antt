@@ -1,5 +1,5 @@
 -- Places of entries, as a walk over an array steps from one to the next.
-use Rattle.std.specs.Prelude.{◌≡◌, ◌≤◌, ◌<◌, ℕ, ◌+◌, ◌-◌, if◌then◌else◌, is_some, ◌⊎◌, List, [], ◌∷◌, length, slice_index_or, Option, Some, None}
+use Rattle.std.specs.Prelude.{◌≡◌, ◌<◌, ℕ, ◌+◌, ◌-◌, if◌then◌else◌, is_some, ◌⊎◌, List, [], ◌∷◌, length, slice_index_or, Option, Some, None}
 use Rattle.strat_base.specs.Entries.{Entry}
 use Rattle.strat_block.specs.Places.{IsFirstFrom}
 use Rattle.strat_array.specs.Kept.{Kept, held_block}
