@@ -1,9 +1,12 @@
 -- Blocks of extents, extent by extent.
-use Rattle.std.proofs.Common.{◌≡◌, ◌<◌, ◌≤◌, ◌+◌, ◌-◌, ℕ, zero, suc, get_or, List, [], ◌∷◌, ◌++◌, length, drop, Some, refl, ap, ◌∙◌, arith, length-append}
-use Rattle.std.specs.List.{range_with_len, slice_get}
+use Rattle.std.proofs.Common.{◌≡◌, ◌<◌, ◌≤◌, ◌+◌, ◌-◌, ◌^◌, ℕ, true, ltb, leb, zero, suc, get_or, List, [], ◌∷◌, ◌++◌, length, drop, Some, refl, ap, ◌∙◌, arith, length-append}
+use Rattle.std.specs.List.{list_all, range_with_len, slice_get}
+use Rattle.std.proofs.lemmas.Bool.{and_parts, ltb-true}
 use Rattle.std.proofs.lemmas.List.{drop_more}
 use Rattle.strat_base.specs.declared.descriptors.Extent.{Extent}
 use Rattle.strat_format.specs.Arrays.{blocks_of}
+use Rattle.strat_format.specs.Manifest.{is_lawful_extent}
+use Rattle.strat_array.specs.Within.{AreWithin}
 
 length-range : (a n : ℕ) → length (range_with_len a n) ≡ n
 length-range a zero = refl
@@ -45,3 +48,13 @@ block_later extents i rest d lt past =
     ap (λ (l : List Extent). slice_get (blocks_of l) rest) (drop_more extents i d lt)
     ∙ get_back (range_with_len x.start x.len) behind rest (omega (arith, length-range x.start x.len))
     ∙ ap (λ (n : ℕ). slice_get behind (rest - n)) (length-range x.start x.len)
+
+lawful_at : (extents : List Extent) (i : ℕ) (d : Extent) → list_all is_lawful_extent extents ≡ true → i < length extents → (get_or extents i d).start + (get_or extents i d).len < 2 ^ 32
+lawful_at [] i d lawful lt = absurd (omega arith)
+lawful_at (x ∷ extents) zero d lawful lt =
+    ltb-true (x.start + x.len) (2 ^ 32) (and_parts (leb 1 x.len) (ltb (x.start + x.len) (2 ^ 32)) (and_parts (is_lawful_extent x) (list_all is_lawful_extent extents) lawful).0).1
+lawful_at (x ∷ extents) (suc i) d lawful lt = lawful_at extents i d (and_parts (is_lawful_extent x) (list_all is_lawful_extent extents) lawful).1 (omega arith)
+
+-- extents as a manifest has them, of no more blocks than there are numbers
+pub lawful_within : (extents : List Extent) → list_all is_lawful_extent extents ≡ true → length (blocks_of extents) ≤ 4294967295 → AreWithin extents
+lawful_within extents lawful few = record { each = λ i d lt. let at = lawful_at extents i d lawful lt in omega (arith, at); few = few }

@@ -15,8 +15,8 @@ use strat_base::NoMemory;
 use strat_block::{Block, BlockView};
 
 /// Blocks of arrays, by the number of the array and the index of the block in it. When it is full, the block that
-/// was used least recently makes room. A block in it was tested when it was read, and is neither tested nor
-/// copied again.
+/// was used least recently makes room. A block in it was tested when it was read, and isn't tested again; a search
+/// reads it where it is, and a walk copies it into its scratch once.
 #[derive(Drop)]
 pub struct Cache {
     blocks: LruCache<(u64, u32), Block>,

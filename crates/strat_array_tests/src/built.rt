@@ -190,7 +190,7 @@ pub(crate) fn star(alloc: Global) -> Result<Tree, NoMemory>
     ensures len { IfOk result (λ t. length t.parents ≡ 202) }
 {
     let mut tree = Tree::new(alloc, 202)?;
-    for _v in 1..202 {
+    for _v in 1..202u32 {
         tree.add_child(0);
     }
     Ok(tree)

@@ -4,7 +4,7 @@
 ghost use Rattle.std.specs.Prelude.{◌≡◌, ◌<◌, ◌≤◌, length};
 ghost use Rattle.strat_array.specs.Within.{AreWithin};
 
-use crate::built::{FULL, Shape, Shelf, block_of, key_of, many, one, value_of, version_of};
+use crate::built::{FULL, Shape, block_of, key_of, many, one, value_of, version_of};
 use std::alloc::Global;
 use std::process::Abort;
 use std::test::Fail;
@@ -290,21 +290,20 @@ fn places_are_those_of_keys(rt: HostRuntime) -> Result<(), Fail> {
 }
 
 /// Whether look-ups of many entries, each with a new cache, read seven blocks at most, and none again.
-fn reads_few(alloc: Global, s: &mut Shelf) -> Result<bool, NoMemory>
-    requires fits { AreWithin s.old.desc.extents }
-    requires kept { 7 ≤ length s.old.tree.parents }
+fn reads_few(
+    alloc: Global,
+    disk: &mut MemDisk,
+    desc: &ArrayDesc,
+    tree: &Tree,
+    scratch: &mut Scratch,
+    out: &mut PairBuf,
+) -> Result<bool, NoMemory>
+    requires fits { AreWithin desc.now.extents }
+    requires kept { 7 ≤ length tree.now.parents }
 {
     for i in 0..80 {
         let mut cache = Cache::new(alloc, 256)?;
-        let reads = reads_of(
-            &mut s.disk,
-            &mut cache,
-            &s.desc,
-            &s.tree,
-            &mut s.scratch,
-            &mut s.out,
-            37 * i,
-        );
+        let reads = reads_of(disk, &mut cache, desc, tree, scratch, out, 37 * i);
         if !matches!(&reads, Some((1..=7, 0))) {
             return Ok(false);
         }
@@ -315,7 +314,16 @@ fn reads_few(alloc: Global, s: &mut Shelf) -> Result<bool, NoMemory>
 #[test]
 fn a_look_up_reads_few_blocks_and_none_again(rt: HostRuntime) -> Result<(), Fail> {
     let mut s = many(rt.alloc())?;
-    assert!(rt; reads_few(rt.alloc(), &mut s)?);
+    assert!(rt;
+        reads_few(
+            rt.alloc(),
+            &mut s.disk,
+            &s.desc,
+            &s.tree,
+            &mut s.scratch,
+            &mut s.out
+        )?
+    );
     Ok(())
 }
 
@@ -381,28 +389,26 @@ fn set_count(disk: &mut MemDisk, block: u32, count: u8) -> u8 {
 }
 
 /// Whether each block with one entry too many is named as damaged, with a new cache each time.
-fn blames_each(alloc: Global, s: &mut Shelf) -> Result<bool, NoMemory>
-    requires fits { AreWithin s.old.desc.extents }
-    requires kept { 7 ≤ length s.old.tree.parents }
+fn blames_each(
+    alloc: Global,
+    disk: &mut MemDisk,
+    desc: &ArrayDesc,
+    tree: &Tree,
+    scratch: &mut Scratch,
+    out: &mut PairBuf,
+) -> Result<bool, NoMemory>
+    requires fits { AreWithin desc.now.extents }
+    requires kept { 7 ≤ length tree.now.parents }
 {
     for index in 0..40 {
         let mut cache = Cache::new(alloc, 256)?;
         let block = block_of(index);
-        let was = set_count(&mut s.disk, block, 76);
+        let was = set_count(disk, block, 76);
         let n = FULL * index + 40;
-        if !blames(
-            &mut s.disk,
-            &mut cache,
-            &s.desc,
-            &s.tree,
-            &mut s.scratch,
-            &mut s.out,
-            n,
-            block,
-        ) {
+        if !blames(disk, &mut cache, desc, tree, scratch, out, n, block) {
             return Ok(false);
         }
-        set_count(&mut s.disk, block, was);
+        set_count(disk, block, was);
     }
     Ok(true)
 }
@@ -410,6 +416,15 @@ fn blames_each(alloc: Global, s: &mut Shelf) -> Result<bool, NoMemory>
 #[test]
 fn a_damaged_block_is_named(rt: HostRuntime) -> Result<(), Fail> {
     let mut s = many(rt.alloc())?;
-    assert!(rt; blames_each(rt.alloc(), &mut s)?);
+    assert!(rt;
+        blames_each(
+            rt.alloc(),
+            &mut s.disk,
+            &s.desc,
+            &s.tree,
+            &mut s.scratch,
+            &mut s.out
+        )?
+    );
     Ok(())
 }
