@@ -1,0 +1,124 @@
+-- The items of a group and their entries.
+use Rattle.std.proofs.Common.{◌≡◌, ◌≤◌, ◌<◌, ℕ, ◌+◌, true, false, ◌&&◌, nat_lt, nat_le, ◌-◌, ◌^◌, ◌==◌, List, [], ◌∷◌, ◌++◌, length, get_or, Option, Some, None, refl, sym, ap, ◌∙◌, arith, length-append}
+use Rattle.std.specs.List.{list_all, slice_get}
+use Rattle.std.specs.Option.{option_map, option_map_or}
+use Rattle.std.specs.Ordering.{is_lt, nat_cmp, ordering_then}
+use Rattle.std.specs.declared.cmp.Ordering.{Ordering}
+use Rattle.std.specs.declared.cmp.Ordering.TheVariants.{Less, Equal, Greater}
+use Rattle.std.proofs.lemmas.Bool.{and_parts, and_from}
+use Rattle.std.proofs.lemmas.Bool.Decides.{nat_tests}
+use Rattle.std.proofs.lemmas.Cmp.{nat_list_cmp_total, tied_itself, ranked}
+use Rattle.std.proofs.lemmas.List.{get_or_append_left, map-append, length-map}
+use Rattle.std.proofs.lemmas.List.Folds.{list_all-append}
+use Rattle.std.proofs.lemmas.Option.{slice_get-map}
+use Rattle.std.proofs.Math.Seq.{get_or-append_seam}
+use Rattle.strat_arena.specs.ArenaView.{KeyValue}
+use Rattle.strat_arena.specs.declared.items.Item.{Item}
+use Rattle.strat_base.specs.Order.{key_cmp, entry_cmp}
+use Rattle.strat_base.specs.Entries.{Entry, is_of, is_ascending}
+use Rattle.strat_base.specs.EntryBytes.{fits_fields, is_markable}
+use Rattle.strat_base.specs.Sizes.{is_key}
+use Rattle.strat_base.proofs.ListFacts.{all_at, all_from, map_same}
+use Rattle.strat_base.proofs.EntryLemmas.{is_of_key}
+use Rattle.strat_live.specs.Group.{is_descending}
+use Rattle.strat_live.specs.Counting.{are_below}
+use Rattle.strat_merge.specs.Group.{unless_gone, group_entry, group_entries, have_slots}
+use Rattle.strat_merge.specs.Gathered.{last_entry}
+
+below_test : (a b : ℕ) → nat_lt a b ≡ true → a < b
+below_test a b is = grind (arith, nat_tests)
+
+test_below : (a b : ℕ) → a < b → nat_lt a b ≡ true
+test_below a b is = grind (arith, nat_tests)
+
+-- one more pair and its item
+module _ (pairs after : List KeyValue) (items new : List Item) (pair : KeyValue) (item : Item) (e : Entry) (slots : have_slots pairs items ≡ true) (pushed : after ≡ pairs ++ pair ∷ [])
+    (slot : item.slot.0 ≡ length pairs) (says : e ≡ record { key = pair.key; version = item.version; value = unless_gone item.gone pair.value }) (added : new ≡ items ++ item ∷ []) where
+  abbrev more : List KeyValue
+  more = pairs ++ pair ∷ []
+
+  entries_stay : group_entries more items ≡ group_entries pairs items
+  entries_stay = map_same (group_entry more) (group_entry pairs) items (λ x among.
+      let within = below_test x.slot.0 (length pairs) (all_at (λ y. nat_lt y.slot.0 (length pairs)) x items slots among) in
+      ap (λ (p : KeyValue). record { key = p.key; version = x.version; value = unless_gone x.gone p.value }) (get_or_append_left pairs (pair ∷ []) (record { key = []; value = [] }) x.slot.0 within))
+
+  entry_new : group_entry more item ≡ e
+  entry_new =
+      ap (λ (p : KeyValue). record { key = p.key; version = item.version; value = unless_gone item.gone p.value })
+      (ap (λ n. get_or more n (record { key = []; value = [] })) slot ∙ get_or-append_seam pairs pair [] (record { key = []; value = [] })) ∙ sym says
+
+  pub entries_more : group_entries after new ≡ group_entries pairs items ++ e ∷ []
+  entries_more =
+      (λ i. group_entries (pushed i) (added i)) ∙ map-append (group_entry more) items (item ∷ [])
+      ∙ (λ i. entries_stay i ++ entry_new i ∷ [])
+
+  pub slots_more : have_slots after new ≡ true
+  slots_more =
+      let size = length-append pairs (pair ∷ []) in
+      (λ i. have_slots (pushed i) (added i)) ∙ list_all-append (λ x. nat_lt x.slot.0 (length more)) items (item ∷ [])
+      ∙ and_from (list_all (λ x. nat_lt x.slot.0 (length more)) items) (nat_lt item.slot.0 (length more) && true)
+      (all_from (λ x. nat_lt x.slot.0 (length more)) items (λ x among.
+      let within = below_test x.slot.0 (length pairs) (all_at (λ y. nat_lt y.slot.0 (length pairs)) x items slots among) in
+      test_below x.slot.0 (length more) (omega arith)))
+      (and_from (nat_lt item.slot.0 (length more)) true (test_below item.slot.0 (length more) (omega arith)) refl)
+
+-- the bytes of a lawful entry
+pub size_small : (e : Entry) (size : ℕ) → fits_fields e ≡ true → (is_markable e.value ≡ true → size ≤ 1024) → length e.key + size ≤ 1279
+size_small e size fits small =
+    let parts = and_parts (is_key e.key && nat_lt e.version (2 ^ 32)) (is_markable e.value) fits in
+    let key = and_parts (is_key e.key) (nat_lt e.version (2 ^ 32)) parts.0 in
+    let le = small parts.1 in
+    let long : length e.key ≤ 255 = key_small e.key key.0 in
+    omega arith
+  where
+    key_small : (k : List ℕ) → is_key k ≡ true → length k ≤ 255
+    key_small k is = let both = and_parts (nat_le 1 (length k)) (nat_le (length k) 255) is in grind (arith, nat_tests)
+
+-- the last item of a group, as its last entry
+pub last_as_entry : (pairs : List KeyValue) (items : List Item) (v : ℕ) → option_map_or (λ item. item.version == v) (slice_get items (length items - 1)) false
+    ≡ option_map_or (λ (last : Entry). last.version == v) (last_entry (group_entries pairs items)) false
+last_as_entry pairs items v =
+    sym (ap (λ n. option_map_or (λ (last : Entry). last.version == v) (slice_get (group_entries pairs items) (n - 1)) false) (length-map items (group_entry pairs))
+    ∙ ap (λ (o : Option Entry). option_map_or (λ (last : Entry). last.version == v) o false) (slice_get-map (group_entry pairs) items (length items - 1))
+    ∙ mapped (slice_get items (length items - 1)))
+  where
+    mapped : (o : Option Item) → option_map_or (λ (last : Entry). last.version == v) (option_map (group_entry pairs) o) false ≡ option_map_or (λ item. item.version == v) o false
+    mapped None = refl
+    mapped (Some item) = refl
+
+-- entries of one key descend by version
+lt_version : (e f : Entry) → e.key ≡ f.key → is_lt (entry_cmp e.key e.version f.key f.version) ≡ true → f.version < e.version
+lt_version e f same lt =
+    let tie : key_cmp e.key f.key ≡ Equal = ap (λ k. key_cmp k f.key) same ∙ tied_itself nat_list_cmp_total f.key in
+    less (nat_cmp f.version e.version) refl (sym (ap (λ o. is_lt (ordering_then o (nat_cmp f.version e.version))) tie) ∙ lt)
+  where
+    less : (o : Ordering) → o ≡ nat_cmp f.version e.version → is_lt o ≡ true → f.version < e.version
+    less Less is lt' = ranked f.version e.version Less is
+    less Equal is lt' = cc
+    less Greater is lt' = cc
+
+pub items_descend : (pairs : List KeyValue) (items : List Item) (key : List ℕ) → list_all (is_of key) (group_entries pairs items) ≡ true → is_ascending (group_entries pairs items) ≡ true → is_descending items ≡ true
+items_descend pairs [] key keyed up = refl
+items_descend pairs (item ∷ items) key keyed up =
+    let of = and_parts (is_of key (group_entry pairs item)) (list_all (is_of key) (group_entries pairs items)) keyed in
+    let parts = and_parts (list_all (λ later. is_lt (entry_cmp (group_entry pairs item).key item.version later.key later.version)) (group_entries pairs items)) (is_ascending (group_entries pairs items)) up in
+    and_from (list_all (λ later. nat_lt later.version item.version) items) (is_descending items)
+    (go items of.1 parts.0 (is_of_key key (group_entry pairs item) of.0))
+    (items_descend pairs items key of.1 parts.1)
+  where
+    go : (rest : List Item) → list_all (is_of key) (group_entries pairs rest) ≡ true
+        → list_all (λ later. is_lt (entry_cmp (group_entry pairs item).key item.version later.key later.version)) (group_entries pairs rest) ≡ true
+        → (group_entry pairs item).key ≡ key → list_all (λ later. nat_lt later.version item.version) rest ≡ true
+    go [] keyed' all here = refl
+    go (x ∷ rest) keyed' all here =
+        let of = and_parts (is_of key (group_entry pairs x)) (list_all (is_of key) (group_entries pairs rest)) keyed' in
+        let parts = and_parts (is_lt (entry_cmp (group_entry pairs item).key item.version (group_entry pairs x).key x.version)) (list_all (λ later. is_lt (entry_cmp (group_entry pairs item).key item.version later.key later.version)) (group_entries pairs rest)) all in
+        and_from (nat_lt x.version item.version) (list_all (λ later. nat_lt later.version item.version) rest)
+        (test_below x.version item.version (lt_version (group_entry pairs item) (group_entry pairs x) (here ∙ sym (is_of_key key (group_entry pairs x) of.0)) parts.0))
+        (go rest of.1 parts.1 here)
+
+pub items_below : (pairs : List KeyValue) (items : List Item) (n : ℕ) → list_all (λ (e : Entry). nat_lt e.version n) (group_entries pairs items) ≡ true → are_below n items ≡ true
+items_below pairs [] n all = refl
+items_below pairs (item ∷ items) n all =
+    let parts = and_parts (nat_lt item.version n) (list_all (λ (e : Entry). nat_lt e.version n) (group_entries pairs items)) all in
+    and_from (nat_lt item.version n) (are_below n items) parts.0 (items_below pairs items n parts.1)

@@ -1,0 +1,12 @@
+use Rattle.std.proofs.Common.{◌≤◌, length, map}
+use Rattle.strat_merge.proofs.BracketLemmas.{PlayedFrom}
+use Rattle.strat_merge.proofs.bracket.play_all.Given as goal
+
+abbrev pub invariant-loop-k : goal.invariant-loop-k
+invariant-loop-k g l = record {
+  low : l.k ≤ length l.runs;
+  from : PlayedFrom (map g.R.Run.view l.runs) l.winners l.k;
+}
+
+abbrev pub decreases-loop-k : goal.decreases-loop-k
+decreases-loop-k g l = l.k

@@ -1,0 +1,15 @@
+//! Runs of entries merged into groups, one key after the other, and which entries of a group say
+//! something.
+#![tactic(auto)]
+
+mod bracket;
+mod collect;
+mod group;
+mod merger;
+mod purging;
+mod run;
+
+pub use group::GroupBuf;
+pub use merger::Merger;
+pub use purging::purge;
+pub use run::Run;
