@@ -28,7 +28,7 @@ use Rattle.strat_plan.proofs.ListLemmas.{filter_every, map_among, some_length}
 use Rattle.strat_promotion.specs.Merging.{rest_of}
 use Rattle.strat_merge.specs.Runs.{RunView, IsEntryRun, head_at, lefts}
 use Rattle.strat_merge.specs.Bracket.{is_ahead}
-use Rattle.strat_merge.specs.Gathered.{are_under, TakesNext, CountsTaken, last_entry, with_entry, Leads, LeadsAside, PassesOne, IsGathered, Gathers}
+use Rattle.strat_merge.specs.Gathered.{are_under, TakesNext, CountsTaken, last_entry, with_next, Leads, LeadsAside, PassesOne, AreGathered, Gathers}
 use Rattle.strat_merge.proofs.OrderLemmas.{by_entry, entry_total, key_le, behind_le, behind_lt, first_le_all, all_before, ascending_more, none_behind, lt_le, lt_then_le, not_before_itself}
 use Rattle.strat_merge.proofs.BracketLemmas.{equal_or_not}
 use Rattle.strat_merge.proofs.PassLemmas.{get_set_same, get_set_other, length_flat_set}
@@ -84,7 +84,7 @@ rest_without key (xs ∷ lists) (suc r) e rest there of = ap (λ ls. rest_of key
 
 -- entries with one more, or not
 pub with_cases : (P : List Entry → Type 0) (es : List Entry) (e : Entry) → (option_map_or (λ last. last.version == e.version) (last_entry es) false ≡ true → P es)
-    → (option_map_or (λ last. last.version == e.version) (last_entry es) false ≡ false → P (es ++ e ∷ [])) → P (with_entry es e)
+    → (option_map_or (λ last. last.version == e.version) (last_entry es) false ≡ false → P (es ++ e ∷ [])) → P (with_next es e)
 with_cases P es e same more = go (option_map_or (λ last. last.version == e.version) (last_entry es) false) same more
   where
     go : (t : Bool) → (t ≡ true → P es) → (t ≡ false → P (es ++ e ∷ [])) → P (cond t es (es ++ e ∷ []))
@@ -207,7 +207,7 @@ pub record IsTakeable (now : List RunView) (r : ℕ) (key : List ℕ) (e : Entry
   pub lawful : fits_fields e ≡ true
   pub low : (v : RunView) → slice_get now r ≡ Some v → e.version < v.versions
 
-all_one_more : (p : Entry → Bool) (es : List Entry) (e : Entry) → list_all p es ≡ true → p e ≡ true → list_all p (with_entry es e) ≡ true
+all_one_more : (p : Entry → Bool) (es : List Entry) (e : Entry) → list_all p es ≡ true → p e ≡ true → list_all p (with_next es e) ≡ true
 all_one_more p es e all one =
     with_cases (λ xs. list_all p xs ≡ true) es e (λ _. all)
     (λ _. list_all-append p es (e ∷ []) ∙ and_from (list_all p es) (p e && true) all (and_from (p e) true one refl))
@@ -244,7 +244,7 @@ version_first d e same le apart =
     tied_versions a b keys tie = (order_tied a b tie).1
 
 module _ (disk : DiskView) (old now next : List RunView) (r : ℕ) (key : List ℕ) (es : List Entry) (e : Entry) (passes : PassesOne disk now next r) (leads : Leads now r e)
-    (lawful : (v : RunView) → Among v now → IsEntryRun v) (takes : IsTakeable now r key e) (gathered : IsGathered old now key es) where
+    (lawful : (v : RunView) → Among v now → IsEntryRun v) (takes : IsTakeable now r key e) (gathered : AreGathered old now key es) where
   taken_low : (n : ℕ) → are_under n old ≡ true → nat_lt e.version n ≡ true
   taken_low n under =
       let bound : nat_le passes.before.versions n ≡ true = all_at (λ (run : RunView). nat_le run.versions n) passes.before now (gathered.bound n under) (get_among now r passes.before passes.there) in
@@ -258,7 +258,7 @@ module _ (disk : DiskView) (old now next : List RunView) (r : ℕ) (key : List �
   same_key_as : (d : Entry) → Among d es → d.key ≡ e.key
   same_key_as d among = is_of_key key d (all_at (is_of key) d es gathered.keyed among) ∙ sym takes.keyed
 
-  next_ascending : is_ascending (with_entry es e) ≡ true
+  next_ascending : is_ascending (with_next es e) ≡ true
   next_ascending =
       with_cases (λ xs. is_ascending xs ≡ true) es e (λ _. gathered.ascending)
       (λ apart. ascending_more es e gathered.ascending (λ d among.
@@ -273,14 +273,14 @@ module _ (disk : DiskView) (old now next : List RunView) (r : ℕ) (key : List �
       no_last : (xs : List Entry) (d : Entry) → Among d xs → last_entry xs ≡ None → ⊥
       no_last xs d among none = let some = some_length xs d among in get_within xs (length xs - 1) (omega arith) none
 
-  next_behind : (i : ℕ) (f : Entry) → head_at next i ≡ Some f → list_all (λ d. not (is_gt (by_entry d f))) (with_entry es e) ≡ true
+  next_behind : (i : ℕ) (f : Entry) → head_at next i ≡ Some f → list_all (λ d. not (is_gt (by_entry d f))) (with_next es e) ≡ true
   next_behind i f is =
       let le = later_heads disk now next r e passes leads lawful i f is in
       all_one_more (λ d. not (is_gt (by_entry d f))) es e
       (all_from (λ d. not (is_gt (by_entry d f))) es (λ d among. not_false (is_gt (by_entry d f)) (upto entry_total d e f (all_le d among) le)))
       (not_false (is_gt (by_entry e f)) le)
 
-  pub gathered_next : IsGathered old next key (with_entry es e)
+  pub gathered_next : AreGathered old next key (with_next es e)
   gathered_next = record {
     keyed = all_one_more (is_of key) es e gathered.keyed (same_bytes e.key key takes.keyed);
     ascending = next_ascending;
@@ -308,7 +308,7 @@ module _ (disk : DiskView) (old now next : List RunView) (r : ℕ) (key : List �
     Newest xs u = option_or (find (is_at key u) xs) (find (is_at key u) (grouped_entries (lefts c next))) ≡ find (is_at key u) (grouped_entries before)
 
     -- another version
-    newest_other : (u : ℕ) → u ≢ e.version → Newest (with_entry es e) u
+    newest_other : (u : ℕ) → u ≢ e.version → Newest (with_next es e) u
     newest_other u apart =
         let off : is_at key u e ≡ false = false_at (cases_Bool (is_at key u e)) in
         let step : option_or (find (is_at key u) es) (find (is_at key u) (grouped_entries (lefts c next))) ≡ find (is_at key u) (grouped_entries before) =
@@ -322,7 +322,7 @@ module _ (disk : DiskView) (old now next : List RunView) (r : ℕ) (key : List �
         false_at (inr off') = off'
 
     -- the entry's own
-    newest_own : Newest (with_entry es e) e.version
+    newest_own : Newest (with_next es e) e.version
     newest_own =
         let u = e.version in
         let here : is_at key e.version e ≡ true = at_key_version key e.version e takes.keyed refl in
@@ -345,11 +345,11 @@ module _ (disk : DiskView) (old now next : List RunView) (r : ℕ) (key : List �
               (find-append (is_at key e.version) es (e ∷ []) ∙ ap (λ o. option_or o (find (is_at key e.version) (e ∷ []))) none ∙ ap (λ b. cond b (Some e) None) here) ∙ done)
         ]
 
-    pub gathers_next : Gathers before (lefts c next) key (with_entry es e)
+    pub gathers_next : Gathers before (lefts c next) key (with_next es e)
     gathers_next = record {
       rest = rest_next ∙ gathers.rest;
       newest = λ u. elim (equal_or_not u e.version) [
-        | inl same ↦ subst (λ (v : ℕ). Newest (with_entry es e) v) (sym same) newest_own
+        | inl same ↦ subst (λ (v : ℕ). Newest (with_next es e) v) (sym same) newest_own
         | inr apart ↦ newest_other u apart
       ];
     }
@@ -359,7 +359,7 @@ begun_least : (now : List RunView) (r : ℕ) (e : Entry) → Leads now r e → (
 begun_least now r e leads i f at =
     behind_le f i e r (subst (λ (o : Option Entry). is_ahead o i (Some e) r ≡ false) at (subst (λ (o : Option Entry). is_ahead (head_at now i) i o r ≡ false) leads.head (leads.first i)))
 
-pub gathered_begun : (now : List RunView) (r : ℕ) (e : Entry) → Leads now r e → IsGathered now now e.key []
+pub gathered_begun : (now : List RunView) (r : ℕ) (e : Entry) → Leads now r e → AreGathered now now e.key []
 gathered_begun now r e leads = record {
   keyed = refl;
   ascending = refl;
@@ -375,7 +375,7 @@ pub gathers_begun : (lists : List (List Entry)) (key : List ℕ) → Gathers lis
 gathers_begun lists key = record { rest = refl; newest = λ u. refl }
 
 -- the end: no run has an entry of the key
-module _ (old now : List RunView) (key : List ℕ) (es : List Entry) (gathered : IsGathered old now key es) (aside : LeadsAside now key) where
+module _ (old now : List RunView) (key : List ℕ) (es : List Entry) (gathered : AreGathered old now key es) (aside : LeadsAside now key) where
   pub ended_behind : (i : ℕ) (e : Entry) → head_at now i ≡ Some e → is_lt (key_cmp key e.key) ≡ true
   ended_behind i e is =
       let w = (aside i e is).0 in

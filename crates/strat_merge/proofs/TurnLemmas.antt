@@ -26,7 +26,7 @@ use Rattle.strat_merge.specs.Runs.{RunView, IsEntryRun, head_at, lefts, blocks_l
 use Rattle.strat_merge.specs.Bracket.{is_ahead, IsTournament}
 use Rattle.strat_merge.specs.Reading.{ReadsRuns}
 use Rattle.strat_merge.specs.Group.{group_entries, have_slots}
-use Rattle.strat_merge.specs.Gathered.{IsGroup, TakesNext, CountsTaken, last_entry, with_entry, Leads, LeadsAside, PassesOne, IsGathered, Gathers}
+use Rattle.strat_merge.specs.Gathered.{IsGroup, TakesNext, CountsTaken, last_entry, with_next, Leads, LeadsAside, PassesOne, AreGathered, Gathers}
 use Rattle.strat_merge.proofs.BracketLemmas.{equal_or_not}
 use Rattle.strat_merge.proofs.GatherLemmas.{IsTakeable, with_cases, last_is, get_within, gathered_begun, gathers_begun, gathered_next, gathers_next, one_fewer, later_heads, head_other, head_next, ended_behind, takes_next, count_begun, count_more}
 use Rattle.strat_merge.proofs.GroupLemmas.{items_descend, items_below}
@@ -124,7 +124,7 @@ if_some_map A B (Some x) a f = f x a
 -- what taking an entry does
 pub record Took {R : Type 0} (view : R → RunView) (bad : R → Image → ℕ → Type 0) (a b : Touched R) (r : ℕ) : Type 0 where
   pub passes : PassesOne a.disk (map view a.runs) (map view b.runs) r
-  pub adds : (e : Entry) → head_at (map view a.runs) r ≡ Some e → entries_in b ≡ with_entry (entries_in a) e
+  pub adds : (e : Entry) → head_at (map view a.runs) r ≡ Some e → entries_in b ≡ with_next (entries_in a) e
   pub won : IsTournament (map view b.runs) b.winners
   pub len : length b.pairs ≡ length b.items
   pub slots : have_slots b.pairs b.items ≡ true
@@ -141,13 +141,13 @@ pub record IsGathering {R : Type 0} (view : R → RunView) (bad : R → Image �
   pub len : length now.pairs ≡ length now.items
   pub slots : have_slots now.pairs now.items ≡ true
   pub reads : Reads view bad start now done
-  pub gathered : IsGathered (map view start.runs) (map view now.runs) key (entries_in now)
+  pub gathered : AreGathered (map view start.runs) (map view now.runs) key (entries_in now)
   pub gathers : (c : Image) → Exposes start.disk c → Gathers (lefts c (map view start.runs)) (lefts c (map view now.runs)) key (entries_in now)
   pub counts : (c : Image) → Exposes start.disk c → CountsTaken (lefts c (map view start.runs)) (lefts c (map view now.runs)) start.consumed now.consumed
   pub found : IfSome next (λ w. (w < length now.runs) × ((e : Entry) × (Leads (map view now.runs) w e × (e.key ≡ key))))
   pub ended : IfNone next (LeadsAside (map view now.runs) key × (0 < length now.items))
 
-with_some : (es : List Entry) (e : Entry) → 0 < length (with_entry es e)
+with_some : (es : List Entry) (e : Entry) → 0 < length (with_next es e)
 with_some es e =
     with_cases (λ xs. 0 < length xs) es e
     (λ tied. let last = last_is es e.version tied in some es last.0 last.1)
@@ -167,15 +167,15 @@ module _ {R : Type 0} (view : R → RunView) (bad : R → Image → ℕ → Type
   now_key : now_entry.key ≡ gathering.key
   now_key = gathering.found.1.1.1
 
-  now_adds : entries_in b ≡ with_entry (entries_in a) now_entry
+  now_adds : entries_in b ≡ with_next (entries_in a) now_entry
   now_adds = took.adds now_entry now_leads.head
 
   now_takes : IsTakeable (map view a.runs) r gathering.key now_entry
   now_takes = record { keyed = now_key; lawful = took.fits now_entry now_leads.head; low = λ v there. took.low now_entry v now_leads.head there }
 
-  next_gathered : IsGathered (map view start.runs) (map view b.runs) gathering.key (entries_in b)
+  next_gathered : AreGathered (map view start.runs) (map view b.runs) gathering.key (entries_in b)
   next_gathered =
-      subst (λ (es : List Entry). IsGathered (map view start.runs) (map view b.runs) gathering.key es) (sym now_adds)
+      subst (λ (es : List Entry). AreGathered (map view start.runs) (map view b.runs) gathering.key es) (sym now_adds)
       (gathered_next a.disk (map view start.runs) (map view a.runs) (map view b.runs) r gathering.key (entries_in a) now_entry took.passes now_leads (all_runs view law a.runs) now_takes gathering.gathered)
 
   some_now : 0 < length b.items
@@ -300,7 +300,7 @@ gathering_begun view bad law now w fits pairs items won within e leads = record 
   len = ap (λ ps. length ps) pairs ∙ sym (ap (λ xs. length xs) items);
   slots = subst (λ xs. have_slots now.pairs xs ≡ true) (sym items) refl;
   reads = reads_none view bad now now refl refl refl refl;
-  gathered = subst (λ xs. IsGathered (map view now.runs) (map view now.runs) e.key (group_entries now.pairs xs)) (sym items) (gathered_begun (map view now.runs) w e leads);
+  gathered = subst (λ xs. AreGathered (map view now.runs) (map view now.runs) e.key (group_entries now.pairs xs)) (sym items) (gathered_begun (map view now.runs) w e leads);
   gathers = λ c exposes. subst (λ xs. Gathers (lefts c (map view now.runs)) (lefts c (map view now.runs)) e.key (group_entries now.pairs xs)) (sym items) (gathers_begun (lefts c (map view now.runs)) e.key);
   counts = λ c exposes. count_begun (lefts c (map view now.runs)) now.consumed fits;
   found = (within, (e, (leads, refl)));

@@ -53,8 +53,8 @@ abbrev pub last_entry : List Entry → Option Entry
 last_entry entries = slice_get entries (length entries - 1)
 
 -- entries with one more, unless the last has its version
-abbrev pub with_entry : List Entry → Entry → List Entry
-with_entry entries e =
+abbrev pub with_next : List Entry → Entry → List Entry
+with_next entries e =
     if option_map_or (λ last. last.version == e.version) (last_entry entries) false
     then entries else entries ++ e ∷ []
 
@@ -78,7 +78,7 @@ pub record PassesOne (disk : DiskView) (old new : List RunView) (w : ℕ) : Type
   pub step : Advances disk before after
 
 -- entries of a key that were gathered from runs, whatever disk they lie on
-pub record IsGathered (old now : List RunView) (key : List ℕ) (entries : List Entry) : Type 0 where
+pub record AreGathered (old now : List RunView) (key : List ℕ) (entries : List Entry) : Type 0 where
   pub keyed : IsTrue (list_all (is_of key) entries)
   pub ascending : IsTrue (is_ascending entries)
   pub lawful : IsTrue (list_all fits_fields entries)

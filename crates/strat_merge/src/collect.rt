@@ -5,7 +5,7 @@ ghost use Rattle.std.specs.Prelude.{◌≡◌, ◌<◌, ◌≤◌, ℕ, ◌+◌,
 ghost use Rattle.strat_base.specs.Entries.{Entry as KeyEntry, is_of};
 ghost use Rattle.strat_base.specs.EntryBytes.{fits_fields, is_markable};
 ghost use Rattle.strat_base.specs.EntryView.{entry_of, val_of};
-ghost use Rattle.strat_merge.specs.Gathered.{with_entry};
+ghost use Rattle.strat_merge.specs.Gathered.{with_next};
 ghost use Rattle.strat_merge.specs.Group.{group_entry, group_entries, have_slots, unless_gone};
 ghost use Rattle.strat_merge.specs.Runs.{RunView, head_at};
 
@@ -73,7 +73,7 @@ pub(crate) fn collect<D: Disk, R: Run<D>>(
     requires kept { IsTrue (have_slots arena.old.pairs group.old) }
     ensures ok { OnOk result ((e : KeyEntry) → head_at (map R.view runs.now) run ≡ Some e
         → group_entries arena.new.pairs group.new
-        ≡ with_entry (group_entries arena.old.pairs group.old) e) }
+        ≡ with_next (group_entries arena.old.pairs group.old) e) }
     ensures len { OnOk result (length arena.new.pairs ≡ length group.new) }
     ensures kept { OnOk result (IsTrue (have_slots arena.new.pairs group.new)) }
     ensures fits { (e : KeyEntry) → head_at (map R.view runs.now) run ≡ Some e

@@ -9,7 +9,7 @@ ghost use Rattle.strat_crash.specs.Faults.{one_more};
 ghost use Rattle.strat_crash.specs.Image.{Image};
 ghost use Rattle.strat_crash.specs.Moments.{Exposes};
 ghost use Rattle.strat_merge.specs.Bracket.{IsTournament};
-ghost use Rattle.strat_merge.specs.Gathered.{IsGroup, TakesNext, CountsTaken, with_entry, Leads, LeadsAside, PassesOne};
+ghost use Rattle.strat_merge.specs.Gathered.{IsGroup, TakesNext, CountsTaken, with_next, Leads, LeadsAside, PassesOne};
 ghost use Rattle.strat_merge.specs.Group.{group_entries, have_slots};
 ghost use Rattle.strat_merge.specs.Reading.{ReadsRuns, as_trouble};
 ghost use Rattle.strat_merge.specs.Runs.{RunView, head_at, lefts, NoneLeft};
@@ -113,7 +113,7 @@ fn take<D: Disk, R: Run<D>>(
     ensures found { OnOk result ((e : KeyEntry)
         → head_at (map R.view merger.old.runs.items) run ≡ Some e
         → group_entries arena.new.pairs group.new
-        ≡ with_entry (group_entries arena.old.pairs group.old) e) }
+        ≡ with_next (group_entries arena.old.pairs group.old) e) }
     ensures kept { OnOk result
         (IsTournament (map R.view merger.new.runs.items) merger.new.winners.items) }
     ensures len { OnOk result (length arena.new.pairs ≡ length group.new) }
