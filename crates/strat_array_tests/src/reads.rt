@@ -388,8 +388,34 @@ fn set_count(disk: &mut MemDisk, block: u32, count: u8) -> u8 {
     }
 }
 
-/// Whether each block with one entry too many is named as damaged, with a new cache each time.
+/// Whether each block that says to have so many entries is named as damaged, with a new cache each time.
 fn blames_each(
+    alloc: Global,
+    disk: &mut MemDisk,
+    desc: &ArrayDesc,
+    tree: &Tree,
+    scratch: &mut Scratch,
+    out: &mut PairBuf,
+    count: u8,
+) -> Result<bool, NoMemory>
+    requires fits { AreWithin desc.now.extents }
+    requires kept { 7 ≤ length tree.now.parents }
+{
+    for index in 0..40 {
+        let mut cache = Cache::new(alloc, 256)?;
+        let block = block_of(index);
+        let was = set_count(disk, block, count);
+        let n = FULL * index + 40;
+        if !blames(disk, &mut cache, desc, tree, scratch, out, n, block) {
+            return Ok(false);
+        }
+        set_count(disk, block, was);
+    }
+    Ok(true)
+}
+
+/// Whether each block is named as damaged that says to have one entry too many, or none at all.
+fn blames_both(
     alloc: Global,
     disk: &mut MemDisk,
     desc: &ArrayDesc,
@@ -400,24 +426,16 @@ fn blames_each(
     requires fits { AreWithin desc.now.extents }
     requires kept { 7 ≤ length tree.now.parents }
 {
-    for index in 0..40 {
-        let mut cache = Cache::new(alloc, 256)?;
-        let block = block_of(index);
-        let was = set_count(disk, block, 76);
-        let n = FULL * index + 40;
-        if !blames(disk, &mut cache, desc, tree, scratch, out, n, block) {
-            return Ok(false);
-        }
-        set_count(disk, block, was);
-    }
-    Ok(true)
+    let many = blames_each(alloc, disk, desc, tree, scratch, out, 76)?;
+    let none = blames_each(alloc, disk, desc, tree, scratch, out, 0)?;
+    Ok(many && none)
 }
 
 #[test]
 fn a_damaged_block_is_named(rt: HostRuntime) -> Result<(), Fail> {
     let mut s = many(rt.alloc())?;
     assert!(rt;
-        blames_each(
+        blames_both(
             rt.alloc(),
             &mut s.disk,
             &s.desc,
