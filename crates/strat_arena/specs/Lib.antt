@@ -6,3 +6,4 @@ pub mod ArenaView
 pub mod Chunks
 pub mod ArenaFields
 pub mod PoolView
+pub mod Items

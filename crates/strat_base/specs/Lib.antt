@@ -11,3 +11,4 @@ pub mod Finds
 pub mod EntryView
 pub mod EntryBytes
 pub mod Samples
+pub mod Troubles

@@ -99,8 +99,8 @@ impl Extents {
 /// A list of versions.
 pub type Versions = Listing<u32>;
 
-/// The descriptor of an array: its number, how many entries it has, how many of them are leads, how
-/// few keys a version of its tag sees at least, its blocks, and its tag.
+/// The descriptor of an array: its number, how many entries it has, how many of them are leads, the
+/// least number of keys that are live at a version of its tag, its blocks, and its tag.
 #[derive(Drop)]
 pub struct ArrayDesc {
     pub id: u64,

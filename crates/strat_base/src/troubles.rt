@@ -1,6 +1,6 @@
 //! Troubles from what went wrong in a call.
 
-use crate::failures::{Failed, NoMemory, Trouble};
+use crate::failures::{Failed, Fault, NoMemory, Trouble};
 use std::alloc::{AllocError, AllocFailed};
 
 impl From<Failed> for Trouble {
@@ -11,6 +11,20 @@ impl From<Failed> for Trouble {
 
     fn from(_: Failed) -> Trouble {
         Trouble::Device
+    }
+}
+
+impl From<Fault> for Trouble {
+    ghost use Rattle.std.specs.Prelude.{◌≡◌};
+    ghost use Rattle.strat_base.specs.Troubles.{as_trouble};
+
+    ghost from_gives = { λ fault e. e ≡ as_trouble fault };
+
+    fn from(fault: Fault) -> Trouble {
+        match fault {
+            Fault::Device => Trouble::Device,
+            Fault::Damaged { block } => Trouble::Damaged { block },
+        }
     }
 }
 

@@ -68,7 +68,8 @@ fn zeros(bytes: &[u8]) -> bool
     bytes.iter().all(|b| *b == 0)
 }
 
-/// Whether these bytes are a block. One pass, O(bytes), each byte read once, with no memory taken.
+/// Whether these bytes are a block: it says how many entries it has, at least one; their offsets follow;
+/// then come the entries in order without a gap; and then only zeros. One pass, O(bytes), with no memory taken.
 pub fn is_block(bytes: &[u8]) -> bool
     ensures ok { result ≡ is_some (block_in bytes.now) }
 {

@@ -9,10 +9,10 @@ ghost use Rattle.strat_block.specs.Places.{entries_of_block, stands_below, IsFir
 ghost use Rattle.strat_format.specs.Block.{block_in, fits_block};
 
 use crate::check::is_block;
-use std::alloc::{AllocError, Global};
+use std::alloc::Global;
 use std::marker::Model;
 use strat_base::limits::BLOCK;
-use strat_base::{Entry, Val, Version, get_entry, get_u16};
+use strat_base::{Entry, NoMemory, Val, Version, get_entry, get_u16};
 
 /// How many entries a block has.
 fn count(bytes: &[u8]) -> usize
@@ -174,9 +174,8 @@ impl Model for Block {
 }
 
 impl Block {
-    /// A copy of bytes that are known to be those of a block: they are not tested. O(bytes). The only error is
-    /// want of memory.
-    pub fn new(alloc: Global, bytes: &[u8]) -> Result<Block, AllocError>
+    /// A copy of bytes that are known to be those of a block: they are not tested. O(bytes).
+    pub fn new(alloc: Global, bytes: &[u8]) -> Result<Block, NoMemory>
         requires { IsSome (block_in bytes.now) }
         ensures ok { IfOk result (λ b. block_in bytes.now ≡ Some b) }
     {

@@ -6,8 +6,8 @@ ghost use Rattle.strat_base.specs.Entries.{is_ascending};
 ghost use Rattle.strat_base.specs.EntryBytes.{fits_fields};
 ghost use Rattle.strat_base.specs.EntryView.{entry_of};
 
-use std::alloc::{AllocError, Global};
-use strat_base::Entry;
+use std::alloc::Global;
+use strat_base::{Entry, NoMemory};
 use strat_base::limits::BLOCK;
 use strat_block::{Block, BlockView, BlockWriter, is_block};
 
@@ -87,7 +87,7 @@ pub(crate) fn first_of(front: &[u8], key: &[u8]) -> Option<usize>
 }
 
 /// How many entries an owned copy of a block of these bytes has.
-pub(crate) fn count_of_copy(alloc: Global, front: &[u8]) -> Result<usize, AllocError>
+pub(crate) fn count_of_copy(alloc: Global, front: &[u8]) -> Result<usize, NoMemory>
     requires { length front.now ≤ 4096 }
 {
     let block = padded(front);

@@ -1,3 +1,4 @@
 pub mod ImageLemmas
 pub mod MomentLemmas
 pub mod TrailLemmas
+pub mod BlockLemmas

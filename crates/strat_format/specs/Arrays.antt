@@ -7,7 +7,7 @@ use Rattle.strat_base.specs.Entries.{Entry}
 use Rattle.strat_crash.specs.Image.{Image, window}
 use Rattle.strat_format.specs.Block.{block_in}
 
--- what is made of each item, where something is made of each
+-- what f makes of each item, or nothing where it makes nothing of one
 abbrev pub all_some : {A B : Type 0} → (A → Option B) → List A → Option (List B)
 all_some f [] = Some []
 all_some f (x ∷ xs) = option_and_then (λ y. option_map (λ ys. y ∷ ys) (all_some f xs)) (f x)

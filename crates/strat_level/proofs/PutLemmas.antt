@@ -13,7 +13,8 @@ use Rattle.strat_arena.specs.declared.items.Item.{Item}
 use Rattle.strat_arena.specs.declared.pool.PoolEntry.{PoolEntry}
 use Rattle.strat_state.specs.Setting.{set_entry}
 use Rattle.strat_state.proofs.SettingLemmas.{set_ascending}
-use Rattle.strat_level.specs.Memtable.{ItemList, Memtable, entries_of, have_pairs, entries_held, ListStands, MemtableStands}
+use Rattle.strat_arena.specs.Items.{entries_of, have_pairs}
+use Rattle.strat_level.specs.Memtable.{ItemList, Memtable, entries_held, ListStands, MemtableStands}
 use Rattle.strat_level.specs.Places.{IsPlaceOf, IsPlaceFor}
 use Rattle.strat_level.proofs.ItemLemmas.{Makes, entries_kept, slots_kept, set_slots, insert_slots, set_items, insert_items}
 

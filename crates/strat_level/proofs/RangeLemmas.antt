@@ -29,7 +29,8 @@ use Rattle.strat_live.proofs.GroupLemmas.{live_first}
 use Rattle.strat_level.specs.Places.{compared, IsStart, IsEnd, IsKeyRange}
 use Rattle.strat_arena.specs.PoolView.{arena_at}
 use Rattle.strat_arena.specs.declared.pool.PoolEntry.{PoolEntry}
-use Rattle.strat_level.specs.Memtable.{ItemList, entry_of_item, entries_of, entries_held, ListStands}
+use Rattle.strat_arena.specs.Items.{entry_of_item, entries_of}
+use Rattle.strat_level.specs.Memtable.{ItemList, entries_held, ListStands}
 use Rattle.strat_level.proofs.PlaceLemmas.{ascending_at}
 
 -- an entry of another key compares alike with every version

@@ -1,9 +1,8 @@
 -- Level 0 in memory: items by key and version, whose keys and values lie in an arena of a pool.
-use Rattle.std.specs.Prelude.{ℕ, ◌<◌, ◌≤◌, ◌+◌, ◌*◌, nat_lt, Bool, true, false, List, [], map, length, Option, Some, None, slice_index_or, IsTrue}
-use Rattle.std.specs.List.{list_all}
+use Rattle.std.specs.Prelude.{ℕ, ◌<◌, ◌≤◌, ◌+◌, ◌*◌, List, IsTrue}
 use Rattle.strat_base.specs.declared.limits.TheConstants.{KEY_MAX, VALUE_MAX}
 use Rattle.strat_base.specs.Entries.{Entry, is_ascending}
-use Rattle.strat_arena.specs.ArenaView.{KeyValue}
+use Rattle.strat_arena.specs.Items.{entries_of, have_pairs}
 use Rattle.strat_arena.specs.PoolView.{arena_at, shares_at}
 use Rattle.strat_arena.specs.declared.items.Item.{Item}
 use Rattle.strat_arena.specs.declared.pool.PoolEntry.{PoolEntry}
@@ -18,31 +17,6 @@ pub record ItemList : Type 0 where
 pub record Memtable : Type 0 where
   pub list : ItemList
   pub spare : ℕ
-
--- the pair of an item
-abbrev pub pair_of : List KeyValue → Item → KeyValue
-pair_of pairs item = slice_index_or pairs item.slot.0 (record { key = []; value = [] })
-
--- what an item says of its key: nothing where it is gone, and else the value of its pair
-abbrev pub said_by : Bool → List ℕ → Option (List ℕ)
-said_by true value = None
-said_by false value = Some value
-
--- the entry of an item
-abbrev pub entry_of_item : List KeyValue → Item → Entry
-entry_of_item pairs item = record {
-  key = (pair_of pairs item).key;
-  version = item.version;
-  value = said_by item.gone (pair_of pairs item).value;
-}
-
--- the entries of items
-abbrev pub entries_of : List KeyValue → List Item → List Entry
-entries_of pairs items = map (entry_of_item pairs) items
-
--- each of these items has a pair
-abbrev pub have_pairs : List KeyValue → List Item → Bool
-have_pairs pairs items = list_all (λ item. nat_lt item.slot.0 (length pairs)) items
 
 -- the entries of a list of items, as their pool has them
 abbrev pub entries_held : List PoolEntry → ItemList → List Entry

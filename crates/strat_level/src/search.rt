@@ -4,7 +4,7 @@
 ghost use Rattle.std.specs.Prelude.{◌≡◌, ◌<◌, IfOk, IfErr, length, IsTrue};
 ghost use Rattle.strat_arena.specs.PoolView.{arena_at, shares_at};
 ghost use Rattle.strat_base.specs.Entries.{is_ascending};
-ghost use Rattle.strat_level.specs.Memtable.{entry_of_item, entries_of, have_pairs};
+ghost use Rattle.strat_arena.specs.Items.{entry_of_item, entries_of, have_pairs};
 ghost use Rattle.strat_level.specs.Places.{compared, IsPlaceOf, IsPlaceFor, IsStart, IsEnd, IsKeyRange};
 
 use std::cmp::Ordering;

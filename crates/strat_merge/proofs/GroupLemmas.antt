@@ -22,7 +22,7 @@ use Rattle.strat_base.proofs.ListFacts.{all_at, all_from, map_same}
 use Rattle.strat_base.proofs.EntryLemmas.{is_of_key}
 use Rattle.strat_live.specs.Group.{is_descending}
 use Rattle.strat_live.specs.Counting.{are_below}
-use Rattle.strat_merge.specs.Group.{unless_gone, group_entry, group_entries, have_slots}
+use Rattle.strat_arena.specs.Items.{said_by, entry_of_item, entries_of, have_pairs}
 use Rattle.strat_merge.specs.Gathered.{last_entry}
 
 below_test : (a b : ℕ) → nat_lt a b ≡ true → a < b
@@ -32,30 +32,30 @@ test_below : (a b : ℕ) → a < b → nat_lt a b ≡ true
 test_below a b is = grind (arith, nat_tests)
 
 -- one more pair and its item
-module _ (pairs after : List KeyValue) (items new : List Item) (pair : KeyValue) (item : Item) (e : Entry) (slots : have_slots pairs items ≡ true) (pushed : after ≡ pairs ++ pair ∷ [])
-    (slot : item.slot.0 ≡ length pairs) (says : e ≡ record { key = pair.key; version = item.version; value = unless_gone item.gone pair.value }) (added : new ≡ items ++ item ∷ []) where
+module _ (pairs after : List KeyValue) (items new : List Item) (pair : KeyValue) (item : Item) (e : Entry) (slots : have_pairs pairs items ≡ true) (pushed : after ≡ pairs ++ pair ∷ [])
+    (slot : item.slot.0 ≡ length pairs) (says : e ≡ record { key = pair.key; version = item.version; value = said_by item.gone pair.value }) (added : new ≡ items ++ item ∷ []) where
   abbrev more : List KeyValue
   more = pairs ++ pair ∷ []
 
-  entries_stay : group_entries more items ≡ group_entries pairs items
-  entries_stay = map_same (group_entry more) (group_entry pairs) items (λ x among.
+  entries_stay : entries_of more items ≡ entries_of pairs items
+  entries_stay = map_same (entry_of_item more) (entry_of_item pairs) items (λ x among.
       let within = below_test x.slot.0 (length pairs) (all_at (λ y. nat_lt y.slot.0 (length pairs)) x items slots among) in
-      ap (λ (p : KeyValue). record { key = p.key; version = x.version; value = unless_gone x.gone p.value }) (get_or_append_left pairs (pair ∷ []) (record { key = []; value = [] }) x.slot.0 within))
+      ap (λ (p : KeyValue). record { key = p.key; version = x.version; value = said_by x.gone p.value }) (get_or_append_left pairs (pair ∷ []) (record { key = []; value = [] }) x.slot.0 within))
 
-  entry_new : group_entry more item ≡ e
+  entry_new : entry_of_item more item ≡ e
   entry_new =
-      ap (λ (p : KeyValue). record { key = p.key; version = item.version; value = unless_gone item.gone p.value })
+      ap (λ (p : KeyValue). record { key = p.key; version = item.version; value = said_by item.gone p.value })
       (ap (λ n. get_or more n (record { key = []; value = [] })) slot ∙ get_or-append_seam pairs pair [] (record { key = []; value = [] })) ∙ sym says
 
-  pub entries_more : group_entries after new ≡ group_entries pairs items ++ e ∷ []
+  pub entries_more : entries_of after new ≡ entries_of pairs items ++ e ∷ []
   entries_more =
-      (λ i. group_entries (pushed i) (added i)) ∙ map-append (group_entry more) items (item ∷ [])
+      (λ i. entries_of (pushed i) (added i)) ∙ map-append (entry_of_item more) items (item ∷ [])
       ∙ (λ i. entries_stay i ++ entry_new i ∷ [])
 
-  pub slots_more : have_slots after new ≡ true
+  pub slots_more : have_pairs after new ≡ true
   slots_more =
       let size = length-append pairs (pair ∷ []) in
-      (λ i. have_slots (pushed i) (added i)) ∙ list_all-append (λ x. nat_lt x.slot.0 (length more)) items (item ∷ [])
+      (λ i. have_pairs (pushed i) (added i)) ∙ list_all-append (λ x. nat_lt x.slot.0 (length more)) items (item ∷ [])
       ∙ and_from (list_all (λ x. nat_lt x.slot.0 (length more)) items) (nat_lt item.slot.0 (length more) && true)
       (all_from (λ x. nat_lt x.slot.0 (length more)) items (λ x among.
       let within = below_test x.slot.0 (length pairs) (all_at (λ y. nat_lt y.slot.0 (length pairs)) x items slots among) in
@@ -76,13 +76,13 @@ size_small e size fits small =
 
 -- the last item of a group, as its last entry
 pub last_as_entry : (pairs : List KeyValue) (items : List Item) (v : ℕ) → option_map_or (λ item. item.version == v) (slice_get items (length items - 1)) false
-    ≡ option_map_or (λ (last : Entry). last.version == v) (last_entry (group_entries pairs items)) false
+    ≡ option_map_or (λ (last : Entry). last.version == v) (last_entry (entries_of pairs items)) false
 last_as_entry pairs items v =
-    sym (ap (λ n. option_map_or (λ (last : Entry). last.version == v) (slice_get (group_entries pairs items) (n - 1)) false) (length-map items (group_entry pairs))
-    ∙ ap (λ (o : Option Entry). option_map_or (λ (last : Entry). last.version == v) o false) (slice_get-map (group_entry pairs) items (length items - 1))
+    sym (ap (λ n. option_map_or (λ (last : Entry). last.version == v) (slice_get (entries_of pairs items) (n - 1)) false) (length-map items (entry_of_item pairs))
+    ∙ ap (λ (o : Option Entry). option_map_or (λ (last : Entry). last.version == v) o false) (slice_get-map (entry_of_item pairs) items (length items - 1))
     ∙ mapped (slice_get items (length items - 1)))
   where
-    mapped : (o : Option Item) → option_map_or (λ (last : Entry). last.version == v) (option_map (group_entry pairs) o) false ≡ option_map_or (λ item. item.version == v) o false
+    mapped : (o : Option Item) → option_map_or (λ (last : Entry). last.version == v) (option_map (entry_of_item pairs) o) false ≡ option_map_or (λ item. item.version == v) o false
     mapped None = refl
     mapped (Some item) = refl
 
@@ -97,28 +97,28 @@ lt_version e f same lt =
     less Equal is lt' = cc
     less Greater is lt' = cc
 
-pub items_descend : (pairs : List KeyValue) (items : List Item) (key : List ℕ) → list_all (is_of key) (group_entries pairs items) ≡ true → is_ascending (group_entries pairs items) ≡ true → is_descending items ≡ true
+pub items_descend : (pairs : List KeyValue) (items : List Item) (key : List ℕ) → list_all (is_of key) (entries_of pairs items) ≡ true → is_ascending (entries_of pairs items) ≡ true → is_descending items ≡ true
 items_descend pairs [] key keyed up = refl
 items_descend pairs (item ∷ items) key keyed up =
-    let of = and_parts (is_of key (group_entry pairs item)) (list_all (is_of key) (group_entries pairs items)) keyed in
-    let parts = and_parts (list_all (λ later. is_lt (entry_cmp (group_entry pairs item).key item.version later.key later.version)) (group_entries pairs items)) (is_ascending (group_entries pairs items)) up in
+    let of = and_parts (is_of key (entry_of_item pairs item)) (list_all (is_of key) (entries_of pairs items)) keyed in
+    let parts = and_parts (list_all (λ later. is_lt (entry_cmp (entry_of_item pairs item).key item.version later.key later.version)) (entries_of pairs items)) (is_ascending (entries_of pairs items)) up in
     and_from (list_all (λ later. nat_lt later.version item.version) items) (is_descending items)
-    (go items of.1 parts.0 (is_of_key key (group_entry pairs item) of.0))
+    (go items of.1 parts.0 (is_of_key key (entry_of_item pairs item) of.0))
     (items_descend pairs items key of.1 parts.1)
   where
-    go : (rest : List Item) → list_all (is_of key) (group_entries pairs rest) ≡ true
-        → list_all (λ later. is_lt (entry_cmp (group_entry pairs item).key item.version later.key later.version)) (group_entries pairs rest) ≡ true
-        → (group_entry pairs item).key ≡ key → list_all (λ later. nat_lt later.version item.version) rest ≡ true
+    go : (rest : List Item) → list_all (is_of key) (entries_of pairs rest) ≡ true
+        → list_all (λ later. is_lt (entry_cmp (entry_of_item pairs item).key item.version later.key later.version)) (entries_of pairs rest) ≡ true
+        → (entry_of_item pairs item).key ≡ key → list_all (λ later. nat_lt later.version item.version) rest ≡ true
     go [] keyed' all here = refl
     go (x ∷ rest) keyed' all here =
-        let of = and_parts (is_of key (group_entry pairs x)) (list_all (is_of key) (group_entries pairs rest)) keyed' in
-        let parts = and_parts (is_lt (entry_cmp (group_entry pairs item).key item.version (group_entry pairs x).key x.version)) (list_all (λ later. is_lt (entry_cmp (group_entry pairs item).key item.version later.key later.version)) (group_entries pairs rest)) all in
+        let of = and_parts (is_of key (entry_of_item pairs x)) (list_all (is_of key) (entries_of pairs rest)) keyed' in
+        let parts = and_parts (is_lt (entry_cmp (entry_of_item pairs item).key item.version (entry_of_item pairs x).key x.version)) (list_all (λ later. is_lt (entry_cmp (entry_of_item pairs item).key item.version later.key later.version)) (entries_of pairs rest)) all in
         and_from (nat_lt x.version item.version) (list_all (λ later. nat_lt later.version item.version) rest)
-        (test_below x.version item.version (lt_version (group_entry pairs item) (group_entry pairs x) (here ∙ sym (is_of_key key (group_entry pairs x) of.0)) parts.0))
+        (test_below x.version item.version (lt_version (entry_of_item pairs item) (entry_of_item pairs x) (here ∙ sym (is_of_key key (entry_of_item pairs x) of.0)) parts.0))
         (go rest of.1 parts.1 here)
 
-pub items_below : (pairs : List KeyValue) (items : List Item) (n : ℕ) → list_all (λ (e : Entry). nat_lt e.version n) (group_entries pairs items) ≡ true → are_below n items ≡ true
+pub items_below : (pairs : List KeyValue) (items : List Item) (n : ℕ) → list_all (λ (e : Entry). nat_lt e.version n) (entries_of pairs items) ≡ true → are_below n items ≡ true
 items_below pairs [] n all = refl
 items_below pairs (item ∷ items) n all =
-    let parts = and_parts (nat_lt item.version n) (list_all (λ (e : Entry). nat_lt e.version n) (group_entries pairs items)) all in
+    let parts = and_parts (nat_lt item.version n) (list_all (λ (e : Entry). nat_lt e.version n) (entries_of pairs items)) all in
     and_from (nat_lt item.version n) (are_below n items) parts.0 (items_below pairs items n parts.1)

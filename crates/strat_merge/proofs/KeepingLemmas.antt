@@ -24,7 +24,7 @@ use Rattle.strat_promotion.specs.Purge.{is_valued, is_needed, purged}
 use Rattle.strat_live.specs.Group.{is_descending, is_live_item}
 use Rattle.strat_live.specs.Counting.{are_below}
 use Rattle.strat_live.proofs.GroupLemmas.{live_first}
-use Rattle.strat_merge.specs.Group.{group_pair, unless_gone, group_entry, group_entries}
+use Rattle.strat_arena.specs.Items.{pair_of, said_by, entry_of_item, entries_of}
 use Rattle.strat_merge.specs.Keeping.{is_put_at, is_kept, kept_items}
 
 -- places and elements
@@ -138,13 +138,13 @@ front_above (y ∷ front) item rest down x (inl here) =
 front_above (y ∷ front) item rest down x (inr there) =
     front_above front item rest (and_parts (list_all (λ later. nat_lt later.version y.version) (front ++ item ∷ rest)) (is_descending (front ++ item ∷ rest)) down).1 x there
 
-some_unless : (gone : Bool) (value : List ℕ) → is_some (unless_gone gone value) ≡ not gone
+some_unless : (gone : Bool) (value : List ℕ) → is_some (said_by gone value) ≡ not gone
 some_unless true value = refl
 some_unless false value = refl
 
 module _ (parents : Parents) (tree : IsTree parents) (key : List ℕ) (value : Item → List ℕ) where
   abbrev entry : Item → Entry
-  entry item = record { key = key; version = item.version; value = unless_gone item.gone (value item) }
+  entry item = record { key = key; version = item.version; value = said_by item.gone (value item) }
 
   ascends : (items : List Item) → is_descending items ≡ true → is_ascending (map entry items) ≡ true
   ascends [] down = refl
@@ -213,19 +213,19 @@ kept_among parents (y ∷ items) x among = go (is_kept parents y items) (λ ther
     go true more (inr there) = inr (more there)
     go false more there = inr (more there)
 
-pub kept_purged : (parents : Parents) (pairs : List KeyValue) (items : List Item) (key : List ℕ) → IsTree parents → is_descending items ≡ true → list_all (is_of key) (group_entries pairs items) ≡ true
-    → group_entries pairs (kept_items parents items) ≡ purged parents (group_entries pairs items)
+pub kept_purged : (parents : Parents) (pairs : List KeyValue) (items : List Item) (key : List ℕ) → IsTree parents → is_descending items ≡ true → list_all (is_of key) (entries_of pairs items) ≡ true
+    → entries_of pairs (kept_items parents items) ≡ purged parents (entries_of pairs items)
 kept_purged parents pairs items key tree down keyed =
-    let value : Item → List ℕ = λ item. (group_pair pairs item).value in
+    let value : Item → List ℕ = λ item. (pair_of pairs item).value in
     entries_are (kept_items parents items) (λ x among. kept_among parents items x among)
-    ∙ kept_entries parents tree key (λ item. (group_pair pairs item).value) [] items down
+    ∙ kept_entries parents tree key (λ item. (pair_of pairs item).value) [] items down
     ∙ sym (ap (λ es. purged parents es) (entries_are items (λ x among. among)))
   where
-    entries_are : (its : List Item) → ((x : Item) → Among x its → Among x items) → group_entries pairs its ≡ map (entry parents tree key (λ item. (group_pair pairs item).value)) its
+    entries_are : (its : List Item) → ((x : Item) → Among x its → Among x items) → entries_of pairs its ≡ map (entry parents tree key (λ item. (pair_of pairs item).value)) its
     entries_are its within =
-        map_same (group_entry pairs) (entry parents tree key (λ item. (group_pair pairs item).value)) its (λ x among.
-        ap (λ k. record { key = k; version = x.version; value = unless_gone x.gone (group_pair pairs x).value })
-        (is_of_key key (group_entry pairs x) (all_at (is_of key) (group_entry pairs x) (group_entries pairs items) keyed (among_map (group_entry pairs) items x (within x among)))))
+        map_same (entry_of_item pairs) (entry parents tree key (λ item. (pair_of pairs item).value)) its (λ x among.
+        ap (λ k. record { key = k; version = x.version; value = said_by x.gone (pair_of pairs x).value })
+        (is_of_key key (entry_of_item pairs x) (all_at (is_of key) (entry_of_item pairs x) (entries_of pairs items) keyed (among_map (entry_of_item pairs) items x (within x among)))))
 
 drop_next : {X : Type 0} (i : ℕ) (xs : List X) → drop (suc i) xs ≡ drop 1 (drop i xs)
 drop_next zero xs = refl

@@ -12,7 +12,8 @@ use Rattle.strat_base.specs.declared.failures.Fault.{Fault}
 use Rattle.strat_base.specs.declared.failures.Fault.TheVariants as fault
 use Rattle.strat_base.specs.declared.failures.Trouble.{Trouble}
 use Rattle.strat_base.specs.declared.failures.Trouble.TheVariants.{Device, Damaged}
-use Rattle.strat_merge.specs.Reading.{ReadsRuns, as_trouble}
+use Rattle.strat_base.specs.Troubles.{as_trouble}
+use Rattle.strat_merge.specs.Reading.{ReadsRuns}
 use Rattle.std.specs.Prelude.{Result, Ok, Err, IsErrOf, OnOk}
 use Rattle.strat_merge.specs.Runs.{RunView, head_at, Advances, ReadsFront, ReadsLeft, blocks_left, IsBadFor}
 use Rattle.strat_merge.specs.Bracket.{IsTournament, PlayedBeside}

@@ -25,7 +25,7 @@ use Rattle.strat_plan.proofs.ListLemmas.{map_among}
 use Rattle.strat_merge.specs.Runs.{RunView, IsEntryRun, head_at, lefts, blocks_left, IsBadFor}
 use Rattle.strat_merge.specs.Bracket.{is_ahead, IsTournament}
 use Rattle.strat_merge.specs.Reading.{ReadsRuns}
-use Rattle.strat_merge.specs.Group.{group_entries, have_slots}
+use Rattle.strat_arena.specs.Items.{entries_of, have_pairs}
 use Rattle.strat_merge.specs.Gathered.{IsGroup, TakesNext, CountsTaken, last_entry, with_next, Leads, LeadsAside, PassesOne, AreGathered, Gathers}
 use Rattle.strat_merge.proofs.BracketLemmas.{equal_or_not}
 use Rattle.strat_merge.proofs.GatherLemmas.{IsTakeable, with_cases, last_is, get_within, gathered_begun, gathers_begun, gathered_next, gathers_next, one_fewer, later_heads, head_other, head_next, ended_behind, takes_next, count_begun, count_more}
@@ -47,7 +47,7 @@ abbrev pub Reads : {R T : Type 0} → (R → RunView) → (R → Image → ℕ �
 Reads view bad a b result = ReadsRuns view bad Device (λ n. Damaged n) a.disk b.disk a.faults b.faults a.reads b.reads a.runs b.runs result
 
 abbrev pub entries_in : {R : Type 0} → Touched R → List Entry
-entries_in w = group_entries w.pairs w.items
+entries_in w = entries_of w.pairs w.items
 
 abbrev pub done : Result (Unit {0}) Trouble
 done = Ok tt
@@ -127,7 +127,7 @@ pub record Took {R : Type 0} (view : R → RunView) (bad : R → Image → ℕ �
   pub adds : (e : Entry) → head_at (map view a.runs) r ≡ Some e → entries_in b ≡ with_next (entries_in a) e
   pub won : IsTournament (map view b.runs) b.winners
   pub len : length b.pairs ≡ length b.items
-  pub slots : have_slots b.pairs b.items ≡ true
+  pub slots : have_pairs b.pairs b.items ≡ true
   pub counted : b.consumed ≡ one_more a.consumed
   pub fits : (e : Entry) → head_at (map view a.runs) r ≡ Some e → fits_fields e ≡ true
   pub low : (e : Entry) (v : RunView) → head_at (map view a.runs) r ≡ Some e → slice_get (map view a.runs) r ≡ Some v → e.version < v.versions
@@ -139,7 +139,7 @@ pub record IsGathering {R : Type 0} (view : R → RunView) (bad : R → Image �
   pub begins : (i : ℕ) × ((e : Entry) × (head_at (map view start.runs) i ≡ Some e) × (e.key ≡ key))
   pub won : IsTournament (map view now.runs) now.winners
   pub len : length now.pairs ≡ length now.items
-  pub slots : have_slots now.pairs now.items ≡ true
+  pub slots : have_pairs now.pairs now.items ≡ true
   pub reads : Reads view bad start now done
   pub gathered : AreGathered (map view start.runs) (map view now.runs) key (entries_in now)
   pub gathers : (c : Image) → Exposes start.disk c → Gathers (lefts c (map view start.runs)) (lefts c (map view now.runs)) key (entries_in now)
@@ -298,10 +298,10 @@ gathering_begun view bad law now w fits pairs items won within e leads = record 
   begins = (w, (e, leads.head, refl));
   won = won;
   len = ap (λ ps. length ps) pairs ∙ sym (ap (λ xs. length xs) items);
-  slots = subst (λ xs. have_slots now.pairs xs ≡ true) (sym items) refl;
+  slots = subst (λ xs. have_pairs now.pairs xs ≡ true) (sym items) refl;
   reads = reads_none view bad now now refl refl refl refl;
-  gathered = subst (λ xs. AreGathered (map view now.runs) (map view now.runs) e.key (group_entries now.pairs xs)) (sym items) (gathered_begun (map view now.runs) w e leads);
-  gathers = λ c exposes. subst (λ xs. Gathers (lefts c (map view now.runs)) (lefts c (map view now.runs)) e.key (group_entries now.pairs xs)) (sym items) (gathers_begun (lefts c (map view now.runs)) e.key);
+  gathered = subst (λ xs. AreGathered (map view now.runs) (map view now.runs) e.key (entries_of now.pairs xs)) (sym items) (gathered_begun (map view now.runs) w e leads);
+  gathers = λ c exposes. subst (λ xs. Gathers (lefts c (map view now.runs)) (lefts c (map view now.runs)) e.key (entries_of now.pairs xs)) (sym items) (gathers_begun (lefts c (map view now.runs)) e.key);
   counts = λ c exposes. count_begun (lefts c (map view now.runs)) now.consumed fits;
   found = (within, (e, (leads, refl)));
   ended = tt;

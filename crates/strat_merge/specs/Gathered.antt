@@ -15,7 +15,7 @@ use Rattle.strat_plan.specs.Groups.{grouped_entries}
 use Rattle.strat_promotion.specs.Merging.{IsNext, rest_of}
 use Rattle.strat_merge.specs.Runs.{RunView, head_at, Advances}
 use Rattle.strat_merge.specs.Bracket.{is_ahead}
-use Rattle.strat_merge.specs.Group.{group_entries, have_slots}
+use Rattle.strat_arena.specs.Items.{entries_of, have_pairs}
 
 -- the versions of all runs are below a number
 abbrev pub are_under : ℕ → List RunView → Bool
@@ -27,10 +27,10 @@ pub record IsGroup (old new : List RunView) (pairs : List KeyValue) (items : Lis
     (key : List ℕ) : Type 0 where
   pub some : 0 < length items
   pub alone : length pairs ≡ length items
-  pub slots : IsTrue (have_slots pairs items)
+  pub slots : IsTrue (have_pairs pairs items)
   pub descending : IsTrue (is_descending items)
-  pub keyed : IsTrue (list_all (is_of key) (group_entries pairs items))
-  pub lawful : IsTrue (list_all fits_fields (group_entries pairs items))
+  pub keyed : IsTrue (list_all (is_of key) (entries_of pairs items))
+  pub lawful : IsTrue (list_all fits_fields (entries_of pairs items))
   pub low : (n : ℕ) → IsTrue (are_under n old) → IsTrue (are_below n items)
   pub bound : (n : ℕ) → IsTrue (are_under n old) → IsTrue (are_under n new)
   pub begins : (i : ℕ) × ((e : Entry) × (head_at old i ≡ Some e) × (e.key ≡ key))

@@ -1,19 +1,10 @@
 -- What a merge does to the disk, and which of its errors name a block.
 use Rattle.std.specs.Prelude.{ℕ, List, map, Result, IsErrOf}
 use Rattle.std.specs.List.{Contains}
-use Rattle.strat_base.specs.declared.failures.Fault.{Fault}
-use Rattle.strat_base.specs.declared.failures.Fault.TheVariants as fault
-use Rattle.strat_base.specs.declared.failures.Trouble.{Trouble}
-use Rattle.strat_base.specs.declared.failures.Trouble.TheVariants.{Device, Damaged}
 use Rattle.strat_crash.specs.Faults.{HasCause}
 use Rattle.strat_crash.specs.Image.{Image}
 use Rattle.strat_crash.specs.Moments.{DiskView, Exposes, OnlyReads}
 use Rattle.strat_merge.specs.Runs.{RunView, blocks_left, ReadsLeft, IsBadFor}
-
--- a fault of a run, as a trouble of the merge
-abbrev pub as_trouble : Fault → Trouble
-as_trouble fault.Device = Device
-as_trouble (fault.Damaged block) = Damaged block
 
 -- runs were read: the device's error has its cause, another names a block that was still to be read and is bad for one
 -- of them, and what is bad for those that are left was bad before

@@ -1,11 +1,11 @@
 -- What a merge sees of a run: entries in order, of which the first is at hand and the others may lie on a disk.
-use Rattle.std.specs.Prelude.{◌≡◌, ◌≤◌, ℕ, ◌+◌, ◌*◌, List, ◌++◌, length, map, drop, flat_map, slice_get, option_and_then, Option, Some, None, IsTrue}
+use Rattle.std.specs.Prelude.{◌≡◌, ◌≤◌, ℕ, ◌+◌, List, ◌++◌, length, map, drop, flat_map, slice_get, option_and_then, Option, Some, None, IsTrue}
 use Rattle.std.specs.List.{Contains}
 use Rattle.std.specs.Ordering.{is_lt}
-use Rattle.strat_base.specs.declared.limits.TheConstants.{BLOCK}
 use Rattle.strat_base.specs.Order.{entry_cmp}
 use Rattle.strat_base.specs.Entries.{Entry, is_ascending}
-use Rattle.strat_crash.specs.Image.{Image, SameIn}
+use Rattle.strat_crash.specs.Blocks.{AgreeOn}
+use Rattle.strat_crash.specs.Image.{Image}
 use Rattle.strat_crash.specs.Moments.{DiskView, Exposes}
 
 -- the blocks that a run has still to read, a number above all its versions, the first entry that it has left, and all
@@ -15,10 +15,6 @@ pub record RunView : Type 0 where
   pub versions : ℕ
   pub first : Option Entry
   pub left : Image → List Entry
-
--- two contents have the same bytes in these blocks
-abbrev pub AgreeOn : List ℕ → Image → Image → Type 0
-AgreeOn blocks c d = (b : ℕ) → Contains blocks b → SameIn (BLOCK * b) BLOCK c d
 
 -- what holds of every run: its entries ascend, the first of them is the same on every content, and the others depend
 -- only on the blocks that are still to be read

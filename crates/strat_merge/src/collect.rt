@@ -6,7 +6,7 @@ ghost use Rattle.strat_base.specs.Entries.{Entry as KeyEntry, is_of};
 ghost use Rattle.strat_base.specs.EntryBytes.{fits_fields, is_markable};
 ghost use Rattle.strat_base.specs.EntryView.{entry_of, val_of};
 ghost use Rattle.strat_merge.specs.Gathered.{with_next};
-ghost use Rattle.strat_merge.specs.Group.{group_entry, group_entries, have_slots, unless_gone};
+ghost use Rattle.strat_arena.specs.Items.{entry_of_item, entries_of, have_pairs, said_by};
 ghost use Rattle.strat_merge.specs.Runs.{RunView, head_at};
 
 use crate::group::GroupBuf;
@@ -17,7 +17,7 @@ use strat_disk::Disk;
 
 /// What of a value goes into the arena, and whether its key is gone.
 fn bytes_of_val(val: Val<'_>) -> (&[u8], bool)
-    ensures ok { unless_gone result.1 result.0.now ≡ val_of val.entry }
+    ensures ok { said_by result.1 result.0.now ≡ val_of val.entry }
     ensures fits { IsTrue (is_markable (val_of val.entry)) → length result.0.now ≤ 1024 }
 {
     match val {
@@ -41,11 +41,11 @@ fn ends_at(group: &GroupBuf, version: Version) -> bool
 fn add_entry(arena: &mut Arena, group: &mut GroupBuf, entry: &Entry<'_>) -> Result<(), NoMemory>
     requires fits { IsTrue (fits_fields (entry_of entry.now)) }
     requires len { length arena.old.pairs ≡ length group.old }
-    requires kept { IsTrue (have_slots arena.old.pairs group.old) }
-    ensures ok { OnOk result (group_entries arena.new.pairs group.new
-        ≡ group_entries arena.old.pairs group.old ++ entry_of entry.now ∷ []) }
+    requires kept { IsTrue (have_pairs arena.old.pairs group.old) }
+    ensures ok { OnOk result (entries_of arena.new.pairs group.new
+        ≡ entries_of arena.old.pairs group.old ++ entry_of entry.now ∷ []) }
     ensures len { OnOk result (length arena.new.pairs ≡ length group.new) }
-    ensures kept { OnOk result (IsTrue (have_slots arena.new.pairs group.new)) }
+    ensures kept { OnOk result (IsTrue (have_pairs arena.new.pairs group.new)) }
 {
     if group.items().len() >= u32::MAX as usize {
         return Err(NoMemory);
@@ -70,12 +70,12 @@ pub(crate) fn collect<D: Disk, R: Run<D>>(
 ) -> Result<(), NoMemory>
     requires fits { run < length runs.now }
     requires len { length arena.old.pairs ≡ length group.old }
-    requires kept { IsTrue (have_slots arena.old.pairs group.old) }
+    requires kept { IsTrue (have_pairs arena.old.pairs group.old) }
     ensures ok { OnOk result ((e : KeyEntry) → head_at (map R.view runs.now) run ≡ Some e
-        → group_entries arena.new.pairs group.new
-        ≡ with_next (group_entries arena.old.pairs group.old) e) }
+        → entries_of arena.new.pairs group.new
+        ≡ with_next (entries_of arena.old.pairs group.old) e) }
     ensures len { OnOk result (length arena.new.pairs ≡ length group.new) }
-    ensures kept { OnOk result (IsTrue (have_slots arena.new.pairs group.new)) }
+    ensures kept { OnOk result (IsTrue (have_pairs arena.new.pairs group.new)) }
     ensures fits { (e : KeyEntry) → head_at (map R.view runs.now) run ≡ Some e
         → IsTrue (fits_fields e) }
     ensures room { (e : KeyEntry) (v : RunView) → head_at (map R.view runs.now) run ≡ Some e
@@ -90,8 +90,8 @@ pub(crate) fn collect<D: Disk, R: Run<D>>(
 /// The key of a group.
 pub(crate) fn key_of_group<'a>(arena: &'a Arena, group: &GroupBuf) -> &'a [u8]
     requires room { 0 < length group.now }
-    requires kept { IsTrue (have_slots arena.now.pairs group.now) }
-    ensures ok { (e : KeyEntry) → slice_get (group_entries arena.now.pairs group.now) 0 ≡ Some e
+    requires kept { IsTrue (have_pairs arena.now.pairs group.now) }
+    ensures ok { (e : KeyEntry) → slice_get (entries_of arena.now.pairs group.now) 0 ≡ Some e
         → result.now ≡ e.key }
 {
     arena.key(group.items()[0].slot)

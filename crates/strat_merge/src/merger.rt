@@ -10,8 +10,8 @@ ghost use Rattle.strat_crash.specs.Image.{Image};
 ghost use Rattle.strat_crash.specs.Moments.{Exposes};
 ghost use Rattle.strat_merge.specs.Bracket.{IsTournament};
 ghost use Rattle.strat_merge.specs.Gathered.{IsGroup, TakesNext, CountsTaken, with_next, Leads, LeadsAside, PassesOne};
-ghost use Rattle.strat_merge.specs.Group.{group_entries, have_slots};
-ghost use Rattle.strat_merge.specs.Reading.{ReadsRuns, as_trouble};
+ghost use Rattle.strat_arena.specs.Items.{entries_of, have_pairs};
+ghost use Rattle.strat_merge.specs.Reading.{ReadsRuns};
 ghost use Rattle.strat_merge.specs.Runs.{RunView, head_at, lefts, NoneLeft};
 
 use crate::bracket::{leader, new_bracket, play_all, replay};
@@ -29,16 +29,6 @@ pub struct Merger<R> {
     runs: Vec<R>,
     winners: Vec<usize>,
     consumed: u64,
-}
-
-/// A fault as a trouble.
-fn trouble_of(fault: Fault) -> Trouble
-    ensures ok { result ≡ as_trouble fault }
-{
-    match fault {
-        Fault::Device => Trouble::Device,
-        Fault::Damaged { block } => Trouble::Damaged { block },
-    }
 }
 
 /// Passes over the first entry of a run.
@@ -75,7 +65,7 @@ fn pass<D: Disk, R: Run<D>>(merger: &mut Merger<R>, run: usize, disk: &mut D) ->
             merger.consumed = merger.consumed.saturating_add(1);
             Ok(())
         }
-        Err(fault) => Err(trouble_of(fault)),
+        Err(fault) => Err(Trouble::from(fault)),
     }
 }
 
@@ -107,17 +97,17 @@ fn take<D: Disk, R: Run<D>>(
     requires found { (run < length merger.old.runs.items)
         × IsSome (head_at (map R.view merger.old.runs.items) run) }
     requires room { (length arena.old.pairs ≡ length group.old)
-        × IsTrue (have_slots arena.old.pairs group.old) }
+        × IsTrue (have_pairs arena.old.pairs group.old) }
     ensures ok { OnOk result (PassesOne (D.view disk.old) (map R.view merger.old.runs.items)
         (map R.view merger.new.runs.items) run) }
     ensures found { OnOk result ((e : KeyEntry)
         → head_at (map R.view merger.old.runs.items) run ≡ Some e
-        → group_entries arena.new.pairs group.new
-        ≡ with_next (group_entries arena.old.pairs group.old) e) }
+        → entries_of arena.new.pairs group.new
+        ≡ with_next (entries_of arena.old.pairs group.old) e) }
     ensures kept { OnOk result
         (IsTournament (map R.view merger.new.runs.items) merger.new.winners.items) }
     ensures len { OnOk result (length arena.new.pairs ≡ length group.new) }
-    ensures room { OnOk result (IsTrue (have_slots arena.new.pairs group.new)) }
+    ensures room { OnOk result (IsTrue (have_pairs arena.new.pairs group.new)) }
     ensures time { OnOk result (merger.new.consumed ≡ one_more merger.old.consumed) }
     ensures fits { (e : KeyEntry) → head_at (map R.view merger.old.runs.items) run ≡ Some e
         → IsTrue (fits_fields e) }
@@ -150,7 +140,7 @@ fn gather<D: Disk, R: Run<D>>(
         arena.new.pairs group.new key) }
     ensures ok { IfOk result (λ more. IsTrue more → (c : Image)
         → Exposes (D.view disk.old) c → TakesNext (lefts c (map R.view merger.old.runs.items))
-        (lefts c (map R.view merger.new.runs.items)) (group_entries arena.new.pairs group.new)) }
+        (lefts c (map R.view merger.new.runs.items)) (entries_of arena.new.pairs group.new)) }
     ensures none { IfOk result (λ more. more ≡ false
         → NoneLeft (map R.view merger.old.runs.items)
         × (merger.new.runs.items ≡ merger.old.runs.items)
@@ -222,7 +212,7 @@ impl<R> Merger<R> {
             (views_of R.view self.old) (views_of R.view self.new) arena.new.pairs group.new key) }
         ensures ok { IfOk result (λ more. IsTrue more → (c : Image)
             → Exposes (D.view disk.old) c → TakesNext (lefts c (views_of R.view self.old))
-            (lefts c (views_of R.view self.new)) (group_entries arena.new.pairs group.new)) }
+            (lefts c (views_of R.view self.new)) (entries_of arena.new.pairs group.new)) }
         ensures none { IfOk result (λ more. more ≡ false → NoneLeft (views_of R.view self.old)
             × (runs_merged self.new ≡ runs_merged self.old)
             × (group.new ≡ []) × (arena.new.pairs ≡ [])) }

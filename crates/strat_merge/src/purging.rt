@@ -8,7 +8,7 @@ ghost use Rattle.strat_arena.specs.declared.items.Item.{Item as Kept};
 ghost use Rattle.strat_base.specs.Entries.{is_of};
 ghost use Rattle.strat_live.specs.Counting.{are_below};
 ghost use Rattle.strat_live.specs.Group.{is_descending};
-ghost use Rattle.strat_merge.specs.Group.{group_entries};
+ghost use Rattle.strat_arena.specs.Items.{entries_of};
 ghost use Rattle.strat_merge.specs.Keeping.{is_put_at, is_kept, kept_items};
 ghost use Rattle.strat_promotion.specs.Purge.{purged};
 
@@ -75,8 +75,8 @@ pub fn purge(group: &mut GroupBuf, tree: &Tree)
     requires fits { IsTrue (are_below (length tree.now.parents) group.old) }
     ensures ok { group.new ≡ kept_items tree.now.parents group.old }
     ensures same { (pairs : List KeyValue) (key : List ℕ)
-        → IsTrue (list_all (is_of key) (group_entries pairs group.old))
-        → group_entries pairs group.new ≡ purged tree.now.parents (group_entries pairs group.old) }
+        → IsTrue (list_all (is_of key) (entries_of pairs group.old))
+        → entries_of pairs group.new ≡ purged tree.now.parents (entries_of pairs group.old) }
     ensures kept { IsTrue (is_descending group.new) }
     ensures fits { (p : Kept → Bool) → IsTrue (list_all p group.old)
         → IsTrue (list_all p group.new) }

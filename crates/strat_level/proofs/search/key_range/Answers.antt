@@ -1,5 +1,5 @@
 use Rattle.strat_arena.specs.PoolView.{arena_at}
-use Rattle.strat_level.specs.Memtable.{entries_of}
+use Rattle.strat_arena.specs.Items.{entries_of}
 use Rattle.strat_level.proofs.RangeLemmas.{range_of}
 use Rattle.strat_level.proofs.search.key_range.Goals as goal
 

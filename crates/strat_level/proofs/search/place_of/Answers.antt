@@ -2,7 +2,7 @@ use Rattle.std.proofs.Common.{◌<◌, ◌+◌, ◌-◌, ◌/◌, ℕ, length, L
 use Rattle.std.proofs.lemmas.List.{length-map}
 use Rattle.strat_arena.specs.ArenaView.{KeyValue}
 use Rattle.strat_arena.specs.PoolView.{arena_at}
-use Rattle.strat_level.specs.Memtable.{entry_of_item, entries_of}
+use Rattle.strat_arena.specs.Items.{entry_of_item, entries_of}
 use Rattle.strat_level.proofs.PlaceLemmas.{less_before, greater_after}
 use Rattle.strat_level.proofs.ItemLemmas.{compared_at}
 use Rattle.strat_level.proofs.search.place_of.Goals as goal

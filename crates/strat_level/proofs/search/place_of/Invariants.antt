@@ -2,7 +2,7 @@ use Rattle.std.proofs.Common.{◌≡◌, ◌<◌, ◌≤◌, ◌-◌, ℕ, get_o
 use Rattle.std.specs.declared.cmp.Ordering.TheVariants.{Less, Greater}
 use Rattle.strat_base.specs.Entries.{Entry}
 use Rattle.strat_arena.specs.PoolView.{arena_at}
-use Rattle.strat_level.specs.Memtable.{entries_of}
+use Rattle.strat_arena.specs.Items.{entries_of}
 use Rattle.strat_level.specs.Places.{compared}
 use Rattle.strat_level.proofs.search.place_of.Given as goal
 

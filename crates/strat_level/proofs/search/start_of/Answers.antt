@@ -1,5 +1,5 @@
 use Rattle.strat_arena.specs.PoolView.{arena_at}
-use Rattle.strat_level.specs.Memtable.{entries_of}
+use Rattle.strat_arena.specs.Items.{entries_of}
 use Rattle.strat_level.proofs.PlaceLemmas.{start_of_tie}
 use Rattle.strat_level.proofs.search.start_of.Goals as goal
 

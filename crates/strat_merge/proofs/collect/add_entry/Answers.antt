@@ -1,7 +1,7 @@
 use Rattle.std.proofs.Common.{◌≡◌, List, [], ◌∷◌, ◌++◌, length, sym, ap, ◌∙◌, arith}
 use Rattle.strat_arena.specs.ArenaView.{KeyValue}
 use Rattle.strat_base.specs.EntryView.{entry_of}
-use Rattle.strat_merge.specs.Group.{unless_gone}
+use Rattle.strat_arena.specs.Items.{said_by}
 use Rattle.strat_merge.proofs.PassLemmas.{on_ok_map}
 use Rattle.strat_merge.proofs.GroupLemmas.{entries_more, slots_more, size_small}
 use Rattle.strat_merge.proofs.collect.add_entry.Goals as goal
@@ -26,7 +26,7 @@ Says c =
     entry_of c.args.entry.now ≡ record {
       key = c.args.entry.now.key.now;
       version = c.args.entry.now.version;
-      value = unless_gone c.bytes_of_val-gone.result.1 c.bytes_of_val-gone.result.0.now;
+      value = said_by c.bytes_of_val-gone.result.1 c.bytes_of_val-gone.result.0.now;
     }
 
 says : (c : goal.After-push) → Says c

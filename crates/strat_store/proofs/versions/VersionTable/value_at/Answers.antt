@@ -1,7 +1,8 @@
 use Rattle.std.proofs.Common.{◌≡◌, ◌<◌, ℕ, [], None, length, map, ap, ◌∙◌, arith}
 use Rattle.std.proofs.lemmas.List.{length-map}
 use Rattle.strat_base.specs.Entries.{Entry}
-use Rattle.strat_level.specs.Memtable.{entries_held, entry_of_item}
+use Rattle.strat_arena.specs.Items.{entry_of_item}
+use Rattle.strat_level.specs.Memtable.{entries_held}
 use Rattle.strat_arena.specs.PoolView.{arena_at}
 use Rattle.strat_store.proofs.VersionLemmas.{row_within, value_none, value_some, some_fits}
 use Rattle.strat_store.proofs.versions.VersionTable.value_at.Goals as goal
