@@ -4,7 +4,7 @@ use Rattle.std.specs.Option.{IsSomeAnd}
 use Rattle.std.proofs.lemmas.Bool.{cases_lt}
 use Rattle.strat_crash.specs.Image.{Image, SameIn, Outside, window, patch}
 use Rattle.strat_crash.specs.Moments.{DiskView, Exposes, Images, Since, Passes, TearsOnly, OnlyReads, Writes, Garbles}
-use Rattle.strat_crash.specs.Blocks.{KeepsBlock, KeepsOthers, TearsBlocks}
+use Rattle.strat_crash.specs.Blocks.{KeepsBlock, KeepsTaken, TearsBlocks}
 use Rattle.strat_crash.proofs.ImageLemmas.{outside_patch}
 use Rattle.strat_crash.proofs.MomentLemmas.{since_now, now_since_start, each_then, passes_refl, passes_trans, at_told}
 
@@ -29,7 +29,7 @@ blocks_refl free v = record {
 -- one call and another
 pub blocks_trans : (free : ℕ → Bool) (old mid new : DiskView) → TearsBlocks free old mid → TearsBlocks free mid new → TearsBlocks free old new
 blocks_trans free old mid new first second = record {
-  images = each_then mid new old.moment (λ c. (d : Image) × Images old d × KeepsOthers free d c) second.time first.images
+  images = each_then mid new old.moment (λ c. (d : Image) × Images old d × KeepsTaken free d c) second.time first.images
       (λ c since.
           let late = second.images c since in
           let early = first.images late.0 (now_since_start old mid late.0 first.time late.1) in
@@ -41,7 +41,7 @@ blocks_trans free old mid new first second = record {
     told_some : (o : Option Image) (f : Image) → o ≡ Some f → IsSome o
     told_some None f e = absurd (cc)
     told_some (Some x) f e = refl
-    between : (o : Option Image) → mid.content ≡ o → IsSome o → (f g : Image) → Exposes old f → Exposes new g → KeepsOthers free f g
+    between : (o : Option Image) → mid.content ≡ o → IsSome o → (f g : Image) → Exposes old f → Exposes new g → KeepsTaken free f g
     between None e some = absurd (true≢false (sym some))
     between (Some h) e some = λ f g told now b taken. keeps_trans b f h g (first.content f h told e b taken) (second.content h g e now b taken)
 
@@ -62,7 +62,7 @@ reads_tear_none free old new reads = record {
 }
 
 -- what lies outside a block has the others
-pub outside_keeps : (free : ℕ → Bool) (b : ℕ) (f g : Image) → free b ≡ true → Outside (4096 * b) 4096 f g → KeepsOthers free f g
+pub outside_keeps : (free : ℕ → Bool) (b : ℕ) (f g : Image) → free b ≡ true → Outside (4096 * b) 4096 f g → KeepsTaken free f g
 outside_keeps free b f g is_free out q taken = record {
   byte = λ i from to.
       elim (cases_lt i (4096 * b)) [

@@ -13,12 +13,13 @@ abbrev pub AgreeOn : List ℕ → Image → Image → Type 0
 AgreeOn blocks old new = (b : ℕ) → Contains blocks b → KeepsBlock b old new
 
 -- two images have the same bytes in each block that is not free
-abbrev pub KeepsOthers : (ℕ → Bool) → Image → Image → Type 0
-KeepsOthers free old new = (b : ℕ) → free b ≡ false → KeepsBlock b old new
+abbrev pub KeepsTaken : (ℕ → Bool) → Image → Image → Type 0
+KeepsTaken free old new = (b : ℕ) → free b ≡ false → KeepsBlock b old new
 
 -- a disk changed in free blocks alone: so each image since then is one of those before but for them, and so is what it
 -- exposes
 pub record TearsBlocks (free : ℕ → Bool) (old new : DiskView) : Type 0 where
-  pub images : (c : Image) → Since new old.moment c → (d : Image) × Images old d × KeepsOthers free d c
-  pub content : (f g : Image) → Exposes old f → Exposes new g → KeepsOthers free f g
+  pub images : (c : Image) → Since new old.moment c
+      → (d : Image) × Images old d × KeepsTaken free d c
+  pub content : (f g : Image) → Exposes old f → Exposes new g → KeepsTaken free f g
   pub time : Passes old new

@@ -70,14 +70,14 @@ length_flat_set f (z ∷ xs) zero x y there =
 length_flat_set f (z ∷ xs) (suc i) x y there =
     omega (arith, length_flat_set f xs i x y there, length-append (f z) (flat_map f (set xs i y)), length-append (f z) (flat_map f xs))
 
-pub bad_one : {R : Type 0} (bad : R → Image → ℕ → Type 0) (runs : List R) (r : ℕ) (old new : R) → slice_get runs r ≡ Some old → ((c : Image) (b : ℕ) → bad new c b → bad old c b) → (c : Image) (b : ℕ) → IsBadFor bad (set runs r new) c b → IsBadFor bad runs c b
-bad_one bad runs r old new there fewer c b is =
+pub bad_one : (runs : List RunView) (r : ℕ) (old new : RunView) (c : Image) → slice_get runs r ≡ Some old → ((b : ℕ) → new.misfit c ≡ Some b → old.misfit c ≡ Some b) → (b : ℕ) → IsBadFor (set runs r new) c b → IsBadFor runs c b
+bad_one runs r old new c there fewer b is =
     elim (equal_or_not is.at r) [
       | inl same ↦
           let at : slice_get (set runs r new) r ≡ Some is.run = subst (λ (i : ℕ). slice_get (set runs r new) i ≡ Some is.run) same is.there in
           let is_new : Some new ≡ Some is.run = sym (get_set_same runs r old new there) ∙ at in
           let e : is.run ≡ new = cc in
-          record { at = r; run = old; there = there; says = fewer c b (subst (λ run. bad run c b) e is.says) }
+          record { at = r; run = old; there = there; says = fewer b (subst (λ (run : RunView). run.misfit c ≡ Some b) e is.says) }
       | inr apart ↦ record { at = is.at; run = is.run; there = sym (get_set_other runs r is.at new apart) ∙ is.there; says = is.says }
     ]
 
@@ -114,19 +114,19 @@ module _ {R : Type 0} (view : R → RunView) (runs : List R) (r : ℕ) (old new 
     step = step;
   }
 
-  pub advance_one : {T E : Type 0} (bad : R → Image → ℕ → Type 0) (device : E) (damaged : ℕ → E) (disk after : DiskView) (faults failed before now : ℕ) (result : Result T E)
+  pub advance_one : {T E : Type 0} (device : E) (damaged : ℕ → E) (disk after : DiskView) (faults failed before now : ℕ) (result : Result T E)
       → OnlyReads disk after → HasCause device faults failed result
       → ((b : ℕ) → IsErrOf result (damaged b) → Contains (view old).blocks b)
-      → ((b : ℕ) → IsErrOf result (damaged b) → (c : Image) → Exposes disk c → bad old c b)
-      → ((c : Image) (b : ℕ) → bad new c b → bad old c b)
+      → ((b : ℕ) → IsErrOf result (damaged b) → (c : Image) → Exposes disk c → (view old).misfit c ≡ Some b)
+      → ((c : Image) (b : ℕ) → Exposes disk c → (view new).misfit c ≡ Some b → (view old).misfit c ≡ Some b)
       → ReadsFront (view old).blocks (view new).blocks before now
-      → ReadsRuns view bad device damaged disk after faults failed before now runs (set runs r new) result
-  advance_one bad device damaged disk after faults failed before now result same cause named blamed fewer reads = record {
+      → ReadsRuns view device damaged disk after faults failed before now runs (set runs r new) result
+  advance_one device damaged disk after faults failed before now result same cause named blamed fewer reads = record {
     same = same;
     cause = cause;
     named = λ b is. names_one b (named b is);
-    blamed = λ b is c exposes. record { at = r; run = old; there = there; says = blamed b is c exposes };
-    fewer = bad_one bad runs r old new there fewer;
+    blamed = λ b is c exposes. record { at = r; run = view old; there = view_there; says = blamed b is c exposes };
+    fewer = λ c b exposes is. bad_one (map view runs) r (view old) (view new) c view_there (λ n. fewer c n exposes) b (subst (λ (vs : List RunView). IsBadFor vs c b) (map-set view runs r new) is);
     left = reads_one before now reads;
   }
 
@@ -156,10 +156,10 @@ on_ok_map (Ok x) a f = f a
 on_ok_map (Err e) a f = tt
 
 -- a result as one of the merge
-pub as_troubles : {R : Type 0} (view : R → RunView) (bad : R → Image → ℕ → Type 0) (disk after : DiskView) (faults failed before now : ℕ) (old new : List R) (f : Fault)
-    → ReadsRuns {T = Unit {0}} view bad fault.Device fault.Damaged disk after faults failed before now old new (Err f)
-    → ReadsRuns {T = Unit {0}} view bad Device Damaged disk after faults failed before now old new (Err (as_trouble f))
-as_troubles view bad disk after faults failed before now old new fault.Device reads = record {
+pub as_troubles : {R : Type 0} (view : R → RunView) (disk after : DiskView) (faults failed before now : ℕ) (old new : List R) (f : Fault)
+    → ReadsRuns {T = Unit {0}} view fault.Device fault.Damaged disk after faults failed before now old new (Err f)
+    → ReadsRuns {T = Unit {0}} view Device Damaged disk after faults failed before now old new (Err (as_trouble f))
+as_troubles view disk after faults failed before now old new fault.Device reads = record {
   same = reads.same;
   cause = record { later = reads.cause.later; ok = tt; device = λ _. reads.cause.device refl; other = λ apart. absurd (apart refl) };
   named = λ b is. absurd (not_damaged b (Err Device) refl is);
@@ -167,7 +167,7 @@ as_troubles view bad disk after faults failed before now old new fault.Device re
   fewer = reads.fewer;
   left = reads.left;
 }
-as_troubles view bad disk after faults failed before now old new (fault.Damaged block) reads = record {
+as_troubles view disk after faults failed before now old new (fault.Damaged block) reads = record {
   same = reads.same;
   cause = record { later = reads.cause.later; ok = tt; device = λ is. absurd (not_device block (Err (Damaged block)) refl is); other = λ _. reads.cause.other (fault_apart block) };
   named = λ b is. reads.named b (same_damage block b (Err (Damaged block)) (Err (fault.Damaged block)) refl refl is);

@@ -43,8 +43,8 @@ pub record Touched (R : Type 0) : Type 1 where
   pub pairs : List KeyValue
   pub items : List Item
 
-abbrev pub Reads : {R T : Type 0} → (R → RunView) → (R → Image → ℕ → Type 0) → Touched R → Touched R → Result T Trouble → Type 0
-Reads view bad a b result = ReadsRuns view bad Device (λ n. Damaged n) a.disk b.disk a.faults b.faults a.reads b.reads a.runs b.runs result
+abbrev pub Reads : {R T : Type 0} → (R → RunView) → Touched R → Touched R → Result T Trouble → Type 0
+Reads view a b result = ReadsRuns view Device (λ n. Damaged n) a.disk b.disk a.faults b.faults a.reads b.reads a.runs b.runs result
 
 abbrev pub entries_in : {R : Type 0} → Touched R → List Entry
 entries_in w = entries_of w.pairs w.items
@@ -58,16 +58,16 @@ turns_left runs None = 0
 turns_left runs (Some w) = option_map_or (λ e. e.version) (head_at runs w) 0 * length runs + (length runs - w) + 1
 
 -- reading runs twice
-module _ {R : Type 0} (view : R → RunView) (bad : R → Image → ℕ → Type 0) where
-  pub reads_then : {T : Type 0} (a b d : Touched R) (result : Result T Trouble) → Reads view bad a b done → Reads view bad b d result → Reads view bad a d result
+module _ {R : Type 0} (view : R → RunView) where
+  pub reads_then : {T : Type 0} (a b d : Touched R) (result : Result T Trouble) → Reads view a b done → Reads view b d result → Reads view a d result
   reads_then a b d result one two =
       let calm : b.faults ≡ a.faults = one.cause.ok in
       record {
         same = reads_trans one.same two.same;
         cause = subst (λ (n : ℕ). HasCause Device n d.faults result) calm two.cause;
         named = λ n is. one.left.fewer n (two.named n is);
-        blamed = λ n is c exposes. one.fewer c n (two.blamed n is c (one.same.same ∙ exposes));
-        fewer = λ c n is. one.fewer c n (two.fewer c n is);
+        blamed = λ n is c exposes. one.fewer c n exposes (two.blamed n is c (one.same.same ∙ exposes));
+        fewer = λ c n exposes is. one.fewer c n exposes (two.fewer c n (one.same.same ∙ exposes) is);
         left = record {
           fewer = λ n here. one.left.fewer n (two.left.fewer n here);
           later = let le = one.left.later in let le2 = two.left.later in omega arith;
@@ -75,7 +75,7 @@ module _ {R : Type 0} (view : R → RunView) (bad : R → Image → ℕ → Type
         };
       }
 
-  pub reads_none : (a b : Touched R) → b.disk ≡ a.disk → b.faults ≡ a.faults → b.reads ≡ a.reads → b.runs ≡ a.runs → Reads view bad a b done
+  pub reads_none : (a b : Touched R) → b.disk ≡ a.disk → b.faults ≡ a.faults → b.reads ≡ a.reads → b.runs ≡ a.runs → Reads view a b done
   reads_none a b disk faults reads runs =
       let same : OnlyReads a.disk b.disk = subst (λ d. OnlyReads a.disk d) (sym disk) (reads_refl a.disk) in
       record {
@@ -83,7 +83,7 @@ module _ {R : Type 0} (view : R → RunView) (bad : R → Image → ℕ → Type
         cause = record { later = omega arith; ok = faults; device = λ is. absurd (cc); other = tt };
         named = λ n is. absurd (cc);
         blamed = λ n is. absurd (cc);
-        fewer = λ c n is. subst (λ rs. IsBadFor bad rs c n) runs is;
+        fewer = λ c n exposes is. subst (λ rs. IsBadFor (map view rs) c n) runs is;
         left = record {
           fewer = λ n here. subst (λ rs. Contains (blocks_left (map view rs)) n) runs here;
           later = omega arith;
@@ -91,7 +91,7 @@ module _ {R : Type 0} (view : R → RunView) (bad : R → Image → ℕ → Type
         };
       }
 
-  pub reads_ok : {T : Type 0} (x : T) (a b : Touched R) → Reads view bad a b done → Reads view bad a b (Ok x)
+  pub reads_ok : {T : Type 0} (x : T) (a b : Touched R) → Reads view a b done → Reads view a b (Ok x)
   reads_ok x a b reads = record {
     same = reads.same;
     cause = record { later = reads.cause.later; ok = reads.cause.ok; device = λ is. absurd (cc); other = tt };
@@ -101,7 +101,7 @@ module _ {R : Type 0} (view : R → RunView) (bad : R → Image → ℕ → Type
     left = reads.left;
   }
 
-  pub reads_err : {T : Type 0} (e : Trouble) (a b : Touched R) → Reads {T = Unit {0}} view bad a b (Err e) → Reads {T = T} view bad a b (Err e)
+  pub reads_err : {T : Type 0} (e : Trouble) (a b : Touched R) → Reads {T = Unit {0}} view a b (Err e) → Reads {T = T} view a b (Err e)
   reads_err e a b reads = record {
     same = reads.same;
     cause = record { later = reads.cause.later; ok = tt; device = λ is. reads.cause.device (same_err e Device is); other = reads.cause.other };
@@ -122,7 +122,7 @@ if_some_map A B None a f = tt
 if_some_map A B (Some x) a f = f x a
 
 -- what taking an entry does
-pub record Took {R : Type 0} (view : R → RunView) (bad : R → Image → ℕ → Type 0) (a b : Touched R) (r : ℕ) : Type 0 where
+pub record Took {R : Type 0} (view : R → RunView) (a b : Touched R) (r : ℕ) : Type 0 where
   pub passes : PassesOne a.disk (map view a.runs) (map view b.runs) r
   pub adds : (e : Entry) → head_at (map view a.runs) r ≡ Some e → entries_in b ≡ with_next (entries_in a) e
   pub won : IsTournament (map view b.runs) b.winners
@@ -131,16 +131,16 @@ pub record Took {R : Type 0} (view : R → RunView) (bad : R → Image → ℕ �
   pub counted : b.consumed ≡ one_more a.consumed
   pub fits : (e : Entry) → head_at (map view a.runs) r ≡ Some e → fits_fields e ≡ true
   pub low : (e : Entry) (v : RunView) → head_at (map view a.runs) r ≡ Some e → slice_get (map view a.runs) r ≡ Some v → e.version < v.versions
-  pub reads : Reads view bad a b done
+  pub reads : Reads view a b done
 
 -- a merge under way
-pub record IsGathering {R : Type 0} (view : R → RunView) (bad : R → Image → ℕ → Type 0) (start now : Touched R) (next : Option ℕ) : Type 0 where
+pub record IsGathering {R : Type 0} (view : R → RunView) (start now : Touched R) (next : Option ℕ) : Type 0 where
   pub key : List ℕ
   pub begins : (i : ℕ) × ((e : Entry) × (head_at (map view start.runs) i ≡ Some e) × (e.key ≡ key))
   pub won : IsTournament (map view now.runs) now.winners
   pub len : length now.pairs ≡ length now.items
   pub slots : have_pairs now.pairs now.items ≡ true
-  pub reads : Reads view bad start now done
+  pub reads : Reads view start now done
   pub gathered : AreGathered (map view start.runs) (map view now.runs) key (entries_in now)
   pub gathers : (c : Image) → Exposes start.disk c → Gathers (lefts c (map view start.runs)) (lefts c (map view now.runs)) key (entries_in now)
   pub counts : (c : Image) → Exposes start.disk c → CountsTaken (lefts c (map view start.runs)) (lefts c (map view now.runs)) start.consumed now.consumed
@@ -157,7 +157,7 @@ with_some es e =
     some [] l is = cc
     some (x ∷ xs) l is = omega arith
 
-module _ {R : Type 0} (view : R → RunView) (bad : R → Image → ℕ → Type 0) (law : (x : R) → IsEntryRun (view x)) (start a b : Touched R) (r : ℕ) (gathering : IsGathering view bad start a (Some r)) (took : Took view bad a b r) where
+module _ {R : Type 0} (view : R → RunView) (law : (x : R) → IsEntryRun (view x)) (start a b : Touched R) (r : ℕ) (gathering : IsGathering view start a (Some r)) (took : Took view a b r) where
   abbrev now_entry : Entry
   now_entry = gathering.found.1.0
 
@@ -194,14 +194,14 @@ module _ {R : Type 0} (view : R → RunView) (bad : R → Image → ℕ → Type
       ]
 
   pub gathering_next : (next : Option ℕ) (k : List ℕ) → ((e : Entry) → slice_get (entries_in b) 0 ≡ Some e → k ≡ e.key) → IfSome next (λ w. w < length b.runs)
-      → IfSome next (λ w. (e : Entry) × (Leads (map view b.runs) w e × (is_of k e ≡ true))) → IfNone next (LeadsAside (map view b.runs) k) → IsGathering view bad start b next
+      → IfSome next (λ w. (e : Entry) × (Leads (map view b.runs) w e × (is_of k e ≡ true))) → IfNone next (LeadsAside (map view b.runs) k) → IsGathering view start b next
   gathering_next next k is within leads aside = record {
     key = gathering.key;
     begins = gathering.begins;
     won = took.won;
     len = took.len;
     slots = took.slots;
-    reads = reads_then view bad start a b done gathering.reads took.reads;
+    reads = reads_then view start a b done gathering.reads took.reads;
     gathered = next_gathered;
     gathers = λ c exposes.
         subst (λ (es : List Entry). Gathers (lefts c (map view start.runs)) (lefts c (map view b.runs)) gathering.key es) (sym now_adds)
@@ -228,7 +228,7 @@ product_le a b n le = mul-le a n b n le (omega arith)
 product_lt : (a b n : ℕ) → a < b → a * n + n ≤ b * n
 product_lt a b n lt = let le : (a + 1) * n ≤ b * n = product_le (a + 1) b n (omega arith) in let e : (a + 1) * n ≡ a * n + n = grind arith in omega arith
 
-module _ {R : Type 0} (view : R → RunView) (bad : R → Image → ℕ → Type 0) (law : (x : R) → IsEntryRun (view x)) (start a b : Touched R) (r : ℕ) (gathering : IsGathering view bad start a (Some r)) (took : Took view bad a b r) where
+module _ {R : Type 0} (view : R → RunView) (law : (x : R) → IsEntryRun (view x)) (start a b : Touched R) (r : ℕ) (gathering : IsGathering view start a (Some r)) (took : Took view a b r) where
   -- of one key the turns fall
   turn_falls : (w : ℕ) (f : Entry) → w < length b.runs → Leads (map view b.runs) w f → f.key ≡ gathering.key → turns_left (map view b.runs) (Some w) < turns_left (map view a.runs) (Some r)
   turn_falls w f within leads keyed =
@@ -288,18 +288,18 @@ module _ {R : Type 0} (view : R → RunView) (bad : R → Image → ℕ → Type
       → IfSome next (λ w. (e : Entry) × (Leads (map view b.runs) w e × (is_of k e ≡ true))) → turns_left (map view b.runs) next < turns_left (map view a.runs) (Some r)
   turns_fall None k is within leads = omega arith
   turns_fall (Some w) k is within leads =
-      turn_falls w leads.0 within leads.1.0 (is_of_key k leads.0 leads.1.1 ∙ key_is view bad law start a b r gathering took k is)
+      turn_falls w leads.0 within leads.1.0 (is_of_key k leads.0 leads.1.1 ∙ key_is view law start a b r gathering took k is)
 
 -- the start of a merge
-pub gathering_begun : {R : Type 0} (view : R → RunView) (bad : R → Image → ℕ → Type 0) (law : (x : R) → IsEntryRun (view x)) (now : Touched R) (w : ℕ) → now.consumed < 2 ^ 64 → now.pairs ≡ [] → now.items ≡ [] → IsTournament (map view now.runs) now.winners
-    → w < length now.runs → (e : Entry) → Leads (map view now.runs) w e → IsGathering view bad now now (Some w)
-gathering_begun view bad law now w fits pairs items won within e leads = record {
+pub gathering_begun : {R : Type 0} (view : R → RunView) (law : (x : R) → IsEntryRun (view x)) (now : Touched R) (w : ℕ) → now.consumed < 2 ^ 64 → now.pairs ≡ [] → now.items ≡ [] → IsTournament (map view now.runs) now.winners
+    → w < length now.runs → (e : Entry) → Leads (map view now.runs) w e → IsGathering view now now (Some w)
+gathering_begun view law now w fits pairs items won within e leads = record {
   key = e.key;
   begins = (w, (e, leads.head, refl));
   won = won;
   len = ap (λ ps. length ps) pairs ∙ sym (ap (λ xs. length xs) items);
   slots = subst (λ xs. have_pairs now.pairs xs ≡ true) (sym items) refl;
-  reads = reads_none view bad now now refl refl refl refl;
+  reads = reads_none view now now refl refl refl refl;
   gathered = subst (λ xs. AreGathered (map view now.runs) (map view now.runs) e.key (entries_of now.pairs xs)) (sym items) (gathered_begun (map view now.runs) w e leads);
   gathers = λ c exposes. subst (λ xs. Gathers (lefts c (map view now.runs)) (lefts c (map view now.runs)) e.key (entries_of now.pairs xs)) (sym items) (gathers_begun (lefts c (map view now.runs)) e.key);
   counts = λ c exposes. count_begun (lefts c (map view now.runs)) now.consumed fits;
@@ -308,7 +308,7 @@ gathering_begun view bad law now w fits pairs items won within e leads = record 
 }
 
 -- the end of a merge
-module _ {R : Type 0} (view : R → RunView) (bad : R → Image → ℕ → Type 0) (law : (x : R) → IsEntryRun (view x)) (start now : Touched R) (next : Option ℕ) (none : next ≡ None) (gathering : IsGathering view bad start now next) where
+module _ {R : Type 0} (view : R → RunView) (law : (x : R) → IsEntryRun (view x)) (start now : Touched R) (next : Option ℕ) (none : next ≡ None) (gathering : IsGathering view start now next) where
   end_facts : LeadsAside (map view now.runs) gathering.key × (0 < length now.items)
   end_facts = subst (λ (o : Option ℕ). IfNone o (LeadsAside (map view now.runs) gathering.key × (0 < length now.items))) none gathering.ended
 
@@ -334,11 +334,11 @@ module _ {R : Type 0} (view : R → RunView) (bad : R → Image → ℕ → Type
       takes_next (map view start.runs) (map view now.runs) gathering.key (entries_in now) gathering.gathered end_facts.0 (all_runs view law start.runs) (all_runs view law now.runs) c (gathering.gathers c exposes) (omega arith)
 
 -- a turn is taken where there is a next run
-pub at_next : {R : Type 0} {view : R → RunView} {bad : R → Image → ℕ → Type 0} {start now : Touched R} {next : Option ℕ} (r : ℕ) → next ≡ Some r → IsGathering view bad start now next → IsGathering view bad start now (Some r)
-at_next {R} {view} {bad} {start} {now} {next} r is gathering = subst (λ (o : Option ℕ). IsGathering view bad start now o) is gathering
+pub at_next : {R : Type 0} {view : R → RunView} {start now : Touched R} {next : Option ℕ} (r : ℕ) → next ≡ Some r → IsGathering view start now next → IsGathering view start now (Some r)
+at_next {R} {view} {start} {now} {next} r is gathering = subst (λ (o : Option ℕ). IsGathering view start now o) is gathering
 
-pub group_filled : {R : Type 0} (view : R → RunView) (bad : R → Image → ℕ → Type 0) (law : (x : R) → IsEntryRun (view x)) (start a b : Touched R) (r : ℕ) (gathering : IsGathering view bad start a (Some r)) (took : Took view bad a b r) → 0 < length b.items
-group_filled view bad law start a b r gathering took = some_now view bad law start a b r gathering took
+pub group_filled : {R : Type 0} (view : R → RunView) (law : (x : R) → IsEntryRun (view x)) (start a b : Touched R) (r : ℕ) (gathering : IsGathering view start a (Some r)) (took : Took view a b r) → 0 < length b.items
+group_filled view law start a b r gathering took = some_now view law start a b r gathering took
 
 -- the leader of runs that are held elsewhere
 pub leader_leads : {R : Type 0} (view : R → RunView) (runs held : List R) (w : ℕ) → held ≡ runs → IsSome (head_at (map view held) w)

@@ -8,13 +8,14 @@ use Rattle.strat_crash.specs.Blocks.{AgreeOn}
 use Rattle.strat_crash.specs.Image.{Image}
 use Rattle.strat_crash.specs.Moments.{DiskView, Exposes}
 
--- the blocks that a run has still to read, a number above all its versions, the first entry that it has left, and all
--- that it has left on a disk of some content
+-- the blocks that a run has still to read, a number above all its versions, the first entry that it has left, and on a
+-- disk of some content all that it has left, and the first of its blocks that is bad for it
 pub record RunView : Type 0 where
   pub blocks : List ℕ
   pub versions : ℕ
   pub first : Option Entry
   pub left : Image → List Entry
+  pub misfit : Image → Option ℕ
 
 -- what holds of every run: its entries ascend, the first of them is the same on every content, and the others depend
 -- only on the blocks that are still to be read
@@ -61,9 +62,8 @@ pub record ReadsLeft (old new : List RunView) (before now : ℕ) : Type 0 where
   pub most : now + length (blocks_left new) ≤ before + length (blocks_left old)
 
 -- a block is bad for one of some runs
-pub record IsBadFor {R : Type 0} (bad : R → Image → ℕ → Type 0) (runs : List R) (c : Image)
-    (b : ℕ) : Type 0 where
+pub record IsBadFor (runs : List RunView) (c : Image) (b : ℕ) : Type 0 where
   pub at : ℕ
-  pub run : R
+  pub run : RunView
   pub there : slice_get runs at ≡ Some run
-  pub says : bad run c b
+  pub says : run.misfit c ≡ Some b

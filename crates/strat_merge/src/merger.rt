@@ -37,7 +37,7 @@ fn advance_at<D: Disk, R: Run<D>>(runs: &mut Vec<R>, run: usize, disk: &mut D) -
     requires found { IsSome (head_at (map R.view runs.old.items) run) }
     ensures ok { OnOk result (PassesOne (D.view disk.old) (map R.view runs.old.items)
         (map R.view runs.new.items) run) }
-    ensures reads { ReadsRuns R.view R.bad fault.Device fault.Damaged (D.view disk.old)
+    ensures reads { ReadsRuns R.view fault.Device fault.Damaged (D.view disk.old)
         (D.view disk.new) (D.faults disk.old) (D.faults disk.new) (D.reads disk.old)
         (D.reads disk.new) runs.old.items runs.new.items result }
 {
@@ -54,7 +54,7 @@ fn pass<D: Disk, R: Run<D>>(merger: &mut Merger<R>, run: usize, disk: &mut D) ->
     ensures kept { OnOk result
         (IsTournament (map R.view merger.new.runs.items) merger.new.winners.items) }
     ensures time { OnOk result (merger.new.consumed ≡ one_more merger.old.consumed) }
-    ensures reads { ReadsRuns R.view R.bad Device Damaged (D.view disk.old) (D.view disk.new)
+    ensures reads { ReadsRuns R.view Device Damaged (D.view disk.old) (D.view disk.new)
         (D.faults disk.old) (D.faults disk.new) (D.reads disk.old) (D.reads disk.new)
         merger.old.runs.items merger.new.runs.items result }
 {
@@ -114,7 +114,7 @@ fn take<D: Disk, R: Run<D>>(
     ensures end { (e : KeyEntry) (v : RunView)
         → head_at (map R.view merger.old.runs.items) run ≡ Some e
         → slice_get (map R.view merger.old.runs.items) run ≡ Some v → e.version < v.versions }
-    ensures reads { ReadsRuns R.view R.bad Device Damaged (D.view disk.old) (D.view disk.new)
+    ensures reads { ReadsRuns R.view Device Damaged (D.view disk.old) (D.view disk.new)
         (D.faults disk.old) (D.faults disk.new) (D.reads disk.old) (D.reads disk.new)
         merger.old.runs.items merger.new.runs.items result }
 {
@@ -148,7 +148,7 @@ fn gather<D: Disk, R: Run<D>>(
     ensures len { OnOk result ((c : Image) → Exposes (D.view disk.old) c
         → CountsTaken (lefts c (map R.view merger.old.runs.items))
         (lefts c (map R.view merger.new.runs.items)) merger.old.consumed merger.new.consumed) }
-    ensures reads { ReadsRuns R.view R.bad Device Damaged (D.view disk.old) (D.view disk.new)
+    ensures reads { ReadsRuns R.view Device Damaged (D.view disk.old) (D.view disk.new)
         (D.faults disk.old) (D.faults disk.new) (D.reads disk.old) (D.reads disk.new)
         merger.old.runs.items merger.new.runs.items result }
 {
@@ -219,7 +219,7 @@ impl<R> Merger<R> {
         ensures len { OnOk result ((c : Image) → Exposes (D.view disk.old) c
             → CountsTaken (lefts c (views_of R.view self.old))
             (lefts c (views_of R.view self.new)) (consumed_of self.old) (consumed_of self.new)) }
-        ensures reads { ReadsRuns R.view R.bad Device Damaged (D.view disk.old) (D.view disk.new)
+        ensures reads { ReadsRuns R.view Device Damaged (D.view disk.old) (D.view disk.new)
             (D.faults disk.old) (D.faults disk.new) (D.reads disk.old) (D.reads disk.new)
             (runs_merged self.old) (runs_merged self.new) result }
     {

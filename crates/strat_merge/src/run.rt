@@ -1,7 +1,7 @@
 //! A run of entries in order, which may lie on a disk.
 
 ghost use Rattle.std.specs.List.{Contains};
-ghost use Rattle.std.specs.Prelude.{◌≡◌, ◌<◌, ℕ, option_map, IsSome, IfSome, IsErrOf, OnOk, IsTrue};
+ghost use Rattle.std.specs.Prelude.{◌≡◌, ◌<◌, ℕ, Some, option_map, IsSome, IfSome, IsErrOf, OnOk, IsTrue};
 ghost use Rattle.strat_base.specs.EntryBytes.{fits_fields};
 ghost use Rattle.strat_base.specs.EntryView.{entry_of};
 ghost use Rattle.strat_base.specs.declared.failures.Fault.TheVariants.{Damaged, Device};
@@ -20,9 +20,6 @@ pub trait Run<D: Disk> {
     /// What it has left, and the blocks that it has still to read.
     ghost view: { Self → RunView };
 
-    /// When a block on a disk of some content is bad for it.
-    ghost bad: { Self → Image → ℕ → Type 0 };
-
     /// The first entry that is left, or `None` at the end. O(1), and nothing is read.
     fn peek(&self) -> Option<Entry<'_>>
         ensures ok { option_map entry_of result ≡ (view self.now).first }
@@ -39,8 +36,9 @@ pub trait Run<D: Disk> {
         ensures cause { HasCause Device (D.faults disk.old) (D.faults disk.new) result }
         ensures damaged { (b : ℕ) → IsErrOf result (Damaged b) → Contains (view self.old).blocks b }
         ensures err { (b : ℕ) → IsErrOf result (Damaged b) → (c : Image)
-            → Exposes (D.view disk.old) c → bad self.old c b }
-        ensures kept { (c : Image) (b : ℕ) → bad self.new c b → bad self.old c b }
+            → Exposes (D.view disk.old) c → (view self.old).misfit c ≡ Some b }
+        ensures kept { (c : Image) (b : ℕ) → Exposes (D.view disk.old) c
+            → (view self.new).misfit c ≡ Some b → (view self.old).misfit c ≡ Some b }
         ensures reads { ReadsFront (view self.old).blocks (view self.new).blocks
             (D.reads disk.old) (D.reads disk.new) };
 

@@ -9,4 +9,4 @@ returns-clause-ok g c =
 pub returns-clause-reads : goal.returns-clause-reads
 returns-clause-reads g c =
     let there = get_some c.args.runs.now.items c.args.run c.index_mut.result.now c.requires.fits c.index_mut.ensures.value in
-    advance_one g.R.Run.view c.args.runs.now.items c.args.run c.index_mut.result.now c.advance.new.self there g.R.Run.bad _ _ _ _ _ _ _ _ _ c.advance.ensures.same c.advance.ensures.cause c.advance.ensures.damaged c.advance.ensures.err c.advance.ensures.kept c.advance.ensures.reads
+    advance_one g.R.Run.view c.args.runs.now.items c.args.run c.index_mut.result.now c.advance.new.self there _ _ _ _ _ _ _ _ _ c.advance.ensures.same c.advance.ensures.cause c.advance.ensures.damaged c.advance.ensures.err c.advance.ensures.kept c.advance.ensures.reads

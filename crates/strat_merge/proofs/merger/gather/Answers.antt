@@ -13,7 +13,7 @@ pub loop-next-init : goal.loop-next-init
 loop-next-init g c =
     let leads = leader_leads g.R.Run.view c.args.merger.now.runs.items c.deref.result.now c.in-Some.first c.deref.ensures.value c.in-Some.ensures.found.1 c.in-Some.ensures.ok in
     let low : c.in-Some.first < length c.args.merger.now.runs.items = subst (λ rs. c.in-Some.first < length rs) c.deref.ensures.value c.in-Some.ensures.found.0 in
-    gathering_begun g.R.Run.view g.R.Run.bad g.met.R.Run.leaves_run
+    gathering_begun g.R.Run.view g.met.R.Run.leaves_run
     (record {
       disk = g.D.Disk.view c.args.disk.now;
       faults = g.D.Disk.faults c.args.disk.now;
@@ -28,7 +28,7 @@ loop-next-init g c =
 
 pub returns-in-Err-clause-reads : goal.returns-in-Err-clause-reads
 returns-in-Err-clause-reads g c =
-    reads_err g.R.Run.view g.R.Run.bad c.in-Err.trouble
+    reads_err g.R.Run.view c.in-Err.trouble
     (record {
       disk = g.D.Disk.view c.args.disk.now;
       faults = g.D.Disk.faults c.args.disk.now;
@@ -49,7 +49,7 @@ returns-in-Err-clause-reads g c =
       pairs = c.take.new.arena.pairs;
       items = c.take.new.group;
     })
-    (reads_then g.R.Run.view g.R.Run.bad
+    (reads_then g.R.Run.view
     (record {
       disk = g.D.Disk.view c.args.disk.now;
       faults = g.D.Disk.faults c.args.disk.now;
@@ -85,7 +85,7 @@ returns-in-Err-clause-reads g c =
 pub key_of_group-key-requires-clause-room : goal.key_of_group-key-requires-clause-room
 key_of_group-key-requires-clause-room g c =
     let gathering = at_next c.in-Some-next.run' c.in-Some-next.is c.loop-next.invariant in
-    let took : Took g.R.Run.view g.R.Run.bad
+    let took : Took g.R.Run.view
     (record {
       disk = g.D.Disk.view c.loop-next.disk;
       faults = g.D.Disk.faults c.loop-next.disk;
@@ -117,12 +117,12 @@ key_of_group-key-requires-clause-room g c =
       low = c.in_default-take.ensures.end;
       reads = c.in_default-take.ensures.reads;
     } in
-    group_filled g.R.Run.view g.R.Run.bad g.met.R.Run.leaves_run _ _ _ c.in-Some-next.run' gathering took
+    group_filled g.R.Run.view g.met.R.Run.leaves_run _ _ _ c.in-Some-next.run' gathering took
 
 pub loop-next-smaller : goal.loop-next-smaller
 loop-next-smaller g c =
     let gathering = at_next c.in-Some-next.run' c.in-Some-next.is c.loop-next.invariant in
-    let took : Took g.R.Run.view g.R.Run.bad
+    let took : Took g.R.Run.view
     (record {
       disk = g.D.Disk.view c.loop-next.disk;
       faults = g.D.Disk.faults c.loop-next.disk;
@@ -155,14 +155,14 @@ loop-next-smaller g c =
       reads = c.in_default-take.ensures.reads;
     } in
     subst (λ o. turns_left (map g.R.Run.view c.take.new.merger.runs.items) c.leader_of_key-next.result < turns_left (map g.R.Run.view c.loop-next.merger.runs.items) o) (sym c.in-Some-next.is)
-    (turns_fall g.R.Run.view g.R.Run.bad g.met.R.Run.leaves_run _ _ _ c.in-Some-next.run' gathering took c.leader_of_key-next.result c.key_of_group-key.result.now c.key_of_group-key.ensures.ok
+    (turns_fall g.R.Run.view g.met.R.Run.leaves_run _ _ _ c.in-Some-next.run' gathering took c.leader_of_key-next.result c.key_of_group-key.result.now c.key_of_group-key.ensures.ok
     (subst (λ rs. IfSome c.leader_of_key-next.result (λ w. w < length rs)) c.deref-in-Some-next.ensures.value c.leader_of_key-next.ensures.fits)
     (subst (λ rs. IfSome c.leader_of_key-next.result (λ w. (e : Entry) × (Leads (map g.R.Run.view rs) w e × (is_of c.key_of_group-key.result.now e ≡ true)))) c.deref-in-Some-next.ensures.value c.leader_of_key-next.ensures.found))
 
 pub loop-next-preserved : goal.loop-next-preserved
 loop-next-preserved g c =
     let gathering = at_next c.in-Some-next.run' c.in-Some-next.is c.loop-next.invariant in
-    let took : Took g.R.Run.view g.R.Run.bad
+    let took : Took g.R.Run.view
     (record {
       disk = g.D.Disk.view c.loop-next.disk;
       faults = g.D.Disk.faults c.loop-next.disk;
@@ -194,15 +194,15 @@ loop-next-preserved g c =
       low = c.in_default-take.ensures.end;
       reads = c.in_default-take.ensures.reads;
     } in
-    gathering_next g.R.Run.view g.R.Run.bad g.met.R.Run.leaves_run _ _ _ c.in-Some-next.run' gathering took c.leader_of_key-next.result c.key_of_group-key.result.now c.key_of_group-key.ensures.ok
+    gathering_next g.R.Run.view g.met.R.Run.leaves_run _ _ _ c.in-Some-next.run' gathering took c.leader_of_key-next.result c.key_of_group-key.result.now c.key_of_group-key.ensures.ok
     (subst (λ rs. IfSome c.leader_of_key-next.result (λ w. w < length rs)) c.deref-in-Some-next.ensures.value c.leader_of_key-next.ensures.fits)
     (subst (λ rs. IfSome c.leader_of_key-next.result (λ w. (e : Entry) × (Leads (map g.R.Run.view rs) w e × (is_of c.key_of_group-key.result.now e ≡ true)))) c.deref-in-Some-next.ensures.value c.leader_of_key-next.ensures.found)
     (subst (λ rs. IfNone c.leader_of_key-next.result (LeadsAside (map g.R.Run.view rs) c.key_of_group-key.result.now)) c.deref-in-Some-next.ensures.value c.leader_of_key-next.ensures.none)
 
 pub returns-clause-found : goal.returns-clause-found
 returns-clause-found g c more =
-    (c.loop-next.invariant.key, group_given g.R.Run.view g.R.Run.bad g.met.R.Run.leaves_run _ _ c.loop-next.next c.in_default-next.is c.loop-next.invariant)
+    (c.loop-next.invariant.key, group_given g.R.Run.view g.met.R.Run.leaves_run _ _ c.loop-next.next c.in_default-next.is c.loop-next.invariant)
 
 pub returns-clause-ok : goal.returns-clause-ok
 returns-clause-ok g c more =
-    next_taken g.R.Run.view g.R.Run.bad g.met.R.Run.leaves_run _ _ c.loop-next.next c.in_default-next.is c.loop-next.invariant
+    next_taken g.R.Run.view g.met.R.Run.leaves_run _ _ c.loop-next.next c.in_default-next.is c.loop-next.invariant

@@ -4,7 +4,7 @@ use Rattle.strat_merge.proofs.merger.gather.Given as goal
 
 abbrev pub invariant-loop-next : goal.invariant-loop-next
 invariant-loop-next g l =
-    IsGathering g.R.Run.view g.R.Run.bad
+    IsGathering g.R.Run.view
     (record {
       disk = g.D.Disk.view l.initial.disk;
       faults = g.D.Disk.faults l.initial.disk;
