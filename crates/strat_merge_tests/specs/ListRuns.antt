@@ -39,7 +39,7 @@ ascending_left zero entries up = up
 ascending_left (suc n) [] up = up
 ascending_left (suc n) (e ∷ entries) up =
     ascending_left n entries
-    (and_parts (list_all (λ later. is_lt (entry_cmp e.key e.version later.key later.version)) entries)
+    (and_parts (list_all (λ d. is_lt (entry_cmp e.key e.version d.key d.version)) entries)
     (is_ascending entries) up).1
 
 -- such a run is one
