@@ -3,13 +3,15 @@
 ghost use Rattle.std.specs.Prelude.{◌≡◌, ℕ, ◌+◌, ◌<◌, ◌≤◌, ◌^◌, [], ◌∷◌, ◌++◌, length, slice_index_or, IfOk, OnOk, OnErr};
 ghost use Rattle.strat_arena.specs.ArenaView.{KeyValue, ArenaView, no_arena, total_size};
 ghost use Rattle.strat_arena.specs.ChunkView.{ChunkView};
+ghost use Rattle.strat_arena.specs.Items.{entry_of_item};
+ghost use Rattle.strat_base.specs.EntryView.{entry_of};
 ghost use Rattle.strat_arena.specs.Chunks.{newest, HasSpace, Extends};
 
 use crate::chunk::Chunk;
-use crate::items::Slot;
+use crate::items::{Item, Slot, val_unless};
 use std::alloc::Global;
 use std::marker::Model;
-use strat_base::NoMemory;
+use strat_base::{Entry, NoMemory};
 
 /// Where a pair lies: the key from `start` up to `mid` in its chunk, and the value from there up to `end`.
 #[derive(Clone, Copy)]
@@ -119,6 +121,18 @@ impl Arena {
     {
         let place = self.places[s.0 as usize];
         self.chunks[place.chunk].part(place.mid, place.end)
+    }
+
+    /// The entry of an item. O(1).
+    pub fn entry(&self, item: Item) -> Entry<'_>
+        requires { item.slot.0 < length self.now.pairs }
+        ensures { entry_of result ≡ entry_of_item self.now.pairs item }
+    {
+        Entry {
+            key: self.key(item.slot),
+            version: item.version,
+            val: val_unless(item.gone, self.value(item.slot)),
+        }
     }
 
     /// Forgets all pairs. What they used is spare again. It takes no memory, and gives all chunks but
