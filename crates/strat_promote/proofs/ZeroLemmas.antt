@@ -1,9 +1,12 @@
 -- A copy of level 0 as it is walked over.
 use Rattle.std.proofs.Common.{◌≡◌, ◌<◌, ◌≤◌, ◌+◌, ℕ, zero, suc, Bool, true, ltb, List, [], ◌∷◌, ◌++◌, length, map, take, drop, get_or, Option, Some, None, refl, sym, ap, ◌∙◌, arith}
 use Rattle.std.specs.List.{list_all, slice_get}
-use Rattle.std.proofs.lemmas.Bool.{and_parts, ltb-true}
+use Rattle.std.proofs.lemmas.Bool.{and_parts}
+use Rattle.std.proofs.lemmas.Option.{slice_get_past}
+use Rattle.std.specs.Ordering.{is_lt}
+use Rattle.strat_base.specs.Order.{entry_cmp}
 use Rattle.std.proofs.Math.Seq.{take-suc, drop-nil}
-use Rattle.strat_base.specs.Entries.{Entry}
+use Rattle.strat_base.specs.Entries.{Entry, is_ascending}
 use Rattle.strat_arena.specs.ArenaView.{KeyValue}
 use Rattle.strat_arena.specs.Items.{entry_of_item, entries_of}
 use Rattle.strat_arena.specs.declared.items.Item.{Item}
@@ -32,3 +35,24 @@ pub front_next : (xs : List Entry) (i : ℕ) (e : Entry) → i < length xs → e
 front_next xs i e within is =
     let next : i + 1 ≡ suc i = omega arith in
     ap (λ (x : Entry). take i xs ++ x ∷ []) is ∙ sym (ap (λ (n : ℕ). take n xs) next ∙ take-suc xs i e within)
+
+-- an entry comes before the next in order
+pub next_later : (xs : List Entry) (i : ℕ) (e f : Entry) → is_ascending xs ≡ true → slice_get xs i ≡ Some e → slice_get xs (suc i) ≡ Some f → is_lt (entry_cmp e.key e.version f.key f.version) ≡ true
+next_later [] i e f up here there = absurd (cc)
+next_later (x ∷ []) i e f up here there = absurd (cc)
+next_later (x ∷ y ∷ xs) zero e f up here there =
+    let one : x ≡ e = cc in
+    let two : y ≡ f = cc in
+    let first = (and_parts (list_all (λ later. is_lt (entry_cmp x.key x.version later.key later.version)) (y ∷ xs)) (is_ascending (y ∷ xs)) up).0 in
+    let lt = (and_parts (is_lt (entry_cmp x.key x.version y.key y.version)) (list_all (λ later. is_lt (entry_cmp x.key x.version later.key later.version)) xs) first).0 in
+    ap (λ (d : Entry). is_lt (entry_cmp d.key d.version f.key f.version)) (sym one) ∙ ap (λ (d : Entry). is_lt (entry_cmp x.key x.version d.key d.version)) (sym two) ∙ lt
+next_later (x ∷ y ∷ xs) (suc i) e f up here there =
+    next_later (y ∷ xs) i e f (and_parts (list_all (λ later. is_lt (entry_cmp x.key x.version later.key later.version)) (y ∷ xs)) (is_ascending (y ∷ xs)) up).1 here there
+
+pub later_then : (xs : List Entry) (i : ℕ) (e f : Entry) → is_ascending xs ≡ true → slice_get xs i ≡ Some e → slice_get xs (i + 1) ≡ Some f → is_lt (entry_cmp e.key e.version f.key f.version) ≡ true
+later_then xs i e f up here there =
+    let next : i + 1 ≡ suc i = omega arith in
+    next_later xs i e f up here (ap (λ (n : ℕ). slice_get xs n) (sym next) ∙ there)
+
+pub never_past : (xs : List Entry) (i : ℕ) (e : Entry) → length xs ≤ i → slice_get xs i ≡ Some e → ⊥
+never_past xs i e past here = let none = slice_get_past xs i past in absurd (cc)

@@ -1,10 +1,12 @@
 //! Level 0 as a run: a copy of its entries, made at the start of a pass.
 
 ghost use Rattle.std.specs.List.{list_all};
-ghost use Rattle.std.specs.Prelude.{◌≡◌, ◌<◌, ◌≤◌, ◌+◌, ℕ, [], None, drop, length, nat_lt, option_map, slice_index_or, slice_get, IfOk, IfSome, IsSome, OnOk, IsTrue};
+ghost use Rattle.std.specs.Ordering.{is_lt};
+ghost use Rattle.std.specs.Prelude.{Some, ◌≡◌, ◌<◌, ◌≤◌, ◌+◌, ℕ, [], None, drop, length, nat_lt, option_map, slice_index_or, slice_get, IfOk, IfSome, IsSome, OnOk, IsTrue};
 ghost use Rattle.strat_arena.specs.Items.{entries_of, have_pairs};
-ghost use Rattle.strat_base.specs.Entries.{is_ascending};
+ghost use Rattle.strat_base.specs.Entries.{Entry as KeyEntry};
 ghost use Rattle.strat_base.specs.EntryBytes.{fits_fields};
+ghost use Rattle.strat_base.specs.Order.{entry_cmp};
 ghost use Rattle.strat_base.specs.EntryView.{entry_of};
 ghost use Rattle.strat_crash.specs.Image.{Image};
 ghost use Rattle.strat_level.specs.Memtable.{entries_held, ListStands};
@@ -66,6 +68,9 @@ impl ZeroRun {
         ensures ok { (c : Image) → (zero_run_seen self.new).left c
             ≡ drop 1 ((zero_run_seen self.old).left c) }
         ensures found { (zero_run_seen self.new).versions ≡ (zero_run_seen self.old).versions }
+        ensures kept { (e f : KeyEntry) → (zero_run_seen self.old).first ≡ Some e
+            → (zero_run_seen self.new).first ≡ Some f
+            → IsTrue (is_lt (entry_cmp e.key e.version f.key f.version)) }
     {
         if self.next < self.items.items().len() {
             self.next += 1;
