@@ -14,7 +14,7 @@ pub mod PlaceLemmas
 pub mod PushLemmas
 pub mod SearchLemmas
 pub mod SeekLemmas
-pub mod SparingLemmas
 pub mod StayLemmas
 pub mod TakenLemmas
+pub mod TakesLemmas
 pub mod WalkLemmas

@@ -5,7 +5,6 @@ pub mod Progress
 pub mod Pushed
 pub mod ScratchFields
 pub mod Shown
-pub mod Sparing
 pub mod Steps
 pub mod Taking
 pub mod Told
