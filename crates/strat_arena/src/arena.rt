@@ -61,7 +61,8 @@ impl Arena {
     }
 
     /// Makes room for so many more pairs, of so many bytes together. Where bytes are short it takes a
-    /// new chunk for those that are used and those that are asked for; no byte is copied.
+    /// new chunk for those that are used and as many again, or those that are asked for if they are more;
+    /// no byte is copied.
     pub fn reserve(&mut self, pairs: u32, bytes: u32) -> Result<(), NoMemory>
         requires fits { length self.old.pairs + pairs ≤ 2 ^ 32 }
         ensures same { self.new.pairs ≡ self.old.pairs }
@@ -150,7 +151,8 @@ fn add_chunk(alloc: Global, chunks: &mut Vec<Chunk>, capacity: usize) -> Result<
 }
 
 /// Has the newest chunk hold all bytes that are used and, beside them, those that are spare or asked
-/// for, whichever are more. The answer is how many are spare then.
+/// for, whichever are more. A new chunk holds at least twice what is used, so that an arena that grows
+/// pair by pair takes memory in proportion to its bytes. The answer is how many are spare then.
 fn make_space(
     alloc: Global,
     chunks: &mut Vec<Chunk>,
@@ -168,11 +170,12 @@ fn make_space(
     if bytes <= spare && !chunks.is_empty() {
         return Ok(spare);
     }
-    let Some(capacity) = used.checked_add(bytes) else {
+    let more = bytes.max(used);
+    let Some(capacity) = used.checked_add(more) else {
         return Err(NoMemory);
     };
     add_chunk(alloc, chunks, capacity)?;
-    Ok(bytes)
+    Ok(more)
 }
 
 /// Copies a pair behind the bytes of a chunk.

@@ -8,8 +8,9 @@ use Rattle.strat_merge.specs.Runs.{RunView, blocks_left, ReadsLeft, IsBadFor}
 
 -- runs were read: the device's error has its cause, another names a block that was still to be read and is bad for one
 -- of them, and what is bad for those that are left was bad before
-pub record ReadsRuns {R T E : Type 0} (view : R → RunView) (device : E) (damaged : ℕ → E) (disk after : DiskView) (faults failed reads read : ℕ)
-    (old new : List R) (result : Result T E) : Type 0 where
+pub record ReadsRuns {R T E : Type 0} (view : R → RunView) (device : E) (damaged : ℕ → E)
+    (disk after : DiskView) (faults failed reads read : ℕ) (old new : List R)
+    (result : Result T E) : Type 0 where
   pub same : OnlyReads disk after
   pub cause : HasCause device faults failed result
   pub named : (b : ℕ) → IsErrOf result (damaged b) → Contains (blocks_left (map view old)) b

@@ -1,0 +1,2 @@
+//! Promotion: level 0 and the shallow levels become one new level.
+#![tactic(auto)]
