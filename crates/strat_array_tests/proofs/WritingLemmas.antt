@@ -1,5 +1,5 @@
 -- Entries that are pushed one after the other.
-use Rattle.std.proofs.Common.{◌≡◌, ◌<◌, ◌+◌, ℕ, zero, suc, Bool, true, false, leb, ◌&&◌, List, [], ◌∷◌, ◌++◌, length, take, get_or, map, cond, refl, sym, ap, ◌∙◌, subst, arith, append_assoc}
+use Rattle.std.proofs.Common.{◌≡◌, ◌<◌, ◌+◌, ℕ, zero, suc, Bool, true, List, [], ◌∷◌, ◌++◌, length, take, get_or, map, refl, sym, ap, ◌∙◌, subst, arith}
 use Rattle.std.specs.List.{list_all}
 use Rattle.std.specs.Ordering.{is_lt}
 use Rattle.std.proofs.lemmas.Bool.{and_parts, and_from}
@@ -8,7 +8,6 @@ use Rattle.strat_base.specs.Order.{entry_cmp}
 use Rattle.strat_base.specs.Entries.{Entry, is_ascending}
 use Rattle.strat_base.specs.EntryBytes.{fits_fields}
 use Rattle.strat_base.specs.EntryView.{entry_of}
-use Rattle.strat_format.specs.Block.{block_front}
 use Rattle.strat_array.specs.Pushed.{IsEndOf, with_entry}
 use Rattle.strat_array.proofs.StayLemmas.{more_end, end_ascends}
 

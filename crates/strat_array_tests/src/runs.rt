@@ -1,6 +1,6 @@
 //! Blocks of an array that are read one by one, with no cache.
 
-ghost use Rattle.std.specs.Prelude.{◌<◌, ◌+◌};
+ghost use Rattle.std.specs.Prelude.{◌<◌, IfOk};
 ghost use Rattle.strat_array.specs.Within.{AreWithin};
 
 use crate::built::{FULL, Shape, block_of, many, two};
@@ -9,7 +9,7 @@ use std::alloc::Global;
 use std::process::Abort;
 use std::test::Fail;
 use strat_array::{BlockNumbers, Scratch};
-use strat_base::{Extent, NoMemory};
+use strat_base::{Extent, Extents, NoMemory};
 use strat_disk::MemDisk;
 
 /// Whether a scratch reads the block at an index of the array, and has its entries then.
@@ -51,26 +51,30 @@ fn blocks_are_fetched_one_by_one(rt: HostRuntime) -> Result<(), Fail> {
     Ok(())
 }
 
-/// The numbers of the blocks of two extents that end at 100 at most, and whether there are no more than three.
-fn numbers_of(
-    alloc: Global,
-    first: Extent,
-    second: Extent,
-) -> Result<([Option<u32>; 3], bool), NoMemory>
-    requires { (first.start + first.len < 100) × (second.start + second.len < 100) }
+/// Two blocks from 11 on, behind or before an extent of no blocks.
+fn with_empty(alloc: Global, behind: bool) -> Result<Extents, NoMemory>
+    ensures fits { IfOk result (λ l. AreWithin l) }
 {
-    let extents = two(alloc, first, second)?;
-    let mut numbers = BlockNumbers::new(alloc, &extents)?;
-    let told = [numbers.next(), numbers.next(), numbers.next()];
-    Ok((told, numbers.next().is_none()))
+    let empty = Extent { start: 10, len: 0 };
+    let blocks = Extent { start: 11, len: 2 };
+    if behind {
+        two(alloc, empty, blocks)
+    } else {
+        two(alloc, blocks, empty)
+    }
+}
+
+/// Whether these are the numbers 11 and 12.
+fn are_two(mut numbers: BlockNumbers) -> bool {
+    let first = numbers.next() == Some(11) && numbers.next() == Some(12);
+    first && numbers.next().is_none()
 }
 
 #[test]
 fn an_extent_of_no_blocks_is_passed(rt: HostRuntime) -> Result<(), Fail> {
-    let empty = Extent { start: 10, len: 0 };
-    let first = numbers_of(rt.alloc(), empty, Extent { start: 11, len: 2 })?;
-    assert!(rt; first == ([Some(11), Some(12), None], true));
-    let last = numbers_of(rt.alloc(), Extent { start: 5, len: 3 }, empty)?;
-    assert!(rt; last == ([Some(5), Some(6), Some(7)], true));
+    let behind = with_empty(rt.alloc(), true)?;
+    assert!(rt; are_two(BlockNumbers::new(rt.alloc(), &behind)?));
+    let before = with_empty(rt.alloc(), false)?;
+    assert!(rt; are_two(BlockNumbers::new(rt.alloc(), &before)?));
     Ok(())
 }

@@ -1,6 +1,4 @@
-use Rattle.std.proofs.Common.{◌≡◌, ◌≤◌, ◌+◌, ◌-◌, take, map, length, ℕ, ap, ◌∙◌, arith}
-use Rattle.strat_base.specs.EntryView.{entry_of}
-use Rattle.strat_extent.specs.Blocks.{used_count}
+use Rattle.std.proofs.Common.{◌+◌, ℕ, ap, ◌∙◌, arith}
 use Rattle.strat_array.proofs.TakesLemmas.{used_once_taken}
 use Rattle.strat_array_tests.proofs.WritingLemmas.{one_fits, pending_ascends, pending_then}
 use Rattle.strat_array_tests.proofs.writer.push_all.Goals as goal
