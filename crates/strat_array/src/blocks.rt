@@ -1,10 +1,11 @@
 //! Blocks that are taken and written.
 
-ghost use Rattle.std.specs.Prelude.{◌≡◌, ◌≢◌, ◌<◌, ◌+◌, ◌*◌, List, ◌++◌, ◌∷◌, [], length, OnOk, OnErr, IfOk, IfSome, IfNone};
+ghost use Rattle.std.specs.Prelude.{◌≡◌, ◌≢◌, ℕ, Bool, true, ◌<◌, ◌+◌, ◌*◌, List, ◌++◌, ◌∷◌, [], length, OnOk, OnErr, IfOk, IfSome, IfNone};
 ghost use Rattle.strat_array.specs.Pushed.{AreMaximal};
-ghost use Rattle.strat_array.specs.Sparing.{ChangesOnly};
 ghost use Rattle.strat_array.specs.Taking.{HasFreeBlock, IsLowestTaken};
+ghost use Rattle.strat_array.specs.Within.{EndWithin};
 ghost use Rattle.strat_base.specs.declared.descriptors.Extent.{Extent as TheExtent};
+ghost use Rattle.strat_crash.specs.Blocks.{TearsBlocks};
 ghost use Rattle.strat_crash.specs.Faults.{CountsFaults};
 ghost use Rattle.strat_crash.specs.Moments.{Writes};
 ghost use Rattle.strat_extent.specs.Change.{SameBlocks};
@@ -19,7 +20,8 @@ use strat_extent::Space;
 pub(crate) fn write_block<D: Disk>(disk: &mut D, block: u32, bytes: &[u8]) -> Result<(), Failed>
     requires fits { (length bytes.now ≡ 4096) × (block < 4294967295) }
     ensures ok { OnOk result (Writes (D.view disk.old) (D.view disk.new) (4096 * block) bytes.now) }
-    ensures same { ChangesOnly (block ∷ []) (D.view disk.old) (D.view disk.new) }
+    ensures same { (free : ℕ → Bool) → free block ≡ true
+        → TearsBlocks free (D.view disk.old) (D.view disk.new) }
     ensures cause { CountsFaults (D.faults disk.old) (D.faults disk.new) result }
     ensures reads { D.reads disk.new ≡ D.reads disk.old }
 {
@@ -62,6 +64,8 @@ fn put_block(extents: &mut Extents, block: u32)
         → blocks_of extents.new ≡ blocks_of xs ++ block ∷ [] }
     ensures kept { (xs : List TheExtent) (x : TheExtent) → extents.old ≡ xs ++ x ∷ []
         → AreMaximal xs → AreMaximal extents.new }
+    ensures end { (xs : List TheExtent) (x : TheExtent) → extents.old ≡ xs ++ x ∷ []
+        → EndWithin xs → EndWithin extents.new }
 {
     let n = extents.len();
     if n > 1 {
@@ -84,6 +88,7 @@ pub(crate) fn take_block(extents: &mut Extents, space: &mut Space) -> Result<u32
     ensures found { IfOk result (λ b. IsLowestTaken space.old b space.new) }
     ensures fits { IfOk result (λ b. b < 4294967295) }
     ensures kept { AreMaximal extents.old → AreMaximal extents.new }
+    ensures end { EndWithin extents.old → EndWithin extents.new }
     ensures err { OnErr result (SameBlocks space.old space.new × (extents.new ≡ extents.old)) }
 {
     let place = Extent { start: 0, len: 0 };
