@@ -5,7 +5,7 @@ pub mod PlaceLemmas
 pub mod LeastLemmas
 pub mod SplitLemmas
 pub mod TakenLemmas
-pub mod HangingLemmas
+pub mod ChainLemmas
 pub mod CarrierLemmas
 pub mod GrownLemmas
 pub mod KeyedLemmas
