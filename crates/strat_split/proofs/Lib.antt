@@ -9,3 +9,6 @@ pub mod ChainLemmas
 pub mod CarrierLemmas
 pub mod GrownLemmas
 pub mod KeyedLemmas
+pub mod LeadLemmas
+pub mod PassedLemmas
+pub mod DealtLemmas

@@ -96,7 +96,7 @@ pub record IsDealing (tree : Parents) (plan : Plan) (items : List Item) (deal : 
       → slice_index (labels_of plan items) i < length plan.parts
       → slice_index_or deal.nexts i None
       ≡ first_labelled (labels_of plan items) (slice_index (labels_of plan items) i) (i + 1)
-  pub gifts : (q : ℕ) (test : Item → Bool) → IsTrue (list_all test items)
+  pub gifts : (q : ℕ) (test : Item → Bool) → q < length plan.parts → IsTrue (list_all test items)
       → IsTrue (option_map_or test (slice_index_or deal.gifts q None) true)
   pub given : (parents : Parents) → IsSplitFor tree parents plan items
       → IsGiven parents plan items deal
