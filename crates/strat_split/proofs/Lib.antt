@@ -11,4 +11,6 @@ pub mod GrownLemmas
 pub mod KeyedLemmas
 pub mod LeadLemmas
 pub mod PassedLemmas
+pub mod ShareLemmas
 pub mod DealtLemmas
+pub mod NextLemmas
