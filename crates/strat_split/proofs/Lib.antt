@@ -14,3 +14,4 @@ pub mod PassedLemmas
 pub mod ShareLemmas
 pub mod DealtLemmas
 pub mod NextLemmas
+pub mod WaitingLemmas

@@ -1,5 +1,5 @@
 use Rattle.std.proofs.Common.{refl}
-use Rattle.strat_split.proofs.NextLemmas.{dealing_next}
+use Rattle.strat_split.proofs.WaitingLemmas.{listed_front}
 use Rattle.strat_split.proofs.laws.scratch.Goals as goal
 
 pub returns : goal.returns
