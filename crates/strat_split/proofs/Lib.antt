@@ -15,3 +15,5 @@ pub mod ShareLemmas
 pub mod DealtLemmas
 pub mod NextLemmas
 pub mod WaitingLemmas
+pub mod WorkLemmas
+pub mod FollowLemmas

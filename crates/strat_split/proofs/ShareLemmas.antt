@@ -14,10 +14,10 @@ use Rattle.strat_split.specs.declared.parts.Plan.{Plan}
 use Rattle.strat_split.proofs.ChainLemmas.{labelled_found}
 use Rattle.strat_split.proofs.TakenLemmas.{item_among, version_less}
 
-no_item : Item
+pub no_item : Item
 no_item = record { slot = record { 0 = 0 }; version = 0; gone = false }
 
-among_at : (xs : List Item) (x d : Item) → Among x xs → (i : ℕ) × (i < length xs) × (get_or xs i d ≡ x)
+pub among_at : (xs : List Item) (x d : Item) → Among x xs → (i : ℕ) × (i < length xs) × (get_or xs i d ≡ x)
 among_at [] x d among = absurd among
 among_at (y ∷ ys) x d (inl here) = (0, omega arith, sym here)
 among_at (y ∷ ys) x d (inr there) = let found = among_at ys x d there in (suc found.0, omega (arith, found.1), found.2)

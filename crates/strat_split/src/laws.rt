@@ -63,7 +63,3 @@ pub fn a_split_serves_each_key_that_was_counted()
         → IsSplit parents (own_at groups) (keys_at parents groups) (plan_seen plan)
         → Contains groups (item_versions items) → IsSplitFor tree parents plan items }
 {}
-
-pub fn scratch()
-    ensures { (n : ℕ) → n ≡ n }
-{}
