@@ -1,17 +1,14 @@
 -- One part after another is dealt what it takes.
-use Rattle.std.proofs.Common.{◌≡◌, ◌<◌, ◌≤◌, ◌+◌, ℕ, zero, suc, Bool, true, false, cond, eqb, ltb, ◌&&◌, ◌||◌, inl, inr, List, [], ◌∷◌, ◌++◌, length, filter, get_or, set, Option, Some, None, refl, sym, ap, ◌∙◌, subst, arith, true≢false}
-use Rattle.std.specs.List.{list_all, find, slice_get}
-use Rattle.std.specs.Option.{option_map_or, option_or, is_some}
-use Rattle.std.proofs.lemmas.Bool.{lt-ltb, le-ltb, eq-eqb, ne_eqb, cases_eq, cases_lt, cases_Bool}
-use Rattle.std.proofs.lemmas.List.{get_or-set_same, get_or-set_other, length-set, length-map}
+use Rattle.std.proofs.Common.{◌≡◌, ◌<◌, ◌≤◌, ◌+◌, ℕ, zero, suc, Bool, true, false, cond, eqb, ltb, ◌||◌, inl, inr, List, [], length, get_or, set, Option, Some, None, refl, sym, ap, ◌∙◌, arith, true≢false}
+use Rattle.std.specs.Option.{option_or, is_some}
+use Rattle.std.proofs.lemmas.Bool.{lt-ltb, le-ltb, eq-eqb, ne_eqb, cases_eq, cases_lt}
+use Rattle.std.proofs.lemmas.List.{get_or-set_other, length-map}
 use Rattle.strat_base.specs.Tree.{Parents}
-use Rattle.strat_base.proofs.ListFacts.{Among, all_at, all_from, filter_among, find_some, among_split}
 use Rattle.strat_base.proofs.TreeLemmas.{option_cases}
 use Rattle.strat_arena.specs.declared.items.Item.{Item}
-use Rattle.strat_live.specs.Group.{is_descending, is_live_item}
 use Rattle.strat_plan.specs.Plan.{part_of}
 use Rattle.strat_split.specs.Chains.{first_labelled}
-use Rattle.strat_split.specs.Dealing.{Deal, labels_of, above_of, items_taken, item_leads, taken_over, is_below_last, with_gift, passed_on, IsSplitFor, IsGiven, IsDealing, IsNextPart, TakeNothing}
+use Rattle.strat_split.specs.Dealing.{Deal, labels_of, above_of, items_taken, item_leads, taken_over, with_gift, passed_on, IsSplitFor, IsDealing, IsNextPart, TakeNothing}
 use Rattle.strat_split.specs.Hanging.{carrier_of, carriers_of}
 use Rattle.strat_split.specs.PlanSeen.{part_seen, plan_seen}
 use Rattle.strat_split.specs.Waiting.{has_work}

@@ -1,12 +1,11 @@
 -- The leads of a part, one after another along their chain.
-use Rattle.std.proofs.Common.{◌≡◌, ◌<◌, ◌≤◌, ◌+◌, ◌-◌, ℕ, suc, Bool, true, cond, eqb, List, [], ◌∷◌, ◌++◌, length, filter, drop, get_or, Option, Some, None, refl, sym, ap, ◌∙◌, subst, arith, add-one, drop-cons, append_assoc, length-append}
+use Rattle.std.proofs.Common.{◌≡◌, ◌<◌, ◌≤◌, ◌+◌, ◌-◌, ℕ, suc, Bool, true, cond, eqb, List, [], ◌∷◌, ◌++◌, length, filter, drop, get_or, Option, Some, None, sym, ap, ◌∙◌, arith, add-one, drop-cons, append_assoc}
 use Rattle.std.specs.Option.{option_map_or}
 use Rattle.std.proofs.lemmas.Bool.{eq-eqb}
 use Rattle.std.proofs.lemmas.List.{get_or-map, length-map}
 use Rattle.strat_arena.specs.declared.items.Item.{Item}
 use Rattle.strat_split.specs.Chains.{first_labelled}
 use Rattle.strat_split.specs.Dealing.{labels_of, item_leads}
-use Rattle.strat_split.specs.Shares.{IsLeadChain}
 use Rattle.strat_split.specs.declared.parts.Plan.{Plan}
 use Rattle.strat_split.proofs.ChainLemmas.{labelled_found}
 use Rattle.strat_split.proofs.LeadLemmas.{leads_from, rest_leads}

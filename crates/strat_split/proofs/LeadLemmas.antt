@@ -1,16 +1,16 @@
 -- Leads, and the one live item behind them.
-use Rattle.std.proofs.Common.{◌≡◌, ◌<◌, ◌≤◌, ◌+◌, ◌-◌, ℕ, zero, suc, Bool, true, false, cond, eqb, ltb, ◌&&◌, ◌||◌, not, inl, inr, List, [], ◌∷◌, ◌++◌, length, map, filter, drop, get_or, Option, Some, None, refl, sym, ap, ◌∙◌, subst, arith, true≢false, add-one, drop-cons, append-nil}
+use Rattle.std.proofs.Common.{◌≡◌, ◌<◌, ◌≤◌, ◌+◌, ◌-◌, ℕ, zero, suc, Bool, true, false, cond, eqb, ltb, ◌||◌, not, inl, inr, List, [], ◌∷◌, ◌++◌, length, filter, drop, get_or, Option, Some, None, refl, sym, ap, ◌∙◌, arith, true≢false, add-one, drop-cons, append-nil}
 use Rattle.std.specs.List.{list_any, list_all, find, range_with_len, slice_get}
 use Rattle.std.specs.Option.{option_map_or}
-use Rattle.std.proofs.lemmas.Bool.{and_parts, and_from, ltb-true, lt-ltb, eqb-true, eq-eqb, ne_eqb, false_from_ne_true, not-true, cases_eq, cases_lt}
+use Rattle.std.proofs.lemmas.Bool.{and_parts, and_from, ltb-true, lt-ltb, false_from_ne_true, not-true}
 use Rattle.std.proofs.lemmas.List.{get_or-map, length-map, drop_all}
-use Rattle.strat_base.specs.Tree.{Parents, path, is_ancestor, IsTree}
-use Rattle.strat_base.proofs.ListFacts.{Among, any_from, all_at, all_from, filter_among, find_some, find_none, get_among}
-use Rattle.strat_base.proofs.TreeLemmas.{ancestor_among, path_le, option_cases}
+use Rattle.strat_base.specs.Tree.{Parents, is_ancestor, IsTree}
+use Rattle.strat_base.proofs.ListFacts.{Among, any_from, all_at, filter_among, find_some, find_none, get_among}
+use Rattle.strat_base.proofs.TreeLemmas.{ancestor_among, path_le}
 use Rattle.strat_arena.specs.declared.items.Item.{Item}
 use Rattle.strat_live.specs.Group.{is_descending, is_nearer, is_live_item}
 use Rattle.strat_split.specs.Chains.{first_labelled}
-use Rattle.strat_split.specs.Dealing.{labels_of, item_leads, is_below_last, with_gift}
+use Rattle.strat_split.specs.Dealing.{labels_of, is_below_last, with_gift}
 use Rattle.strat_split.specs.declared.parts.Plan.{Plan}
 use Rattle.strat_split.proofs.ChainLemmas.{labelled_step}
 

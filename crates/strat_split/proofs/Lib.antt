@@ -17,3 +17,4 @@ pub mod NextLemmas
 pub mod WaitingLemmas
 pub mod WorkLemmas
 pub mod FollowLemmas
+pub mod DownLemmas

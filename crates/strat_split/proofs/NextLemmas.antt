@@ -1,21 +1,22 @@
 -- What is known of the parts that are to come, at the start and after each part.
-use Rattle.std.proofs.Common.{◌≡◌, ◌<◌, ◌≤◌, ◌+◌, ℕ, Bool, true, false, cond, eqb, ltb, ◌||◌, inl, inr, List, [], ◌∷◌, length, get_or, set, Option, Some, None, refl, sym, ap, ◌∙◌, subst, arith, true≢false}
+use Rattle.std.proofs.Common.{◌≡◌, ◌<◌, ◌≤◌, ◌+◌, ℕ, Bool, true, false, cond, eqb, ltb, ◌||◌, inl, inr, List, length, get_or, set, Option, Some, None, refl, sym, ap, ◌∙◌, subst, arith, true≢false}
 use Rattle.std.specs.List.{list_all, find}
 use Rattle.std.specs.Option.{option_map_or, option_or, is_some}
-use Rattle.std.proofs.lemmas.Bool.{lt-ltb, le-ltb, cases_eq, cases_lt}
+use Rattle.std.proofs.lemmas.Bool.{le-ltb, cases_eq, cases_lt}
 use Rattle.std.proofs.lemmas.List.{get_or-set_same, get_or-set_other, length-set, length-map}
 use Rattle.strat_base.specs.Tree.{Parents}
 use Rattle.strat_base.proofs.ListFacts.{all_at, find_some}
 use Rattle.strat_arena.specs.declared.items.Item.{Item}
 use Rattle.strat_live.specs.Counting.{are_below}
 use Rattle.strat_live.specs.Group.{is_descending, is_live_item}
-use Rattle.strat_split.specs.Chains.{IsLinked}
-use Rattle.strat_split.specs.Dealing.{Deal, labels_of, above_of, item_leads, taken_over, with_gift, passed_on, IsDealing, IsNextPart, IsSplitFor}
+use Rattle.strat_split.specs.Chains.{first_labelled, IsLinked}
+use Rattle.strat_split.specs.Dealing.{Deal, labels_of, above_of, item_leads, taken_over, with_gift, passed_on, IsDealing}
 use Rattle.strat_split.specs.Hanging.{carriers_of}
+use Rattle.strat_split.specs.Shares.{IsLeadChain}
 use Rattle.strat_split.specs.Waiting.{has_work}
 use Rattle.strat_split.specs.declared.parts.Plan.{Plan}
 use Rattle.strat_split.proofs.DealtLemmas.{work_none, given_next}
-use Rattle.strat_split.proofs.ShareLemmas.{share_all}
+use Rattle.strat_split.proofs.ShareLemmas.{share_all, share_descending, share_some, kept_descending}
 
 -- a part waits for the items that are dealt: it is not dealt yet
 pub still_due : (tree : Parents) (plan : Plan) (items : List Item) (deal : Deal) → IsDealing tree plan items deal → (q : ℕ) → has_work deal.heads deal.gifts q ≡ true → deal.from ≤ q
@@ -48,14 +49,53 @@ same_choice false a b e = refl
 no_work : (heads : List (Option ℕ)) (gifts : List (Option Item)) (q : ℕ) → get_or heads q None ≡ None → get_or gifts q None ≡ None → has_work heads gifts q ≡ false
 no_work heads gifts q first second = λ i. is_some (first i) || is_some (second i)
 
-module _ (tree : Parents) (plan : Plan) (items : List Item) (deal after : Deal) (dealing : IsDealing tree plan items deal) (q : ℕ) (lt : q < length plan.parts) (late : deal.from ≤ q) (least : (r : ℕ) → r < q → has_work deal.heads deal.gifts r ≡ false)
-    (taken : List Item) (taken_is : taken ≡ with_gift (item_leads plan items q) (get_or deal.gifts q None)) (gifts_len : length deal.gifts ≡ length deal.heads)
-    (heads_are : after.heads ≡ set deal.heads q None) (nexts_are : after.nexts ≡ deal.nexts) (from_is : after.from ≡ q + 1)
-    (passed : (r : ℕ) → r < length plan.parts → get_or after.gifts r None ≡ cond (eqb (get_or (carriers_of plan.part_of plan.parts) r 0) q) (passed_on tree plan taken q (set deal.gifts q None) r) (get_or (set deal.gifts q None) r None)) where
+module _ (tree : Parents) (plan : Plan) (items : List Item) (deal : Deal) (dealing : IsDealing tree plan items deal) (q : ℕ) (lt : q < length plan.parts) (taken : List Item) (taken_is : taken ≡ with_gift (item_leads plan items q) (get_or deal.gifts q None)) where
   -- what holds of all items holds of those that the part took
   pub taken_all : (test : Item → Bool) → list_all test items ≡ true → list_all test taken ≡ true
   taken_all test all = ap (list_all test) taken_is ∙ share_all plan items q (get_or deal.gifts q None) test all (dealing.gifts q test lt all)
 
+  pub taken_descending : is_descending taken ≡ true
+  taken_descending = ap is_descending taken_is ∙ share_descending (item_leads plan items q) (get_or deal.gifts q None) (kept_descending (λ item. eqb (get_or plan.part_of item.version 0) q) items dealing.descending)
+
+  pub taken_some : deal.from ≤ q → has_work deal.heads deal.gifts q ≡ true → 0 < length taken
+  taken_some late work = subst (λ (ys : List Item). 0 < length ys) (sym taken_is) (share_some plan items q (get_or deal.heads q None) (get_or deal.gifts q None) (dealing.due q late lt) work)
+
+-- the least part with work has taken its share
+pub record IsStep (tree : Parents) (plan : Plan) (items : List Item) (deal : Deal) (q : ℕ) (taken : List Item) : Type 0 where
+  pub dealing : IsDealing tree plan items deal
+  pub lt : q < length plan.parts
+  pub late : deal.from ≤ q
+  pub work : has_work deal.heads deal.gifts q ≡ true
+  pub least : (r : ℕ) → r < q → has_work deal.heads deal.gifts r ≡ false
+  pub taken_is : taken ≡ with_gift (item_leads plan items q) (get_or deal.gifts q None)
+
+pub step_of : (tree : Parents) (plan : Plan) (items : List Item) (deal now : Deal) (q : ℕ) (gift : Option Item) (taken : List Item) → deal ≡ now → IsDealing tree plan items now → q < length deal.heads → has_work deal.heads deal.gifts q ≡ true → ((r : ℕ) → r < q → has_work deal.heads deal.gifts r ≡ false) → gift ≡ get_or deal.gifts q None → taken ≡ with_gift (item_leads plan items q) gift → IsStep tree plan items deal q taken
+step_of tree plan items deal now q gift taken same dealing within work least gift_is taken_is =
+    let here : IsDealing tree plan items deal = subst (IsDealing tree plan items) (sym same) dealing in
+    record {
+      dealing = here;
+      lt = omega (arith, here.heads_len);
+      late = still_due tree plan items deal here q work;
+      work = work;
+      least = least;
+      taken_is = taken_is ∙ ap (with_gift (item_leads plan items q)) gift_is;
+    }
+
+-- the leads of a part are chained from the first on
+pub lead_chain : (tree : Parents) (plan : Plan) (items : List Item) (deal : Deal) → IsDealing tree plan items deal → (q : ℕ) → q < length plan.parts → deal.from ≤ q → (head : Option ℕ) (nexts : List (Option ℕ)) → head ≡ get_or deal.heads q None → nexts ≡ deal.nexts → IsLeadChain (labels_of plan items) nexts q head
+lead_chain tree plan items deal dealing q lt late head nexts head_is nexts_are =
+    let many : length (labels_of plan items) ≡ length items = length-map items (λ (item : Item). get_or plan.part_of item.version 0) in
+    let as_many : length nexts ≡ length deal.nexts = ap (λ (ns : List (Option ℕ)). length ns) nexts_are in
+    record {
+      first = head_is ∙ dealing.due q late lt;
+      nexts_len = omega (arith, dealing.nexts_len);
+      next = λ i lt_i mine. ap (λ (ns : List (Option ℕ)). get_or ns i None) nexts_are ∙ dealing.next i (omega arith) (omega (arith, mine)) ∙ ap (λ (l : ℕ). first_labelled (labels_of plan items) l (i + 1)) mine;
+    }
+
+module _ (tree : Parents) (plan : Plan) (items : List Item) (deal after : Deal) (dealing : IsDealing tree plan items deal) (q : ℕ) (lt : q < length plan.parts) (late : deal.from ≤ q) (least : (r : ℕ) → r < q → has_work deal.heads deal.gifts r ≡ false)
+    (taken : List Item) (taken_is : taken ≡ with_gift (item_leads plan items q) (get_or deal.gifts q None)) (gifts_len : length deal.gifts ≡ length deal.heads)
+    (heads_are : after.heads ≡ set deal.heads q None) (nexts_are : after.nexts ≡ deal.nexts) (from_is : after.from ≡ q + 1)
+    (passed : (r : ℕ) → r < length plan.parts → get_or after.gifts r None ≡ cond (eqb (get_or (carriers_of plan.part_of plan.parts) r 0) q) (passed_on tree plan taken q (set deal.gifts q None) r) (get_or (set deal.gifts q None) r None)) where
   head_at : (r : ℕ) → get_or after.heads r None ≡ get_or (set deal.heads q None) r None
   head_at r = ap (λ (hs : List (Option ℕ)). get_or hs r None) heads_are
 
@@ -80,8 +120,8 @@ module _ (tree : Parents) (plan : Plan) (items : List Item) (deal after : Deal) 
         | inr apart ↦ ap (λ (o : Option Item). option_map_or test o true) (get_or-set_other deal.gifts q r None None apart) ∙ dealing.gifts r test lt_r all
       ] in
       let given : option_map_or test (passed_on tree plan taken q (set deal.gifts q None) r) true ≡ true =
-          cond_all (ltb q r) (option_or (taken_over tree taken (above_of plan r)) (get_or (set deal.gifts q None) r None)) (get_or (set deal.gifts q None) r None) test
-          (or_all (taken_over tree taken (above_of plan r)) (get_or (set deal.gifts q None) r None) test (over_all tree taken (above_of plan r) test (taken_all test all)) kept) kept in
+      cond_all (ltb q r) (option_or (taken_over tree taken (above_of plan r)) (get_or (set deal.gifts q None) r None)) (get_or (set deal.gifts q None) r None) test
+      (or_all (taken_over tree taken (above_of plan r)) (get_or (set deal.gifts q None) r None) test (over_all tree taken (above_of plan r) test (taken_all tree plan items deal dealing q lt taken taken_is test all)) kept) kept in
       ap (λ (o : Option Item). option_map_or test o true) (passed r lt_r)
       ∙ cond_all (eqb (get_or (carriers_of plan.part_of plan.parts) r 0) q) (passed_on tree plan taken q (set deal.gifts q None) r) (get_or (set deal.gifts q None) r None) test given kept
 

@@ -1,17 +1,16 @@
 -- What parts of a split take, and what is passed on to those that hang below.
-use Rattle.std.proofs.Common.{◌≡◌, ◌<◌, ◌≤◌, ◌+◌, ℕ, zero, suc, Bool, true, false, cond, eqb, ltb, ◌&&◌, ◌||◌, not, inl, inr, List, [], ◌∷◌, length, map, filter, get_or, Option, Some, None, refl, sym, ap, ◌∙◌, subst, arith, true≢false, unwrap_or}
-use Rattle.std.specs.List.{list_any, find, slice_get}
-use Rattle.std.specs.Option.{option_map_or, option_and_then}
-use Rattle.std.proofs.lemmas.Bool.{and_parts, lt-ltb, ltb-true, eqb-true, false_from_ne_true, cases_eq, cases_lt}
+use Rattle.std.proofs.Common.{◌≡◌, ◌<◌, ◌≤◌, ℕ, Bool, true, false, eqb, ltb, ◌||◌, not, inl, inr, List, [], ◌∷◌, length, map, filter, get_or, Option, Some, None, refl, sym, ap, ◌∙◌, subst, arith, unwrap_or}
+use Rattle.std.specs.List.{list_any, find}
+use Rattle.std.proofs.lemmas.Bool.{and_parts, ltb-true, eqb-true, cases_eq, cases_lt}
 use Rattle.std.proofs.lemmas.List.{get_or-map, length-map}
 use Rattle.std.proofs.lemmas.Option.{slice_get-get_or}
-use Rattle.strat_base.specs.Tree.{Parents, parent_of, is_ancestor, IsTree}
+use Rattle.strat_base.specs.Tree.{Parents, is_ancestor}
 use Rattle.strat_base.proofs.ListFacts.{Among, any_from, all_at, among_filter, find_some}
 use Rattle.strat_base.proofs.TreeLemmas.{option_cases, parent_older, along_path}
 use Rattle.strat_arena.specs.declared.items.Item.{Item}
 use Rattle.strat_live.specs.Counting.{SameParents, item_versions, are_below}
 use Rattle.strat_live.specs.Group.{is_descending, is_nearer, is_live_item}
-use Rattle.strat_plan.specs.Plan.{horizon_of, part_of, part_at, in_no_part, IsSplit}
+use Rattle.strat_plan.specs.Plan.{part_of, part_at, in_no_part}
 use Rattle.strat_split.specs.Dealing.{above_of, items_taken, item_leads, taken_over, with_gift, IsSplitFor}
 use Rattle.strat_split.specs.Hanging.{carrier_of, carriers_of}
 use Rattle.strat_split.specs.PlanSeen.{part_seen, plan_seen}
@@ -124,8 +123,8 @@ module _ (tree parents : Parents) (plan : Plan) (items : List Item) (ready : IsS
       let keep : Item → Bool = is_taken_item parents (plan_seen plan) items (part_of (plan_seen plan) p) in
       let same : SameParents (length plan.part_of) tree parents = λ v less. sym (ready.same v less) in
       let found : find (is_live_item tree (filter keep items) p) (filter keep items) ≡ find (is_live_item parents items p) items =
-          find_same (is_live_item tree (filter keep items) p) (is_live_item parents items p) (filter keep items) (λ x among.
-          live_item_same parents ready.rooted (length plan.part_of) tree same (filter keep items) p x known
-          ∙ live_in_carrier parents ready.rooted ready.own ready.live (plan_seen plan) ready.split items down p known (seen (part_of (plan_seen plan) p) inside) x)
-          ∙ find_kept (is_live_item parents items p) keep items (λ x among lives. live_taken parents ready.rooted ready.own ready.live (plan_seen plan) ready.split items x p known (seen (part_of (plan_seen plan) p) inside) lives) in
+      find_same (is_live_item tree (filter keep items) p) (is_live_item parents items p) (filter keep items) (λ x among.
+      live_item_same parents ready.rooted (length plan.part_of) tree same (filter keep items) p x known
+      ∙ live_in_carrier parents ready.rooted ready.own ready.live (plan_seen plan) ready.split items down p known (seen (part_of (plan_seen plan) p) inside) x)
+      ∙ find_kept (is_live_item parents items p) keep items (λ x among lives. live_taken parents ready.rooted ready.own ready.live (plan_seen plan) ready.split items x p known (seen (part_of (plan_seen plan) p) inside) lives) in
       ap (taken_over tree (filter keep items)) above ∙ found ∙ sym (ap (taken_over parents items) above)

@@ -1,8 +1,8 @@
 -- Numbers that descend and are those that pass a test, as parts wait.
-use Rattle.std.proofs.Common.{◌≡◌, ◌<◌, ◌≤◌, ◌+◌, ◌-◌, ℕ, zero, suc, Bool, true, false, eqb, ltb, ◌||◌, ◌⊎◌, inl, inr, List, [], ◌∷◌, ◌++◌, length, get_or, Option, Some, None, refl, sym, ap, ◌∙◌, subst, arith, true≢false, length-append}
+use Rattle.std.proofs.Common.{◌≡◌, ◌<◌, ◌≤◌, ◌+◌, ◌-◌, ℕ, zero, suc, Bool, true, false, eqb, ltb, ◌||◌, ◌⊎◌, inl, inr, List, [], ◌∷◌, ◌++◌, length, get_or, refl, sym, ap, ◌∙◌, arith, true≢false, length-append}
 use Rattle.std.specs.List.{insert}
 use Rattle.std.specs.List.Sorted.{IsPartitionedBy, IsPartitionPoint}
-use Rattle.std.proofs.lemmas.Bool.{ltb-true, ltb-false, lt-ltb, eqb-true, eq-eqb, ne_eqb, or_cases, or_left, or_right, false_from_ne_true, cases_eq, cases_lt, cases_order}
+use Rattle.std.proofs.lemmas.Bool.{ltb-true, ltb-false, lt-ltb, eqb-true, eq-eqb, or_cases, or_left, or_right, false_from_ne_true, cases_eq, cases_lt, cases_order}
 use Rattle.std.proofs.lemmas.List.{get_or_append_left}
 use Rattle.std.proofs.Math.Seq.{get_or-append_seam}
 use Rattle.std.proofs.lemmas.List.Edits.{length-insert, get_or-insert_at, get_or-insert_below, get_or-insert_above}
@@ -138,12 +138,14 @@ module _ (test : ℕ → Bool) (q : ℕ) (off : test q ≡ false) (numbers : Lis
       (λ more. omega arith, λ less. omega arith)
   crowded n lt below (suc k) some =
       let up = crowded n lt below k (omega arith) in
-      let down : get_or numbers (suc k) 0 < get_or numbers k 0 = listed.descends k (suc k) (omega arith) some in
-      (λ more. let last = up.0 (omega arith) in omega arith, λ less. elim (cases_order (get_or numbers k 0) q) [
-        | inl same ↦ absurd (apart k (omega arith) same)
-        | inr (inl low) ↦ let last = up.1 low in omega arith
-        | inr (inr high) ↦ let last = up.0 high in omega arith
-      ])
+      let down : get_or numbers (suc k) 0 < get_or numbers k 0 = listed.descends k (suc k) (omega arith) some in (
+        λ more. let last = up.0 (omega arith) in omega arith,
+        λ less. elim (cases_order (get_or numbers k 0) q) [
+          | inl same ↦ absurd (apart k (omega arith) same)
+          | inr (inl low) ↦ let last = up.1 low in omega arith
+          | inr (inr high) ↦ let last = up.0 high in omega arith
+        ],
+      )
 
   pub listed_room : (n : ℕ) → q < n → ((r : ℕ) → test r ≡ true → r < n) → length numbers < n
   listed_room n lt below = go (length numbers) refl

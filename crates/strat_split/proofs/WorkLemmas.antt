@@ -1,23 +1,21 @@
 -- Which parts have work.
-use Rattle.std.proofs.Common.{◌≡◌, ◌<◌, ◌≤◌, ◌+◌, ◌-◌, ℕ, zero, suc, Bool, true, false, cond, eqb, ltb, ◌||◌, inl, inr, List, [], ◌∷◌, ◌++◌, length, map, get_or, set, Option, Some, None, refl, sym, ap, ◌∙◌, subst, arith, true≢false}
-use Rattle.std.specs.List.{find, position, list_all}
+use Rattle.std.proofs.Common.{◌≡◌, ◌<◌, ◌≤◌, ◌+◌, ℕ, zero, suc, Bool, true, false, cond, eqb, ltb, ◌||◌, inl, inr, List, [], ◌∷◌, ◌++◌, length, get_or, set, Option, Some, None, refl, sym, ap, ◌∙◌, subst, arith, true≢false}
+use Rattle.std.specs.List.{find, position}
 use Rattle.std.specs.Option.{option_map_or, is_some}
-use Rattle.std.proofs.lemmas.Bool.{ltb-true, ltb-false, lt-ltb, le-ltb, eqb-true, eq-eqb, ne_eqb, or_left, or_right, or_cases, cases_eq, cases_lt, cases_order}
-use Rattle.std.proofs.lemmas.List.{get_or-set_same, get_or-set_other, get_or_past, length-map}
+use Rattle.std.proofs.lemmas.Bool.{lt-ltb, le-ltb, eqb-true, eq-eqb, ne_eqb, or_right, cases_eq, cases_lt, cases_order}
+use Rattle.std.proofs.lemmas.List.{get_or-set_same, get_or-set_other, get_or_past}
 use Rattle.std.proofs.lemmas.List.Quantifiers.{position-Some}
 use Rattle.strat_base.specs.Tree.{Parents, IsTree}
-use Rattle.strat_base.proofs.ListFacts.{Among}
 use Rattle.strat_arena.specs.declared.items.Item.{Item}
 use Rattle.strat_live.specs.Counting.{are_below}
 use Rattle.strat_live.specs.Group.{is_live_item}
-use Rattle.strat_split.specs.Chains.{first_labelled}
 use Rattle.strat_split.specs.Shares.{AreFirst, is_led_before}
 use Rattle.strat_split.specs.Waiting.{has_work, IsListed}
 use Rattle.strat_split.proofs.ChainLemmas.{labelled_found}
 use Rattle.strat_split.proofs.PassedLemmas.{find_nothing}
 use Rattle.strat_split.proofs.ShareLemmas.{among_at, no_item}
 use Rattle.strat_split.proofs.TakenLemmas.{none_live, live_past}
-use Rattle.strat_split.proofs.WaitingLemmas.{listed_same, listed_none, listed_front, listed_room, last_passes}
+use Rattle.strat_split.proofs.WaitingLemmas.{listed_front, listed_room, last_passes}
 
 -- a part with work is one of those that have places
 pub work_within : (heads : List (Option ℕ)) (gifts : List (Option Item)) → length gifts ≡ length heads → (q : ℕ) → has_work heads gifts q ≡ true → q < length heads

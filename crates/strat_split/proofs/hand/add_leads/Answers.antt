@@ -1,9 +1,8 @@
-use Rattle.std.proofs.Common.{◌≡◌, ◌<◌, ◌≤◌, ◌+◌, ◌-◌, ◌++◌, ℕ, List, length, get_or, Option, Some, None, refl, sym, ap, ◌∙◌, subst, arith, vec_len, length-append}
+use Rattle.std.proofs.Common.{◌≡◌, ◌<◌, ◌≤◌, ◌+◌, ◌-◌, ◌++◌, ℕ, List, length, get_or, Option, Some, None, refl, sym, ap, ◌∙◌, subst, arith, length-append}
 use Rattle.std.specs.Option.{option_map_or}
 use Rattle.std.proofs.lemmas.List.{length-map}
 use Rattle.strat_arena.specs.declared.items.Item.{Item}
 use Rattle.strat_split.specs.Chains.{first_labelled}
-use Rattle.strat_split.specs.Dealing.{item_leads}
 use Rattle.strat_split.specs.Shares.{labels_in}
 use Rattle.strat_split.proofs.FollowLemmas.{lead_within, leads_all, leads_on, lead_nearer, lead_few}
 use Rattle.strat_split.proofs.LeadLemmas.{rest_leads}

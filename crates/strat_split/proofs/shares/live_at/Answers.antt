@@ -1,6 +1,5 @@
 use Rattle.std.proofs.Common.{sym, ◌∙◌, arith}
 use Rattle.strat_live.specs.Group.{is_live_item}
-use Rattle.strat_split.proofs.ShareLemmas.{no_item}
 use Rattle.strat_split.proofs.WorkLemmas.{find_at, find_nowhere, find_past}
 use Rattle.strat_split.proofs.shares.live_at.Goals as goal
 
