@@ -61,9 +61,10 @@ impl Dealer {
     }
 
     /// Begins with the items of a key, and forgets what is left of those before. O(items) and what those
-    /// before had left, and a move of 4 bytes for each part of a lower number that waits when another
-    /// comes: the items of p parts cost at most p * p / 2 moves. Takes 20 bytes for each item, once for
-    /// the largest key. Where memory is short, only the parts that were to come may be lost.
+    /// before had left, and a move of 4 bytes for each lesser part that waits where another is put among
+    /// them: none where parts and versions stand in one order, and p * p / 2 for items of p parts in the
+    /// worst. Takes 20 bytes for each item, once for the largest key. Where memory is short, the key is
+    /// not begun.
     pub fn begin(&mut self, items: &[Item], plan: &Plan) -> Result<(), NoMemory>
         requires kept { IsTrue (is_descending items.now) }
         requires len { length self.old.heads ≡ length plan.now.parts }
@@ -84,7 +85,8 @@ impl Dealer {
     }
 
     /// The next part that takes something, in ascending order. O(items that it takes), and for each part
-    /// that hangs from it the time of `live_in` in these items.
+    /// that hangs from it the time of `live_in` in these items, and a move of 4 bytes for each lesser part
+    /// that waits if it has no lead. Takes no memory.
     pub fn next_part(
         &mut self,
         items: &[Item],

@@ -121,8 +121,8 @@ fn list_lead(hand: &Hand, heads: &[Option<u32>], waiting: &mut Vec<u32>, i: usiz
     }
 }
 
-/// Lets the parts wait that have a lead. O(items) steps where parts and versions stand in one order. Each
-/// lesser part that waits before costs a move of 4 bytes, so p parts in the worst order cost p * p / 2.
+/// Lets the parts wait that have a lead, as those of the greatest versions come first. O(items), and a move
+/// of 4 bytes for each lesser part that waits where another is put among them.
 pub(crate) fn list_leads(hand: &Hand, heads: &[Option<u32>], waiting: &mut Vec<u32>)
     requires len { IsTrue (are_below (length hand.now.plan.now.part_of) hand.now.items.now) }
     requires found { AreFirst (labels_in hand.now) heads.now }
