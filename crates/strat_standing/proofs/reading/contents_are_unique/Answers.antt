@@ -1,0 +1,5 @@
+use Rattle.strat_standing.proofs.PartsLemmas.{one_contents}
+use Rattle.strat_standing.proofs.reading.contents_are_unique.Goals as goal
+
+pub returns : goal.returns
+returns c = one_contents
