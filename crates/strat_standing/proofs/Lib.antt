@@ -6,3 +6,6 @@ pub mod PartsLemmas
 pub mod AcceptedLemmas
 pub mod FreeLemmas
 pub mod GateLemmas
+pub mod AppendLemmas
+pub mod TableLemmas
+pub mod PublishLemmas

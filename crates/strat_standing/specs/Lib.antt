@@ -1,2 +1,4 @@
 pub mod Contents
 pub mod Standing
+pub mod Appending
+pub mod Publication

@@ -2,6 +2,9 @@
 //! that runs.
 #![tactic(auto)]
 
+pub mod appending;
 pub mod free_blocks;
 pub mod opening;
+pub mod publication;
 pub mod reading;
+pub mod tables;
