@@ -9,3 +9,4 @@ pub mod GateLemmas
 pub mod AppendLemmas
 pub mod TableLemmas
 pub mod PublishLemmas
+pub mod WorkedLemmas

@@ -2,3 +2,4 @@ pub mod Contents
 pub mod Standing
 pub mod Appending
 pub mod Publication
+pub mod Worked

@@ -8,3 +8,4 @@ pub mod opening;
 pub mod publication;
 pub mod reading;
 pub mod tables;
+pub mod worked;
