@@ -1,17 +1,17 @@
 -- A batch that joins the journal keeps contents standing.
-use Rattle.std.proofs.Common.{◌≡◌, ◌≢◌, ◌≤◌, ◌<◌, ◌+◌, ◌*◌, ℕ, true, leb, inl, inr, ◌⊎◌, List, [], ◌∷◌, ◌++◌, length, map, Ok, refl, sym, ap, ◌∙◌, subst, arith}
+use Rattle.std.proofs.Common.{◌≡◌, ◌≢◌, ◌≤◌, ℕ, true, inl, inr, ◌⊎◌, List, [], ◌∷◌, ◌++◌, length, map, Ok, sym, ap, ◌∙◌, subst, arith}
 use Rattle.std.proofs.lemmas.Bool.{leb-true}
 use Rattle.std.proofs.lemmas.List.{length-map}
 use Rattle.strat_base.specs.Change.{Change}
 use Rattle.strat_crash.specs.Image.{Image, SameIn, Outside}
-use Rattle.strat_crash.specs.Moments.{DiskView, Images, Since, Passes, TearsOnly}
+use Rattle.strat_crash.specs.Moments.{DiskView, Images, Since}
 use Rattle.strat_crash.specs.Trail.{Trail}
 use Rattle.strat_crash.proofs.MomentLemmas.{now_since_start}
 use Rattle.strat_crash.proofs.TrailLemmas.{trail_of_either, trail_of_two}
 use Rattle.strat_format.specs.Layout.{region_at, region_size, other_region}
-use Rattle.strat_format.specs.Records.{Logged, journal_of, journal_in_one}
+use Rattle.strat_format.specs.Records.{Logged, journal_of}
 use Rattle.strat_format.proofs.DamageLemmas.{and_then_ok}
-use Rattle.strat_journal.specs.Log.{Log, Stands, GivesAllOrNone, batch_joined}
+use Rattle.strat_journal.specs.Log.{Log, Stands, batch_joined}
 use Rattle.strat_journal.specs.Records.{changes_in_order, journal_changes}
 use Rattle.strat_journal.proofs.AloneLemmas.{narrow, wide}
 use Rattle.strat_recovery.specs.Opened.{parents_in}

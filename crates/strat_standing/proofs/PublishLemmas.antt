@@ -1,27 +1,26 @@
 -- A publication, phase by phase: the next contents are prepared, their superblock is laid, the old region is shut.
-use Rattle.std.proofs.Common.{◌≡◌, ◌≢◌, ◌≤◌, ◌<◌, ◌+◌, ◌-◌, ◌*◌, ℕ, Bool, inl, inr, ◌⊎◌, List, [], ◌∷◌, length, Option, Some, IfSome, Ok, refl, sym, ap, ◌∙◌, subst, arith}
+use Rattle.std.proofs.Common.{◌≡◌, ◌≢◌, ◌≤◌, ◌<◌, ◌*◌, ℕ, Bool, inl, inr, ◌⊎◌, List, [], ◌∷◌, length, Option, Some, IfSome, Ok, sym, ap, ◌∙◌, subst, arith}
 use Rattle.strat_base.specs.Change.{Change}
-use Rattle.strat_base.proofs.ListFacts.{Among}
 use Rattle.strat_crash.specs.Blocks.{TearsBlocks}
-use Rattle.strat_crash.specs.Image.{Image, SameIn, Outside}
-use Rattle.strat_crash.specs.Moments.{DiskView, Exposes, Images, Since, Passes, TearsOnly, IsDurable}
+use Rattle.strat_crash.specs.Image.{Image}
+use Rattle.strat_crash.specs.Moments.{DiskView, Images, Since, Passes, TearsOnly, IsDurable}
 use Rattle.strat_crash.specs.Trail.{Trail}
-use Rattle.strat_crash.proofs.MomentLemmas.{now_since_start, each_then, settled_at, passes_trans}
+use Rattle.strat_crash.proofs.MomentLemmas.{now_since_start, each_then, settled_at}
 use Rattle.strat_crash.proofs.TrailLemmas.{trail_of_one}
-use Rattle.strat_format.specs.Layout.{region_at, region_size, other_region, first_free}
-use Rattle.strat_format.specs.SuperBlock.{Super, Slot, chosen_in, newest_in}
-use Rattle.strat_gate.specs.Laying.{LaysOver, OldOrNew}
+use Rattle.strat_format.specs.Layout.{region_at, other_region, first_free}
+use Rattle.strat_format.specs.SuperBlock.{Slot, newest_in}
+use Rattle.strat_gate.specs.Laying.{LaysOver}
 use Rattle.strat_journal.proofs.AloneLemmas.{empty}
 use Rattle.strat_recovery.specs.StateTable.{table_of}
 use Rattle.strat_model.specs.Table.{Table}
-use Rattle.strat_standing.specs.Contents.{Contents, contents_state, named_blocks}
+use Rattle.strat_standing.specs.Contents.{Contents, contents_state}
 use Rattle.strat_standing.specs.Standing.{LiesIn, IsLogged, ReadsAs, ShowsTable, AreFree, LeavesContent, ContentsStand}
 use Rattle.strat_standing.specs.Publication.{Succeeds, IsPrepared, LaysSuper, HasLaid}
 use Rattle.strat_standing.proofs.FreeLemmas.{still_told, shows_contents, free_reads}
 use Rattle.strat_standing.proofs.GateLemmas.{gate_kept, gate_stands}
 use Rattle.strat_standing.proofs.JournalLemmas.{journal_local}
 use Rattle.strat_standing.proofs.LocalLemmas.{lies_local}
-use Rattle.strat_standing.proofs.PlaceLemmas.{Places, places, newest_chosen, newest_fits, named_behind}
+use Rattle.strat_standing.proofs.PlaceLemmas.{places, newest_chosen, newest_fits, named_behind}
 use Rattle.strat_standing.proofs.TableLemmas.{same_table}
 
 -- two images that differ in the slots alone

@@ -1,7 +1,6 @@
 -- States that say the same mean the same table.
-use Rattle.std.proofs.Common.{◌≡◌, ◌<◌, ℕ, List, [], length, sym, ap, ◌∙◌, arith}
+use Rattle.std.proofs.Common.{◌≡◌, [], ap, ◌∙◌, arith}
 use Rattle.strat_base.specs.Tree.{Parents}
-use Rattle.strat_model.specs.Table.{Row, Table}
 use Rattle.strat_promotion.specs.Promoted.{SaysTheSame}
 use Rattle.strat_recovery.specs.StateTable.{table_of}
 use Rattle.strat_recovery.specs.TableOver.{rows_from}

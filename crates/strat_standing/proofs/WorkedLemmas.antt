@@ -1,13 +1,12 @@
 -- The disk before a publication that is written out.
-use Rattle.std.proofs.Common.{◌≡◌, ◌≢◌, ◌≤◌, ◌<◌, ℕ, zero, suc, Bool, true, false, inl, inr, List, [], ◌∷◌, length, Some, refl, sym, ap, ◌∙◌, subst, arith, true≢false}
+use Rattle.std.proofs.Common.{◌≡◌, ◌≢◌, ◌<◌, ℕ, zero, suc, false, inl, inr, [], ◌∷◌, Some, refl, sym, ap, ◌∙◌, subst, arith, true≢false}
 use Rattle.std.proofs.lemmas.Bool.Decides.{nat_tests}
 use Rattle.strat_base.specs.Change.{Put, Clone}
 use Rattle.strat_base.specs.EntryBytes.{entry_in}
 use Rattle.strat_base.specs.Numbers.{number, be}
 use Rattle.strat_base.specs.Tree.{climb}
 use Rattle.strat_base.specs.Change.{change_in}
-use Rattle.strat_crash.specs.Image.{Image, SameIn, window, over}
-use Rattle.strat_crash.specs.Moments.{Images}
+use Rattle.strat_crash.specs.Image.{window, over}
 use Rattle.strat_format.specs.Arrays.{entries_on}
 use Rattle.strat_format.specs.Block.{block_in, block_bytes, entries_in}
 use Rattle.strat_format.specs.Chain.{link_bytes}
@@ -18,7 +17,7 @@ use Rattle.strat_format.specs.SuperBlock.{IsLawful, slot_of, slot_in, zeros}
 use Rattle.strat_promotion.specs.Promoted.{SaysTheSame}
 use Rattle.strat_recovery.specs.Disks.{formatted, chain_super}
 use Rattle.strat_state.specs.Sound.{IsSound}
-use Rattle.strat_state.specs.State.{State, deep, versions_of, map_at}
+use Rattle.strat_state.specs.State.{State, deep, map_at}
 use Rattle.strat_state.specs.Worked.{array_of, first_level, chain}
 use Rattle.strat_base.specs.Samples.{says}
 use Rattle.strat_model.specs.Table.{Table}

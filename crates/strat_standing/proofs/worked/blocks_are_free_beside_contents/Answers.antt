@@ -1,4 +1,4 @@
-use Rattle.std.proofs.Common.{◌<◌, ℕ, List, [], ◌∷◌, refl, arith, inl, inr, true≢false}
+use Rattle.std.proofs.Common.{[], ◌∷◌, refl, arith, inl, inr, true≢false}
 use Rattle.strat_standing.proofs.ListLemmas.{among_contained}
 use Rattle.strat_standing.proofs.WorkedLemmas.{free_before, free_after}
 use Rattle.strat_standing.proofs.worked.blocks_are_free_beside_contents.Goals as goal
