@@ -3,8 +3,9 @@ use Rattle.std.proofs.Common.{◌≡◌, ◌*◌, ◌/◌, ℕ, Bool, false, Lis
 use Rattle.std.specs.List.{Contains}
 use Rattle.strat_crash.specs.Blocks.{AgreeOn, KeepsTaken, TearsBlocks}
 use Rattle.strat_crash.specs.Image.{Image, SameIn}
-use Rattle.strat_crash.specs.Moments.{DiskView, Exposes, Images, Since, Passes}
+use Rattle.strat_crash.specs.Moments.{DiskView, Exposes, Images, Since, Passes, OnlyReads}
 use Rattle.strat_crash.specs.Trail.{Trail}
+use Rattle.strat_crash.proofs.BlockLemmas.{reads_tear_none}
 use Rattle.strat_crash.proofs.MomentLemmas.{now_since_start, at_told}
 use Rattle.strat_crash.proofs.TrailLemmas.{trail_of_one}
 use Rattle.strat_format.specs.Arrays.{entries_on}
@@ -92,3 +93,14 @@ module _ (free : ℕ → Bool) (x : Contents) (are_free : AreFree free x) where
 -- blocks none of which is free keep their entries
 pub blocks_kept : (free : ℕ → Bool) (blocks : List ℕ) (d c : Image) → ((b : ℕ) → Contains blocks b → free b ≡ false) → KeepsTaken free d c → entries_on c blocks ≡ entries_on d blocks
 blocks_kept free blocks d c taken kept = entries_local d c blocks (λ b among. kept b (taken b (among_contained blocks b among)))
+
+-- a disk that is only read tears no block
+none_free : (x : Contents) → AreFree (λ b. false) x
+none_free x = record { behind = λ b lt. refl; unnamed = λ b named. refl }
+
+module _ (x : Contents) (old new : DiskView) (reads : OnlyReads old new) (s : ContentsStand old x) where
+  pub read_stands : LeavesContent new → ContentsStand new x
+  read_stands = free_stands (λ b. false) x (none_free x) old new (reads_tear_none (λ b. false) old new reads) s
+
+  pub read_trail : Trail ShowsTable new old.moment (table_of (contents_state x) ∷ []) 0
+  read_trail = free_trail (λ b. false) x (none_free x) old new (reads_tear_none (λ b. false) old new reads) s

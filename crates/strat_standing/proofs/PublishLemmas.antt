@@ -1,9 +1,9 @@
 -- A publication, phase by phase: the next contents are prepared, their superblock is laid, the old region is shut.
-use Rattle.std.proofs.Common.{◌≡◌, ◌≢◌, ◌≤◌, ◌<◌, ◌*◌, ℕ, Bool, inl, inr, ◌⊎◌, List, [], ◌∷◌, length, Option, Some, IfSome, Ok, sym, ap, ◌∙◌, subst, arith}
+use Rattle.std.proofs.Common.{refl, ◌≡◌, ◌≢◌, ◌≤◌, ◌<◌, ◌*◌, ℕ, Bool, false, inl, inr, ◌⊎◌, List, [], ◌∷◌, length, Option, Some, IfSome, Ok, sym, ap, ◌∙◌, subst, arith}
 use Rattle.strat_base.specs.Change.{Change}
 use Rattle.strat_crash.specs.Blocks.{TearsBlocks}
 use Rattle.strat_crash.specs.Image.{Image}
-use Rattle.strat_crash.specs.Moments.{DiskView, Images, Since, Passes, TearsOnly, IsDurable}
+use Rattle.strat_crash.specs.Moments.{DiskView, Exposes, Images, Since, Passes, TearsOnly, OnlyReads, IsDurable}
 use Rattle.strat_crash.specs.Trail.{Trail}
 use Rattle.strat_crash.proofs.MomentLemmas.{now_since_start, each_then, settled_at}
 use Rattle.strat_crash.proofs.TrailLemmas.{trail_of_one}
@@ -16,7 +16,7 @@ use Rattle.strat_model.specs.Table.{Table}
 use Rattle.strat_standing.specs.Contents.{Contents, contents_state}
 use Rattle.strat_standing.specs.Standing.{LiesIn, IsLogged, ReadsAs, ShowsTable, AreFree, LeavesContent, ContentsStand}
 use Rattle.strat_standing.specs.Publication.{Succeeds, IsPrepared, LaysSuper, HasLaid}
-use Rattle.strat_standing.proofs.FreeLemmas.{still_told, shows_contents, free_reads}
+use Rattle.strat_standing.proofs.FreeLemmas.{still_told, shows_contents, free_reads, read_stands}
 use Rattle.strat_standing.proofs.GateLemmas.{gate_kept, gate_stands}
 use Rattle.strat_standing.proofs.JournalLemmas.{journal_local}
 use Rattle.strat_standing.proofs.LocalLemmas.{lies_local}
@@ -186,9 +186,12 @@ module _ (v0 v1 : DiskView) (x y : Contents) (free : ℕ → Bool) (s : Contents
         (λ c since. new_shows v1 x y p c (shutting_reads v1 x y p v2 lays laid v3 torn time c since)))
 
 -- a sync after all was written prepares
-pub synced_prepares : (v : DiskView) (x y : Contents) (s : ContentsStand v x) → Succeeds x y → IsDurable v → LiesIn s.content y → IsPrepared v x y
-synced_prepares v x y s next durable lies = record {
-  stands = s;
-  next = next;
-  lies = λ c left. subst (λ (d : Image). LiesIn d y) (sym (settled_at v s.content s.exposed durable c left)) lies;
-}
+pub synced_prepares : (old new : DiskView) (x y : Contents) (s : ContentsStand old x) → Succeeds x y → LiesIn s.content y → OnlyReads old new → IsDurable new → LeavesContent new → IsPrepared new x y
+synced_prepares old new x y s next lies reads durable leaves =
+    let s1 = read_stands x old new reads s leaves in
+    let told : Exposes new s.content = reads.same ∙ s.exposed in
+    record {
+      stands = s1;
+      next = next;
+      lies = λ c left. subst (λ (d : Image). LiesIn d y) (sym (settled_at new s.content told durable c left)) lies;
+    }

@@ -4,7 +4,7 @@ ghost use Rattle.std.specs.Prelude.{◌≡◌, ℕ, Bool, false, List, [], ◌�
 ghost use Rattle.std.specs.List.{Contains};
 ghost use Rattle.strat_crash.specs.Blocks.{KeepsTaken, TearsBlocks};
 ghost use Rattle.strat_crash.specs.Image.{Image};
-ghost use Rattle.strat_crash.specs.Moments.{Images, Since};
+ghost use Rattle.strat_crash.specs.Moments.{Images, Since, OnlyReads};
 ghost use Rattle.strat_crash.specs.Trail.{Trail};
 ghost use Rattle.strat_format.specs.Arrays.{entries_on};
 ghost use Rattle.strat_recovery.specs.StateTable.{table_of};
@@ -26,6 +26,16 @@ pub fn writes_of_free_blocks_keep_contents<D: Viewed>()
     ensures stands { (old new : D) (x : Contents) (free : ℕ → Bool) → AreFree free x
         → TearsBlocks free (D.view old) (D.view new) → ContentsStand (D.view old) x
         → LeavesContent (D.view new) → ContentsStand (D.view new) x }
+{}
+
+/// The same of a disk that is only read, which a sync does too, also one that fails.
+pub fn reads_keep_contents<D: Viewed>()
+    ensures trail { (old new : D) (x : Contents) → OnlyReads (D.view old) (D.view new)
+        → ContentsStand (D.view old) x
+        → Trail ShowsTable (D.view new) (D.view old).moment (table_of (contents_state x) ∷ []) 0 }
+    ensures stands { (old new : D) (x : Contents) → OnlyReads (D.view old) (D.view new)
+        → ContentsStand (D.view old) x → LeavesContent (D.view new)
+        → ContentsStand (D.view new) x }
 {}
 
 /// Blocks that are not free keep their entries, whether contents name them or not.

@@ -1,11 +1,12 @@
 //! Laws of a publication. Each is the contract of a function that does nothing.
 
-ghost use Rattle.std.specs.Prelude.{◌≢◌, ◌⊎◌, ◌*◌, ℕ, Bool, [], ◌∷◌};
+ghost use Rattle.std.specs.Prelude.{◌≢◌, ◌<◌, ◌⊎◌, ℕ, Bool, [], ◌∷◌};
 ghost use Rattle.strat_crash.specs.Blocks.{TearsBlocks};
 ghost use Rattle.strat_crash.specs.Image.{Image};
-ghost use Rattle.strat_crash.specs.Moments.{Images, Since, Passes, TearsOnly, IsDurable};
+ghost use Rattle.strat_crash.specs.Moments.{Images, Since, Passes, TearsOnly, OnlyReads, IsDurable};
 ghost use Rattle.strat_crash.specs.Trail.{Trail};
 ghost use Rattle.strat_format.specs.Layout.{region_at, open_flag};
+ghost use Rattle.strat_format.specs.SuperBlock.{IsLawful};
 ghost use Rattle.strat_gate.specs.Laying.{LaysOver};
 ghost use Rattle.strat_recovery.specs.StateTable.{table_of};
 ghost use Rattle.strat_standing.specs.Contents.{Contents, contents_state};
@@ -14,13 +15,16 @@ ghost use Rattle.strat_standing.specs.Standing.{LiesIn, ReadsAs, ShowsTable, Are
 
 use strat_crash::laws::Viewed;
 
-/// Next contents whose manifest and arrays were written are prepared once a sync succeeded. Then their
-/// superblock may be laid over the newest.
+/// Next contents that lie on the disk beside those that stand there are prepared once a sync succeeded.
+/// Then their superblock may be laid over the newest.
 pub fn a_sync_prepares_the_next_contents<D: Viewed>()
-    ensures prepared { (d : D) (x y : Contents) (s : ContentsStand (D.view d) x) → Succeeds x y
-        → IsDurable (D.view d) → LiesIn s.content y → IsPrepared (D.view d) x y }
+    ensures prepared { (old new : D) (x y : Contents) (s : ContentsStand (D.view old) x)
+        → Succeeds x y → LiesIn s.content y → OnlyReads (D.view old) (D.view new)
+        → IsDurable (D.view new) → LeavesContent (D.view new) → IsPrepared (D.view new) x y }
     ensures over { (d : D) (x y : Contents) (p : IsPrepared (D.view d) x y)
         → LaysOver (D.view d) p.stands.content y.slot y.sb }
+    ensures fits { (d : D) (x y : Contents) → IsPrepared (D.view d) x y
+        → (y.slot < 2) × IsLawful y.sb }
 {}
 
 /// While the superblock of prepared contents is laid each image reads as the old contents or as the new
