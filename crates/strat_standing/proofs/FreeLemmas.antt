@@ -1,5 +1,5 @@
 -- Writes of free blocks change nothing that contents are read from.
-use Rattle.std.proofs.Common.{◌≡◌, ◌*◌, ◌/◌, ℕ, Bool, false, List, [], ◌∷◌, Option, Some, None, IsSome, refl, sym, ◌∙◌, arith, true≢false}
+use Rattle.std.proofs.Common.{◌≡◌, ◌*◌, ◌/◌, ℕ, Bool, false, List, [], ◌∷◌, Option, Some, None, IsSome, refl, sym, ap, ◌∙◌, arith, true≢false}
 use Rattle.std.specs.List.{Contains}
 use Rattle.strat_crash.specs.Blocks.{AgreeOn, KeepsTaken, TearsBlocks}
 use Rattle.strat_crash.specs.Image.{Image, SameIn}
@@ -10,6 +10,7 @@ use Rattle.strat_crash.proofs.MomentLemmas.{now_since_start, at_told}
 use Rattle.strat_crash.proofs.TrailLemmas.{trail_of_one}
 use Rattle.strat_format.specs.Arrays.{entries_on}
 use Rattle.strat_format.specs.Layout.{region_at, other_region, first_free}
+use Rattle.strat_model.specs.Table.{Table}
 use Rattle.strat_recovery.specs.StateTable.{table_of}
 use Rattle.strat_state.specs.Sound.{IsSound}
 use Rattle.strat_standing.specs.Contents.{Contents, contents_state, named_blocks}
@@ -22,6 +23,12 @@ use Rattle.strat_standing.proofs.PlaceLemmas.{places, newest_fits}
 -- an image of contents whose state is sound shows their table
 pub shows_contents : (c : Image) (x : Contents) → IsSound (contents_state x) → ReadsAs c x → ShowsTable c (table_of (contents_state x))
 shows_contents c x sound r = record { state = contents_state x; reads = reads_state c x r; sound = sound; table = refl }
+
+pub one_table : (c : Image) (t u : Table) → ShowsTable c t → ShowsTable c u → t ≡ u
+one_table c t u a b =
+    let e : Some a.state ≡ Some b.state = sym a.reads ∙ b.reads in
+    let same : a.state ≡ b.state = cc in
+    sym a.table ∙ ap table_of same ∙ b.table
 
 -- a disk that exposes its content goes on doing so
 pub record Told (v : DiskView) : Type 0 where

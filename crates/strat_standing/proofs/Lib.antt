@@ -8,5 +8,6 @@ pub mod FreeLemmas
 pub mod GateLemmas
 pub mod AppendLemmas
 pub mod TableLemmas
+pub mod PromotedLemmas
 pub mod PublishLemmas
 pub mod WorkedLemmas

@@ -1,5 +1,5 @@
 -- A publication, phase by phase: the next contents are prepared, their superblock is laid, the old region is shut.
-use Rattle.std.proofs.Common.{refl, ◌≡◌, ◌≢◌, ◌≤◌, ◌<◌, ◌*◌, ℕ, Bool, false, inl, inr, ◌⊎◌, List, [], ◌∷◌, length, Option, Some, IfSome, Ok, sym, ap, ◌∙◌, subst, arith}
+use Rattle.std.proofs.Common.{◌≡◌, ◌≢◌, ◌≤◌, ◌<◌, ◌*◌, ℕ, Bool, inl, inr, ◌⊎◌, List, [], ◌∷◌, length, Option, Some, IfSome, Ok, sym, ap, ◌∙◌, subst, arith}
 use Rattle.strat_base.specs.Change.{Change}
 use Rattle.strat_crash.specs.Blocks.{TearsBlocks}
 use Rattle.strat_crash.specs.Image.{Image}

@@ -1,5 +1,5 @@
 -- The disk before a publication that is written out.
-use Rattle.std.proofs.Common.{◌≡◌, ◌≢◌, ◌<◌, ℕ, zero, suc, false, inl, inr, [], ◌∷◌, Some, refl, sym, ap, ◌∙◌, subst, arith, true≢false}
+use Rattle.std.proofs.Common.{◌≡◌, ◌≤◌, ◌^◌, ◌≢◌, ◌<◌, ℕ, zero, suc, false, inl, inr, [], ◌∷◌, Some, refl, sym, ap, ◌∙◌, subst, arith, true≢false}
 use Rattle.std.proofs.lemmas.Bool.Decides.{nat_tests}
 use Rattle.strat_base.specs.Change.{Put, Clone}
 use Rattle.strat_base.specs.EntryBytes.{entry_in}
@@ -15,7 +15,7 @@ use Rattle.strat_format.specs.Manifest.{all_pass, read_number, read_items, read_
 use Rattle.strat_format.specs.Records.{records}
 use Rattle.strat_format.specs.SuperBlock.{IsLawful, slot_of, slot_in, zeros}
 use Rattle.strat_promotion.specs.Promoted.{SaysTheSame}
-use Rattle.strat_recovery.specs.Disks.{formatted, chain_super}
+use Rattle.strat_recovery.specs.Disks.{formatted}
 use Rattle.strat_state.specs.Sound.{IsSound}
 use Rattle.strat_state.specs.State.{State, deep, map_at}
 use Rattle.strat_state.specs.Worked.{array_of, first_level, chain}
@@ -26,7 +26,7 @@ use Rattle.strat_state.proofs.BreachLemmas.{sound_from_none}
 use Rattle.strat_standing.specs.Contents.{contents_state}
 use Rattle.strat_standing.specs.Standing.{LiesIn, ReadsAs, ShowsTable, AreFree, ContentsStand}
 use Rattle.strat_standing.specs.Publication.{Succeeds, IsPrepared}
-use Rattle.strat_standing.specs.Worked.{resting, new_contents, chain_logged, chain_next, prepared_disk, free_but, miscounted}
+use Rattle.strat_standing.specs.Worked.{resting, new_contents, chain_logged, chain_next, prepared_disk, at_generation, free_but, miscounted}
 use Rattle.strat_standing.proofs.ListLemmas.{contained_among}
 
 formatted_reads : ReadsAs formatted new_contents
@@ -92,10 +92,10 @@ next_says = record {
     each (suc (suc (suc zero))) lt = refl
     each (suc (suc (suc (suc v)))) lt = absurd (omega (arith, lt))
 
-chain_lawful : IsLawful chain_super
-chain_lawful = record {
-  generation_least = omega arith;
-  generation_fits = omega arith;
+chain_lawful : (generation : ℕ) → 1 ≤ generation → generation < 2 ^ 64 → IsLawful (at_generation generation chain_next).sb
+chain_lawful generation least most = record {
+  generation_least = least;
+  generation_fits = most;
   manifest_least = omega arith;
   manifest_most = omega arith;
   length_least = omega arith;
@@ -109,11 +109,11 @@ chain_lawful = record {
   versions_most = omega arith;
 }
 
-pub next_succeeds : Succeeds chain_logged chain_next
-next_succeeds = record {
-  lawful = chain_lawful;
+pub next_succeeds : (generation : ℕ) → 1 < generation → generation < 2 ^ 64 → Succeeds chain_logged (at_generation generation chain_next)
+next_succeeds generation later most = record {
+  lawful = chain_lawful generation (omega (arith, later)) most;
   slot = refl;
-  later = omega arith;
+  later = later;
   region = refl;
   journal = refl;
   sound = next_sound;
@@ -145,7 +145,7 @@ logged_stands = record {
 pub next_prepared : IsPrepared (resting prepared_disk) chain_logged chain_next
 next_prepared = record {
   stands = logged_stands;
-  next = next_succeeds;
+  next = next_succeeds 2 (omega arith) (omega arith);
   lies = λ c is. subst (λ f. LiesIn f chain_next) (sym is) next_lies;
 }
 

@@ -6,7 +6,9 @@ use Rattle.strat_format.specs.Layout.{other_region}
 use Rattle.strat_format.specs.SuperBlock.{Super, IsLawful, newest_in}
 use Rattle.strat_gate.specs.Laying.{LaysOver, OldOrNew}
 use Rattle.strat_promotion.specs.Promoted.{SaysTheSame}
+use Rattle.strat_recovery.specs.Head.{parent_numbers}
 use Rattle.strat_state.specs.Sound.{IsSound}
+use Rattle.strat_state.specs.State.{versions_of, updates_of, changes_of}
 use Rattle.strat_standing.specs.Contents.{Contents, contents_state}
 use Rattle.strat_standing.specs.Standing.{LiesIn, ContentsStand}
 
@@ -42,3 +44,14 @@ pub record HasLaid (old new : DiskView) (slot : ℕ) (sb : Super) : Type 0 where
   pub durable : IsDurable new
   pub found : (f : Image) → LaysOver old f slot sb
       → (c : Image) → Images new c → newest_in c ≡ Ok (Some (slot, sb))
+
+-- the manifest, the limits and the journal of contents are those that a promotion of others leaves,
+-- whatever its levels are
+pub record IsPromotedFrom (old new : Contents) : Type 0 where
+  pub mem : new.sb.mem ≡ old.sb.mem
+  pub changes_max : new.sb.changes_max ≡ old.sb.changes_max
+  pub versions_max : new.sb.versions_max ≡ old.sb.versions_max
+  pub parents : new.chained.manifest.parents ≡ parent_numbers (versions_of (contents_state old))
+  pub updates : new.chained.manifest.updates ≡ updates_of (contents_state old)
+  pub changes : new.chained.manifest.changes ≡ changes_of (contents_state old)
+  pub journal : new.journal ≡ []

@@ -43,6 +43,10 @@ chain_next = record {
   levels = chain.levels;
 }
 
+-- contents with a superblock of another generation
+abbrev pub at_generation : ℕ → Contents → Contents
+at_generation generation x = record x { sb = record (x.sb) { generation = generation } }
+
 -- a disk with the one, and all of the other but the superblock: its array in block 7 and its manifest
 -- in block 8
 abbrev pub prepared_disk : Image

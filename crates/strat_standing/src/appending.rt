@@ -1,6 +1,6 @@
 //! Laws of changes that join the journal. Each is the contract of a function that does nothing.
 
-ghost use Rattle.std.specs.Prelude.{◌⊎◌, ℕ, [], ◌∷◌};
+ghost use Rattle.std.specs.Prelude.{◌≡◌, ◌⊎◌, ℕ, [], ◌∷◌};
 ghost use Rattle.strat_base.specs.Change.{Change};
 ghost use Rattle.strat_crash.specs.Image.{Image};
 ghost use Rattle.strat_crash.specs.Moments.{Since};
@@ -8,17 +8,20 @@ ghost use Rattle.strat_crash.specs.Trail.{Trail};
 ghost use Rattle.strat_journal.specs.Log.{Log, Stands, batch_joined};
 ghost use Rattle.strat_recovery.specs.StateTable.{table_of};
 ghost use Rattle.strat_state.specs.Sound.{IsSound, Takes};
+ghost use Rattle.strat_state.specs.State.{appended};
 ghost use Rattle.strat_standing.specs.Appending.{IsLogOf, with_batch, AppendsBatch};
 ghost use Rattle.strat_standing.specs.Contents.{Contents, contents_state};
 ghost use Rattle.strat_standing.specs.Standing.{ReadsAs, ShowsTable, LeavesContent, ContentsStand};
 
 use strat_crash::laws::Viewed;
 
-/// A journal in memory that is that of contents stands on their disk, as `append` asks; and a change
-/// that the state takes leaves the state sound.
+/// A journal in memory that is that of contents stands on their disk, as `append` asks. A batch of one
+/// change is that change in the state's journal, and leaves a state sound that takes it.
 pub fn contents_hold_their_journal<D: Viewed>()
     ensures stands { (d : D) (x : Contents) (log : Log) → ContentsStand (D.view d) x
         → IsLogOf x log → Stands (D.view d) log }
+    ensures state { (x : Contents) (change : Change)
+        → contents_state (with_batch x (change ∷ [])) ≡ appended (contents_state x) change }
     ensures sound { (x : Contents) (change : Change) → Takes (contents_state x) change
         → IsSound (contents_state (with_batch x (change ∷ []))) }
 {}

@@ -5,7 +5,7 @@
 pub mod appending;
 pub mod free_blocks;
 pub mod opening;
+pub mod promotion;
 pub mod publication;
 pub mod reading;
-pub mod tables;
 pub mod worked;

@@ -7,6 +7,7 @@ ghost use Rattle.strat_crash.specs.Image.{Image, SameIn};
 ghost use Rattle.strat_format.specs.Layout.{region_at, region_size, other_region, first_free};
 ghost use Rattle.strat_format.specs.Records.{Logged, region_records, journal_in_one};
 ghost use Rattle.strat_format.specs.SuperBlock.{newest_in};
+ghost use Rattle.strat_model.specs.Table.{Table};
 ghost use Rattle.strat_recovery.specs.Opening.{recover, reads_as};
 ghost use Rattle.strat_recovery.specs.StateTable.{table_of};
 ghost use Rattle.strat_state.specs.Sound.{IsSound};
@@ -27,9 +28,10 @@ pub fn recovery_finds_contents()
         → ShowsTable c (table_of (contents_state x)) }
 {}
 
-/// An image reads as no more than one thing.
+/// An image reads as one thing, and shows one table.
 pub fn contents_are_unique()
-    ensures { (c : Image) (x y : Contents) → ReadsAs c x → ReadsAs c y → x ≡ y }
+    ensures contents { (c : Image) (x y : Contents) → ReadsAs c x → ReadsAs c y → x ≡ y }
+    ensures table { (c : Image) (t u : Table) → ShowsTable c t → ShowsTable c u → t ≡ u }
 {}
 
 /// Contents are read from the slots, the journal regions and the blocks that they name: images that

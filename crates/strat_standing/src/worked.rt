@@ -6,9 +6,9 @@ ghost use Rattle.strat_model.specs.Table.{Table};
 ghost use Rattle.strat_recovery.specs.Disks.{formatted};
 ghost use Rattle.strat_standing.specs.Appending.{IsLogOf};
 ghost use Rattle.strat_standing.specs.Contents.{named_blocks};
-ghost use Rattle.strat_standing.specs.Publication.{IsPrepared};
+ghost use Rattle.strat_standing.specs.Publication.{Succeeds, IsPrepared, IsPromotedFrom};
 ghost use Rattle.strat_standing.specs.Standing.{ShowsTable, AreFree, ContentsStand};
-ghost use Rattle.strat_standing.specs.Worked.{resting, new_contents, chain_logged, chain_next, prepared_disk, free_but, miscounted};
+ghost use Rattle.strat_standing.specs.Worked.{resting, new_contents, chain_logged, chain_next, prepared_disk, at_generation, free_but, miscounted};
 
 /// A new store stands on a disk that was just formatted, with its journal.
 pub fn new_contents_stand()
@@ -17,9 +17,11 @@ pub fn new_contents_stand()
 {}
 
 /// A disk whose journal is full, and that has the array and the manifest of the same state without a
-/// journal, is prepared for them: so no premise of a publication is empty.
+/// journal, is prepared for them: so no premise of a publication is empty. A generation may be left out.
 pub fn a_disk_is_prepared()
-    ensures { IsPrepared (resting prepared_disk) chain_logged chain_next }
+    ensures prepared { IsPrepared (resting prepared_disk) chain_logged chain_next }
+    ensures promoted { IsPromotedFrom chain_logged chain_next }
+    ensures generation { Succeeds chain_logged (at_generation 3 chain_next) }
 {}
 
 /// The blocks of a manifest come before those of its arrays. Block 6 of the old manifest is free beside
