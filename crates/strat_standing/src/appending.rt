@@ -3,9 +3,10 @@
 ghost use Rattle.std.specs.Prelude.{◌≡◌, ◌⊎◌, ℕ, [], ◌∷◌};
 ghost use Rattle.strat_base.specs.Change.{Change};
 ghost use Rattle.strat_crash.specs.Image.{Image};
-ghost use Rattle.strat_crash.specs.Moments.{Since};
+ghost use Rattle.strat_crash.specs.Moments.{Exposes, Since, Passes, TearsOnly};
 ghost use Rattle.strat_crash.specs.Trail.{Trail};
-ghost use Rattle.strat_journal.specs.Log.{Log, Stands, batch_joined};
+ghost use Rattle.strat_format.specs.Layout.{region_at, region_size};
+ghost use Rattle.strat_journal.specs.Log.{Log, Stands, GivesAllOrNone, batch_joined};
 ghost use Rattle.strat_recovery.specs.StateTable.{table_of};
 ghost use Rattle.strat_state.specs.Sound.{IsSound, Takes};
 ghost use Rattle.strat_state.specs.State.{appended};
@@ -24,6 +25,16 @@ pub fn contents_hold_their_journal<D: Viewed>()
         → contents_state (with_batch x (change ∷ [])) ≡ appended (contents_state x) change }
     ensures sound { (x : Contents) (change : Change) → Takes (contents_state x) change
         → IsSound (contents_state (with_batch x (change ∷ []))) }
+{}
+
+/// The clauses of `append` say just this.
+pub fn appending_is_what_append_does<D: Viewed>()
+    ensures { (old new : D) (log : Log)
+        → TearsOnly (D.view old) (D.view new) (region_at log.mem log.active) (region_size log.mem)
+        → Passes (D.view old) (D.view new)
+        → ((f : Image) → Exposes (D.view old) f → Stands (D.view old) log
+        → (c : Image) → Since (D.view new) (D.view old).moment c → GivesAllOrNone log c)
+        → AppendsBatch (D.view old) (D.view new) log }
 {}
 
 /// While a batch is appended each image reads as before, or with the whole batch: a trail of two

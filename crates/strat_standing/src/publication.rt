@@ -1,13 +1,13 @@
 //! Laws of a publication. Each is the contract of a function that does nothing.
 
-ghost use Rattle.std.specs.Prelude.{◌≢◌, ◌<◌, ◌⊎◌, ℕ, Bool, [], ◌∷◌};
+ghost use Rattle.std.specs.Prelude.{◌≡◌, ◌≢◌, ◌<◌, ◌⊎◌, ◌*◌, ℕ, Bool, [], ◌∷◌, Some, Ok};
 ghost use Rattle.strat_crash.specs.Blocks.{TearsBlocks};
 ghost use Rattle.strat_crash.specs.Image.{Image};
 ghost use Rattle.strat_crash.specs.Moments.{Images, Since, Passes, TearsOnly, OnlyReads, IsDurable};
 ghost use Rattle.strat_crash.specs.Trail.{Trail};
 ghost use Rattle.strat_format.specs.Layout.{region_at, open_flag};
-ghost use Rattle.strat_format.specs.SuperBlock.{IsLawful};
-ghost use Rattle.strat_gate.specs.Laying.{LaysOver};
+ghost use Rattle.strat_format.specs.SuperBlock.{Super, IsLawful, newest_in};
+ghost use Rattle.strat_gate.specs.Laying.{LaysOver, OldOrNew};
 ghost use Rattle.strat_recovery.specs.StateTable.{table_of};
 ghost use Rattle.strat_standing.specs.Contents.{Contents, contents_state};
 ghost use Rattle.strat_standing.specs.Publication.{Succeeds, IsPrepared, LaysSuper, HasLaid};
@@ -25,6 +25,19 @@ pub fn a_sync_prepares_the_next_contents<D: Viewed>()
         → LaysOver (D.view d) p.stands.content y.slot y.sb }
     ensures fits { (d : D) (x y : Contents) → IsPrepared (D.view d) x y
         → (y.slot < 2) × IsLawful y.sb }
+{}
+
+/// The clauses of `lay`, which take its superblock as it is seen, say just this.
+pub fn laying_is_what_lay_does<D: Viewed>()
+    ensures lays { (old new : D) (slot : ℕ) (sb : Super)
+        → TearsOnly (D.view old) (D.view new) (4096 * slot) 4096 → Passes (D.view old) (D.view new)
+        → ((f : Image) → LaysOver (D.view old) f slot sb
+        → (c : Image) → Since (D.view new) (D.view old).moment c → OldOrNew f slot sb c)
+        → LaysSuper (D.view old) (D.view new) slot sb }
+    ensures laid { (old new : D) (slot : ℕ) (sb : Super) → IsDurable (D.view new)
+        → ((f : Image) → LaysOver (D.view old) f slot sb
+        → (c : Image) → Images (D.view new) c → newest_in c ≡ Ok (Some (slot, sb)))
+        → HasLaid (D.view old) (D.view new) slot sb }
 {}
 
 /// While the superblock of prepared contents is laid each image reads as the old contents or as the new
