@@ -1,9 +1,12 @@
 -- Level 0 and its pool after a put.
-use Rattle.std.proofs.Common.{◌≡◌, ◌<◌, ◌≤◌, ◌+◌, ◌*◌, ◌-◌, ◌^◌, ℕ, true, ltb, leb, ◌&&◌, inl, inr, List, [], ◌∷◌, ◌++◌, length, Result, Ok, Err, sym, ap, ◌∙◌, subst, arith}
+use Rattle.std.proofs.Common.{◌≡◌, ◌<◌, ◌≤◌, ◌+◌, ◌*◌, ◌-◌, ◌^◌, ℕ, Bool, true, ltb, leb, ◌&&◌, inl, inr, List, [], ◌∷◌, ◌++◌, length, Result, Ok, Err, refl, sym, ap, ◌∙◌, subst, arith}
 use Rattle.std.proofs.Math.ListN.{set}
-use Rattle.std.specs.List.{insert}
+use Rattle.std.specs.List.{insert, list_all}
+use Rattle.std.specs.Ordering.{match_ordering}
+use Rattle.std.proofs.Common.{Ordering, Less, Equal, Greater}
 use Rattle.std.specs.Result.{IfOk, IfErr}
-use Rattle.std.proofs.lemmas.Bool.{cases_eq, and_parts, leb-true}
+use Rattle.std.proofs.lemmas.Bool.{cases_eq, and_parts, and_from, leb-true}
+use Rattle.strat_base.specs.Order.{entry_cmp}
 use Rattle.strat_base.specs.Entries.{Entry, is_ascending}
 use Rattle.strat_base.specs.Sizes.{is_key}
 use Rattle.strat_base.specs.EntryBytes.{fits_fields, is_markable}
@@ -48,6 +51,7 @@ module _ (pool after : List PoolEntry) (arena : ℕ) (pair : KeyValue) (pushed :
                 shared = omega arith;
                 slots = ap (λ (ps : List KeyValue). have_pairs ps list.items) more ∙ slots_kept (arena_at pool list.arena).pairs (pair ∷ []) list.items stands.slots;
                 ascending = ap (λ (es : List Entry). is_ascending es) reads ∙ stands.ascending;
+                lawful = ap (λ (es : List Entry). list_all fits_fields es) reads ∙ stands.lawful;
               },
               reads,
             )
@@ -60,17 +64,31 @@ module _ (pool after : List PoolEntry) (arena : ℕ) (pair : KeyValue) (pushed :
                 shared = omega arith;
                 slots = ap (λ (x : PoolEntry). have_pairs x.arena.pairs list.items) same ∙ stands.slots;
                 ascending = ap (λ (es : List Entry). is_ascending es) reads ∙ stands.ascending;
+                lawful = ap (λ (es : List Entry). list_all fits_fields es) reads ∙ stands.lawful;
               },
               reads,
             )
       ]
+
+-- what each entry has, and the one that is set, each has afterwards
+set_passes : (p : Entry → Bool) (e : Entry) (entries : List Entry) → p e ≡ true → list_all p entries ≡ true → list_all p (set_entry e entries) ≡ true
+set_passes p e [] one all = and_from (p e) true one refl
+set_passes p e (d ∷ entries) one all =
+    let parts = and_parts (p d) (list_all p entries) all in
+    go parts.0 parts.1 (set_passes p e entries one parts.1) (entry_cmp e.key e.version d.key d.version)
+  where
+    go : p d ≡ true → list_all p entries ≡ true → list_all p (set_entry e entries) ≡ true → (o : Ordering)
+        → list_all p (match_ordering o (e ∷ d ∷ entries) (e ∷ entries) (d ∷ set_entry e entries)) ≡ true
+    go first all rest Less = and_from (p e) (p d && list_all p entries) one (and_from (p d) (list_all p entries) first all)
+    go first all rest Equal = and_from (p e) (list_all p entries) one all
+    go first all rest Greater = and_from (p d) (list_all p (set_entry e entries)) first rest
 
 -- what holds of an arena and items that are those of a list holds of the list's own
 own : (P : ℕ → List Item → Type 0) (list : ItemList) (arena : ℕ) (items : List Item) → arena ≡ list.arena → items ≡ list.items → P arena items → P list.arena list.items
 own P list arena items a i p = subst (λ (xs : List Item). P list.arena xs) i (subst (λ (n : ℕ). P n items) a p)
 
 module _ (pool after : List PoolEntry) (pair : KeyValue) (list new : ItemList) (e : Entry) (item : Item) (stands : ListStands pool list)
-    (pushed : Pushed pool after list.arena pair) (makes : Makes (arena_at pool list.arena).pairs pair item e) where
+    (pushed : Pushed pool after list.arena pair) (makes : Makes (arena_at pool list.arena).pairs pair item e) (fits : fits_fields e ≡ true) where
   put_parts : (place : Result ℕ ℕ) → PutAt pool list.arena list.items list new e item place
       → (entries_held after new ≡ set_entry e (entries_held pool list)) × (have_pairs (arena_at after new.arena).pairs new.items ≡ true)
   put_parts (Ok i) put =
@@ -98,6 +116,7 @@ module _ (pool after : List PoolEntry) (pair : KeyValue) (list new : ItemList) (
           shared = omega arith;
           slots = parts.1;
           ascending = ap (λ (es : List Entry). is_ascending es) parts.0 ∙ set_ascending e (entries_held pool list) stands.ascending;
+          lawful = ap (λ (es : List Entry). list_all fits_fields es) parts.0 ∙ set_passes fits_fields e (entries_held pool list) fits stands.lawful;
         },
         parts.0,
       )
@@ -141,6 +160,7 @@ stands_while old new list same some stands =
         shared = some;
         slots = ap (λ (a : ArenaView). have_pairs a.pairs list.items) same ∙ stands.slots;
         ascending = ap (λ (es : List Entry). is_ascending es) reads ∙ stands.ascending;
+        lawful = ap (λ (es : List Entry). list_all fits_fields es) reads ∙ stands.lawful;
       },
       reads,
     )

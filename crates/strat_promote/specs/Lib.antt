@@ -1,1 +1,4 @@
 pub mod Leads
+pub mod ZeroFields
+pub mod Job
+pub mod Taken

@@ -39,6 +39,7 @@ done c =
     (record { pairs = c.push-slot.ensures.ok; shares = c.push-slot.ensures.kept.0; beside = c.push-slot.ensures.same }))
     (own_makes c.args.pool.now c.arena-arena.result (pair c) (item c) (entry c) c.self.inside.list c.arena-arena.ensures.ok
     (record { slot = c.push-slot.ensures.found; key = refl; version = refl; value = c.stored-gone.ensures.ok }))
+    c.requires.fits
     c.place_of-place.result
     (own_put c.args.pool.now c.arena-arena.result c.items.result.now c.self.inside.list c.put_at.new.self (entry c) (item c) c.place_of-place.result c.arena-arena.ensures.ok c.items.ensures.ok
     (record { found = c.place_of-place.ensures.ok; between = c.place_of-place.ensures.err; over = c.put_at.ensures.ok; beside = c.put_at.ensures.err; stays = c.put_at.ensures.same }))
