@@ -1,0 +1,115 @@
+-- The records of a journal stay while the bytes of their region do.
+use Rattle.std.proofs.Common.{◌≡◌, ◌≤◌, ◌<◌, ◌+◌, ◌-◌, ◌*◌, inl, inr, ℕ, zero, suc, Bool, true, false, cond, eqb, leb, ◌&&◌, not, List, [], ◌∷◌, length, drop, take, Option, Some, None, Ok, refl, sym, ap, ◌∙◌, subst, arith}
+use Rattle.std.specs.Prelude.{option_map, option_and_then}
+use Rattle.std.proofs.lemmas.Bool.{and_parts, eqb-true, cases_Bool}
+use Rattle.std.proofs.lemmas.Option.{cond_some}
+use Rattle.strat_base.specs.Numbers.{number}
+use Rattle.strat_base.specs.Sizes.{is_value}
+use Rattle.strat_base.specs.Fields.{key_field, key_in, value_in}
+use Rattle.strat_base.specs.Change.{Change, Put, Delete, Clone, change_bytes, change_of_kind, change_in}
+use Rattle.strat_base.proofs.FieldLemmas.{key_max, value_max, key_in-some}
+use Rattle.strat_base.proofs.SizeLemmas.{length-put, length-delete, length-clone}
+use Rattle.strat_crash.specs.Image.{Image, SameIn, window}
+use Rattle.strat_crash.proofs.ImageLemmas.{window_same}
+use Rattle.strat_format.specs.Damage.{Read, and_then, passed_or, put_first}
+use Rattle.strat_format.specs.Layout.{region_first, region_at, region_size, other_region, is_open}
+use Rattle.strat_format.specs.Records.{Logged, block_of, record_then, records, region_records, is_other_open, journal_in_one}
+use Rattle.strat_format.proofs.DamageLemmas.{and_then_ok, passed_ok}
+use Rattle.strat_format.proofs.RegionLemmas.{records_few}
+use Rattle.strat_journal.proofs.LaidLemmas.{region_takes}
+use Rattle.strat_recovery.proofs.OpeningLemmas.{map_some, next_some}
+
+value_short : (bytes value : List ℕ) → value_in bytes ≡ Some value → length value ≤ 1024
+value_short bytes value e =
+    let found = cond_some (leb (2 + number 2 bytes) (length bytes) && is_value (take (number 2 bytes) (drop 2 bytes))) (take (number 2 bytes) (drop 2 bytes)) value e in
+    let parts = and_parts (leb (2 + number 2 bytes) (length bytes)) (is_value (take (number 2 bytes) (drop 2 bytes))) found.0 in
+    value_max value (ap is_value (sym found.1) ∙ parts.1)
+
+key_short : (bytes key : List ℕ) → key_in bytes ≡ Some key → length key ≤ 255
+key_short bytes key e = key_max key (key_in-some bytes key e).0
+
+-- the put of a key to a version with the value that follows it
+abbrev put_at : ℕ → List ℕ → List ℕ → Option Change
+put_at v fields key = option_map (λ value. Put v key value) (value_in (drop (length (key_field key)) fields))
+
+-- of any kind, whatever the version and the fields
+kind_short : (kind v : ℕ) (fields : List ℕ) (c : Change) → change_of_kind kind v fields ≡ Some c → length (change_bytes c) ≤ 1287
+kind_short kind v fields c e = by_test (eqb kind 1) (eqb kind 2) (eqb kind 3) e
+  where
+    by_test : (one two three : Bool) → cond one (option_and_then (put_at v fields) (key_in fields)) (cond two (option_map (λ key. Delete v key) (key_in fields)) (cond three (Some (Clone v)) None)) ≡ Some c → length (change_bytes c) ≤ 1287
+    by_test true two three e =
+        let key = next_some (put_at v fields) (key_in fields) c e in
+        let value = map_some (λ value. Put v key.0 value) (value_in (drop (length (key_field key.0)) fields)) c key.2 in
+        subst (λ (d : Change). length (change_bytes d) ≤ 1287) value.2
+        (omega (arith, length-put v key.0 value.0, key_short fields key.0 key.1, value_short (drop (length (key_field key.0)) fields) value.0 value.1))
+    by_test false true three e =
+        let key = map_some (λ key. Delete v key) (key_in fields) c e in
+        subst (λ (d : Change). length (change_bytes d) ≤ 1287) key.2 (omega (arith, length-delete v key.0, key_short fields key.0 key.1))
+    by_test false false true e =
+        let same : Clone v ≡ c = cc in
+        subst (λ (d : Change). length (change_bytes d) ≤ 1287) same (omega (arith, length-clone v))
+    by_test false false false e = absurd (cc)
+
+-- a change that is read has at most 1,287 bytes, whatever bytes it is read from
+pub change_short : (bytes : List ℕ) (c : Change) → change_in bytes ≡ Some c → length (change_bytes c) ≤ 1287
+unfolding change_in
+change_short [] c e = absurd (cc)
+change_short (kind ∷ bytes) c e = by_test (leb 4 (length bytes)) e
+  where
+    by_test : (long : Bool) → cond long (change_of_kind kind (number 4 bytes) (drop 4 bytes)) None ≡ Some c → length (change_bytes c) ≤ 1287
+    by_test true e = kind_short kind (number 4 bytes) (drop 4 bytes) c e
+    by_test false e = absurd (cc)
+
+-- records are read from the bytes between their first gate and the end, where there is room for as many of the largest
+pub records_local : (f c : Image) (start end n at : ℕ) → start ≤ at → at + 1288 * n < end → SameIn start (end - start) f c → records c end n at ≡ records f end n at
+unfolding records
+records_local f c start end zero at low room same = refl
+records_local f c start end (suc n) at low room same =
+    let gate : c at ≡ f at = same.byte at low (omega arith) in
+    let text : window c (at + 1) (end - (at + 1)) ≡ window f (at + 1) (end - (at + 1)) =
+    window_same f c (at + 1) (end - (at + 1)) (record { byte = λ i from to. same.byte i (omega arith) (omega arith) }) in
+    (λ i. cond (is_open (gate i)) (record_then at (λ next. records c end n next) (change_in (text i))) (Ok []))
+    ∙ ap (λ (r : Read (List Logged)). cond (is_open (f at)) r (Ok [])) (by_change (change_in (window f (at + 1) (end - (at + 1)))) (λ change is.
+    records_local f c start end n (at + 1 + length (change_bytes change)) (omega arith) (omega (arith, change_short (window f (at + 1) (end - (at + 1))) change is)) same))
+  where
+    by_change : (o : Option Change) → ((change : Change) → o ≡ Some change → records c end n (at + 1 + length (change_bytes change)) ≡ records f end n (at + 1 + length (change_bytes change)))
+        → record_then at (λ next. records c end n next) o ≡ record_then at (λ next. records f end n next) o
+    by_change None later = refl
+    by_change (Some change) later = ap (λ (r : Read (List Logged)). put_first (record { change = change; block = block_of at }) r) (later change refl)
+
+pub region_local : (f c : Image) (mem region : ℕ) → SameIn (region_at mem region) (region_size mem) f c → region_records c mem region ≡ region_records f mem region
+region_local f c mem region same =
+    records_local f c (region_at mem region) (region_at mem region + region_size mem) mem (region_at mem region) (omega arith) (omega (arith, region_takes mem)) (record { byte = λ i low high. same.byte i low (omega arith) })
+
+-- the journal of one region is read from that region and the first gate of the other
+pub journal_local : (f c : Image) (mem active : ℕ) → SameIn (region_at mem active) (region_size mem) f c → c (region_at mem (other_region active)) ≡ f (region_at mem (other_region active))
+    → journal_in_one c mem active ≡ journal_in_one f mem active
+journal_local f c mem active same gate =
+    λ i. and_then (region_local f c mem active same i) (λ logged. passed_or (region_first mem (other_region active)) (not (eqb (length logged) mem && is_open (gate i))) logged)
+
+-- what a journal's records are, and the test of the other gate
+pub journal_parts : (c : Image) (mem active : ℕ) (logged : List Logged) → journal_in_one c mem active ≡ Ok logged
+    → (region_records c mem active ≡ Ok logged) × (not (eqb (length logged) mem && is_other_open c mem active) ≡ true)
+journal_parts c mem active logged e =
+    let shut : List Logged → Bool = λ l. not (eqb (length l) mem && is_other_open c mem active) in
+    let found = and_then_ok (region_records c mem active) (λ l. passed_or (region_first mem (other_region active)) (shut l) l) logged e in
+    let passed = passed_ok (region_first mem (other_region active)) (shut found.0) found.0 logged found.2 in
+    (found.1 ∙ ap (λ (l : List Logged). Ok l) passed.1, ap shut (sym passed.1) ∙ passed.0)
+
+pub length-journal : (c : Image) (mem active : ℕ) (logged : List Logged) → journal_in_one c mem active ≡ Ok logged → length logged ≤ mem
+length-journal c mem active logged e =
+    records_few c (region_at mem active + region_size mem) mem (region_at mem active) logged (journal_parts c mem active logged e).0
+
+not_full : (n mem : ℕ) (others : Bool) → n < mem → not (eqb n mem && others) ≡ true
+not_full n mem others few = elim (cases_Bool (eqb n mem)) [
+  | inl full ↦ absurd (omega (arith, few, eqb-true n mem full))
+  | inr part ↦ ap (λ (t : Bool). not (t && others)) part
+]
+
+-- a journal that leaves room doesn't look at the other region
+pub journal_kept : (f c : Image) (mem active : ℕ) (logged : List Logged) → SameIn (region_at mem active) (region_size mem) f c → length logged < mem → journal_in_one f mem active ≡ Ok logged
+    → journal_in_one c mem active ≡ Ok logged
+journal_kept f c mem active logged same few e =
+    ap (λ (r : Read (List Logged)). and_then r (λ l. passed_or (region_first mem (other_region active)) (not (eqb (length l) mem && is_other_open c mem active)) l))
+    (region_local f c mem active same ∙ (journal_parts f mem active logged e).0)
+    ∙ ap (λ (t : Bool). passed_or (region_first mem (other_region active)) t logged) (not_full (length logged) mem (is_other_open c mem active) few)

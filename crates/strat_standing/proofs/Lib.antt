@@ -1,0 +1,13 @@
+pub mod ListLemmas
+pub mod LocalLemmas
+pub mod JournalLemmas
+pub mod PlaceLemmas
+pub mod PartsLemmas
+pub mod AcceptedLemmas
+pub mod FreeLemmas
+pub mod GateLemmas
+pub mod AppendLemmas
+pub mod TableLemmas
+pub mod PromotedLemmas
+pub mod PublishLemmas
+pub mod WorkedLemmas

@@ -1,0 +1,23 @@
+-- States that say the same mean the same table.
+use Rattle.std.proofs.Common.{◌≡◌, [], ap, ◌∙◌, arith}
+use Rattle.strat_base.specs.Tree.{Parents}
+use Rattle.strat_promotion.specs.Promoted.{SaysTheSame}
+use Rattle.strat_recovery.specs.StateTable.{table_of}
+use Rattle.strat_recovery.specs.TableOver.{rows_from}
+use Rattle.strat_recovery.proofs.RowLemmas.{rows_same}
+use Rattle.strat_state.specs.State.{State, versions_of, map_at}
+
+pub same_table : (old new : State) → SaysTheSame old new → table_of new ≡ table_of old
+same_table old new says =
+    let rows : rows_from (map_at new) 0 (versions_of new) ≡ rows_from (map_at old) 0 (versions_of old) =
+    ap (λ (parents : Parents). rows_from (map_at new) 0 parents) says.versions
+    ∙ rows_same (map_at old) (map_at new) 0 (versions_of old) (λ v le lt. says.maps v (omega (arith, lt))) in
+    λ i. record {
+      changes_max = says.changes_max i;
+      versions_max = says.versions_max i;
+      rows = rows i;
+      updates = says.updates i;
+      changes = says.changes i;
+      cursors = [];
+      next_cursor = 1;
+    }

@@ -1,0 +1,188 @@
+-- The disk before a publication that is written out.
+use Rattle.std.proofs.Common.{◌≡◌, ◌≤◌, ◌^◌, ◌≢◌, ◌<◌, ℕ, zero, suc, false, inl, inr, [], ◌∷◌, Some, refl, sym, ap, ◌∙◌, subst, arith, true≢false}
+use Rattle.std.proofs.lemmas.Bool.Decides.{nat_tests}
+use Rattle.strat_base.specs.Change.{Put, Clone}
+use Rattle.strat_base.specs.EntryBytes.{entry_in}
+use Rattle.strat_base.specs.Numbers.{number, be}
+use Rattle.strat_base.specs.Tree.{climb}
+use Rattle.strat_base.specs.Change.{change_in}
+use Rattle.strat_crash.specs.Image.{window, over}
+use Rattle.strat_format.specs.Arrays.{entries_on}
+use Rattle.strat_format.specs.Block.{block_in, block_bytes, entries_in}
+use Rattle.strat_format.specs.Chain.{link_bytes}
+use Rattle.strat_format.specs.Chained.{chain_from}
+use Rattle.strat_format.specs.Manifest.{all_pass, read_number, read_items, read_extent, read_array, read_level, read_manifest, manifest_in, manifest_bytes}
+use Rattle.strat_format.specs.Records.{records}
+use Rattle.strat_format.specs.SuperBlock.{IsLawful, slot_of, slot_in, zeros}
+use Rattle.strat_promotion.specs.Promoted.{SaysTheSame}
+use Rattle.strat_recovery.specs.Disks.{formatted}
+use Rattle.strat_state.specs.Sound.{IsSound}
+use Rattle.strat_state.specs.State.{State, deep, map_at}
+use Rattle.strat_state.specs.Worked.{array_of, first_level, chain}
+use Rattle.strat_base.specs.Samples.{says}
+use Rattle.strat_model.specs.Table.{Table}
+use Rattle.strat_recovery.specs.Opening.{reads_as}
+use Rattle.strat_state.proofs.BreachLemmas.{sound_from_none}
+use Rattle.strat_standing.specs.Contents.{contents_state}
+use Rattle.strat_standing.specs.Standing.{LiesIn, ReadsAs, ShowsTable, AreFree, ContentsStand}
+use Rattle.strat_standing.specs.Publication.{Succeeds, IsPrepared}
+use Rattle.strat_standing.specs.Worked.{resting, new_contents, chain_logged, chain_next, prepared_disk, at_generation, free_but, miscounted}
+use Rattle.strat_standing.proofs.ListLemmas.{contained_among}
+
+formatted_reads : ReadsAs formatted new_contents
+unfolding number be window over slot_of slot_in zeros change_in all_pass read_number read_items read_extent read_array read_level read_manifest manifest_in manifest_bytes chain_from records
+formatted_reads = record {
+  newest = refl;
+  lies = record { chain = refl; belonging = refl; arrays = refl };
+  logged = record { logged = []; read = refl; accepted = refl };
+}
+
+prepared_reads : ReadsAs prepared_disk chain_logged
+unfolding number be window over slot_of slot_in zeros change_in all_pass read_number read_items read_extent read_array read_level read_manifest manifest_in manifest_bytes chain_from records
+prepared_reads = record {
+  newest = refl;
+  lies = record { chain = refl; belonging = refl; arrays = refl };
+  logged = record {
+    logged = record { change = Clone 0; block = 2 } ∷ record { change = Put 1 (97 ∷ []) (49 ∷ []); block = 2 } ∷ record { change = Clone 1; block = 2 } ∷ record { change = Clone 2; block = 2 } ∷ [];
+    read = refl;
+    accepted = refl;
+  };
+}
+
+next_lies : LiesIn prepared_disk chain_next
+unfolding number be window over slot_of slot_in zeros change_in all_pass read_number read_items read_extent read_array read_level read_manifest manifest_in manifest_bytes chain_from records block_in block_bytes entry_in entries_in link_bytes entries_on
+next_lies = record { chain = refl; belonging = refl; arrays = refl }
+
+formatted_shut : formatted 16384 ≢ 0xa7
+unfolding over
+formatted_shut e = let bad : 0 ≡ 0xa7 = e in omega (arith, bad)
+
+prepared_shut : prepared_disk 16384 ≢ 0xa7
+unfolding over be manifest_bytes zeros
+prepared_shut e = let bad : 0 ≡ 0xa7 = e in omega (arith, bad)
+
+new_sound : IsSound (contents_state new_contents)
+unfolding climb deep
+new_sound = sound_from_none (contents_state new_contents) (record { tree = refl; numbered = refl; accepted = refl; fits = refl }) refl
+
+logged_sound : IsSound (contents_state chain_logged)
+unfolding climb deep
+logged_sound = sound_from_none (contents_state chain_logged) (record { tree = refl; numbered = refl; accepted = refl; fits = refl }) refl
+
+next_sound : IsSound (contents_state chain_next)
+unfolding climb deep
+next_sound = sound_from_none (contents_state chain_next) (record { tree = refl; numbered = refl; accepted = refl; fits = refl }) refl
+
+next_says : SaysTheSame (contents_state chain_logged) (contents_state chain_next)
+unfolding climb
+next_says = record {
+  mem = refl;
+  changes_max = refl;
+  versions_max = refl;
+  versions = refl;
+  maps = each;
+  updates = refl;
+  changes = refl;
+}
+  where
+    each : (v : ℕ) → v < 4 → map_at (contents_state chain_next) v ≡ map_at (contents_state chain_logged) v
+    each zero lt = refl
+    each (suc zero) lt = refl
+    each (suc (suc zero)) lt = refl
+    each (suc (suc (suc zero))) lt = refl
+    each (suc (suc (suc (suc v)))) lt = absurd (omega (arith, lt))
+
+chain_lawful : (generation : ℕ) → 1 ≤ generation → generation < 2 ^ 64 → IsLawful (at_generation generation chain_next).sb
+chain_lawful generation least most = record {
+  generation_least = least;
+  generation_fits = most;
+  manifest_least = omega arith;
+  manifest_most = omega arith;
+  length_least = omega arith;
+  length_fits = omega arith;
+  region_most = omega arith;
+  mem_least = omega arith;
+  mem_most = omega arith;
+  changes_least = omega arith;
+  changes_most = omega arith;
+  versions_least = omega arith;
+  versions_most = omega arith;
+}
+
+pub next_succeeds : (generation : ℕ) → 1 < generation → generation < 2 ^ 64 → Succeeds chain_logged (at_generation generation chain_next)
+next_succeeds generation later most = record {
+  lawful = chain_lawful generation (omega (arith, later)) most;
+  slot = refl;
+  later = later;
+  region = refl;
+  journal = refl;
+  sound = next_sound;
+  says = next_says;
+}
+
+pub new_stands : ContentsStand (resting formatted) new_contents
+new_stands = record {
+  content = formatted;
+  exposed = refl;
+  left = refl;
+  reads = λ c is. subst (λ f. ReadsAs f new_contents) (sym is) formatted_reads;
+  slots = λ c is. record { byte = λ i low high. λ j. is j i };
+  shut = λ c is up. formatted_shut ((λ j. sym is j 16384) ∙ up);
+  sound = new_sound;
+}
+
+pub logged_stands : ContentsStand (resting prepared_disk) chain_logged
+logged_stands = record {
+  content = prepared_disk;
+  exposed = refl;
+  left = refl;
+  reads = λ c is. subst (λ f. ReadsAs f chain_logged) (sym is) prepared_reads;
+  slots = λ c is. record { byte = λ i low high. λ j. is j i };
+  shut = λ c is up. prepared_shut ((λ j. sym is j 16384) ∙ up);
+  sound = logged_sound;
+}
+
+pub next_prepared : IsPrepared (resting prepared_disk) chain_logged chain_next
+next_prepared = record {
+  stands = logged_stands;
+  next = next_succeeds 2 (omega arith) (omega arith);
+  lies = λ c is. subst (λ f. LiesIn f chain_next) (sym is) next_lies;
+}
+
+-- blocks of the journal are not free
+behind_journal : (first second b : ℕ) → b < 6 → free_but first second b ≡ false
+behind_journal first second b lt = grind (arith, nat_tests)
+
+pub free_before : AreFree (free_but 6 6) chain_logged
+free_before = record {
+  behind = behind_journal 6 6;
+  unnamed = λ b named. elim (contained_among (6 ∷ []) b named) [
+    | inl six ↦ ap (free_but 6 6) six
+    | inr none ↦ absurd none
+  ];
+}
+
+pub free_after : AreFree (free_but 7 8) chain_next
+free_after = record {
+  behind = behind_journal 7 8;
+  unnamed = λ b named. elim (contained_among (8 ∷ 7 ∷ []) b named) [
+    | inl eight ↦ ap (free_but 7 8) eight
+    | inr (inl seven) ↦ ap (free_but 7 8) seven
+    | inr (inr none) ↦ absurd none
+  ];
+}
+
+-- the state that the disk with a wrong count reads as
+abbrev wrong_state : State
+wrong_state = record chain { levels = first_level 4 (array_of 1 (1 ∷ 2 ∷ 3 ∷ []) (says 97 1 49 ∷ []) 2 1 1 ∷ []) }
+
+wrong_read : reads_as miscounted ≡ Some wrong_state
+unfolding number be window over slot_of slot_in zeros change_in all_pass read_number read_items read_extent read_array read_level read_manifest manifest_in manifest_bytes chain_from records block_in block_bytes entry_in entries_in link_bytes entries_on
+wrong_read = refl
+
+pub no_table : (t : Table) → ShowsTable miscounted t → ⊥
+no_table t shows =
+    let e : Some wrong_state ≡ Some shows.state = sym wrong_read ∙ shows.reads in
+    let same : wrong_state ≡ shows.state = cc in
+    let sound : IsSound wrong_state = subst IsSound (sym same) shows.sound in
+    true≢false (sym sound.described)

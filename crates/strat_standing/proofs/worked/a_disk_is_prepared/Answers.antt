@@ -1,0 +1,10 @@
+use Rattle.std.proofs.Common.{refl, arith}
+use Rattle.strat_standing.proofs.WorkedLemmas.{next_succeeds, next_prepared}
+use Rattle.strat_standing.proofs.worked.a_disk_is_prepared.Goals as goal
+
+pub returns : goal.returns
+returns c = record {
+  prepared = next_prepared;
+  promoted = record { mem = refl; changes_max = refl; versions_max = refl; parents = refl; updates = refl; changes = refl; journal = refl };
+  generation = next_succeeds 3 (omega arith) (omega arith);
+}

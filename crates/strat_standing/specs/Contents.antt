@@ -1,0 +1,47 @@
+-- What a store has on its disk, as values: where each part lies is in it, the bytes are not.
+use Rattle.std.specs.Prelude.{ℕ, List, ◌++◌, flat_map}
+use Rattle.strat_base.specs.Change.{Change}
+use Rattle.strat_state.specs.Level.{Level}
+use Rattle.strat_state.specs.State.{State}
+use Rattle.strat_format.specs.Arrays.{blocks_of}
+use Rattle.strat_format.specs.Chained.{Chained}
+use Rattle.strat_format.specs.SuperBlock.{Super}
+use Rattle.strat_recovery.specs.Head.{Head, descriptors}
+use Rattle.strat_recovery.specs.Opened.{parents_in}
+
+-- the contents of a store: its newest superblock and the slot of that, its manifest and the blocks of
+-- its chain, the changes of its journal, and its levels
+pub record Contents : Type 0 where
+  pub slot : ℕ
+  pub sb : Super
+  pub chained : Chained
+  pub journal : List Change
+  pub levels : List Level
+
+-- the head of these contents
+abbrev pub contents_head : Contents → Head
+contents_head x = record { sb = x.sb; manifest = x.chained.manifest; journal = x.journal }
+
+-- the state of these contents
+abbrev pub contents_state : Contents → State
+contents_state x = record {
+  mem = x.sb.mem;
+  changes_max = x.sb.changes_max;
+  versions_max = x.sb.versions_max;
+  parents = parents_in x.chained.manifest;
+  changes = x.chained.manifest.changes;
+  updates = x.chained.manifest.updates;
+  written = x.chained.manifest.written;
+  next_array = x.chained.manifest.next_array;
+  levels = x.levels;
+  journal = x.journal;
+}
+
+-- the blocks that contents name: those of the manifest's chain, and those of its arrays
+abbrev pub named_blocks : Contents → List ℕ
+named_blocks x =
+    x.chained.blocks ++ flat_map (λ a. blocks_of a.extents) (descriptors x.chained.manifest)
+
+-- the same contents with another journal
+abbrev pub with_journal : Contents → List Change → Contents
+with_journal x journal = record x { journal = journal }

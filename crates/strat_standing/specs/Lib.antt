@@ -1,0 +1,5 @@
+pub mod Contents
+pub mod Standing
+pub mod Appending
+pub mod Publication
+pub mod Worked

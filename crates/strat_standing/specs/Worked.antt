@@ -1,0 +1,73 @@
+-- A disk just before a publication, written out, for a journal of four changes: a chain of clones with a
+-- key at its second version.
+use Rattle.std.specs.Prelude.{◌≡◌, ℕ, ◌+◌, nat_le, not, ◌==◌, ◌||◌, ◌&&◌, Bool, [], ◌∷◌, ◌++◌, map, Some}
+use Rattle.strat_base.specs.Change.{Put, Clone}
+use Rattle.strat_base.specs.Numbers.{be}
+use Rattle.strat_base.specs.declared.descriptors.ArrayDesc.{ArrayDesc}
+use Rattle.strat_base.specs.declared.descriptors.LevelDesc.{LevelDesc}
+use Rattle.strat_crash.specs.Image.{Image, patch}
+use Rattle.strat_crash.specs.Moments.{DiskView}
+use Rattle.strat_format.specs.Manifest.{manifest_bytes, new_manifest}
+use Rattle.strat_format.specs.Records.{records_bytes}
+use Rattle.strat_recovery.specs.Disks.{formatted, new_super, chain_manifest, chain_super, array_block, published_by}
+use Rattle.strat_state.specs.Worked.{chain}
+use Rattle.strat_standing.specs.Contents.{Contents}
+
+-- a disk that exposes this image, which is all that a crash leaves
+abbrev pub resting : Image → DiskView
+resting f = record { content = Some f; moment = 0; images_at = λ m c. c ≡ f }
+
+-- the contents of a new store
+abbrev pub new_contents : Contents
+new_contents = record {
+  slot = 0;
+  sb = new_super;
+  chained = record { manifest = new_manifest; blocks = 6 ∷ [] };
+  journal = [];
+  levels = [];
+}
+
+-- with a chain of three clones in the journal, which is full, and a at the first clone
+abbrev pub chain_logged : Contents
+chain_logged = record new_contents {
+  journal = Clone 0 ∷ Put 1 (97 ∷ []) (49 ∷ []) ∷ Clone 1 ∷ Clone 2 ∷ [];
+}
+
+-- the contents that are to take their place
+abbrev pub chain_next : Contents
+chain_next = record {
+  slot = 1;
+  sb = chain_super;
+  chained = record { manifest = chain_manifest; blocks = 8 ∷ [] };
+  journal = [];
+  levels = chain.levels;
+}
+
+-- contents with a superblock of another generation
+abbrev pub at_generation : ℕ → Contents → Contents
+at_generation generation x = record x { sb = record (x.sb) { generation = generation } }
+
+-- a disk with the one, and all of the other but the superblock: its array in block 7 and its manifest
+-- in block 8
+abbrev pub prepared_disk : Image
+prepared_disk =
+    patch (patch (patch formatted 8192 (records_bytes chain_logged.journal)) 28672 array_block)
+    32768 (be 4 0 ++ manifest_bytes chain_manifest)
+
+-- blocks behind the journal are free, but for these two
+abbrev pub free_but : ℕ → ℕ → ℕ → Bool
+free_but first second b = nat_le 6 b && not ((b == first) || (b == second))
+
+-- a descriptor that counts one entry more
+abbrev pub with_one_more : ArrayDesc → ArrayDesc
+with_one_more a = record a { entries = a.entries + 1 }
+
+-- the descriptor of a level whose arrays count so
+abbrev pub level_with_more : LevelDesc → LevelDesc
+level_with_more level = record level { arrays = map with_one_more level.arrays }
+
+-- the published disk with descriptors that count one entry more than their arrays have
+abbrev pub miscounted : Image
+miscounted =
+    published_by chain_super
+    (record chain_manifest { levels = map level_with_more chain_manifest.levels })

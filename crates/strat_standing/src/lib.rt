@@ -1,0 +1,11 @@
+//! What a store stands on, and that a publication changes no table: definitions and laws. The crate has no code
+//! that runs.
+#![tactic(auto)]
+
+pub mod appending;
+pub mod free_blocks;
+pub mod opening;
+pub mod promotion;
+pub mod publication;
+pub mod reading;
+pub mod worked;
