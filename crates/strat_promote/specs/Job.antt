@@ -26,8 +26,8 @@ abbrev pub runs_in : Image → Job → List (List Entry)
 runs_in f job = job.zero ∷ map (leads_in f) job.arrays
 
 -- how many entries they have
-abbrev pub entries_in : Image → Job → ℕ
-entries_in f job = length (grouped_entries (runs_in f job))
+abbrev pub input_count : Image → Job → ℕ
+input_count f job = length (grouped_entries (runs_in f job))
 
 -- the blocks of its arrays
 abbrev pub blocks_read : Job → List ℕ
