@@ -1,1 +1,3 @@
+pub mod LeadRuns
 pub mod Leads
+pub mod TagFields
