@@ -3,13 +3,15 @@
 ghost use Rattle.std.specs.Prelude.{◌≡◌, ℕ, ◌+◌, ◌<◌, ◌≤◌, ◌^◌, [], ◌∷◌, ◌++◌, length, slice_index_or, IfOk, OnOk, OnErr};
 ghost use Rattle.strat_arena.specs.ArenaView.{KeyValue, ArenaView, no_arena, total_size};
 ghost use Rattle.strat_arena.specs.ChunkView.{ChunkView};
+ghost use Rattle.strat_arena.specs.Items.{entry_of_item};
+ghost use Rattle.strat_base.specs.EntryView.{entry_of};
 ghost use Rattle.strat_arena.specs.Chunks.{newest, HasSpace, Extends};
 
 use crate::chunk::Chunk;
-use crate::items::Slot;
+use crate::items::{Item, Slot, val_unless};
 use std::alloc::Global;
 use std::marker::Model;
-use strat_base::NoMemory;
+use strat_base::{Entry, NoMemory};
 
 /// Where a pair lies: the key from `start` up to `mid` in its chunk, and the value from there up to `end`.
 #[derive(Clone, Copy)]
@@ -61,7 +63,8 @@ impl Arena {
     }
 
     /// Makes room for so many more pairs, of so many bytes together. Where bytes are short it takes a
-    /// new chunk for those that are used and those that are asked for; no byte is copied.
+    /// new chunk for those that are used and as many again, or those that are asked for if they are more;
+    /// no byte is copied.
     pub fn reserve(&mut self, pairs: u32, bytes: u32) -> Result<(), NoMemory>
         requires fits { length self.old.pairs + pairs ≤ 2 ^ 32 }
         ensures same { self.new.pairs ≡ self.old.pairs }
@@ -120,6 +123,18 @@ impl Arena {
         self.chunks[place.chunk].part(place.mid, place.end)
     }
 
+    /// The entry of an item. O(1).
+    pub fn entry(&self, item: Item) -> Entry<'_>
+        requires { item.slot.0 < length self.now.pairs }
+        ensures { entry_of result ≡ entry_of_item self.now.pairs item }
+    {
+        Entry {
+            key: self.key(item.slot),
+            version: item.version,
+            val: val_unless(item.gone, self.value(item.slot)),
+        }
+    }
+
     /// Forgets all pairs. What they used is spare again. It takes no memory, and gives all chunks but
     /// the newest back.
     pub fn clear(&mut self)
@@ -150,7 +165,8 @@ fn add_chunk(alloc: Global, chunks: &mut Vec<Chunk>, capacity: usize) -> Result<
 }
 
 /// Has the newest chunk hold all bytes that are used and, beside them, those that are spare or asked
-/// for, whichever are more. The answer is how many are spare then.
+/// for, whichever are more. A new chunk holds at least twice what is used, so that an arena that grows
+/// pair by pair takes memory in proportion to its bytes. The answer is how many are spare then.
 fn make_space(
     alloc: Global,
     chunks: &mut Vec<Chunk>,
@@ -168,11 +184,12 @@ fn make_space(
     if bytes <= spare && !chunks.is_empty() {
         return Ok(spare);
     }
-    let Some(capacity) = used.checked_add(bytes) else {
+    let more = bytes.max(used);
+    let Some(capacity) = used.checked_add(more) else {
         return Err(NoMemory);
     };
     add_chunk(alloc, chunks, capacity)?;
-    Ok(bytes)
+    Ok(more)
 }
 
 /// Copies a pair behind the bytes of a chunk.

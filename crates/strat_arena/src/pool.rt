@@ -2,12 +2,14 @@
 
 ghost use Rattle.std.specs.Prelude.{◌≡◌, ℕ, ◌+◌, ◌-◌, ◌<◌, ◌≤◌, ◌^◌, [], ◌∷◌, ◌++◌, length, slice_index_or, IfOk, OnOk, OnErr, if◌then◌else◌, ◌==◌};
 ghost use Rattle.strat_arena.specs.ArenaView.{KeyValue, ArenaView, no_arena};
+ghost use Rattle.strat_arena.specs.Items.{entry_of_item};
+ghost use Rattle.strat_base.specs.EntryView.{entry_of};
 
 use crate::arena::Arena;
-use crate::items::Slot;
+use crate::items::{Item, Slot};
 use std::alloc::Global;
 use std::marker::Model;
-use strat_base::NoMemory;
+use strat_base::{Entry, NoMemory};
 
 /// An arena of a pool, and how many shares in it there are. One without shares is empty and without
 /// room, and its number may be given to another.
@@ -153,5 +155,14 @@ impl ArenaPool {
             → result.now ≡ (slice_index_or (arena_at self.now n).pairs s.0 d).value }
     {
         self.entries[n as usize].arena.value(s)
+    }
+
+    /// The entry of an item in an arena. O(1).
+    pub fn entry(&self, n: u32, item: Item) -> Entry<'_>
+        requires found { 0 < shares_at self.now n }
+        requires fits { item.slot.0 < length (arena_at self.now n).pairs }
+        ensures { entry_of result ≡ entry_of_item (arena_at self.now n).pairs item }
+    {
+        self.entries[n as usize].arena.entry(item)
     }
 }

@@ -5,6 +5,7 @@ use Rattle.std.specs.List.{list_all, insert}
 use Rattle.std.proofs.lemmas.Bool.{and_parts, and_from, ltb-true, lt-ltb}
 use Rattle.std.proofs.lemmas.List.{get_or-map, map-set, map-append, take-map, drop-map, get_or_append_left, get_or_push}
 use Rattle.strat_base.specs.Entries.{Entry, is_ascending}
+use Rattle.strat_base.specs.EntryBytes.{fits_fields}
 use Rattle.strat_base.proofs.ListFacts.{all_at, all_from, map_same}
 use Rattle.strat_arena.specs.ArenaView.{KeyValue}
 use Rattle.strat_arena.specs.declared.items.Item.{Item}
@@ -102,3 +103,12 @@ module _ (pairs : List KeyValue) (pair : KeyValue) (items : List Item) (item : I
       ∙ (λ j. sym (take-map (entry_of_item now) i items) j ++ pushed_entry j ∷ sym (drop-map (entry_of_item now) i items) j)
       ∙ ap (λ (es : List Entry). insert es i e) (entries_kept pairs (pair ∷ []) items have)
       ∙ sym (set_between (entries_of pairs items) e i at)
+
+-- the entry of an item at a place is lawful where all are
+pub lawful_at : (pairs : List KeyValue) (items : List Item) (i : ℕ) (item : Item) → list_all fits_fields (entries_of pairs items) ≡ true → i < length items → item ≡ get_or items i item
+    → fits_fields (entry_of_item pairs item) ≡ true
+lawful_at pairs [] i item all within is = absurd (omega (arith, within))
+lawful_at pairs (x ∷ items) zero item all within is =
+    ap (λ (y : Item). fits_fields (entry_of_item pairs y)) is ∙ (and_parts (fits_fields (entry_of_item pairs x)) (list_all fits_fields (entries_of pairs items)) all).0
+lawful_at pairs (x ∷ items) (suc i) item all within is =
+    lawful_at pairs items i item (and_parts (fits_fields (entry_of_item pairs x)) (list_all fits_fields (entries_of pairs items)) all).1 (omega (arith, within)) is

@@ -2,17 +2,19 @@
 
 ghost use Rattle.std.specs.List.{find, insert, slice_get};
 ghost use Rattle.std.specs.Option.{option_copied};
-ghost use Rattle.std.specs.Prelude.{◌≡◌, ◌<◌, ◌≤◌, ◌+◌, length, slice_set, slice_index_or, option_and_then, IfSome, IfOk, IfErr, MatchResult, vec_capacity, if◌then◌else◌, ◌==◌};
+ghost use Rattle.std.specs.Prelude.{◌≡◌, ◌<◌, ◌≤◌, ◌+◌, length, slice_set, slice_index_or, option_and_then, IfSome, IfOk, IfErr, IsTrue, MatchResult, vec_capacity, if◌then◌else◌, ◌==◌};
 ghost use Rattle.strat_arena.specs.ArenaView.{no_arena};
 ghost use Rattle.strat_arena.specs.PoolView.{arena_at, shares_at, count_shared, SameBeside};
-ghost use Rattle.strat_base.specs.Entries.{Entry, is_of};
+ghost use Rattle.strat_base.specs.Entries.{Entry as KeyEntry, is_of};
+ghost use Rattle.strat_base.specs.EntryBytes.{fits_fields};
+ghost use Rattle.strat_base.specs.EntryView.{entry_of};
 ghost use Rattle.strat_level.specs.Memtable.{entries_held, ListStands};
 ghost use Rattle.strat_state.specs.Live.{live};
 
 use crate::search::key_range;
 use std::marker::Model;
 use strat_arena::{ArenaPool, Item};
-use strat_base::Version;
+use strat_base::{Entry, Version};
 use strat_live::live_in;
 use strat_tree::Tree;
 
@@ -77,7 +79,7 @@ impl ZeroView {
     pub fn value<'a>(&self, pool: &'a ArenaPool, place: usize) -> Option<&'a [u8]>
         requires kept { ListStands pool.now self.now }
         requires fits { place < length self.now.items }
-        ensures ok { (d : Entry) → option_copied result
+        ensures ok { (d : KeyEntry) → option_copied result
             ≡ (slice_index_or (entries_held pool.now self.now) place d).value }
     {
         let item = self.items[place];
@@ -86,6 +88,17 @@ impl ZeroView {
         } else {
             Some(pool.value(self.arena, item.slot))
         }
+    }
+
+    /// The entry at a place. O(1).
+    pub fn entry<'a>(&self, pool: &'a ArenaPool, place: usize) -> Entry<'a>
+        requires kept { ListStands pool.now self.now }
+        requires fits { place < length self.now.items }
+        ensures ok { (d : KeyEntry)
+            → entry_of result ≡ slice_index_or (entries_held pool.now self.now) place d }
+        ensures fits { IsTrue (fits_fields (entry_of result)) }
+    {
+        pool.entry(self.arena, self.items[place])
     }
 
     /// Gives the share in the arena back.

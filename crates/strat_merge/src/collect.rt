@@ -37,8 +37,8 @@ fn ends_at(group: &GroupBuf, version: Version) -> bool
     }
 }
 
-/// Copies an entry into the arena, and adds its item.
-fn add_entry(arena: &mut Arena, group: &mut GroupBuf, entry: &Entry<'_>) -> Result<(), NoMemory>
+/// Copies an entry into an arena, and adds its item to those whose pairs lie there. O(bytes of the entry).
+pub fn add_entry(arena: &mut Arena, group: &mut GroupBuf, entry: &Entry<'_>) -> Result<(), NoMemory>
     requires fits { IsTrue (fits_fields (entry_of entry.now)) }
     requires len { length arena.old.pairs ≡ length group.old }
     requires kept { IsTrue (have_pairs arena.old.pairs group.old) }

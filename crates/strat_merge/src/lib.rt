@@ -9,6 +9,7 @@ mod merger;
 mod purging;
 mod run;
 
+pub use collect::add_entry;
 pub use group::GroupBuf;
 pub use merger::Merger;
 pub use purging::purge;
