@@ -1,5 +1,5 @@
 -- Entries of blocks that are read one after another.
-use Rattle.std.proofs.Common.{◌≡◌, ◌<◌, ◌*◌, ◌⊎◌, ℕ, Bool, true, false, cond, ltb, leb, ◌&&◌, inl, inr, List, [], ◌∷◌, ◌++◌, length, Option, Some, None, refl, sym, ap, ◌∙◌, subst, true≢false, arith, append_assoc}
+use Rattle.std.proofs.Common.{◌≡◌, ◌<◌, ◌-◌, ◌*◌, ◌⊎◌, ℕ, suc, get_or, IsSome, IfSome, length-append, Bool, true, false, cond, ltb, leb, ◌&&◌, inl, inr, List, [], ◌∷◌, ◌++◌, length, Option, Some, None, refl, sym, ap, ◌∙◌, subst, true≢false, arith, append_assoc}
 use Rattle.std.specs.List.{list_all, filter, slice_get, Contains}
 use Rattle.std.specs.Option.{option_map_or, option_map, option_and_then}
 use Rattle.std.specs.Ordering.{is_lt}
@@ -20,6 +20,12 @@ use Rattle.strat_format.specs.Arrays.{block_on, entries_on}
 use Rattle.strat_format.proofs.BlockLemmas.{block_in-some}
 use Rattle.strat_state.proofs.SettingLemmas.{order, order_trans, stands_first, first_of}
 use Rattle.strat_plan.proofs.ListLemmas.{filter_ascending}
+use Rattle.strat_array.specs.Kept.{Kept}
+use Rattle.strat_crash.specs.Moments.{DiskView, Exposes}
+use Rattle.strat_crash.specs.Faults.{ReadsAtMost}
+use Rattle.strat_merge.specs.Runs.{ReadsFront}
+use Rattle.std.proofs.lemmas.List.{append-nil}
+use Rattle.strat_promote.specs.LeadRuns.{BlockReading, entries_held, key_alone, misfit_from}
 use Rattle.strat_promote.specs.Leads.{comes_after, last_of, entries_after, misfit_after}
 
 -- entries ascend, and the first of them comes after one, if there is one
@@ -136,3 +142,155 @@ read_ascends c before (b ∷ blocks) =
         | inr back ↦ ap (ascends_after before) (entries_back c before b blocks some.0 some.1 back) ∙ after_nothing before
       ]
     ]
+
+-- the last of some entries is one of them
+pub last_at : (before : Option Entry) (entries : List Entry) (d : Entry) → 0 < length entries → last_of before entries ≡ Some (get_or entries (length entries - 1) d)
+last_at before [] d some = absurd (omega arith)
+last_at before (e ∷ []) d some = refl
+last_at before (e ∷ f ∷ entries) d some =
+    let n : length (e ∷ f ∷ entries) - 1 ≡ suc (length (f ∷ entries) - 1) = omega arith in
+    last_at (Some e) (f ∷ entries) d (omega arith) ∙ ap (λ (i : ℕ). Some (get_or (e ∷ f ∷ entries) i d)) (sym n)
+
+pub last_same : (before : Option Entry) (entries : List Entry) → 0 < length entries → last_of before entries ≡ last_of None entries
+last_same before [] some = absurd (omega arith)
+last_same before (e ∷ entries) some = refl
+
+pub last_among : (e : Entry) (entries : List Entry) → (l : Entry) × Among l (e ∷ entries) × (last_of (Some e) entries ≡ Some l)
+last_among e [] = (e, inl refl, refl)
+last_among e (f ∷ entries) = let rest = last_among f entries in (rest.0, inr rest.1, rest.2)
+
+-- of entries that come after one, the first decides
+pub comes_first : (before : Option Entry) (entries : List Entry) (e : Entry) → 0 < length entries → ((d : Entry) → e ≡ get_or entries 0 d) → comes_after before entries ≡ comes_after before (e ∷ [])
+comes_first before [] e some is = absurd (omega arith)
+comes_first None (f ∷ entries) e some is = refl
+comes_first (Some b) (f ∷ entries) e some is = ap (λ (x : Entry). is_lt (order b x)) (sym (is f))
+
+-- a key and a version decide what comes after an entry
+pub comes_after_key : (before : Option Entry) (entries : List Entry) → comes_after (key_alone before) entries ≡ comes_after before entries
+comes_after_key None entries = refl
+comes_after_key (Some e) [] = refl
+comes_after_key (Some e) (d ∷ entries) = refl
+
+-- so they decide which block is bad
+pub misfit_after_key : (c : Image) (before : Option Entry) (b : ℕ) (blocks : List ℕ) → misfit_after c (key_alone before) (b ∷ blocks) ≡ misfit_after c before (b ∷ blocks)
+misfit_after_key c before b blocks =
+    elim (option_cases (block_on c b)) [
+      | inl none ↦ misfit_none c (key_alone before) b blocks none ∙ sym (misfit_none c before b blocks none)
+      | inr some ↦
+          let filled : 0 < length some.0 = (block_ascends c b some.0 some.1).some in
+          elim (cases_Bool (comes_after before some.0)) [
+            | inl after ↦
+                misfit_step c (key_alone before) b blocks some.0 some.1 (comes_after_key before some.0 ∙ after)
+                ∙ ap (λ (o : Option Entry). misfit_after c o blocks) (last_same (key_alone before) some.0 filled ∙ sym (last_same before some.0 filled))
+                ∙ sym (misfit_step c before b blocks some.0 some.1 after)
+            | inr back ↦
+                misfit_back c (key_alone before) b blocks some.0 some.1 (comes_after_key before some.0 ∙ back)
+                ∙ sym (misfit_back c before b blocks some.0 some.1 back)
+          ]
+    ]
+
+-- the last entry of a block that a scratch holds
+pub last_held : (held : Option Kept) (len : ℕ) (e : Entry) → len ≡ length (entries_held held) → (len ≡ 0 → ⊥) → IfSome held (λ kept. (d : Entry) → e ≡ get_or kept.1 (len - 1) d) → Some e ≡ last_of None (entries_held held)
+last_held None len e is some there = absurd (some is)
+last_held (Some kept) len e is some there =
+    ap (λ (x : Entry). Some x) (there e ∙ ap (λ (n : ℕ). get_or kept.1 (n - 1) e) is) ∙ sym (last_at None kept.1 e (omega arith))
+
+-- the first entry of a block that a scratch holds
+pub first_held : (before : Option Entry) (held : Option Kept) (e : Entry) → 0 < length (entries_held held) → IfSome held (λ kept. (d : Entry) → e ≡ get_or kept.1 0 d) → comes_after before (entries_held held) ≡ comes_after before (e ∷ [])
+first_held before None e some there = absurd (omega arith)
+first_held before (Some kept) e some there = comes_first before kept.1 e some there
+
+-- a block was read at most once
+pub one_read : (b : ℕ) (blocks : List ℕ) (before now : ℕ) → ReadsAtMost 1 before now → ReadsFront (b ∷ blocks) blocks before now
+one_read b blocks before now reads = record { read = b ∷ []; split = refl; later = reads.later; most = reads.bound }
+
+-- nothing is left to read
+pub last_read : (b : ℕ) (blocks : List ℕ) (before now : ℕ) → ReadsAtMost 1 before now → ReadsFront (b ∷ blocks) [] before now
+last_read b blocks before now reads =
+    record { read = b ∷ blocks; split = sym (append-nil (b ∷ blocks)); later = reads.later; most = let m = reads.bound in omega arith }
+
+pub front_refl : (blocks : List ℕ) (n : ℕ) → ReadsFront blocks blocks n n
+front_refl blocks n = record { read = []; split = refl; later = omega arith; most = omega arith }
+
+pub front_trans : (a b c : List ℕ) (p q r : ℕ) → ReadsFront a b p q → ReadsFront b c q r → ReadsFront a c p r
+front_trans a b c p q r one two =
+    record {
+      read = one.read ++ two.read;
+      split = one.split ∙ ap (λ (x : List ℕ). one.read ++ x) two.split ∙ sym (append_assoc one.read two.read c);
+      later = let l = one.later in let m = two.later in omega arith;
+      most = let l = one.most in let m = two.most in omega (arith, length-append {A = ℕ});
+    }
+
+-- a block that is still to be read was so before
+pub front_contains : (a b : List ℕ) (p q n : ℕ) → ReadsFront a b p q → Contains b n → Contains a n
+front_contains a b p q n front here = subst (λ (xs : List ℕ). Contains xs n) (sym front.split) (Contains-append_right front.read b n here)
+
+-- the blocks of two images that have the same bytes are read alike
+module _ (c d : Image) where
+  same_block : (b : ℕ) (blocks : List ℕ) → AgreeOn (b ∷ blocks) c d → block_on d b ≡ block_on c b
+  same_block b blocks agree = ap block_in (window_same c d (4096 * b) 4096 (agree b (0, omega arith, refl)))
+
+  later_blocks : (b : ℕ) (blocks : List ℕ) → AgreeOn (b ∷ blocks) c d → AgreeOn blocks c d
+  later_blocks b blocks agree n here = agree n (Contains-append_right (b ∷ []) blocks n here)
+
+  pub entries_same : (before : Option Entry) (blocks : List ℕ) → AgreeOn blocks c d → entries_after c before blocks ≡ entries_after d before blocks
+  entries_same before [] agree = nothing_after c before ∙ sym (nothing_after d before)
+  entries_same before (b ∷ blocks) agree =
+      let same = same_block b blocks agree in
+      elim (option_cases (block_on c b)) [
+        | inl none ↦ entries_none c before b blocks none ∙ sym (entries_none d before b blocks (same ∙ none))
+        | inr some ↦ elim (cases_Bool (comes_after before some.0)) [
+          | inl after ↦
+              entries_step c before b blocks some.0 some.1 after
+              ∙ ap (λ (xs : List Entry). some.0 ++ xs) (entries_same (last_of before some.0) blocks (later_blocks b blocks agree))
+              ∙ sym (entries_step d before b blocks some.0 (same ∙ some.1) after)
+          | inr back ↦ entries_back c before b blocks some.0 some.1 back ∙ sym (entries_back d before b blocks some.0 (same ∙ some.1) back)
+        ]
+      ]
+
+  pub misfit_same : (before : Option Entry) (blocks : List ℕ) → AgreeOn blocks c d → misfit_after c before blocks ≡ misfit_after d before blocks
+  misfit_same before [] agree = no_misfit c before ∙ sym (no_misfit d before)
+  misfit_same before (b ∷ blocks) agree =
+      let same = same_block b blocks agree in
+      elim (option_cases (block_on c b)) [
+        | inl none ↦ misfit_none c before b blocks none ∙ sym (misfit_none d before b blocks (same ∙ none))
+        | inr some ↦ elim (cases_Bool (comes_after before some.0)) [
+          | inl after ↦
+              misfit_step c before b blocks some.0 some.1 after
+              ∙ misfit_same (last_of before some.0) blocks (later_blocks b blocks agree)
+              ∙ sym (misfit_step d before b blocks some.0 (same ∙ some.1) after)
+          | inr back ↦ misfit_back c before b blocks some.0 some.1 back ∙ sym (misfit_back d before b blocks some.0 (same ∙ some.1) back)
+        ]
+      ]
+
+-- how many entries a block has that a scratch holds
+pub held_count : (held : Option Kept) (n : ℕ) → IsSome held → IfSome held (λ kept. n ≡ length kept.1) → n ≡ length (entries_held held)
+held_count None n some is = absurd (true≢false (sym some))
+held_count (Some kept) n some is = is
+
+-- what a scratch read is the block of an image
+pub held_on : (held : Option Kept) (A : Kept → Type 0) (v : DiskView) (b : ℕ) → IsSome held → IfSome held (λ kept. A kept × ((f : Image) → Exposes v f → block_on f b ≡ Some kept.1))
+    → (f : Image) → Exposes v f → block_on f b ≡ Some (entries_held held)
+held_on None A v b some is = absurd (true≢false (sym some))
+held_on (Some kept) A v b some is = is.1
+
+-- the blocks of a reading that goes on
+pub next_left : (r : BlockReading) (entries : List Entry) (spent : Bool) (numbers rest : List ℕ) (b : ℕ) → record { entries = entries; blocks = cond spent [] numbers } ≡ r → spent ≡ false → numbers ≡ b ∷ rest → r.blocks ≡ b ∷ rest
+next_left r entries spent numbers rest b view on is =
+    sym (ap (λ (x : BlockReading). x.blocks) view) ∙ ap (λ (t : Bool). cond t [] numbers) on ∙ is
+
+pub turned_front : (old rest : List ℕ) (spent : Bool) (b before now : ℕ) → old ≡ b ∷ rest → spent ≡ false → ReadsAtMost 1 before now → ReadsFront old (cond spent [] rest) before now
+turned_front old rest true b before now is on reads = absurd (true≢false on)
+turned_front old rest false b before now is on reads = subst (λ (xs : List ℕ). ReadsFront xs rest before now) (sym is) (one_read b rest before now reads)
+
+pub ended_front : (old rest : List ℕ) (b before now : ℕ) → old ≡ b ∷ rest → ReadsAtMost 1 before now → ReadsFront old [] before now
+ended_front old rest b before now is reads = subst (λ (xs : List ℕ). ReadsFront xs [] before now) (sym is) (last_read b rest before now reads)
+
+-- a block that is bad for the key of the last entry is bad for the reading
+pub bad_next : (r : BlockReading) (last : Option Entry) (rest : List ℕ) (b : ℕ) (f : Image) → r.blocks ≡ b ∷ rest → last ≡ key_alone (last_of None r.entries)
+    → misfit_after f last (b ∷ rest) ≡ Some b → misfit_from f r ≡ Some b
+bad_next r last rest b f is kept bad =
+    ap (misfit_after f (last_of None r.entries)) is
+    ∙ sym (misfit_after_key f (last_of None r.entries) b rest)
+    ∙ ap (λ (o : Option Entry). misfit_after f o (b ∷ rest)) (sym kept)
+    ∙ bad

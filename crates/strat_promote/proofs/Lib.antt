@@ -1,2 +1,3 @@
 pub mod LeadLemmas
+pub mod LeadRunLemmas
 pub mod TagLemmas

@@ -1,5 +1,5 @@
 -- Blocks of an array that are read in order, one at a time, and the run of the leads among their entries.
-use Rattle.std.specs.Prelude.{◌≡◌, ◌≤◌, ◌<◌, ℕ, ◌&&◌, if◌then◌else◌, Bool, true, false, List, [], ◌∷◌, ◌++◌, length, drop, slice_get, Option, Some, None, IsTrue}
+use Rattle.std.specs.Prelude.{◌≡◌, ◌≤◌, ◌<◌, ℕ, ◌&&◌, Bool, true, false, List, [], ◌∷◌, ◌++◌, length, drop, slice_get, Option, Some, None, IsTrue}
 use Rattle.std.specs.List.{list_all}
 use Rattle.std.specs.Ordering.{is_lt}
 use Rattle.strat_base.specs.Order.{entry_cmp}
@@ -7,6 +7,7 @@ use Rattle.strat_base.specs.Entries.{Entry, is_ascending, is_tagged, lead_entrie
 use Rattle.strat_crash.specs.Image.{Image}
 use Rattle.strat_crash.specs.Moments.{DiskView, Exposes}
 use Rattle.strat_format.specs.Arrays.{block_on}
+use Rattle.strat_array.specs.Kept.{Kept}
 use Rattle.strat_merge.specs.Runs.{RunView}
 use Rattle.strat_promote.specs.Leads.{comes_after, last_of, entries_after, misfit_after}
 
@@ -63,34 +64,28 @@ begins_with_lead tag [] [] = true
 begins_with_lead tag [] (b ∷ blocks) = false
 begins_with_lead tag (e ∷ entries) blocks = is_tagged tag e.version
 
--- what is left of an array: entries of the block at hand and the blocks still to be read; the versions whose entries are
--- leads, and a number above them
-pub record LeadView : Type 0 where
-  pub rest : List Entry
-  pub unread : List ℕ
-  pub tag : List ℕ
-  pub horizon : ℕ
-
 -- the entries at hand ascend from a lead on
-abbrev pub is_settled : LeadView → Bool
-is_settled v = is_ascending v.rest && begins_with_lead v.tag v.rest v.unread
+abbrev pub is_settled : List ℕ → List Entry → List ℕ → Bool
+is_settled tag entries blocks = is_ascending entries && begins_with_lead tag entries blocks
 
--- the run of the leads that are left
-abbrev pub leads_from : LeadView → RunView
-leads_from v =
+-- what a merge sees of the leads of a tag among entries at hand and in blocks behind them; their versions are below
+-- a number
+abbrev pub leads_from : List ℕ → ℕ → List Entry → List ℕ → RunView
+leads_from tag n entries blocks =
     record {
-      blocks = v.unread;
-      versions = v.horizon;
-      first = slice_get v.rest 0;
-      left = λ c. lead_entries v.tag (v.rest ++ entries_after c (last_of None v.rest) v.unread);
-      misfit = λ c. misfit_after c (last_of None v.rest) v.unread;
+      blocks = blocks;
+      versions = n;
+      first = slice_get entries 0;
+      left = λ c. lead_entries tag (entries ++ entries_after c (last_of None entries) blocks);
+      misfit = λ c. misfit_after c (last_of None entries) blocks;
     }
 
--- a run that has nothing left
-abbrev pub nothing_below : ℕ → RunView
-nothing_below n =
-    record { blocks = []; versions = n; first = None; left = λ c. []; misfit = λ c. None }
+-- the entries of the block that a scratch holds, if it holds one
+abbrev pub entries_held : Option Kept → List Entry
+entries_held None = []
+entries_held (Some kept) = kept.1
 
--- what a merge sees of the leads that are left
-abbrev pub lead_view : LeadView → RunView
-lead_view v = if is_settled v then leads_from v else nothing_below v.horizon
+-- the key and the version of an entry, if there is one
+abbrev pub key_alone : Option Entry → Option Entry
+key_alone None = None
+key_alone (Some e) = Some (record { key = e.key; version = e.version; value = None })

@@ -1,4 +1,7 @@
 //! Promotion: level 0 and the shallow levels become one new level.
 #![tactic(auto)]
 
+mod last_read;
+mod lead_blocks;
+mod lead_run;
 mod tag;

@@ -6,5 +6,5 @@ pub invariant_of-result : goal.invariant_of-result
 invariant_of-result c =
     record {
       rise = sorted_as_said c.args.versions.now c.in_ok-copy.copy.items c.is_sorted-is_sorted.result (c.in_ok-copy.ensures.items_if_clones_equal (λ y z same. same))
-      (non_decreasing_from_is_sorted c.args.versions.now c.is_sorted-is_sorted.result c.is_sorted-is_sorted.ensures.cases);
+          (non_decreasing_from_is_sorted c.args.versions.now c.is_sorted-is_sorted.result c.is_sorted-is_sorted.ensures.cases);
     }
