@@ -1,14 +1,15 @@
 -- The entries in the blocks of an image.
-use Rattle.std.proofs.Common.{◌≡◌, ◌*◌, ℕ, Bool, true, false, eqb, ◌||◌, inl, inr, List, [], ◌∷◌, ◌++◌, Option, Some, refl, sym, ap, ◌∙◌, append_assoc}
+use Rattle.std.proofs.Common.{◌≡◌, ◌*◌, ℕ, arith, inl, inr, List, [], ◌∷◌, ◌++◌, Option, Some, refl, sym, ap, ◌∙◌, append_assoc}
 use Rattle.std.specs.Option.{option_map, option_and_then}
-use Rattle.std.proofs.lemmas.Bool.{eq-eqb}
 use Rattle.std.proofs.lemmas.List.{append-nil}
 use Rattle.strat_base.specs.Entries.{Entry}
 use Rattle.strat_base.proofs.TreeLemmas.{option_cases}
-use Rattle.strat_crash.specs.Image.{Image, window}
+use Rattle.strat_crash.specs.Image.{Image}
 use Rattle.strat_format.specs.Block.{block_in}
 use Rattle.strat_format.specs.Arrays.{block_on, entries_on}
-use Rattle.strat_array.specs.Sparing.{is_among}
+use Rattle.std.proofs.lemmas.List.Elements.{Contains-append_right}
+use Rattle.strat_crash.specs.Blocks.{AgreeOn}
+use Rattle.strat_crash.proofs.ImageLemmas.{window_same}
 
 -- the blocks behind others have their entries behind those
 pub entries_on-append : (f : Image) (xs ys : List ℕ) (es fs : List Entry) → entries_on f xs ≡ Some es → entries_on f ys ≡ Some fs → entries_on f (xs ++ ys) ≡ Some (es ++ fs)
@@ -37,15 +38,11 @@ entries_on-one f b es is =
     ap (λ (o : Option (List Entry)). option_and_then (λ entries. option_map (λ rest. entries ++ rest) (Some [])) o) is
     ∙ ap (λ (z : List Entry). Some z) (append-nil es)
 
--- blocks that read the same have the same entries
-pub entries_on-kept : (f g : Image) (blocks : List ℕ) → ((b : ℕ) → is_among blocks b ≡ true → window g (4096 * b) 4096 ≡ window f (4096 * b) 4096) → entries_on g blocks ≡ entries_on f blocks
+-- blocks that have the same bytes have the same entries
+pub entries_on-kept : (f g : Image) (blocks : List ℕ) → AgreeOn blocks f g → entries_on g blocks ≡ entries_on f blocks
 unfolding entries_on
 entries_on-kept f g [] same = refl
 entries_on-kept f g (b ∷ blocks) same =
-    let here : block_on g b ≡ block_on f b = ap block_in (same b (ap (λ (t : Bool). t || is_among blocks b) (eq-eqb b b refl))) in
-    let rest : entries_on g blocks ≡ entries_on f blocks = entries_on-kept f g blocks (λ o among. same o (behind (eqb b o) (is_among blocks o) among)) in
+    let here : block_on g b ≡ block_on f b = ap block_in (window_same f g (4096 * b) 4096 (same b (0, omega arith, refl))) in
+    let rest : entries_on g blocks ≡ entries_on f blocks = entries_on-kept f g blocks (λ o one. same o (Contains-append_right (b ∷ []) blocks o one)) in
     λ i. option_and_then (λ entries. option_map (λ r. entries ++ r) (rest i)) (here i)
-  where
-    behind : (s t : Bool) → t ≡ true → (s || t) ≡ true
-    behind true t e = refl
-    behind false t e = e

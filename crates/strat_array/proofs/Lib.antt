@@ -9,12 +9,13 @@ pub mod HoldLemmas
 pub mod JoinLemmas
 pub mod KeptLemmas
 pub mod LawLemmas
+pub mod NumberLemmas
 pub mod OrderLemmas
 pub mod PlaceLemmas
 pub mod PushLemmas
 pub mod SearchLemmas
 pub mod SeekLemmas
-pub mod SparingLemmas
 pub mod StayLemmas
 pub mod TakenLemmas
+pub mod TakesLemmas
 pub mod WalkLemmas

@@ -1,76 +1,37 @@
 -- Entries that are pushed into an array.
-use Rattle.std.proofs.Common.{◌≡◌, ◌<◌, ◌*◌, ℕ, Bool, true, false, not, leb, ◌||◌, ◌&&◌, eqb, ltb, List, [], ◌∷◌, ◌++◌, length, Some, refl, sym, ap, ◌∙◌, subst, arith, append_assoc, true≢false, length-append}
+use Rattle.std.proofs.Common.{◌≡◌, ◌<◌, ◌*◌, ℕ, Bool, true, false, leb, List, [], ◌∷◌, ◌++◌, length, Some, sym, ap, ◌∙◌, arith, append_assoc, true≢false, length-append}
 use Rattle.std.specs.Bool.{OnTrue}
-use Rattle.std.proofs.lemmas.Bool.{OnTrue_at, and_parts, le-leb, eqb-true, false_from_ne_true, not-true}
-use Rattle.std.proofs.lemmas.List.{append-nil}
+use Rattle.std.proofs.lemmas.Bool.{OnTrue_at, le-leb}
 use Rattle.strat_base.specs.declared.descriptors.Extent.{Extent}
 use Rattle.strat_base.specs.Entries.{Entry}
 use Rattle.strat_base.specs.EntryBytes.{fits_fields, entry_bytes}
 use Rattle.strat_base.proofs.EntryBytesLemmas.{length-entry_bytes}
 use Rattle.strat_crash.specs.Image.{Image, window, patch}
 use Rattle.strat_crash.specs.Moments.{DiskView, Exposes, Writes}
+use Rattle.strat_crash.specs.Blocks.{TearsBlocks}
+use Rattle.strat_crash.proofs.BlockLemmas.{exposed_once}
 use Rattle.strat_crash.proofs.ImageLemmas.{window_patch}
 use Rattle.strat_crash.proofs.MomentLemmas.{at_told}
-use Rattle.strat_extent.specs.Blocks.{SpaceView, is_used}
-use Rattle.strat_extent.specs.Change.{SameBlocks}
+use Rattle.strat_extent.specs.Blocks.{SpaceView, is_free}
 use Rattle.strat_format.specs.Block.{block_in, block_front}
 use Rattle.strat_format.specs.Arrays.{blocks_of, block_on, entries_on}
 use Rattle.strat_block.proofs.BlockFacts.{length-front}
-use Rattle.strat_array.specs.Sparing.{is_among, ChangesOnly}
-use Rattle.strat_array.specs.Taking.{AreUsed, IsLowestTaken, TakesBlock}
+use Rattle.strat_array.specs.Taking.{AreUsed}
 use Rattle.strat_array.specs.Pushed.{IsWritten}
-use Rattle.strat_array.proofs.SparingLemmas.{block_kept, changes_more}
+use Rattle.strat_array.proofs.TakesLemmas.{used_agree}
 use Rattle.strat_array.proofs.EntriesOnLemmas.{entries_on-append, entries_on-one, entries_on-kept}
 
-or_none : (b : Bool) → b ≡ (b || false)
-or_none true = refl
-or_none false = refl
-
--- no block was taken
-pub takes_nothing : (s t : SpaceView) (old new : List ℕ) → SameBlocks s t → new ≡ old → TakesBlock s t old new
-takes_nothing s t old new same blocks' = record {
-  taken = [];
-  few = omega arith;
-  blocks = blocks' ∙ sym (append-nil old);
-  free = λ b among. absurd (true≢false (sym among));
-  used = λ b. same.used b ∙ or_none (is_used s b);
-  first = same.first;
-  count = same.count ∙ omega arith;
-}
-
-pub changes_behind : (olds new : List ℕ) (b : ℕ) (v w : DiskView) → new ≡ olds ++ b ∷ [] → ChangesOnly (b ∷ []) v w → ChangesOnly new v w
-changes_behind olds new b v w is changes = subst (λ (x : List ℕ). ChangesOnly x v w) (sym is) (changes_more olds (b ∷ []) v w changes)
-
--- a block that was taken is none of those that are used
-pub not_among : (s t : SpaceView) (b : ℕ) (olds : List ℕ) → IsLowestTaken s b t → AreUsed s olds → is_among olds b ≡ false
-not_among s t b olds taken used =
-    false_from_ne_true (is_among olds b)
-    (λ among.
-    let free = (and_parts (leb s.first b && ltb b 4294967295) (not (is_used s b)) taken.free).1 in
-    true≢false (sym (used b among) ∙ not-true (is_used s b) free))
-
 -- a block that was written stands behind the others
-pub block_added : (v w : DiskView) (f g : Image) (olds new : List ℕ) (b : ℕ) (bytes : List ℕ) (es fs : List Entry) → length bytes ≡ 4096 → block_in bytes ≡ Some fs
-    → new ≡ olds ++ b ∷ [] → is_among olds b ≡ false → Exposes v f → Exposes w g → Writes v w (4096 * b) bytes → ChangesOnly (b ∷ []) v w
+pub block_added : (s : SpaceView) (v w : DiskView) (f g : Image) (olds new : List ℕ) (b : ℕ) (bytes : List ℕ) (es fs : List Entry) → length bytes ≡ 4096 → block_in bytes ≡ Some fs
+    → new ≡ olds ++ b ∷ [] → AreUsed s olds → Exposes v f → Exposes w g → Writes v w (4096 * b) bytes → TearsBlocks (is_free s) v w
     → entries_on f olds ≡ Some es → entries_on g new ≡ Some (es ++ fs)
-block_added v w f g olds new b bytes es fs long block is other told now wrote changes old =
-    let image : g ≡ patch f (4096 * b) bytes =
-    let e : w.content ≡ Some (patch f (4096 * b) bytes) = at_told v.content (λ h. w.content ≡ Some (patch h (4096 * b) bytes)) f told wrote in
-    let s : Some g ≡ Some (patch f (4096 * b) bytes) = sym now ∙ e in cc in
+block_added s v w f g olds new b bytes es fs long block is used told now wrote torn old =
+    let image : g ≡ patch f (4096 * b) bytes = exposed_once w g (patch f (4096 * b) bytes) now (at_told v.content (λ h. w.content ≡ Some (patch h (4096 * b) bytes)) f told wrote) in
     let window_is : window g (4096 * b) 4096 ≡ bytes =
     ap (λ (c : Image). window c (4096 * b) 4096) image ∙ ap (window (patch f (4096 * b) bytes) (4096 * b)) (sym long) ∙ window_patch f (4096 * b) bytes in
     let here : block_on g b ≡ Some fs = ap block_in window_is ∙ block in
-    let others : entries_on g olds ≡ entries_on f olds =
-    entries_on-kept f g olds (λ o among. block_kept o (b ∷ []) f g (changes.content f g told now) (apart o among)) in
+    let others : entries_on g olds ≡ entries_on f olds = entries_on-kept f g olds (used_agree s olds f g used (torn.content f g told now)) in
     ap (entries_on g) is ∙ entries_on-append g olds (b ∷ []) es fs (others ∙ old) (entries_on-one g b fs here)
-  where
-    apart : (o : ℕ) → is_among olds o ≡ true → is_among (b ∷ []) o ≡ false
-    apart o among =
-        false_from_ne_true (is_among (b ∷ []) o)
-        (λ t. true≢false (sym among ∙ ap (is_among olds) (sym (same o t)) ∙ other))
-      where
-        same : (q : ℕ) → is_among (b ∷ []) q ≡ true → b ≡ q
-        same q t = eqb-true b q (or_none (eqb b q) ∙ t)
 
 -- an entry alone has room in a block
 pub one_fits_block : (e : Entry) → fits_fields e ≡ true → leb (length (block_front ([] ++ e ∷ []))) 4096 ≡ true

@@ -1,11 +1,11 @@
 pub mod Blocks
 pub mod Kept
 pub mod Left
+pub mod NumberFields
 pub mod Progress
 pub mod Pushed
 pub mod ScratchFields
 pub mod Shown
-pub mod Sparing
 pub mod Steps
 pub mod Taking
 pub mod Told

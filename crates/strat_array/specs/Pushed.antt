@@ -1,5 +1,5 @@
 -- The entries of an array that is being written, and the extents of one.
-use Rattle.std.specs.Prelude.{◌≡◌, ◌≢◌, ℕ, ◌+◌, ◌<◌, List, [], ◌∷◌, ◌++◌, length, nat_le, if◌then◌else◌, Some, ⊤}
+use Rattle.std.specs.Prelude.{◌≡◌, ◌≢◌, ℕ, ◌+◌, ◌<◌, ◌≤◌, List, [], ◌∷◌, ◌++◌, length, nat_le, if◌then◌else◌, Some, ⊤}
 use Rattle.strat_base.specs.declared.limits.TheConstants.{BLOCK}
 use Rattle.strat_base.specs.declared.descriptors.Extent.{Extent}
 use Rattle.strat_base.specs.declared.failures.Trouble.{Trouble}
@@ -37,5 +37,5 @@ AreMaximal (x ∷ y ∷ xs) = (0 < x.len) × (x.start + x.len ≢ y.start) × Ar
 -- why a writer gave up: for want of memory, and no fault was counted, or for the device, and one was
 abbrev pub HasReason : Trouble → ℕ → ℕ → Type 0
 HasReason NoMemory before now = now ≡ before
-HasReason Device before now = Rose before now
+HasReason Device before now = (before ≤ now) × Rose before now
 HasReason (Damaged b) before now = ⊥

@@ -21,6 +21,12 @@ abbrev pub IsNear : Place → Place → Type 0
 IsNear old new =
     (new ≡ old) ⊎ ((new.block ≡ old.block + 1) × (new.index ≡ 0))
 
+-- a place stands just behind another, or behind the first of the block after it
+abbrev pub GoesOn : Place → Place → Type 0
+GoesOn old new =
+    ((new.block ≡ old.block) × (new.index ≡ old.index + 1))
+    ⊎ ((new.block ≡ old.block + 1) × (new.index ≡ 1))
+
 -- where the entries from a place on begin, if any are left
 abbrev pub Settles : List (List Entry) → Place → Option Place → Type 0
 Settles lists place None = left_from lists place ≡ []

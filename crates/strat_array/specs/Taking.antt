@@ -1,7 +1,8 @@
 -- Blocks that a writer takes from a space.
-use Rattle.std.specs.Prelude.{◌≡◌, ℕ, ◌+◌, ◌-◌, ◌≤◌, ◌<◌, ◌==◌, ◌||◌, true, List, ◌++◌, length}
-use Rattle.strat_extent.specs.Blocks.{SpaceView, is_used, is_free, used_count}
-use Rattle.strat_array.specs.Sparing.{is_among}
+use Rattle.std.specs.Prelude.{◌≡◌, ℕ, ◌+◌, ◌-◌, ◌≤◌, ◌<◌, ◌==◌, ◌||◌, true, List, ◌++◌, length, Contains}
+use Rattle.strat_base.specs.declared.descriptors.Extent.{Extent}
+use Rattle.strat_extent.specs.Blocks.{SpaceView, times_in, is_used, is_free, uses, used_count}
+use Rattle.strat_format.specs.Arrays.{blocks_of}
 
 -- a block may be taken
 abbrev pub HasFreeBlock : SpaceView → Type 0
@@ -9,7 +10,7 @@ HasFreeBlock s = used_count s + 1 ≤ 4294967295 - s.first
 
 -- these blocks are used
 abbrev pub AreUsed : SpaceView → List ℕ → Type 0
-AreUsed s blocks = (b : ℕ) → is_among blocks b ≡ true → is_used s b ≡ true
+AreUsed s blocks = (b : ℕ) → Contains blocks b → is_used s b ≡ true
 
 -- the lowest free block became used
 pub record IsLowestTaken (before : SpaceView) (b : ℕ) (after : SpaceView) : Type 0 where
@@ -19,12 +20,12 @@ pub record IsLowestTaken (before : SpaceView) (b : ℕ) (after : SpaceView) : Ty
   pub first : after.first ≡ before.first
   pub count : used_count after ≡ used_count before + 1
 
--- at most one block became used, which was free, and stands behind the others now
-pub record TakesBlock (before after : SpaceView) (old new : List ℕ) : Type 0 where
+-- at most one block became used, which was free, and stands behind the others of the extents now
+pub record TakesBlock (before after : SpaceView) (old new : List Extent) : Type 0 where
   pub taken : List ℕ
   pub few : length taken ≤ 1
-  pub blocks : new ≡ old ++ taken
-  pub free : (b : ℕ) → is_among taken b ≡ true → is_free before b ≡ true
-  pub used : (b : ℕ) → is_used after b ≡ (is_used before b || is_among taken b)
+  pub blocks : blocks_of new ≡ blocks_of old ++ taken
+  pub free : (b : ℕ) → Contains taken b → is_free before b ≡ true
+  pub used : (b : ℕ) → uses after b + times_in old b ≡ uses before b + times_in new b
   pub first : after.first ≡ before.first
   pub count : used_count after ≡ used_count before + length taken

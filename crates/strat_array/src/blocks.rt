@@ -1,10 +1,10 @@
 //! Blocks that are taken and written.
 
-ghost use Rattle.std.specs.Prelude.{◌≡◌, ◌≢◌, ◌<◌, ◌+◌, ◌*◌, List, ◌++◌, ◌∷◌, [], length, OnOk, OnErr, IfOk, IfSome, IfNone};
+ghost use Rattle.std.specs.Prelude.{◌≡◌, ◌≢◌, ℕ, Bool, true, ◌<◌, ◌+◌, ◌*◌, List, ◌++◌, ◌∷◌, [], length, OnOk, OnErr, IfOk, IfSome, IfNone};
 ghost use Rattle.strat_array.specs.Pushed.{AreMaximal};
-ghost use Rattle.strat_array.specs.Sparing.{ChangesOnly};
 ghost use Rattle.strat_array.specs.Taking.{HasFreeBlock, IsLowestTaken};
 ghost use Rattle.strat_base.specs.declared.descriptors.Extent.{Extent as TheExtent};
+ghost use Rattle.strat_crash.specs.Blocks.{TearsBlocks};
 ghost use Rattle.strat_crash.specs.Faults.{CountsFaults};
 ghost use Rattle.strat_crash.specs.Moments.{Writes};
 ghost use Rattle.strat_extent.specs.Change.{SameBlocks};
@@ -19,7 +19,8 @@ use strat_extent::Space;
 pub(crate) fn write_block<D: Disk>(disk: &mut D, block: u32, bytes: &[u8]) -> Result<(), Failed>
     requires fits { (length bytes.now ≡ 4096) × (block < 4294967295) }
     ensures ok { OnOk result (Writes (D.view disk.old) (D.view disk.new) (4096 * block) bytes.now) }
-    ensures same { ChangesOnly (block ∷ []) (D.view disk.old) (D.view disk.new) }
+    ensures same { (free : ℕ → Bool) → free block ≡ true
+        → TearsBlocks free (D.view disk.old) (D.view disk.new) }
     ensures cause { CountsFaults (D.faults disk.old) (D.faults disk.new) result }
     ensures reads { D.reads disk.new ≡ D.reads disk.old }
 {

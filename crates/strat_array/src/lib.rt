@@ -5,6 +5,7 @@ mod blocks;
 mod cache;
 pub mod laws;
 mod lookup;
+mod numbers;
 mod place;
 mod reading;
 mod scratch;
@@ -16,6 +17,7 @@ pub mod writer_laws;
 
 pub use cache::Cache;
 pub use lookup::find;
+pub use numbers::BlockNumbers;
 pub use place::Place;
 pub use scratch::Scratch;
 pub use search::seek;

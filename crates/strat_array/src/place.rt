@@ -18,7 +18,7 @@ pub struct Place {
 
 impl Place {
     /// The place behind an entry. O(1).
-    pub(crate) fn next(self) -> Place
+    pub fn next(self) -> Place
         requires { self.index < 65535 }
         ensures ok { result ≡ record { block = self.block; index = self.index + 1 } }
     {

@@ -8,7 +8,7 @@ ghost use Rattle.strat_base.specs.declared.failures.Fault.TheVariants.{Damaged, 
 ghost use Rattle.strat_crash.specs.Faults.{HasCause, ReadsAtMost};
 ghost use Rattle.strat_crash.specs.Image.{Image};
 ghost use Rattle.strat_crash.specs.Moments.{Exposes, OnlyReads};
-ghost use Rattle.strat_format.specs.Block.{block_in};
+ghost use Rattle.strat_format.specs.Block.{block_in, fits_block};
 ghost use Rattle.strat_format.specs.Arrays.{block_on};
 ghost use Rattle.strat_array.specs.Kept.{held_block};
 
@@ -93,8 +93,9 @@ impl Scratch {
         BlockView::of(&self.bytes)
     }
 
-    /// Reads a block of an array: one read, and one pass over its bytes. After an error it holds none.
-    pub(crate) fn fetch<D: Disk>(
+    /// Reads a block of an array: one read, and one pass over its bytes. After an error it holds none. Device: the
+    /// disk counted a fault. Damaged: the block is no block of entries.
+    pub fn fetch<D: Disk>(
         &mut self,
         disk: &mut D,
         array: u64,
@@ -124,6 +125,16 @@ impl Scratch {
     {
         self.bytes.copy_from_slice(block.bytes());
         self.holds = Some((array, index));
+    }
+
+    /// How many entries the block has that it holds: at least one. O(1).
+    pub fn count(&self) -> u16
+        requires found { IsSome self.now }
+        ensures ok { IfSome self.now (λ kept. result ≡ length kept.1) }
+        ensures fits { (0 < result) × (result ≤ 454) }
+        ensures kept { IfSome self.now (λ kept. IsTrue (fits_block kept.1)) }
+    {
+        self.block().len() as u16
     }
 
     /// Whether the block that it holds has an entry at an index. O(1).

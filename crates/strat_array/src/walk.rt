@@ -9,7 +9,7 @@ ghost use Rattle.strat_base.specs.declared.failures.Fault.TheVariants.{Damaged, 
 ghost use Rattle.strat_crash.specs.Faults.{HasCause, ReadsAtMost};
 ghost use Rattle.strat_format.specs.Arrays.{blocks_of};
 ghost use Rattle.strat_array.specs.Kept.{Kept, held_block, kept_block, TakesOver, Looks, ArrayStands};
-ghost use Rattle.strat_array.specs.Steps.{blocks_ahead, HoldsPlace, IsNear, Settles, Steps};
+ghost use Rattle.strat_array.specs.Steps.{blocks_ahead, GoesOn, HoldsPlace, IsNear, Settles, Steps};
 ghost use Rattle.strat_array.specs.Within.{AreWithin, IsNoBlock};
 
 use crate::cache::Cache;
@@ -134,6 +134,7 @@ pub fn entry_at<'s, D: Disk>(
         → ArrayStands (D.view disk.old).content desc.now.id (blocks_of desc.now.extents)
         cache.old scratch.old lists
         → Steps lists place (option_map (λ x. (entry_of x.0, x.1)) r)) }
+    ensures end { IfOk result (λ r. IfSome r (λ x. GoesOn place x.1)) }
     ensures fits { IfOk result (λ r. IfSome r (λ x. IsTrue (fits_fields (entry_of x.0)))) }
     ensures same { (held : Option Kept) × Looks (D.view disk.old) (D.view disk.new)
         desc.now.id (blocks_of desc.now.extents) cache.old cache.new scratch.old held }

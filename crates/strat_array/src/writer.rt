@@ -1,16 +1,15 @@
 //! Writing an array.
 
-ghost use Rattle.std.specs.Prelude.{◌≡◌, ◌<◌, ◌+◌, ℕ, List, ◌++◌, ◌∷◌, [], length, Some, OnOk, OnErr, IfOk, IsErrOf, IsTrue, MatchResult};
+ghost use Rattle.std.specs.Prelude.{◌≡◌, ◌<◌, ◌+◌, ℕ, List, ◌++◌, ◌∷◌, [], length, Some, OnOk, OnErr, IfOk, IsTrue, MatchResult};
 ghost use Rattle.strat_array.specs.Pushed.{AreMaximal, IsWritten, IsPushed, HasReason, with_entry};
-ghost use Rattle.strat_array.specs.Sparing.{ChangesOnly};
 ghost use Rattle.strat_array.specs.Taking.{HasFreeBlock, AreUsed, TakesBlock};
-ghost use Rattle.strat_base.specs.declared.failures.Trouble.TheVariants.{Device, Damaged};
 ghost use Rattle.strat_base.specs.Entries.{Entry as TheEntry, is_ascending};
 ghost use Rattle.strat_base.specs.EntryBytes.{fits_fields};
 ghost use Rattle.strat_base.specs.EntryView.{entry_of};
-ghost use Rattle.strat_crash.specs.Faults.{HasCause};
+ghost use Rattle.strat_crash.specs.Blocks.{TearsBlocks};
 ghost use Rattle.strat_crash.specs.Image.{Image};
 ghost use Rattle.strat_crash.specs.Moments.{Exposes};
+ghost use Rattle.strat_extent.specs.Blocks.{is_free};
 ghost use Rattle.strat_format.specs.Arrays.{blocks_of, entries_on};
 
 use crate::blocks::{take_block, write_block};
@@ -35,12 +34,11 @@ fn write_pending<D: Disk>(
         → Exposes (D.view disk.new) g → entries_on f (blocks_of extents.old) ≡ Some es
         → entries_on g (blocks_of extents.new) ≡ Some (es ++ pending.old)) }
     ensures end { MatchResult result (λ _. pending.new ≡ []) (λ _. pending.new ≡ pending.old) }
-    ensures found { TakesBlock space.old space.new
-        (blocks_of extents.old) (blocks_of extents.new) }
+    ensures found { TakesBlock space.old space.new extents.old extents.new }
     ensures kept { AreMaximal extents.old → AreMaximal extents.new }
-    ensures same { ChangesOnly (blocks_of extents.new) (D.view disk.old) (D.view disk.new) }
-    ensures cause { HasCause Device (D.faults disk.old) (D.faults disk.new) result }
-    ensures damaged { (b : ℕ) → IsErrOf result (Damaged b) → ⊥ }
+    ensures same { TearsBlocks (is_free space.old) (D.view disk.old) (D.view disk.new) }
+    ensures cause { MatchResult result (λ _. D.faults disk.new ≡ D.faults disk.old)
+        (λ e. HasReason e (D.faults disk.old) (D.faults disk.new)) }
     ensures reads { D.reads disk.new ≡ D.reads disk.old }
 {
     let block = take_block(extents, space)?;
@@ -67,12 +65,11 @@ fn push_entry<D: Disk>(
     ensures end { MatchResult result
         (λ _. pending.new ≡ with_entry pending.old (entry_of e.now))
         (λ _. pending.new ≡ pending.old) }
-    ensures found { TakesBlock space.old space.new
-        (blocks_of extents.old) (blocks_of extents.new) }
+    ensures found { TakesBlock space.old space.new extents.old extents.new }
     ensures kept { AreMaximal extents.old → AreMaximal extents.new }
-    ensures same { ChangesOnly (blocks_of extents.new) (D.view disk.old) (D.view disk.new) }
-    ensures cause { HasCause Device (D.faults disk.old) (D.faults disk.new) result }
-    ensures damaged { (b : ℕ) → IsErrOf result (Damaged b) → ⊥ }
+    ensures same { TearsBlocks (is_free space.old) (D.view disk.old) (D.view disk.new) }
+    ensures cause { MatchResult result (λ _. D.faults disk.new ≡ D.faults disk.old)
+        (λ e. HasReason e (D.faults disk.old) (D.faults disk.new)) }
     ensures reads { D.reads disk.new ≡ D.reads disk.old }
 {
     if pending.push(e) {
@@ -138,13 +135,11 @@ impl ArrayWriter {
         ensures end { OnOk result (
             self.new.pending ≡ with_entry self.old.pending (entry_of e.now)) }
         ensures len { OnOk result (self.new.count ≡ self.old.count + 1) }
-        ensures found { TakesBlock space.old space.new (blocks_of self.old.extents)
-            (blocks_of self.new.extents) }
-        ensures same { ChangesOnly (blocks_of self.new.extents)
-            (D.view disk.old) (D.view disk.new)
+        ensures found { TakesBlock space.old space.new self.old.extents self.new.extents }
+        ensures same { TearsBlocks (is_free space.old) (D.view disk.old) (D.view disk.new)
             × (self.new.id ≡ self.old.id) }
-        ensures cause { HasCause Device (D.faults disk.old) (D.faults disk.new) result }
-        ensures damaged { (b : ℕ) → IsErrOf result (Damaged b) → ⊥ }
+        ensures cause { MatchResult result (λ _. D.faults disk.new ≡ D.faults disk.old)
+            (λ e. HasReason e (D.faults disk.old) (D.faults disk.new)) }
         ensures reads { D.reads disk.new ≡ D.reads disk.old }
     {
         push_entry(&mut self.pending, &mut self.extents, e, space, disk)?;
@@ -171,11 +166,10 @@ impl ArrayWriter {
             → Exposes (D.view disk.old) f → Exposes (D.view disk.new) g → IsPushed f self es
             → entries_on g (blocks_of a.extents) ≡ Some es) }
         ensures kept { IfOk result (λ a. AreMaximal a.extents) }
-        ensures same { MatchResult result
-            (λ a. ChangesOnly (blocks_of a.extents) (D.view disk.old) (D.view disk.new)
-            × TakesBlock space.old space.new (blocks_of self.extents) (blocks_of a.extents))
-            (λ e. ChangesOnly (blocks_of e.1) (D.view disk.old) (D.view disk.new)
-            × TakesBlock space.old space.new (blocks_of self.extents) (blocks_of e.1)) }
+        ensures room { MatchResult result
+            (λ a. TakesBlock space.old space.new self.extents a.extents)
+            (λ e. TakesBlock space.old space.new self.extents e.1) }
+        ensures same { TearsBlocks (is_free space.old) (D.view disk.old) (D.view disk.new) }
         ensures cause { MatchResult result (λ a. D.faults disk.new ≡ D.faults disk.old)
             (λ e. HasReason e.0 (D.faults disk.old) (D.faults disk.new)) }
         ensures reads { D.reads disk.new ≡ D.reads disk.old }

@@ -1,1 +1,4 @@
 pub mod ZeroLemmas
+pub mod LeadLemmas
+pub mod LeadRunLemmas
+pub mod TagLemmas

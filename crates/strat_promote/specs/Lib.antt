@@ -1,4 +1,9 @@
+pub mod LastFields
+pub mod LeadFields
+pub mod LeadRuns
 pub mod Leads
 pub mod ZeroFields
 pub mod Job
 pub mod Taken
+pub mod ReadingFields
+pub mod TagFields

@@ -3,3 +3,7 @@
 
 mod zero_copy;
 mod zero_run;
+mod last_read;
+mod lead_blocks;
+mod lead_run;
+mod tag;
