@@ -2,3 +2,5 @@ pub mod ZeroLemmas
 pub mod LeadLemmas
 pub mod LeadRunLemmas
 pub mod TagLemmas
+pub mod TakenLemmas
+pub mod PassLemmas

@@ -7,3 +7,6 @@ pub mod Job
 pub mod Taken
 pub mod ReadingFields
 pub mod TagFields
+pub mod InputFields
+pub mod InputLaw
+pub mod Counted

@@ -7,8 +7,8 @@ ghost use Rattle.strat_base.specs.declared.failures.Fault.TheVariants.{Damaged, 
 ghost use Rattle.strat_crash.specs.Faults.{HasCause};
 ghost use Rattle.strat_crash.specs.Image.{Image};
 ghost use Rattle.strat_crash.specs.Moments.{Exposes, OnlyReads};
-ghost use Rattle.strat_merge.specs.Runs.{ReadsFront};
-ghost use Rattle.strat_promote.specs.LeadRuns.{PassesOver, begins_with_lead, is_settled, misfit_from, read_out};
+ghost use Rattle.strat_merge.specs.Runs.{ReadsFront, IsEntryRun};
+ghost use Rattle.strat_promote.specs.LeadRuns.{PassesOver, begins_with_lead, leads_from, is_settled, misfit_from, read_out};
 
 use crate::lead_blocks::LeadBlocks;
 use crate::tag::Tag;
@@ -72,6 +72,7 @@ pub(crate) struct LeadRun {
     horizon: u32,
     at: u16,
     ghost settled: { IsTrue (is_settled tag (drop at blocks.entries) blocks.blocks) },
+    ghost law: { IsEntryRun (leads_from tag horizon (drop at blocks.entries) blocks.blocks) },
     ghost below: { (v : ℕ) → is_tagged tag v ≡ true → v < horizon },
 }
 

@@ -1,9 +1,13 @@
 //! Promotion: level 0 and the shallow levels become one new level.
 #![tactic(auto)]
 
+mod counting;
+mod input;
+mod input_run;
 mod zero_copy;
 mod zero_run;
 mod last_read;
 mod lead_blocks;
 mod lead_run;
 mod tag;
+mod taking;

@@ -5,13 +5,7 @@ pub mod PlaceLemmas
 pub mod LeastLemmas
 pub mod SplitLemmas
 pub mod TakenLemmas
-pub mod ChainLemmas
+pub mod HangingLemmas
 pub mod CarrierLemmas
 pub mod GrownLemmas
 pub mod KeyedLemmas
-pub mod LeadLemmas
-pub mod PassedLemmas
-pub mod ShareLemmas
-pub mod DealtLemmas
-pub mod NextLemmas
-pub mod WaitingLemmas

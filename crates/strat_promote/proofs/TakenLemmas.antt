@@ -1,0 +1,34 @@
+-- What is kept of a group that a merge gave.
+use Rattle.std.proofs.Common.{◌≡◌, ℕ, Bool, true, ◌&&◌, List, [], ◌∷◌, map, refl, sym, ap, ◌∙◌}
+use Rattle.std.specs.List.{list_all}
+use Rattle.strat_arena.specs.ArenaView.{KeyValue}
+use Rattle.strat_arena.specs.Items.{entry_of_item, entries_of}
+use Rattle.strat_arena.specs.declared.items.Item.{Item}
+use Rattle.strat_base.specs.Entries.{Entry, is_of}
+use Rattle.strat_base.specs.EntryBytes.{fits_fields}
+use Rattle.strat_live.specs.Group.{is_descending}
+use Rattle.strat_merge.specs.Gathered.{IsGroup}
+use Rattle.strat_merge.specs.Runs.{RunView}
+use Rattle.strat_promote.specs.Taken.{IsTakenGroup}
+
+-- a test of all entries is one of all items
+pub items_pass : (p : Entry → Bool) (pairs : List KeyValue) (items : List Item) → list_all p (entries_of pairs items) ≡ list_all (λ item. p (entry_of_item pairs item)) items
+items_pass p pairs [] = refl
+items_pass p pairs (item ∷ items) = ap (λ (t : Bool). p (entry_of_item pairs item) && t) (items_pass p pairs items)
+
+-- fewer items of a group are one, too
+pub fewer_taken : (old new : List RunView) (pairs : List KeyValue) (items kept : List Item) (key : List ℕ) → IsGroup old new pairs items key
+    → ((p : Item → Bool) → list_all p items ≡ true → list_all p kept ≡ true) → is_descending kept ≡ true → IsTakenGroup old new pairs kept key
+fewer_taken old new pairs items kept key group fewer down =
+    let pass : (p : Entry → Bool) → list_all p (entries_of pairs items) ≡ true → list_all p (entries_of pairs kept) ≡ true =
+    λ p all. items_pass p pairs kept ∙ fewer (λ item. p (entry_of_item pairs item)) (sym (items_pass p pairs items) ∙ all) in
+    record {
+      slots = fewer _ group.slots;
+      descending = down;
+      keyed = pass (is_of key) group.keyed;
+      lawful = pass fits_fields group.lawful;
+      low = λ n under. fewer _ (group.low n under);
+      bound = group.bound;
+      least = group.least;
+      behind = group.behind;
+    }
