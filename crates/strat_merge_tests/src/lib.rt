@@ -1,0 +1,15 @@
+//! Tests of merged runs, and of purged groups.
+#![tactic(auto)]
+
+#[cfg(test)]
+mod drawn;
+#[cfg(test)]
+mod faults;
+#[cfg(test)]
+mod groups;
+#[cfg(test)]
+mod list_run;
+#[cfg(test)]
+mod purged;
+#[cfg(test)]
+mod rows;
