@@ -33,7 +33,8 @@ abbrev pub ascends_after : Option Entry → List Entry → Bool
 ascends_after None entries = is_ascending entries
 ascends_after (Some e) entries = is_ascending (e ∷ entries)
 
-is_less : (e d : Entry) → is_lt (order e d) ≡ true → order e d ≡ Less
+-- an entry that is before another one
+pub is_less : (e d : Entry) → is_lt (order e d) ≡ true → order e d ≡ Less
 is_less e d lt = go (order e d) lt
   where
     go : (o : Ordering) → is_lt o ≡ true → o ≡ Less

@@ -46,6 +46,7 @@ fn reach_lead<D: Disk>(
         blocks.new at) }
     ensures end { IfOk result (λ at. IsTrue (is_settled tag.now
         (drop at blocks.new.entries) blocks.new.blocks)) }
+    ensures fits { IfOk result (λ at. at ≤ 454) }
     ensures err { OnErr result (blocks.new ≡ read_out) }
     ensures damaged { (b : ℕ) → IsErrOf result (Damaged b) → Contains blocks.old.blocks b
         × ((f : Image) → Exposes (D.view disk.old) f → misfit_from f blocks.old ≡ Some b) }
@@ -72,6 +73,7 @@ pub(crate) struct LeadRun {
     horizon: u32,
     at: u16,
     ghost settled: { IsTrue (is_settled tag (drop at blocks.entries) blocks.blocks) },
+    ghost fits: { at ≤ 454 },
     ghost below: { (v : ℕ) → is_tagged tag v ≡ true → v < horizon },
 }
 
