@@ -67,9 +67,9 @@ pub(crate) fn keep_needed(items: &mut [Item], tree: &Tree) -> usize
 }
 
 /// Drops each mark that a key is gone whose version has no parent, or whose version's parent sees no value
-/// of the key. It is judged by the group as it is given. For each mark O(1) for each item between its
-/// version and its parent's, and O(log versions_max) for each further one until one is found on the
-/// parent's path.
+/// of the key. It is judged by the group as it is given. O(items), and for each mark O(log items)
+/// comparisons and O(log versions_max) for each item of its parent's version or a version below it, until
+/// one is found on the parent's path.
 pub fn purge(group: &mut GroupBuf, tree: &Tree)
     requires kept { IsTrue (is_descending group.old) }
     requires fits { IsTrue (are_below (length tree.now.parents) group.old) }

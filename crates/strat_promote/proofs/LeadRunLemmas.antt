@@ -1,5 +1,5 @@
 -- Leads that are reached from block to block.
-use Rattle.std.proofs.Common.{◌≡◌, ◌≢◌, ◌<◌, ◌≤◌, ◌+◌, ◌-◌, ℕ, zero, suc, Bool, true, false, cond, ◌&&◌, inl, inr, List, [], ◌∷◌, ◌++◌, length, drop, get_or, Option, Some, None, Result, Err, IsErrAnd, IsSome, is_some, refl, sym, ap, ◌∙◌, subst, true≢false, arith}
+use Rattle.std.proofs.Common.{◌≡◌, ◌≢◌, ◌<◌, ◌≤◌, ◌+◌, ◌-◌, ℕ, zero, suc, Bool, true, false, cond, ◌&&◌, inl, inr, List, [], ◌∷◌, ◌++◌, length, drop, get_or, Option, Some, None, Result, Ok, Err, IsErrAnd, OnOk, OnErr, IsSome, is_some, refl, sym, ap, ◌∙◌, subst, true≢false, arith}
 use Rattle.std.specs.List.{list_all, filter, slice_get}
 use Rattle.std.specs.Ordering.{is_lt}
 use Rattle.std.proofs.lemmas.Bool.{and_parts, and_from, cases_Bool, cases_lt}
@@ -310,3 +310,15 @@ damage_told r f b told is =
     go : (f : Fault) → as_trouble f ≡ trouble.Damaged b → f ≡ fault.Damaged b
     go fault.Device is = absurd (cc)
     go (fault.Damaged a) is = let same : a ≡ b = cc in ap (λ (n : ℕ). fault.Damaged n) same
+
+-- a run that is spent has nothing left
+pub settled_out : (tag : List ℕ) (i : ℕ) (r : BlockReading) → r ≡ read_out → is_settled tag (drop i r.entries) r.blocks ≡ true
+settled_out tag i r out =
+    settled_end tag r i (let none : length r.entries ≡ 0 = ap (λ (x : BlockReading). length x.entries) out in omega arith) (ap (λ (x : BlockReading). x.blocks) out)
+
+-- a block that is bad after a call was bad before it
+pub bad_before : {T E : Type 0} (r : Result T E) (disk : DiskView) (tag : List ℕ) (old new : BlockReading) (i j : ℕ) → OnOk r (PassesOver disk tag old i new j) → OnErr r (new ≡ read_out)
+    → (f : Image) (b : ℕ) → Exposes disk f → misfit_from f new ≡ Some b → misfit_from f old ≡ Some b
+bad_before (Ok x) disk tag old new i j passes out f b exposed bad = sym (passes.misfit f exposed) ∙ bad
+bad_before (Err e) disk tag old new i j passes out f b exposed bad =
+    absurd (let none = sym (ap (misfit_from f) out) ∙ bad in let gone = no_misfit f None in cc)

@@ -1,3 +1,4 @@
 pub mod LeadLemmas
 pub mod LeadRunLemmas
 pub mod TagLemmas
+pub mod ZeroLemmas

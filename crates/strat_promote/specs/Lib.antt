@@ -1,6 +1,10 @@
+pub mod Job
 pub mod LastFields
 pub mod LeadFields
+pub mod EntryRunProp
 pub mod LeadRuns
 pub mod Leads
 pub mod ReadingFields
 pub mod TagFields
+pub mod Taken
+pub mod ZeroFields

@@ -3,12 +3,12 @@ use Rattle.strat_array.proofs.SearchLemmas.{err_of}
 use Rattle.strat_crash.proofs.MomentLemmas.{reads_trans}
 use Rattle.strat_promote.specs.LeadRuns.{Turns}
 use Rattle.strat_promote.proofs.LeadLemmas.{front_contains, front_trans}
-use Rattle.strat_promote.proofs.LeadRunLemmas.{reach_begins, reach_goes_on, settled_here}
+use Rattle.strat_promote.proofs.LeadRunLemmas.{reach_begins, reach_goes_on, settled_here, settled_out}
 use Rattle.strat_promote.proofs.lead_run.reach_lead.Goals as goal
 
 pub loop-at-init : goal.loop-at-init
 loop-at-init g c =
-    (reach_begins _ _ c.args.blocks.now c.args.from c.first_lead-at.result _ c.first_lead-at.ensures.len c.first_lead-at.ensures.ok c.first_lead-at.ensures.found, refl)
+    (reach_begins _ _ c.args.blocks.now c.args.at.now c.first_lead.result _ c.first_lead.ensures.len c.first_lead.ensures.ok c.first_lead.ensures.found, refl)
 
 pub returns-in_err-next-clause-damaged : goal.returns-in_err-next-clause-damaged
 returns-in_err-next-clause-damaged g c = λ b torn.
@@ -30,7 +30,7 @@ returns-then-not-branch-clause-same g c = reads_trans c.loop-at.invariant.0.same
 pub loop-at-preserved : goal.loop-at-preserved
 loop-at-preserved g c =
     let next = c.in_ok-next.ensures in
-    let first = c.first_lead-at-in-loop-at.ensures in (
+    let first = c.first_lead-in-loop-at.ensures in (
       reach_goes_on _ (g.D.Disk.view c.loop-at.disk) _ _ _ c.loop-at.blocks c.next.new.self _ c.loop-at.at _ _ _ _ c.loop-at.invariant.0 (omega (arith, c.count.ensures.ok))
           (subst (λ (t : Bool). Turns (g.D.Disk.view c.loop-at.disk) c.loop-at.blocks c.next.new.self t) c.if-not-branch.false next.ok)
           next.same next.reads first.len first.ok first.found,
@@ -41,3 +41,6 @@ pub returns-clause-end : goal.returns-clause-end
 returns-clause-end g c =
     settled_here c.args.tag.now c.loop-at.blocks c.loop-at.at c.count.ensures.kept
     (c.loop-at.invariant.0.begins (let within = c.loop-at.invariant.0.passes.within in omega (arith, within, c.count.ensures.ok)))
+
+pub returns-in_err-next-clause-end : goal.returns-in_err-next-clause-end
+returns-in_err-next-clause-end g c = settled_out c.args.tag.now c.loop-at.at c.next.new.self c.in_err-next.ensures.err

@@ -1,32 +1,24 @@
-use Rattle.std.proofs.Common.{◌≡◌, List, ℕ, Err, None, Some, drop, refl, subst, sym, ap, ◌∙◌, []}
-use Rattle.strat_array.proofs.SearchLemmas.{err_of}
-use Rattle.strat_base.specs.declared.failures.Fault.TheVariants.{Damaged}
-use Rattle.strat_promote.specs.LeadRuns.{BlockReading}
-use Rattle.strat_promote.specs.Leads.{last_of, misfit_after}
-use Rattle.strat_promote.proofs.LeadLemmas.{no_misfit}
-use Rattle.strat_promote.proofs.LeadRunLemmas.{advanced, seen_misfit}
+use Rattle.std.proofs.Common.{sym, ◌∙◌}
+use Rattle.strat_merge.proofs.PassLemmas.{on_ok_map}
+use Rattle.strat_promote.proofs.LeadRunLemmas.{advanced, bad_before, seen_misfit, lead_run_is}
 use Rattle.strat_promote.proofs.lead_run.LeadRun.advance.Goals as goal
 
-pub returns-in-Ok-clause-ok : goal.returns-in-Ok-clause-ok
-returns-in-Ok-clause-ok g c =
-    let r = c.args.self.now in
-    advanced (g.D.Disk.view c.args.disk.now) r.tag r.horizon r.blocks c.reach_lead.new.blocks r.at c.in-Ok.at c.requires r.settled c.in-Ok.ensures.end c.in-Ok.ensures.ok
+pub invariant_of-self-clause-law : goal.invariant_of-self-clause-law
+invariant_of-self-clause-law g c = lead_run_is _ _ _ _ c.reach_lead.ensures.end
 
-pub returns-in-Ok-clause-kept : goal.returns-in-Ok-clause-kept
-returns-in-Ok-clause-kept g c = λ f b exposed bad.
+pub returns-clause-ok : goal.returns-clause-ok
+returns-clause-ok g c =
     let r = c.args.self.now in
-    seen_misfit r.tag r.blocks r.at r.settled f ∙ sym (c.in-Ok.ensures.ok.misfit f exposed) ∙ sym (seen_misfit r.tag c.reach_lead.new.blocks c.in-Ok.at c.in-Ok.ensures.end f) ∙ bad
+    on_ok_map c.reach_lead.result c.reach_lead.ensures.ok
+    (advanced (g.D.Disk.view c.args.disk.now) r.tag r.horizon r.blocks c.reach_lead.new.blocks r.at c.reach_lead.new.at c.requires r.settled c.reach_lead.ensures.end)
 
-pub returns-in-Err-clause-err : goal.returns-in-Err-clause-err
-returns-in-Err-clause-err g c = λ b torn f exposed.
+pub returns-clause-err : goal.returns-clause-err
+returns-clause-err g c = λ b torn f exposed.
+    let r = c.args.self.now in seen_misfit r.tag r.blocks r.at r.settled f ∙ (c.reach_lead.ensures.damaged b torn).1 f exposed
+
+pub returns-clause-kept : goal.returns-clause-kept
+returns-clause-kept g c = λ f b exposed bad.
     let r = c.args.self.now in
     seen_misfit r.tag r.blocks r.at r.settled f
-    ∙ (c.in-Err.ensures.damaged b (err_of {U = ℕ} (Err c.in-Err.fault) c.in-Err.fault (Damaged b) refl torn)).1 f exposed
-
-pub returns-in-Err-clause-kept : goal.returns-in-Err-clause-kept
-returns-in-Err-clause-kept g c = λ f b exposed bad.
-    absurd (
-      let none : misfit_after f (last_of None (drop c.args.self.now.at [])) [] ≡ Some b = subst (λ (r : BlockReading). misfit_after f (last_of None (drop c.args.self.now.at r.entries)) r.blocks ≡ Some b) c.in-Err.ensures.err bad in
-      let gone = no_misfit f (last_of None (drop c.args.self.now.at [])) in
-      cc
-    )
+    ∙ bad_before c.reach_lead.result (g.D.Disk.view c.args.disk.now) r.tag r.blocks c.reach_lead.new.blocks _ c.reach_lead.new.at c.reach_lead.ensures.ok c.reach_lead.ensures.err f b exposed
+    (sym (seen_misfit r.tag c.reach_lead.new.blocks c.reach_lead.new.at c.reach_lead.ensures.end f) ∙ bad)

@@ -1,0 +1,54 @@
+-- What a promotion merges: level 0 and the arrays of the levels down to its target.
+use Rattle.std.specs.Prelude.{◌≡◌, ◌≤◌, ℕ, ◌*◌, ◌^◌, Bool, if◌then◌else◌, List, ◌∷◌, length, map, filter, flat_map, Some, Contains}
+use Rattle.strat_base.specs.Tree.{Parents, IsTree}
+use Rattle.strat_base.specs.Entries.{Entry}
+use Rattle.strat_base.specs.declared.descriptors.ArrayDesc.{ArrayDesc}
+use Rattle.strat_crash.specs.Image.{Image}
+use Rattle.strat_format.specs.Arrays.{blocks_of}
+use Rattle.strat_live.specs.Counting.{SameParents}
+use Rattle.strat_plan.specs.Groups.{grouped_entries}
+use Rattle.strat_plan.specs.Plan.{Plan}
+use Rattle.strat_plan.specs.Planned.{is_taken}
+use Rattle.strat_promotion.specs.Purge.{purged}
+use Rattle.strat_promote.specs.Leads.{leads_in, misfit_in}
+
+-- the parents of versions, how many of these take part, whether marks that say nothing are dropped, the entries of
+-- level 0, and the arrays, the shallowest level first
+pub record Job : Type 0 where
+  pub parents : Parents
+  pub horizon : ℕ
+  pub purges : Bool
+  pub zero : List Entry
+  pub arrays : List ArrayDesc
+
+-- the runs that it merges in an image, the newest first
+abbrev pub runs_in : Image → Job → List (List Entry)
+runs_in f job = job.zero ∷ map (leads_in f) job.arrays
+
+-- how many entries they have
+abbrev pub entries_in : Image → Job → ℕ
+entries_in f job = length (grouped_entries (runs_in f job))
+
+-- the blocks of its arrays
+abbrev pub blocks_read : Job → List ℕ
+blocks_read job = flat_map (λ a. blocks_of a.extents) job.arrays
+
+-- one of its arrays has a block that holds no entries there, or none that come after those before it
+pub record IsBadInput (f : Image) (job : Job) (b : ℕ) : Type 0 where
+  pub array : ArrayDesc
+  pub one : Contains job.arrays array
+  pub misfit : misfit_in f array ≡ Some b
+
+-- a tree gives the versions of a job their parents
+pub record IsJobIn (tree : Parents) (job : Job) : Type 0 where
+  pub rooted : IsTree job.parents
+  pub same : SameParents job.horizon job.parents tree
+
+-- what is written of groups
+abbrev pub groups_kept : Job → List (List Entry) → List (List Entry)
+groups_kept job groups = if job.purges then map (purged job.parents) groups else groups
+
+-- what the array of a part takes of groups, one after another
+abbrev pub part_content : Parents → Plan → List (List Entry) → ℕ → List Entry
+part_content parents plan groups q =
+    flat_map (λ group. filter (is_taken parents plan group q) group) groups

@@ -1,0 +1,40 @@
+-- The group that a pass takes next.
+use Rattle.std.specs.Prelude.{◌≡◌, ℕ, Bool, false, if◌then◌else◌, List, Some, IsTrue}
+use Rattle.std.specs.List.{list_all}
+use Rattle.std.specs.Ordering.{is_lt, is_gt}
+use Rattle.strat_arena.specs.ArenaView.{KeyValue}
+use Rattle.strat_arena.specs.Items.{entries_of, have_pairs}
+use Rattle.strat_arena.specs.declared.items.Item.{Item}
+use Rattle.strat_base.specs.Entries.{Entry, is_of}
+use Rattle.strat_base.specs.EntryBytes.{fits_fields}
+use Rattle.strat_base.specs.Order.{key_cmp}
+use Rattle.strat_base.specs.Tree.{Parents}
+use Rattle.strat_live.specs.Counting.{are_below}
+use Rattle.strat_live.specs.Group.{is_descending}
+use Rattle.strat_merge.specs.Gathered.{TakesNext, are_under}
+use Rattle.strat_merge.specs.Runs.{RunView, head_at}
+use Rattle.strat_promotion.specs.Purge.{purged}
+
+-- the items of a key that runs had left, on whatever disk: no run began before the key, and afterwards each begins
+-- behind it
+pub record IsTakenGroup (old new : List RunView) (pairs : List KeyValue) (items : List Item)
+    (key : List ℕ) : Type 0 where
+  pub slots : IsTrue (have_pairs pairs items)
+  pub descending : IsTrue (is_descending items)
+  pub keyed : IsTrue (list_all (is_of key) (entries_of pairs items))
+  pub lawful : IsTrue (list_all fits_fields (entries_of pairs items))
+  pub low : (n : ℕ) → IsTrue (are_under n old) → IsTrue (are_below n items)
+  pub bound : (n : ℕ) → IsTrue (are_under n old) → IsTrue (are_under n new)
+  pub least : (i : ℕ) (e : Entry) → head_at old i ≡ Some e → is_gt (key_cmp key e.key) ≡ false
+  pub behind : (i : ℕ) (e : Entry) → head_at new i ≡ Some e → IsTrue (is_lt (key_cmp key e.key))
+
+-- what is kept of a group
+abbrev pub group_kept : Parents → Bool → List Entry → List Entry
+group_kept parents purges group = if purges then purged parents group else group
+
+-- a group was taken from runs, and these entries are what is kept of it
+pub record TakesKept (parents : Parents) (purges : Bool) (old new : List (List Entry))
+    (entries : List Entry) : Type 0 where
+  pub group : List Entry
+  pub taken : TakesNext old new group
+  pub kept : entries ≡ group_kept parents purges group
