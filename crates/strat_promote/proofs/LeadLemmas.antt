@@ -1,16 +1,15 @@
 -- Entries of blocks that are read one after another.
-use Rattle.std.proofs.Common.{◌≡◌, ◌<◌, ◌-◌, ◌*◌, ◌⊎◌, ℕ, suc, get_or, IsSome, IfSome, length-append, Bool, true, false, cond, ltb, leb, ◌&&◌, inl, inr, List, [], ◌∷◌, ◌++◌, length, Option, Some, None, refl, sym, ap, ◌∙◌, subst, true≢false, arith, append_assoc}
-use Rattle.std.specs.List.{list_all, filter, slice_get, Contains}
+use Rattle.std.proofs.Common.{◌≡◌, ◌<◌, ◌-◌, ◌*◌, ℕ, suc, get_or, IsSome, IfSome, length-append, Bool, true, false, cond, ltb, leb, ◌&&◌, inl, inr, List, [], ◌∷◌, ◌++◌, length, Option, Some, None, refl, sym, ap, ◌∙◌, subst, true≢false, arith, append_assoc}
+use Rattle.std.specs.List.{list_all, Contains}
 use Rattle.std.specs.Option.{option_map_or, option_map, option_and_then}
 use Rattle.std.specs.Ordering.{is_lt}
 use Rattle.std.specs.declared.cmp.Ordering.{Ordering}
 use Rattle.std.specs.declared.cmp.Ordering.TheVariants.{Less, Equal, Greater}
 use Rattle.std.proofs.lemmas.Bool.{and_parts, and_from, cases_Bool, ltb-true}
-use Rattle.std.proofs.lemmas.List.Elements.{Contains-append_left, Contains-append_right}
-use Rattle.strat_base.specs.Order.{entry_cmp}
-use Rattle.strat_base.specs.Entries.{Entry, is_ascending, is_tagged, lead_entries}
+use Rattle.std.proofs.lemmas.List.Elements.{Contains-append_right}
+use Rattle.strat_base.specs.Entries.{Entry, is_ascending}
 use Rattle.strat_base.specs.EntryBytes.{fits_fields}
-use Rattle.strat_base.proofs.ListFacts.{Among, all_from, filter_among}
+use Rattle.strat_base.proofs.ListFacts.{Among, all_from}
 use Rattle.strat_base.proofs.TreeLemmas.{option_cases}
 use Rattle.strat_crash.specs.Blocks.{AgreeOn}
 use Rattle.strat_crash.specs.Image.{Image, window}
@@ -19,7 +18,6 @@ use Rattle.strat_format.specs.Block.{block_in, block_front, fits_block}
 use Rattle.strat_format.specs.Arrays.{block_on, entries_on}
 use Rattle.strat_format.proofs.BlockLemmas.{block_in-some}
 use Rattle.strat_state.proofs.SettingLemmas.{order, order_trans, stands_first, first_of}
-use Rattle.strat_plan.proofs.ListLemmas.{filter_ascending}
 use Rattle.strat_array.specs.Kept.{Kept}
 use Rattle.strat_crash.specs.Moments.{DiskView, Exposes}
 use Rattle.strat_crash.specs.Faults.{ReadsAtMost}

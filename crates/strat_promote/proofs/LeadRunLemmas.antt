@@ -1,13 +1,12 @@
 -- Leads that are reached from block to block.
-use Rattle.std.proofs.Common.{◌≡◌, ◌≢◌, ◌<◌, ◌≤◌, ◌+◌, ◌-◌, ℕ, zero, suc, Bool, true, false, cond, ◌&&◌, inl, inr, List, [], ◌∷◌, ◌++◌, length, drop, get_or, Option, Some, None, Result, Ok, Err, IsErrAnd, OnOk, OnErr, IsSome, is_some, refl, sym, ap, ◌∙◌, subst, true≢false, arith}
-use Rattle.std.specs.List.{list_all, filter, slice_get}
+use Rattle.std.proofs.Common.{◌≡◌, ◌<◌, ◌≤◌, ◌+◌, ℕ, zero, suc, Bool, true, false, cond, inl, inr, List, [], ◌∷◌, ◌++◌, length, drop, get_or, Option, Some, None, Result, Ok, Err, IsErrAnd, OnOk, OnErr, IsSome, is_some, refl, sym, ap, ◌∙◌, subst, true≢false, arith}
+use Rattle.std.specs.List.{list_all, slice_get}
 use Rattle.std.specs.Ordering.{is_lt}
-use Rattle.std.proofs.lemmas.Bool.{and_parts, and_from, cases_Bool, cases_lt}
+use Rattle.std.proofs.lemmas.Bool.{and_parts, and_from, cases_lt}
 use Rattle.std.proofs.lemmas.List.{drop_all, drop_more}
 use Rattle.std.proofs.lemmas.Result.{err_from_is_err_and}
 use Rattle.std.proofs.lemmas.List.Elements.{filter-append}
 use Rattle.strat_base.specs.Entries.{Entry, is_ascending, is_tagged, lead_entries}
-use Rattle.strat_base.proofs.ListFacts.{Among}
 use Rattle.strat_base.specs.declared.descriptors.Extent.{Extent}
 use Rattle.strat_base.specs.declared.failures.Fault.{Fault}
 use Rattle.strat_base.specs.declared.failures.Fault.TheVariants as fault
@@ -19,10 +18,10 @@ use Rattle.strat_format.specs.Arrays.{blocks_of}
 use Rattle.strat_crash.specs.Image.{Image}
 use Rattle.strat_crash.specs.Moments.{DiskView, Exposes, OnlyReads}
 use Rattle.strat_crash.proofs.MomentLemmas.{reads_refl, reads_trans}
-use Rattle.strat_merge.specs.Runs.{RunView, IsEntryRun, Advances, ReadsFront}
+use Rattle.strat_merge.specs.Runs.{IsEntryRun, Advances, ReadsFront}
 use Rattle.strat_plan.proofs.ListLemmas.{filter_ascending}
 use Rattle.strat_state.proofs.SettingLemmas.{order, order_trans, stands_first, first_of}
-use Rattle.strat_promote.specs.LeadRuns.{BlockReading, entries_from, misfit_from, read_out, ReadsNext, Turns, IsPast, PassesOver, begins_with_lead, is_settled, leads_from}
+use Rattle.strat_promote.specs.LeadRuns.{BlockReading, entries_from, misfit_from, read_out, ReadsNext, IsPast, PassesOver, begins_with_lead, is_settled, leads_from}
 use Rattle.strat_promote.specs.Leads.{comes_after, last_of, entries_after, misfit_after}
 use Rattle.strat_promote.proofs.LeadLemmas.{is_less, first_before_all, ascends_both, read_ascends, nothing_after, no_misfit, entries_step, misfit_step, last_same, last_among, front_refl, front_trans, entries_same}
 

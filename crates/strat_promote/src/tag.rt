@@ -20,9 +20,9 @@ impl Model for Tag {
 
     ghost Value = { List ℕ };
 
-    ghost use Rattle.strat_promote.specs.TagFields.{tagged_versions, IsSortedAsSaid};
+    ghost use Rattle.strat_promote.specs.TagFields.{versions_kept, IsSortedAsSaid};
 
-    ghost view = { tagged_versions };
+    ghost view = { versions_kept };
 
     ghost invariant = { IsSortedAsSaid };
 }

@@ -1,4 +1,4 @@
-use Rattle.std.proofs.Common.{◌<◌, length, Some, sym, ap, ◌∙◌, subst, arith}
+use Rattle.std.proofs.Common.{◌<◌, length, Some, sym, ap, ◌∙◌, arith}
 use Rattle.strat_array.proofs.SearchLemmas.{err_of}
 use Rattle.strat_promote.specs.LeadRuns.{entries_at_hand}
 use Rattle.strat_promote.proofs.LeadLemmas.{first_held, held_count, held_on, misfit_none, misfit_back}

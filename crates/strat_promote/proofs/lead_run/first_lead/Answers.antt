@@ -1,4 +1,4 @@
-use Rattle.std.proofs.Common.{◌≡◌, ◌∙◌, ap, sym, not, true, false, arith}
+use Rattle.std.proofs.Common.{◌≡◌, ◌∙◌, ap, sym, true, false, arith}
 use Rattle.strat_base.specs.Entries.{Entry, is_tagged}
 use Rattle.strat_base.specs.EntryView.{entry_of}
 use Rattle.strat_promote.proofs.LeadRunLemmas.{skip_one, begin_here}
@@ -11,7 +11,7 @@ loop-at-preserved c =
       omega arith,
       omega arith,
       skip_one c.args.tag.now c.args.blocks.now.entries c.loop-at.at e (omega arith) (ap (λ (d : Entry). is_tagged c.args.tag.now d.version) (sym (c.entry.ensures.ok e)) ∙ no')
-      ∙ c.loop-at.invariant.2,
+          ∙ c.loop-at.invariant.2,
     )
 
 pub returns-else-not-holds-clause-found : goal.returns-else-not-holds-clause-found

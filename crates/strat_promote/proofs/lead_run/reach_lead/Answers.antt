@@ -1,4 +1,4 @@
-use Rattle.std.proofs.Common.{◌≤◌, Bool, length, refl, sym, ◌∙◌, subst, arith}
+use Rattle.std.proofs.Common.{Bool, refl, sym, ◌∙◌, subst, arith}
 use Rattle.strat_array.proofs.SearchLemmas.{err_of}
 use Rattle.strat_crash.proofs.MomentLemmas.{reads_trans}
 use Rattle.strat_promote.specs.LeadRuns.{Turns}

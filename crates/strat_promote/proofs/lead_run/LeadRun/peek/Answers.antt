@@ -1,4 +1,4 @@
-use Rattle.std.proofs.Common.{◌≡◌, ◌∙◌, ap, sym, true, arith}
+use Rattle.std.proofs.Common.{◌∙◌, ap, arith}
 use Rattle.strat_base.specs.Entries.{Entry, is_tagged}
 use Rattle.strat_base.specs.EntryView.{entry_of}
 use Rattle.strat_promote.proofs.LeadRunLemmas.{lead_here}
