@@ -1,12 +1,14 @@
 -- Blocks of extents, extent by extent.
-use Rattle.std.proofs.Common.{◌≡◌, ◌<◌, ◌≤◌, ◌+◌, ◌-◌, ◌^◌, ℕ, true, ltb, leb, zero, suc, get_or, List, [], ◌∷◌, ◌++◌, length, drop, Some, refl, ap, ◌∙◌, arith, length-append}
+use Rattle.std.proofs.Common.{◌≡◌, ◌<◌, ◌≤◌, ◌+◌, ◌-◌, ◌^◌, ℕ, true, ltb, leb, zero, suc, get_or, List, [], ◌∷◌, ◌++◌, length, drop, Some, refl, ap, sym, subst, ◌∙◌, arith, length-append}
 use Rattle.std.specs.List.{list_all, range_with_len, slice_get}
 use Rattle.std.proofs.lemmas.Bool.{and_parts, ltb-true}
 use Rattle.std.proofs.lemmas.List.{drop_more}
 use Rattle.strat_base.specs.declared.descriptors.Extent.{Extent}
 use Rattle.strat_format.specs.Arrays.{blocks_of}
 use Rattle.strat_format.specs.Manifest.{is_lawful_extent}
-use Rattle.strat_array.specs.Within.{AreWithin}
+use Rattle.strat_array.specs.Within.{AreWithin, EndWithin}
+use Rattle.strat_array.specs.Pushed.{AreMaximal, blocks_needed}
+use Rattle.strat_base.specs.Entries.{Entry}
 
 length-range : (a n : ℕ) → length (range_with_len a n) ≡ n
 length-range a zero = refl
@@ -58,3 +60,8 @@ lawful_at (x ∷ extents) (suc i) d lawful lt = lawful_at extents i d (and_parts
 -- extents as a manifest has them, of no more blocks than there are numbers
 pub lawful_within : (extents : List Extent) → list_all is_lawful_extent extents ≡ true → length (blocks_of extents) ≤ 4294967295 → AreWithin extents
 lawful_within extents lawful few = record { each = λ i d lt. let at = lawful_at extents i d lawful lt in omega (arith, at); few = few }
+
+-- the extents of a writer
+pub written_within : (xs ys : List Extent) (pending : List Entry) (count : ℕ) → ys ≡ xs → AreMaximal xs → EndWithin xs → blocks_needed xs pending ≤ count → count ≤ 33554432 → AreMaximal ys × AreWithin ys
+written_within xs ys pending count same maximal within few fits =
+    subst (λ (l : List Extent). AreMaximal l × AreWithin l) (sym same) (maximal, record { each = within; few = omega (arith, few, fits) })

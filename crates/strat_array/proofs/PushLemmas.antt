@@ -1,5 +1,5 @@
 -- Entries that are pushed into an array.
-use Rattle.std.proofs.Common.{◌≡◌, ◌<◌, ◌*◌, ℕ, Bool, true, false, leb, List, [], ◌∷◌, ◌++◌, length, Some, sym, ap, ◌∙◌, arith, append_assoc, true≢false, length-append}
+use Rattle.std.proofs.Common.{◌≡◌, ◌<◌, ◌≤◌, ◌+◌, ◌*◌, ℕ, cond, Bool, true, false, leb, List, [], ◌∷◌, ◌++◌, length, Some, sym, ap, ◌∙◌, arith, append_assoc, true≢false, length-append}
 use Rattle.std.specs.Bool.{OnTrue}
 use Rattle.std.proofs.lemmas.Bool.{OnTrue_at, le-leb}
 use Rattle.strat_base.specs.declared.descriptors.Extent.{Extent}
@@ -17,7 +17,7 @@ use Rattle.strat_format.specs.Block.{block_in, block_front}
 use Rattle.strat_format.specs.Arrays.{blocks_of, block_on, entries_on}
 use Rattle.strat_block.proofs.BlockFacts.{length-front}
 use Rattle.strat_array.specs.Taking.{AreUsed}
-use Rattle.strat_array.specs.Pushed.{IsWritten}
+use Rattle.strat_array.specs.Pushed.{IsWritten, blocks_needed}
 use Rattle.strat_array.proofs.TakesLemmas.{used_agree}
 use Rattle.strat_array.proofs.EntriesOnLemmas.{entries_on-append, entries_on-one, entries_on-kept}
 
@@ -67,3 +67,13 @@ pub pushed_alone : (before next : List Entry) (e : Entry) (r : Bool) → fits_fi
 pushed_alone before next e r lawful empty room ok =
     let yes' : r ≡ true = room ∙ ap (λ (l : List Entry). leb (length (block_front (l ++ e ∷ []))) 4096) empty ∙ one_fits_block e lawful in
     OnTrue_at yes' ok ∙ ap (λ (l : List Entry). l ++ e ∷ []) empty
+
+-- a block is written where the entry has no room behind others, and the entry is in none
+pub blocks_after : (old new : List Extent) (pending mid empty next : List Entry) (e : Entry) → fits_fields e ≡ true → false ≡ leb (length (block_front (pending ++ e ∷ []))) 4096
+    → mid ≡ pending → empty ≡ [] → blocks_needed new empty ≡ blocks_needed old mid → next ≡ e ∷ []
+    → (length (blocks_of new) ≡ length (blocks_of old) + cond (leb (length (block_front (pending ++ e ∷ []))) 4096) 0 1) × (blocks_needed new next ≤ blocks_needed old pending + 1)
+blocks_after old new pending mid empty next e lawful none same none' count alone =
+    let some : 0 < length pending = others_first pending e lawful none in (
+      omega (arith, some, ap length same, ap length none', count, ap {B = ℕ} (λ (t : Bool). cond t 0 1) none),
+      omega (arith, some, ap length same, ap length none', count, ap length alone),
+    )

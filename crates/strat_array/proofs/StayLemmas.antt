@@ -1,15 +1,17 @@
 -- What stays between two calls of a writer.
-use Rattle.std.proofs.Common.{◌≡◌, ℕ, true, List, [], ◌∷◌, ◌++◌, refl, sym, ap, ◌∙◌}
+use Rattle.std.proofs.Common.{◌≡◌, ℕ, Bool, true, false, leb, cond, List, [], ◌∷◌, ◌++◌, length, refl, sym, ap, ◌∙◌, append_assoc}
 use Rattle.std.specs.List.{list_all}
 use Rattle.std.specs.Ordering.{is_lt}
 use Rattle.std.proofs.lemmas.Bool.{and_parts}
+use Rattle.std.proofs.lemmas.List.{append-nil}
+use Rattle.strat_format.specs.Block.{block_front}
 use Rattle.strat_base.specs.Order.{entry_cmp}
 use Rattle.strat_base.specs.Entries.{Entry, is_ascending}
 use Rattle.strat_crash.specs.Blocks.{AgreeOn}
 use Rattle.strat_crash.specs.Image.{Image}
 use Rattle.strat_format.specs.Arrays.{blocks_of, entries_on}
 use Rattle.strat_array.specs.Progress.{ArrayProgress}
-use Rattle.strat_array.specs.Pushed.{IsPushed}
+use Rattle.strat_array.specs.Pushed.{IsEndOf, IsPushed, with_entry}
 use Rattle.strat_array.proofs.EntriesOnLemmas.{entries_on-kept}
 
 pub pushed_stay : (f g : Image) (w : ArrayProgress) (es : List Entry) → AgreeOn (blocks_of w.extents) f g → IsPushed f w es → IsPushed g w es
@@ -29,3 +31,21 @@ behind_ascends (x ∷ xs) ys up =
 
 pub pending_ascends : (f : Image) (w : ArrayProgress) (es : List Entry) → IsPushed f w es → is_ascending es ≡ true → is_ascending w.pending ≡ true
 pending_ascends f w es pushed up = behind_ascends pushed.stands.written w.pending (ap is_ascending (sym pushed.stands.all) ∙ up)
+
+-- what is in no block is the end of all
+pub pushed_end : (f : Image) (w : ArrayProgress) (es : List Entry) → IsPushed f w es → IsEndOf w.pending es
+pushed_end f w es pushed = record { front = pushed.stands.written; split = pushed.stands.all }
+
+pub none_end : (all : List Entry) → IsEndOf [] all
+none_end all = record { front = all; split = sym (append-nil all) }
+
+pub more_end : (all pending : List Entry) (e : Entry) → IsEndOf pending all → IsEndOf (with_entry pending e) (all ++ e ∷ [])
+more_end all pending e ends = go (leb (length (block_front (pending ++ e ∷ []))) 4096)
+  where
+    go : (b : Bool) → IsEndOf (cond b (pending ++ e ∷ []) (e ∷ [])) (all ++ e ∷ [])
+    go true = record { front = ends.front; split = ap (λ (x : List Entry). x ++ e ∷ []) ends.split ∙ append_assoc ends.front pending (e ∷ []) }
+    go false = record { front = all; split = refl }
+
+pub end_ascends : (all pending : List Entry) (e : Entry) → IsEndOf pending all → is_ascending (all ++ e ∷ []) ≡ true → is_ascending (pending ++ e ∷ []) ≡ true
+end_ascends all pending e ends up =
+    behind_ascends ends.front (pending ++ e ∷ []) (ap is_ascending (sym (ap (λ (x : List Entry). x ++ e ∷ []) ends.split ∙ append_assoc ends.front pending (e ∷ []))) ∙ up)

@@ -1,5 +1,5 @@
 -- The entries of an array that is being written, and the extents of one.
-use Rattle.std.specs.Prelude.{◌≡◌, ◌≢◌, ℕ, ◌+◌, ◌<◌, ◌≤◌, List, [], ◌∷◌, ◌++◌, length, nat_le, if◌then◌else◌, Some, ⊤}
+use Rattle.std.specs.Prelude.{◌≡◌, ◌≢◌, ℕ, ◌+◌, ◌<◌, ◌≤◌, List, [], ◌∷◌, ◌++◌, length, nat_le, min, Bool, if◌then◌else◌, Some, Result, Ok, Err, ⊤}
 use Rattle.strat_base.specs.declared.limits.TheConstants.{BLOCK}
 use Rattle.strat_base.specs.declared.descriptors.Extent.{Extent}
 use Rattle.strat_base.specs.declared.failures.Trouble.{Trouble}
@@ -23,10 +23,31 @@ pub record IsPushed (f : Image) (w : ArrayProgress) (entries : List Entry) : Typ
   pub stands : IsWritten f w.extents w.pending entries
   pub count : w.count ≡ length entries
 
+-- an entry has room in a block behind these
+abbrev pub has_room_behind : List Entry → Entry → Bool
+has_room_behind pending e = nat_le (length (block_front (pending ++ e ∷ []))) BLOCK
+
 -- what is in no block after one more entry: a new block begins exactly where the entry has no room
 abbrev pub with_entry : List Entry → Entry → List Entry
-with_entry pending e =
-    if nat_le (length (block_front (pending ++ e ∷ []))) BLOCK then pending ++ e ∷ [] else e ∷ []
+with_entry pending e = if has_room_behind pending e then pending ++ e ∷ [] else e ∷ []
+
+-- these entries are the last of others
+pub record IsEndOf (end all : List Entry) : Type 0 where
+  pub front : List Entry
+  pub split : all ≡ front ++ end
+
+-- how many blocks there are once the entries that are in no block have one, too
+abbrev pub blocks_needed : List Extent → List Entry → ℕ
+blocks_needed extents pending = length (blocks_of extents) + min 1 (length pending)
+
+-- how an entry that is pushed adds to the blocks: one is written exactly where the entry has no room; after an error there
+-- are no more than before but for what was to be written
+abbrev pub AddsBlocks : List Extent → List Entry → Entry → List Extent → List Entry
+    → Result ⊤ Trouble → Type 0
+AddsBlocks old pending e new now (Ok _) =
+    (length (blocks_of new) ≡ length (blocks_of old) + (if has_room_behind pending e then 0 else 1))
+    × (blocks_needed new now ≤ blocks_needed old pending + 1)
+AddsBlocks old pending e new now (Err _) = blocks_needed new now ≤ blocks_needed old pending
 
 -- no extent is empty, and none begins where the one before it ends
 abbrev pub AreMaximal : List Extent → Type 0

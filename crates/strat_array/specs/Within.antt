@@ -1,9 +1,13 @@
 -- Extents of an array, as block numbers allow them.
 use Rattle.std.specs.Prelude.{◌≡◌, ◌≤◌, ◌<◌, ℕ, ◌+◌, ◌==◌, List, length, slice_index_or, Option, Some, None, IsTrue}
-use Rattle.std.specs.List.{list_any}
+use Rattle.std.specs.List.{list_any, All}
 use Rattle.strat_base.specs.declared.descriptors.Extent.{Extent}
 use Rattle.strat_crash.specs.Image.{Image}
 use Rattle.strat_format.specs.Arrays.{block_on, blocks_of}
+
+-- each extent ends at 4,294,967,295 at most
+abbrev pub EndWithin : List Extent → Type 0
+EndWithin extents = All (λ x. x.start + x.len ≤ 4294967295) extents
 
 -- each extent ends at 4,294,967,295 at most, and there are no more blocks
 pub record AreWithin (extents : List Extent) : Type 0 where

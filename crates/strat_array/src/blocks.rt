@@ -3,6 +3,7 @@
 ghost use Rattle.std.specs.Prelude.{◌≡◌, ◌≢◌, ℕ, Bool, true, ◌<◌, ◌+◌, ◌*◌, List, ◌++◌, ◌∷◌, [], length, OnOk, OnErr, IfOk, IfSome, IfNone};
 ghost use Rattle.strat_array.specs.Pushed.{AreMaximal};
 ghost use Rattle.strat_array.specs.Taking.{HasFreeBlock, IsLowestTaken};
+ghost use Rattle.strat_array.specs.Within.{EndWithin};
 ghost use Rattle.strat_base.specs.declared.descriptors.Extent.{Extent as TheExtent};
 ghost use Rattle.strat_crash.specs.Blocks.{TearsBlocks};
 ghost use Rattle.strat_crash.specs.Faults.{CountsFaults};
@@ -63,6 +64,8 @@ fn put_block(extents: &mut Extents, block: u32)
         → blocks_of extents.new ≡ blocks_of xs ++ block ∷ [] }
     ensures kept { (xs : List TheExtent) (x : TheExtent) → extents.old ≡ xs ++ x ∷ []
         → AreMaximal xs → AreMaximal extents.new }
+    ensures end { (xs : List TheExtent) (x : TheExtent) → extents.old ≡ xs ++ x ∷ []
+        → EndWithin xs → EndWithin extents.new }
 {
     let n = extents.len();
     if n > 1 {
@@ -85,6 +88,7 @@ pub(crate) fn take_block(extents: &mut Extents, space: &mut Space) -> Result<u32
     ensures found { IfOk result (λ b. IsLowestTaken space.old b space.new) }
     ensures fits { IfOk result (λ b. b < 4294967295) }
     ensures kept { AreMaximal extents.old → AreMaximal extents.new }
+    ensures end { EndWithin extents.old → EndWithin extents.new }
     ensures err { OnErr result (SameBlocks space.old space.new × (extents.new ≡ extents.old)) }
 {
     let place = Extent { start: 0, len: 0 };

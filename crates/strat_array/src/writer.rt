@@ -1,7 +1,8 @@
 //! Writing an array.
 
-ghost use Rattle.std.specs.Prelude.{◌≡◌, ◌<◌, ◌+◌, ℕ, List, ◌++◌, ◌∷◌, [], length, Some, OnOk, OnErr, IfOk, IsTrue, MatchResult};
-ghost use Rattle.strat_array.specs.Pushed.{AreMaximal, IsWritten, IsPushed, HasReason, with_entry};
+ghost use Rattle.std.specs.Prelude.{◌≡◌, ◌≤◌, ◌<◌, ◌+◌, if◌then◌else◌, ℕ, List, ◌++◌, ◌∷◌, [], length, Some, OnOk, OnErr, IfOk, IsTrue, MatchResult};
+ghost use Rattle.strat_array.specs.Pushed.{AddsBlocks, AreMaximal, IsWritten, IsPushed, HasReason, blocks_needed, has_room_behind, with_entry};
+ghost use Rattle.strat_array.specs.Within.{AreWithin, EndWithin};
 ghost use Rattle.strat_array.specs.Taking.{HasFreeBlock, AreUsed, TakesBlock};
 ghost use Rattle.strat_base.specs.Entries.{Entry as TheEntry, is_ascending};
 ghost use Rattle.strat_base.specs.EntryBytes.{fits_fields};
@@ -13,6 +14,7 @@ ghost use Rattle.strat_extent.specs.Blocks.{is_free};
 ghost use Rattle.strat_format.specs.Arrays.{blocks_of, entries_on};
 
 use crate::blocks::{take_block, write_block};
+use crate::numbers::copied;
 use std::alloc::Global;
 use std::marker::Model;
 use strat_base::{ArrayDesc, Entry, Extents, NoMemory, Trouble, Versions};
@@ -20,30 +22,36 @@ use strat_block::BlockWriter;
 use strat_disk::Disk;
 use strat_extent::Space;
 
-/// Takes a block, writes these entries into it, and begins anew.
+/// Takes a block, writes the entries into it that are in none, and begins anew, if there are any. Where the write
+/// failed it begins anew, too.
 fn write_pending<D: Disk>(
     pending: &mut BlockWriter,
     extents: &mut Extents,
     space: &mut Space,
     disk: &mut D,
 ) -> Result<(), Trouble>
-    requires len { 0 < length pending.old }
     requires room { HasFreeBlock space.old }
     requires found { AreUsed space.old (blocks_of extents.old) }
     ensures ok { OnOk result ((f g : Image) (es : List TheEntry) → Exposes (D.view disk.old) f
         → Exposes (D.view disk.new) g → entries_on f (blocks_of extents.old) ≡ Some es
         → entries_on g (blocks_of extents.new) ≡ Some (es ++ pending.old)) }
-    ensures end { MatchResult result (λ _. pending.new ≡ []) (λ _. pending.new ≡ pending.old) }
+    ensures end { OnOk result (pending.new ≡ []) }
+    ensures len { blocks_needed extents.new pending.new ≡ blocks_needed extents.old pending.old }
     ensures found { TakesBlock space.old space.new extents.old extents.new }
-    ensures kept { AreMaximal extents.old → AreMaximal extents.new }
+    ensures kept { (AreMaximal extents.old → AreMaximal extents.new)
+        × (EndWithin extents.old → EndWithin extents.new) }
     ensures same { TearsBlocks (is_free space.old) (D.view disk.old) (D.view disk.new) }
     ensures cause { MatchResult result (λ _. D.faults disk.new ≡ D.faults disk.old)
         (λ e. HasReason e (D.faults disk.old) (D.faults disk.new)) }
     ensures reads { D.reads disk.new ≡ D.reads disk.old }
 {
+    if pending.is_empty() {
+        return Ok(());
+    }
     let block = take_block(extents, space)?;
-    write_block(disk, block, &pending.spell())?;
+    let written = write_block(disk, block, &pending.spell());
     pending.clear();
+    written?;
     Ok(())
 }
 
@@ -62,11 +70,12 @@ fn push_entry<D: Disk>(
     ensures ok { OnOk result ((f g : Image) (es : List TheEntry) → Exposes (D.view disk.old) f
         → Exposes (D.view disk.new) g → IsWritten f extents.old pending.old es
         → IsWritten g extents.new pending.new (es ++ entry_of e.now ∷ [])) }
-    ensures end { MatchResult result
-        (λ _. pending.new ≡ with_entry pending.old (entry_of e.now))
-        (λ _. pending.new ≡ pending.old) }
+    ensures end { OnOk result (pending.new ≡ with_entry pending.old (entry_of e.now)) }
+    ensures len { AddsBlocks extents.old pending.old (entry_of e.now)
+        extents.new pending.new result }
     ensures found { TakesBlock space.old space.new extents.old extents.new }
-    ensures kept { AreMaximal extents.old → AreMaximal extents.new }
+    ensures kept { (AreMaximal extents.old → AreMaximal extents.new)
+        × (EndWithin extents.old → EndWithin extents.new) }
     ensures same { TearsBlocks (is_free space.old) (D.view disk.old) (D.view disk.new) }
     ensures cause { MatchResult result (λ _. D.faults disk.new ≡ D.faults disk.old)
         (λ e. HasReason e (D.faults disk.old) (D.faults disk.new)) }
@@ -118,7 +127,7 @@ impl ArrayWriter {
 
     /// Adds an entry that stands behind all others. O(bytes of the entry), and where it has no room in
     /// the block so far, that block is written into the lowest free one: one write. After an error the
-    /// writer is good for nothing but `into_extents`.
+    /// writer is good for nothing but its extents.
     pub fn push<D: Disk>(
         &mut self,
         e: &Entry<'_>,
@@ -134,7 +143,10 @@ impl ArrayWriter {
             → IsPushed g self.new (es ++ entry_of e.now ∷ [])) }
         ensures end { OnOk result (
             self.new.pending ≡ with_entry self.old.pending (entry_of e.now)) }
-        ensures len { OnOk result (self.new.count ≡ self.old.count + 1) }
+        ensures len { OnOk result ((self.new.count ≡ self.old.count + 1)
+            × (length (blocks_of self.new.extents) ≡ length (blocks_of self.old.extents)
+            + (if has_room_behind self.old.pending (entry_of e.now) then 0 else 1))) }
+        ensures kept { blocks_needed self.new.extents self.new.pending ≤ self.new.count }
         ensures found { TakesBlock space.old space.new self.old.extents self.new.extents }
         ensures same { TearsBlocks (is_free space.old) (D.view disk.old) (D.view disk.new)
             × (self.new.id ≡ self.old.id) }
@@ -147,7 +159,7 @@ impl ArrayWriter {
         Ok(())
     }
 
-    /// Writes the last block, and gives the array's descriptor: one write. After an error it gives the
+    /// Does what `seal` does, and gives the array's descriptor: one write at most. After an error it gives the
     /// blocks that were taken.
     pub fn finish<D: Disk>(
         self,
@@ -165,7 +177,9 @@ impl ArrayWriter {
         ensures found { IfOk result (λ a. (f g : Image) (es : List TheEntry)
             → Exposes (D.view disk.old) f → Exposes (D.view disk.new) g → IsPushed f self es
             → entries_on g (blocks_of a.extents) ≡ Some es) }
-        ensures kept { IfOk result (λ a. AreMaximal a.extents) }
+        ensures kept { IfOk result (λ a. AreMaximal a.extents × AreWithin a.extents) }
+        ensures len { IfOk result (λ a. (length (blocks_of a.extents) ≤ a.entries)
+            × (length (blocks_of a.extents) ≡ blocks_needed self.extents self.pending)) }
         ensures room { MatchResult result
             (λ a. TakesBlock space.old space.new self.extents a.extents)
             (λ e. TakesBlock space.old space.new self.extents e.1) }
@@ -191,6 +205,67 @@ impl ArrayWriter {
             }),
             Err(failed) => Err((failed, extents)),
         }
+    }
+
+    /// Writes the last entries, if they are in no block: one write at most. After an error the writer is good
+    /// for nothing but its extents.
+    pub fn seal<D: Disk>(&mut self, space: &mut Space, disk: &mut D) -> Result<(), Trouble>
+        requires room { HasFreeBlock space.old }
+        requires found { AreUsed space.old (blocks_of self.old.extents) }
+        ensures ok { OnOk result ((f g : Image) (es : List TheEntry) → Exposes (D.view disk.old) f
+            → Exposes (D.view disk.new) g → IsPushed f self.old es
+            → entries_on g (blocks_of self.new.extents) ≡ Some es) }
+        ensures end { OnOk result (self.new.pending ≡ []) }
+        ensures len { blocks_needed self.new.extents self.new.pending
+            ≡ blocks_needed self.old.extents self.old.pending }
+        ensures found { TakesBlock space.old space.new self.old.extents self.new.extents }
+        ensures same { TearsBlocks (is_free space.old) (D.view disk.old) (D.view disk.new)
+            × (self.new.id ≡ self.old.id) × (self.new.count ≡ self.old.count) }
+        ensures cause { MatchResult result (λ _. D.faults disk.new ≡ D.faults disk.old)
+            (λ e. HasReason e (D.faults disk.old) (D.faults disk.new)) }
+        ensures reads { D.reads disk.new ≡ D.reads disk.old }
+    {
+        write_pending(&mut self.pending, &mut self.extents, space, disk)
+    }
+
+    /// The descriptor of the array with the blocks that were written, in the time of copying their extents: after
+    /// `seal` it is that of all entries. The only error is want of memory.
+    #[tactic(auto, using(crate::proofs::ExtentLemmas::written_within))]
+    pub fn describe(
+        &self,
+        leads: u32,
+        least: u32,
+        versions: Versions,
+    ) -> Result<ArrayDesc, NoMemory>
+        ensures ok { IfOk result (λ a. (a.id ≡ self.now.id) × (a.entries ≡ self.now.count)
+            × (a.leads ≡ leads) × (a.least ≡ least) × (a.versions ≡ versions)) }
+        ensures found { IfOk result (λ a. a.extents ≡ self.now.extents) }
+        ensures kept { IfOk result (λ a. AreMaximal a.extents × AreWithin a.extents) }
+        ensures len { IfOk result (λ a. length (blocks_of a.extents) ≤ a.entries) }
+    {
+        let extents = copied(versions.allocator(), &self.extents)?;
+        Ok(ArrayDesc {
+            id: self.id,
+            entries: self.count,
+            leads,
+            least,
+            extents,
+            versions,
+        })
+    }
+
+    /// How many entries were pushed. O(1).
+    pub fn count(&self) -> u32
+        ensures ok { result ≡ self.now.count }
+    {
+        self.count
+    }
+
+    /// The blocks that were taken. O(1).
+    pub fn extents(&self) -> &Extents
+        ensures ok { result.now ≡ self.now.extents }
+    {
+        &self.extents
     }
 
     /// The blocks that were taken.

@@ -1,8 +1,8 @@
 //! Laws of arrays that are being written. Each is the contract of a function that does nothing.
 
-ghost use Rattle.std.specs.Prelude.{◌≡◌, ℕ, true, false, List, [], ◌++◌, IsTrue};
+ghost use Rattle.std.specs.Prelude.{◌≡◌, ℕ, true, false, List, [], ◌∷◌, ◌++◌, IsTrue};
 ghost use Rattle.strat_array.specs.Progress.{ArrayProgress};
-ghost use Rattle.strat_array.specs.Pushed.{IsPushed};
+ghost use Rattle.strat_array.specs.Pushed.{IsEndOf, IsPushed, with_entry};
 ghost use Rattle.strat_array.specs.Taking.{AreUsed, TakesBlock};
 ghost use Rattle.strat_base.specs.declared.descriptors.Extent.{Extent};
 ghost use Rattle.strat_base.specs.Entries.{Entry as TheEntry, is_ascending};
@@ -10,7 +10,7 @@ ghost use Rattle.strat_crash.specs.Blocks.{AgreeOn, KeepsTaken};
 ghost use Rattle.strat_crash.specs.Image.{Image};
 ghost use Rattle.strat_extent.specs.Blocks.{SpaceView, is_used, is_free};
 ghost use Rattle.strat_extent.specs.Change.{CanGive};
-ghost use Rattle.strat_format.specs.Arrays.{blocks_of};
+ghost use Rattle.strat_format.specs.Arrays.{blocks_of, entries_on};
 
 /// Entries stay pushed while the content stays in the blocks that were written, and a new writer has none.
 pub fn entries_stay_pushed()
@@ -20,6 +20,18 @@ pub fn entries_stay_pushed()
         → IsPushed f (record { id = id; count = 0; pending = []; extents = [] }) [] }
     ensures kept { (f : Image) (w : ArrayProgress) (es : List TheEntry) → IsPushed f w es
         → IsTrue (is_ascending es) → IsTrue (is_ascending w.pending) }
+{}
+
+/// What is in no block are the last of the entries pushed, also where no disk tells of the others: so they ascend with
+/// the next entry where all do.
+pub fn pending_entries_are_the_last()
+    ensures ok { (all pending : List TheEntry) (e : TheEntry) → IsEndOf pending all
+        → IsEndOf (with_entry pending e) (all ++ e ∷ []) }
+    ensures none { (all : List TheEntry) → IsEndOf [] all }
+    ensures found { (f : Image) (w : ArrayProgress) (es : List TheEntry) → IsPushed f w es
+        → IsEndOf w.pending es }
+    ensures kept { (all pending : List TheEntry) (e : TheEntry) → IsEndOf pending all
+        → IsTrue (is_ascending (all ++ e ∷ [])) → IsTrue (is_ascending (pending ++ e ∷ [])) }
 {}
 
 /// The blocks of a writer are used once they are taken. A block that is used stays so while another is taken, and one
@@ -44,8 +56,10 @@ pub fn taken_blocks_may_be_given()
     ensures same { (s : SpaceView) (xs : List Extent) → CanGive s xs → AreUsed s (blocks_of xs) }
 {}
 
-/// What changes free blocks alone leaves those that are used as they are.
+/// What changes free blocks alone leaves those that are used as they are, and so the entries in them.
 pub fn used_blocks_keep_their_bytes()
     ensures ok { (s : SpaceView) (blocks : List ℕ) (f g : Image) → AreUsed s blocks
         → KeepsTaken (is_free s) f g → AgreeOn blocks f g }
+    ensures same { (blocks : List ℕ) (f g : Image) → AgreeOn blocks f g
+        → entries_on g blocks ≡ entries_on f blocks }
 {}
