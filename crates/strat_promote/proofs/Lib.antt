@@ -4,3 +4,7 @@ pub mod LeadRunLemmas
 pub mod TagLemmas
 pub mod TakenLemmas
 pub mod PassLemmas
+pub mod LeadLemmas
+pub mod LeadRunLemmas
+pub mod TagLemmas
+pub mod ZeroLemmas

@@ -1,5 +1,7 @@
+pub mod Job
 pub mod LastFields
 pub mod LeadFields
+pub mod EntryRunProp
 pub mod LeadRuns
 pub mod Leads
 pub mod ZeroFields
@@ -10,3 +12,7 @@ pub mod TagFields
 pub mod InputFields
 pub mod InputLaw
 pub mod Counted
+pub mod ReadingFields
+pub mod TagFields
+pub mod Taken
+pub mod ZeroFields
