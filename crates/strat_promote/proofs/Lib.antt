@@ -4,7 +4,3 @@ pub mod LeadRunLemmas
 pub mod TagLemmas
 pub mod TakenLemmas
 pub mod PassLemmas
-pub mod LeadLemmas
-pub mod LeadRunLemmas
-pub mod TagLemmas
-pub mod ZeroLemmas

@@ -5,14 +5,9 @@ pub mod EntryRunProp
 pub mod LeadRuns
 pub mod Leads
 pub mod ZeroFields
-pub mod Job
 pub mod Taken
 pub mod ReadingFields
 pub mod TagFields
 pub mod InputFields
 pub mod InputLaw
 pub mod Counted
-pub mod ReadingFields
-pub mod TagFields
-pub mod Taken
-pub mod ZeroFields

@@ -12,5 +12,3 @@ mod lead_blocks;
 mod lead_run;
 mod tag;
 mod taking;
-mod zero_copy;
-mod zero_run;
