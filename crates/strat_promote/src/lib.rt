@@ -10,5 +10,6 @@ mod last_read;
 pub mod laws;
 mod lead_blocks;
 mod lead_run;
+mod pushing;
 mod tag;
 mod taking;
