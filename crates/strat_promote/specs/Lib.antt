@@ -12,3 +12,4 @@ pub mod InputFields
 pub mod InputLaw
 pub mod Counted
 pub mod Spaces
+pub mod Closing

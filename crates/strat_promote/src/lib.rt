@@ -1,6 +1,7 @@
 //! Promotion: level 0 and the shallow levels become one new level.
 #![tactic(auto)]
 
+mod closing;
 mod counting;
 mod input;
 mod input_run;
