@@ -13,3 +13,4 @@ pub mod InputLaw
 pub mod Counted
 pub mod Spaces
 pub mod Closing
+pub mod Filled

@@ -14,3 +14,4 @@ mod lead_run;
 mod pushing;
 mod tag;
 mod taking;
+mod writing;

@@ -2,8 +2,10 @@
 //! from each part that it is in, in those that hang below a version which sees the key.
 
 ghost use Rattle.std.specs.Prelude.{◌≡◌, ◌<◌, ◌≤◌, ◌+◌, List, length, slice_index, IfOk, IfSome};
-ghost use Rattle.strat_split.specs.Hanging.{carrier_of, carriers_of, first_hanging, IsLinked};
+ghost use Rattle.strat_split.specs.Chains.{IsLinked};
+ghost use Rattle.strat_split.specs.Hanging.{carrier_of, carriers_of, first_hanging};
 
+use crate::chains::link_place;
 use crate::parts::{IN_NO_PART, Plan};
 use std::alloc::Global;
 use std::marker::Model;
@@ -110,20 +112,6 @@ fn link(carriers: &[u32], firsts: &mut [Option<u32>], nexts: &mut [Option<u32>])
     let mut q = carriers.len();
     while q > 0 {
         q -= 1;
-        link_part(carriers, firsts, nexts, q);
-    }
-}
-
-/// Puts a part before those that hang from its carrier.
-fn link_part(carriers: &[u32], firsts: &mut [Option<u32>], nexts: &mut [Option<u32>], q: usize)
-    requires len { IsLinked carriers.now firsts.old nexts.old (q + 1) }
-    requires fits { q < length carriers.now }
-    requires room { length carriers.now ≤ 4294967295 }
-    ensures ok { IsLinked carriers.now firsts.new nexts.new q }
-{
-    let carrier = carriers[q] as usize;
-    if carrier < firsts.len() {
-        nexts[q] = firsts[carrier];
-        firsts[carrier] = Some(q as u32);
+        link_place(carriers[q], firsts, nexts, q);
     }
 }
