@@ -1,5 +1,5 @@
 -- Entries that are pushed one after the other.
-use Rattle.std.proofs.Common.{◌≡◌, ◌<◌, ◌+◌, ℕ, zero, suc, Bool, true, false, leb, ◌&&◌, List, [], ◌∷◌, ◌++◌, length, take, get_or, map, cond, refl, sym, ap, ◌∙◌, subst, arith, append_assoc}
+use Rattle.std.proofs.Common.{◌≡◌, ◌<◌, ◌+◌, ℕ, zero, suc, Bool, true, List, [], ◌∷◌, ◌++◌, length, take, get_or, map, refl, sym, ap, ◌∙◌, subst, arith}
 use Rattle.std.specs.List.{list_all}
 use Rattle.std.specs.Ordering.{is_lt}
 use Rattle.std.proofs.lemmas.Bool.{and_parts, and_from}
@@ -8,17 +8,12 @@ use Rattle.strat_base.specs.Order.{entry_cmp}
 use Rattle.strat_base.specs.Entries.{Entry, is_ascending}
 use Rattle.strat_base.specs.EntryBytes.{fits_fields}
 use Rattle.strat_base.specs.EntryView.{entry_of}
-use Rattle.strat_format.specs.Block.{block_front}
-use Rattle.strat_array.specs.Pushed.{with_entry}
+use Rattle.strat_array.specs.Pushed.{IsEndOf, with_entry}
+use Rattle.strat_array.proofs.StayLemmas.{more_end, end_ascends}
 
 -- an entry stands before another
 abbrev is_before : Entry → Entry → Bool
 is_before e later = is_lt (entry_cmp e.key e.version later.key later.version)
-
--- these entries end with others
-pub record EndsWith (all end : List Entry) : Type 0 where
-  pub front : List Entry
-  pub split : all ≡ front ++ end
 
 all_take : (p : Entry → Bool) (n : ℕ) (entries : List Entry) → list_all p entries ≡ true → list_all p (take n entries) ≡ true
 all_take p zero entries h = refl
@@ -34,10 +29,6 @@ ascending_take (suc n) (e ∷ entries) up =
     let both = and_parts (list_all (is_before e) entries) (is_ascending entries) up in
     and_from (list_all (is_before e) (take n entries)) (is_ascending (take n entries)) (all_take (is_before e) n entries both.0) (ascending_take n entries both.1)
 
-ascending_end : (front end : List Entry) → is_ascending (front ++ end) ≡ true → is_ascending end ≡ true
-ascending_end [] end up = up
-ascending_end (e ∷ front) end up = ascending_end front end (and_parts (list_all (is_before e) (front ++ end)) (is_ascending (front ++ end)) up).1
-
 one_more : (entries : List Borrowed) (i : ℕ) (d : Borrowed) → i < length entries → map entry_of (take i entries) ++ entry_of (get_or entries i d) ∷ [] ≡ take (i + 1) (map entry_of entries)
 one_more [] i d lt = absurd (omega arith)
 one_more (e ∷ entries) zero d lt = refl
@@ -52,31 +43,17 @@ same_take (suc n) [] = refl
 same_take (suc n) (e ∷ entries) = ap (λ (x : List Entry). entry_of e ∷ x) (same_take n entries)
 
 -- what is in no block ascends with the next entry
-pub pending_ascends : (entries : List Borrowed) (i : ℕ) (d : Borrowed) (pending : List Entry) → is_ascending (map entry_of entries) ≡ true → i < length entries → EndsWith (map entry_of (take i entries)) pending → is_ascending (pending ++ entry_of (get_or entries i d) ∷ []) ≡ true
+pub pending_ascends : (entries : List Borrowed) (i : ℕ) (d : Borrowed) (pending : List Entry) → is_ascending (map entry_of entries) ≡ true → i < length entries → IsEndOf pending (map entry_of (take i entries)) → is_ascending (pending ++ entry_of (get_or entries i d) ∷ []) ≡ true
 pending_ascends entries i d pending up lt ends =
-    let e : Entry = entry_of (get_or entries i d) in
-    ascending_end ends.front (pending ++ e ∷ [])
-    (ap is_ascending (sym (append_assoc ends.front pending (e ∷ [])) ∙ ap (λ (x : List Entry). x ++ e ∷ []) (sym ends.split) ∙ one_more entries i d lt) ∙ ascending_take (i + 1) (map entry_of entries) up)
+    end_ascends (map entry_of (take i entries)) pending (entry_of (get_or entries i d)) ends
+    (ap is_ascending (one_more entries i d lt) ∙ ascending_take (i + 1) (map entry_of entries) up)
 
 -- and is the end of all with it
-pub pending_then : (entries : List Borrowed) (i : ℕ) (d : Borrowed) (pending next : List Entry) → i < length entries → next ≡ with_entry pending (entry_of (get_or entries i d)) → EndsWith (map entry_of (take i entries)) pending → EndsWith (map entry_of (take (i + 1) entries)) next
-pending_then entries i d pending next lt is ends = go (leb (length (block_front (pending ++ e ∷ []))) 4096) refl
-  where
-    e : Entry
-    e = entry_of (get_or entries i d)
-
-    all' : map entry_of (take (i + 1) entries) ≡ map entry_of (take i entries) ++ e ∷ []
-    all' = sym (same_take (i + 1) entries) ∙ sym (one_more entries i d lt)
-
-    go : (b : Bool) → leb (length (block_front (pending ++ e ∷ []))) 4096 ≡ b → EndsWith (map entry_of (take (i + 1) entries)) next
-    go true room = record {
-      front = ends.front;
-      split = all' ∙ ap (λ (x : List Entry). x ++ e ∷ []) ends.split ∙ append_assoc ends.front pending (e ∷ []) ∙ ap (λ (x : List Entry). ends.front ++ x) (sym (is ∙ ap (λ (t : Bool). cond t (pending ++ e ∷ []) (e ∷ [])) room));
-    }
-    go false room = record {
-      front = map entry_of (take i entries);
-      split = all' ∙ ap (λ (x : List Entry). map entry_of (take i entries) ++ x) (sym (is ∙ ap (λ (t : Bool). cond t (pending ++ e ∷ []) (e ∷ [])) room));
-    }
+pub pending_then : (entries : List Borrowed) (i : ℕ) (d : Borrowed) (pending next : List Entry) → i < length entries → next ≡ with_entry pending (entry_of (get_or entries i d)) → IsEndOf pending (map entry_of (take i entries)) → IsEndOf next (map entry_of (take (i + 1) entries))
+pending_then entries i d pending next lt is ends =
+    let e : Entry = entry_of (get_or entries i d) in
+    subst (λ (l : List Entry). IsEndOf l (map entry_of (take (i + 1) entries))) (sym is)
+    (subst (λ (l : List Entry). IsEndOf (with_entry pending e) l) (one_more entries i d lt ∙ same_take (i + 1) entries) (more_end (map entry_of (take i entries)) pending e ends))
 
 -- one of these fits its fields
 pub one_fits : (entries : List Borrowed) (i : ℕ) (d : Borrowed) → list_all fits_fields (map entry_of entries) ≡ true → i < length entries → fits_fields (entry_of (get_or entries i d)) ≡ true

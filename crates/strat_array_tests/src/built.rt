@@ -129,7 +129,7 @@ pub(crate) fn write_array(
 }
 
 /// Two extents.
-fn two(alloc: Global, first: Extent, second: Extent) -> Result<Extents, NoMemory>
+pub(crate) fn two(alloc: Global, first: Extent, second: Extent) -> Result<Extents, NoMemory>
     ensures ok { IfOk result (λ l. l ≡ first ∷ second ∷ []) }
 {
     let mut extents = Extents::new(alloc);

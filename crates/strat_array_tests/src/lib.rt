@@ -6,4 +6,6 @@ mod built;
 #[cfg(test)]
 mod reads;
 #[cfg(test)]
+mod runs;
+#[cfg(test)]
 mod writer;

@@ -91,7 +91,7 @@ fn finds_all(
 }
 
 /// Whether an entry is entry number n.
-fn is_number(e: &Entry<'_>, shape: Shape, n: u32) -> bool {
+pub(crate) fn is_number(e: &Entry<'_>, shape: Shape, n: u32) -> bool {
     let value = match (e.val, value_of(shape, n)) {
         (Val::Put(value), Some(byte)) => value == [byte; 40].as_slice(),
         (Val::Gone, None) => true,

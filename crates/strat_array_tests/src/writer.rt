@@ -138,6 +138,67 @@ fn largest(alloc: Global) -> Result<(bool, Extents), Trouble> {
     Ok((ok && stands, extents))
 }
 
+/// Seals a writer, and once more.
+#[tactic(auto, using(strat_array::proofs::TakesLemmas::used_once_taken))]
+fn seal_twice(
+    writer: &mut ArrayWriter,
+    space: &mut Space,
+    disk: &mut MemDisk,
+) -> Result<(), Trouble>
+    requires room { HasFreeBlock space.old }
+    requires found { AreUsed space.old (blocks_of writer.old.extents) }
+{
+    writer.seal(space, disk)?;
+    if space.free() == 0 {
+        return Err(Trouble::NoMemory);
+    }
+    writer.seal(space, disk)
+}
+
+/// Writes an array of these entries, seals it, and tells the blocks of its descriptor and whether that is right.
+fn sealed(
+    alloc: Global,
+    entries: &[Entry<'_>],
+    disk: &mut MemDisk,
+) -> Result<(bool, Extents), Trouble>
+    requires kept { IsTrue (is_ascending (map entry_of entries.now)) }
+    requires fits { IsTrue (list_all fits_fields (map entry_of entries.now))
+        × (length entries.now < 1000) × (0 < length entries.now) }
+{
+    let mut space = space_of(alloc, true)?;
+    if space.free() < 2000 {
+        return Err(Trouble::NoMemory);
+    }
+    let mut writer = ArrayWriter::new(alloc, 5)?;
+    push_all(&mut writer, entries, &mut space, disk)?;
+    seal_twice(&mut writer, &mut space, disk)?;
+    let right = writer.count() as usize == entries.len();
+    let desc = writer.describe(2, 3, Listing::new(alloc))?;
+    Ok((
+        right && desc.id == 5 && desc.entries == writer.count(),
+        desc.extents,
+    ))
+}
+
+/// The blocks of two entries after they were sealed, and whether they stand there.
+fn two_sealed(alloc: Global) -> Result<(bool, Extents), Trouble> {
+    let entries = [
+        Entry {
+            key: &[1],
+            version: 0,
+            val: Val::Gone,
+        },
+        Entry {
+            key: &[2],
+            version: 0,
+            val: Val::Put(&[7; 1024]),
+        },
+    ];
+    let mut disk = MemDisk::new(alloc, &[])?;
+    let (ok, extents) = sealed(alloc, &entries, &mut disk)?;
+    Ok((ok && has_entries(&mut disk, 7, &entries), extents))
+}
+
 /// What becomes of seven entries of which three fit into a block, where these calls of the disk fail.
 fn seven(alloc: Global, failing: &[u64]) -> Result<(bool, Extents), Trouble> {
     let entries = [
@@ -204,6 +265,14 @@ fn entries_stand_in_the_lowest_free_blocks(rt: HostRuntime) -> Result<(), Fail> 
     let (ok, extents) = seven(rt.alloc(), &[])?;
     assert!(rt; ok);
     assert!(rt; are(&extents, &[(7, 1), (9, 2)]));
+    Ok(())
+}
+
+#[test]
+fn a_writer_is_sealed_once(rt: HostRuntime) -> Result<(), Fail> {
+    let (ok, extents) = two_sealed(rt.alloc())?;
+    assert!(rt; ok);
+    assert!(rt; are(&extents, &[(7, 1)]));
     Ok(())
 }
 

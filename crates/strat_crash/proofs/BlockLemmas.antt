@@ -31,9 +31,9 @@ pub blocks_trans : (free : ℕ → Bool) (old mid new : DiskView) → TearsBlock
 blocks_trans free old mid new first second = record {
   images = each_then mid new old.moment (λ c. (d : Image) × Images old d × KeepsTaken free d c) second.time first.images
       (λ c since.
-          let late = second.images c since in
-          let early = first.images late.0 (now_since_start old mid late.0 first.time late.1) in
-          (early.0, early.1, λ b taken. keeps_trans b early.0 late.0 c (early.2 b taken) (late.2 b taken)));
+      let late = second.images c since in
+      let early = first.images late.0 (now_since_start old mid late.0 first.time late.1) in
+      (early.0, early.1, λ b taken. keeps_trans b early.0 late.0 c (early.2 b taken) (late.2 b taken)));
   content = λ f g told now. between mid.content refl (first.time.exposed (told_some old.content f told)) f g told now;
   time = passes_trans first.time second.time;
 }
@@ -41,6 +41,7 @@ blocks_trans free old mid new first second = record {
     told_some : (o : Option Image) (f : Image) → o ≡ Some f → IsSome o
     told_some None f e = absurd (cc)
     told_some (Some x) f e = refl
+
     between : (o : Option Image) → mid.content ≡ o → IsSome o → (f g : Image) → Exposes old f → Exposes new g → KeepsTaken free f g
     between None e some = absurd (true≢false (sym some))
     between (Some h) e some = λ f g told now b taken. keeps_trans b f h g (first.content f h told e b taken) (second.content h g e now b taken)

@@ -1,16 +1,15 @@
 -- Entries of blocks that are read one after another.
-use Rattle.std.proofs.Common.{◌≡◌, ◌<◌, ◌-◌, ◌*◌, ◌⊎◌, ℕ, suc, get_or, IsSome, IfSome, length-append, Bool, true, false, cond, ltb, leb, ◌&&◌, inl, inr, List, [], ◌∷◌, ◌++◌, length, Option, Some, None, refl, sym, ap, ◌∙◌, subst, true≢false, arith, append_assoc}
-use Rattle.std.specs.List.{list_all, filter, slice_get, Contains}
+use Rattle.std.proofs.Common.{◌≡◌, ◌<◌, ◌-◌, ◌*◌, ℕ, suc, get_or, IsSome, IfSome, length-append, Bool, true, false, cond, ltb, leb, ◌&&◌, inl, inr, List, [], ◌∷◌, ◌++◌, length, Option, Some, None, refl, sym, ap, ◌∙◌, subst, true≢false, arith, append_assoc}
+use Rattle.std.specs.List.{list_all, Contains}
 use Rattle.std.specs.Option.{option_map_or, option_map, option_and_then}
 use Rattle.std.specs.Ordering.{is_lt}
 use Rattle.std.specs.declared.cmp.Ordering.{Ordering}
 use Rattle.std.specs.declared.cmp.Ordering.TheVariants.{Less, Equal, Greater}
 use Rattle.std.proofs.lemmas.Bool.{and_parts, and_from, cases_Bool, ltb-true}
-use Rattle.std.proofs.lemmas.List.Elements.{Contains-append_left, Contains-append_right}
-use Rattle.strat_base.specs.Order.{entry_cmp}
-use Rattle.strat_base.specs.Entries.{Entry, is_ascending, is_tagged, lead_entries}
+use Rattle.std.proofs.lemmas.List.Elements.{Contains-append_right}
+use Rattle.strat_base.specs.Entries.{Entry, is_ascending}
 use Rattle.strat_base.specs.EntryBytes.{fits_fields}
-use Rattle.strat_base.proofs.ListFacts.{Among, all_from, filter_among}
+use Rattle.strat_base.proofs.ListFacts.{Among, all_from}
 use Rattle.strat_base.proofs.TreeLemmas.{option_cases}
 use Rattle.strat_crash.specs.Blocks.{AgreeOn}
 use Rattle.strat_crash.specs.Image.{Image, window}
@@ -19,13 +18,12 @@ use Rattle.strat_format.specs.Block.{block_in, block_front, fits_block}
 use Rattle.strat_format.specs.Arrays.{block_on, entries_on}
 use Rattle.strat_format.proofs.BlockLemmas.{block_in-some}
 use Rattle.strat_state.proofs.SettingLemmas.{order, order_trans, stands_first, first_of}
-use Rattle.strat_plan.proofs.ListLemmas.{filter_ascending}
 use Rattle.strat_array.specs.Kept.{Kept}
 use Rattle.strat_crash.specs.Moments.{DiskView, Exposes}
 use Rattle.strat_crash.specs.Faults.{ReadsAtMost}
 use Rattle.strat_merge.specs.Runs.{ReadsFront}
 use Rattle.std.proofs.lemmas.List.{append-nil}
-use Rattle.strat_promote.specs.LeadRuns.{BlockReading, entries_held, key_alone, misfit_from}
+use Rattle.strat_promote.specs.LeadRuns.{BlockReading, entries_at_hand, key_alone, misfit_from}
 use Rattle.strat_promote.specs.Leads.{comes_after, last_of, entries_after, misfit_after}
 
 -- entries ascend, and the first of them comes after one, if there is one
@@ -33,7 +31,8 @@ abbrev pub ascends_after : Option Entry → List Entry → Bool
 ascends_after None entries = is_ascending entries
 ascends_after (Some e) entries = is_ascending (e ∷ entries)
 
-is_less : (e d : Entry) → is_lt (order e d) ≡ true → order e d ≡ Less
+-- an entry that is before another one
+pub is_less : (e d : Entry) → is_lt (order e d) ≡ true → order e d ≡ Less
 is_less e d lt = go (order e d) lt
   where
     go : (o : Ordering) → is_lt o ≡ true → o ≡ Less
@@ -190,13 +189,13 @@ misfit_after_key c before b blocks =
     ]
 
 -- the last entry of a block that a scratch holds
-pub last_held : (held : Option Kept) (len : ℕ) (e : Entry) → len ≡ length (entries_held held) → (len ≡ 0 → ⊥) → IfSome held (λ kept. (d : Entry) → e ≡ get_or kept.1 (len - 1) d) → Some e ≡ last_of None (entries_held held)
+pub last_held : (held : Option Kept) (len : ℕ) (e : Entry) → len ≡ length (entries_at_hand held) → (len ≡ 0 → ⊥) → IfSome held (λ kept. (d : Entry) → e ≡ get_or kept.1 (len - 1) d) → Some e ≡ last_of None (entries_at_hand held)
 last_held None len e is some there = absurd (some is)
 last_held (Some kept) len e is some there =
     ap (λ (x : Entry). Some x) (there e ∙ ap (λ (n : ℕ). get_or kept.1 (n - 1) e) is) ∙ sym (last_at None kept.1 e (omega arith))
 
 -- the first entry of a block that a scratch holds
-pub first_held : (before : Option Entry) (held : Option Kept) (e : Entry) → 0 < length (entries_held held) → IfSome held (λ kept. (d : Entry) → e ≡ get_or kept.1 0 d) → comes_after before (entries_held held) ≡ comes_after before (e ∷ [])
+pub first_held : (before : Option Entry) (held : Option Kept) (e : Entry) → 0 < length (entries_at_hand held) → IfSome held (λ kept. (d : Entry) → e ≡ get_or kept.1 0 d) → comes_after before (entries_at_hand held) ≡ comes_after before (e ∷ [])
 first_held before None e some there = absurd (omega arith)
 first_held before (Some kept) e some there = comes_first before kept.1 e some there
 
@@ -264,13 +263,13 @@ module _ (c d : Image) where
       ]
 
 -- how many entries a block has that a scratch holds
-pub held_count : (held : Option Kept) (n : ℕ) → IsSome held → IfSome held (λ kept. n ≡ length kept.1) → n ≡ length (entries_held held)
+pub held_count : (held : Option Kept) (n : ℕ) → IsSome held → IfSome held (λ kept. n ≡ length kept.1) → n ≡ length (entries_at_hand held)
 held_count None n some is = absurd (true≢false (sym some))
 held_count (Some kept) n some is = is
 
 -- what a scratch read is the block of an image
 pub held_on : (held : Option Kept) (A : Kept → Type 0) (v : DiskView) (b : ℕ) → IsSome held → IfSome held (λ kept. A kept × ((f : Image) → Exposes v f → block_on f b ≡ Some kept.1))
-    → (f : Image) → Exposes v f → block_on f b ≡ Some (entries_held held)
+    → (f : Image) → Exposes v f → block_on f b ≡ Some (entries_at_hand held)
 held_on None A v b some is = absurd (true≢false (sym some))
 held_on (Some kept) A v b some is = is.1
 
@@ -294,3 +293,35 @@ bad_next r last rest b f is kept bad =
     ∙ sym (misfit_after_key f (last_of None r.entries) b rest)
     ∙ ap (λ (o : Option Entry). misfit_after f o (b ∷ rest)) (sym kept)
     ∙ bad
+
+-- entries that ascend behind one are a block's and those behind it
+pub parts_ascend : (before : Option Entry) (xs ys : List Entry) → ascends_after before (xs ++ ys) ≡ true → (comes_after before xs ≡ true) × (ascends_after (last_of before xs) ys ≡ true)
+parts_ascend None [] ys up = (refl, up)
+parts_ascend (Some e) [] ys up = (refl, up)
+parts_ascend None (e ∷ xs) ys up = (refl, (parts_ascend (Some e) xs ys up).1)
+parts_ascend (Some b) (e ∷ xs) ys up =
+    let parts' = and_parts (stands_first b (e ∷ (xs ++ ys))) (is_ascending (e ∷ (xs ++ ys))) up in
+    ((and_parts (is_lt (order b e)) (stands_first b (xs ++ ys)) parts'.0).0, (parts_ascend (Some e) xs ys parts'.1).1)
+
+-- blocks whose entries ascend are read to their end, and none of them is bad
+pub read_whole : (f : Image) (before : Option Entry) (blocks : List ℕ) (entries : List Entry) → entries_on f blocks ≡ Some entries → ascends_after before entries ≡ true
+    → (entries_after f before blocks ≡ entries) × (misfit_after f before blocks ≡ None)
+unfolding entries_on
+read_whole f before [] entries on up = (nothing_after f before ∙ (cc), no_misfit f before)
+read_whole f before (b ∷ blocks) entries on up =
+    elim (option_cases (block_on f b)) [
+      | inl none ↦ absurd (let e = ap (λ (o : Option (List Entry)). option_and_then (λ es. option_map (λ rest. es ++ rest) (entries_on f blocks)) o) (sym none) ∙ on in cc)
+      | inr here ↦
+          let e = ap (λ (o : Option (List Entry)). option_and_then (λ es. option_map (λ rest. es ++ rest) (entries_on f blocks)) o) (sym here.1) ∙ on in
+          elim (option_cases (entries_on f blocks)) [
+            | inl none ↦ absurd (let d = ap (λ (o : Option (List Entry)). option_map (λ rest. here.0 ++ rest) o) (sym none) ∙ e in cc)
+            | inr rest ↦
+                let d = ap (λ (o : Option (List Entry)). option_map (λ r. here.0 ++ r) o) (sym rest.1) ∙ e in
+                let same : here.0 ++ rest.0 ≡ entries = cc in
+                let parts' = parts_ascend before here.0 rest.0 (ap (ascends_after before) same ∙ up) in
+                let more = read_whole f (last_of before here.0) blocks rest.0 rest.1 parts'.1 in (
+                  entries_step f before b blocks here.0 here.1 parts'.0 ∙ ap (λ (es : List Entry). here.0 ++ es) more.0 ∙ same,
+                  misfit_step f before b blocks here.0 here.1 parts'.0 ∙ more.1,
+                )
+          ]
+    ]

@@ -1,19 +1,27 @@
 -- Leads that are reached from block to block.
-use Rattle.std.proofs.Common.{◌≡◌, ◌≢◌, ◌<◌, ◌≤◌, ◌+◌, ◌-◌, ℕ, zero, suc, Bool, true, false, cond, ◌&&◌, inl, inr, List, [], ◌∷◌, ◌++◌, length, drop, get_or, Option, Some, None, IsSome, refl, sym, ap, ◌∙◌, subst, true≢false, arith}
-use Rattle.std.specs.List.{list_all, filter, slice_get}
+use Rattle.std.proofs.Common.{◌≡◌, ◌<◌, ◌≤◌, ◌+◌, ℕ, zero, suc, Bool, true, false, cond, inl, inr, List, [], ◌∷◌, ◌++◌, length, drop, get_or, Option, Some, None, Result, Ok, Err, IsErrAnd, OnOk, OnErr, IsSome, is_some, refl, sym, ap, ◌∙◌, subst, true≢false, arith}
+use Rattle.std.specs.List.{list_all, slice_get}
 use Rattle.std.specs.Ordering.{is_lt}
-use Rattle.std.proofs.lemmas.Bool.{and_parts, and_from, cases_Bool}
-use Rattle.std.proofs.lemmas.List.{drop_all}
+use Rattle.std.proofs.lemmas.Bool.{and_parts, and_from, cases_lt}
+use Rattle.std.proofs.lemmas.List.{drop_all, drop_more}
+use Rattle.std.proofs.lemmas.Result.{err_from_is_err_and}
 use Rattle.std.proofs.lemmas.List.Elements.{filter-append}
 use Rattle.strat_base.specs.Entries.{Entry, is_ascending, is_tagged, lead_entries}
-use Rattle.strat_base.proofs.ListFacts.{Among}
+use Rattle.strat_base.specs.declared.descriptors.Extent.{Extent}
+use Rattle.strat_base.specs.declared.failures.Fault.{Fault}
+use Rattle.strat_base.specs.declared.failures.Fault.TheVariants as fault
+use Rattle.strat_base.specs.declared.failures.Trouble.{Trouble}
+use Rattle.strat_base.specs.declared.failures.Trouble.TheVariants as trouble
+use Rattle.strat_base.specs.Troubles.{as_trouble}
+use Rattle.strat_base.proofs.TreeLemmas.{option_cases}
+use Rattle.strat_format.specs.Arrays.{blocks_of}
 use Rattle.strat_crash.specs.Image.{Image}
 use Rattle.strat_crash.specs.Moments.{DiskView, Exposes, OnlyReads}
 use Rattle.strat_crash.proofs.MomentLemmas.{reads_refl, reads_trans}
-use Rattle.strat_merge.specs.Runs.{RunView, IsEntryRun, Advances, ReadsFront}
+use Rattle.strat_merge.specs.Runs.{IsEntryRun, Advances, ReadsFront}
 use Rattle.strat_plan.proofs.ListLemmas.{filter_ascending}
 use Rattle.strat_state.proofs.SettingLemmas.{order, order_trans, stands_first, first_of}
-use Rattle.strat_promote.specs.LeadRuns.{BlockReading, entries_from, misfit_from, read_out, ReadsNext, Turns, IsPast, PassesOver, begins_with_lead, is_settled, leads_from}
+use Rattle.strat_promote.specs.LeadRuns.{BlockReading, entries_from, misfit_from, read_out, ReadsNext, IsPast, PassesOver, begins_with_lead, is_settled, leads_from}
 use Rattle.strat_promote.specs.Leads.{comes_after, last_of, entries_after, misfit_after}
 use Rattle.strat_promote.proofs.LeadLemmas.{is_less, first_before_all, ascends_both, read_ascends, nothing_after, no_misfit, entries_step, misfit_step, last_same, last_among, front_refl, front_trans, entries_same}
 
@@ -177,3 +185,139 @@ module _ (tag : List ℕ) (n : ℕ) (entries : List Entry) (blocks : List ℕ) (
         begins = λ c. run_begins c entries blocks parts'.1;
         stays = λ c d agree. ap (λ (xs : List Entry). lead_entries tag (entries ++ xs)) (entries_same c d (last_of None entries) blocks agree);
       }
+
+-- no block is left where no entry is
+none_behind : (tag : List ℕ) (entries : List Entry) (blocks : List ℕ) → begins_with_lead tag entries blocks ≡ true → entries ≡ [] → blocks ≡ []
+none_behind tag [] [] begins none = refl
+none_behind tag [] (b ∷ blocks) begins none = absurd (true≢false (sym begins))
+none_behind tag (e ∷ entries) blocks begins none = absurd (cc)
+
+pub last_drop : (i : ℕ) (entries : List Entry) → i < length entries → last_of None (drop i entries) ≡ last_of None entries
+last_drop zero entries lt = refl
+last_drop (suc i) [] lt = absurd (omega arith)
+last_drop (suc i) (e ∷ entries) lt = last_drop i entries (omega arith) ∙ sym (last_same (Some e) entries (omega arith))
+
+-- what a run has left is what is read from its place on
+module _ (tag : List ℕ) (r : BlockReading) (i : ℕ) (settled : is_settled tag (drop i r.entries) r.blocks ≡ true) where
+  no_blocks : length r.entries ≤ i → r.blocks ≡ []
+  no_blocks le = none_behind tag (drop i r.entries) r.blocks (and_parts (is_ascending (drop i r.entries)) (begins_with_lead tag (drop i r.entries) r.blocks) settled).1 (drop_all i r.entries le)
+
+  pub seen_entries : (f : Image) → entries_after f (last_of None (drop i r.entries)) r.blocks ≡ entries_after f (last_of None r.entries) r.blocks
+  seen_entries f = elim (cases_lt i (length r.entries)) [
+    | inl lt ↦ ap (λ (o : Option Entry). entries_after f o r.blocks) (last_drop i r.entries lt)
+    | inr le ↦
+        let none = no_blocks le in
+        ap (entries_after f (last_of None (drop i r.entries))) none ∙ nothing_after f (last_of None (drop i r.entries))
+        ∙ sym (ap (entries_after f (last_of None r.entries)) none ∙ nothing_after f (last_of None r.entries))
+  ]
+
+  pub seen_misfit : (f : Image) → misfit_after f (last_of None (drop i r.entries)) r.blocks ≡ misfit_from f r
+  seen_misfit f = elim (cases_lt i (length r.entries)) [
+    | inl lt ↦ ap (λ (o : Option Entry). misfit_after f o r.blocks) (last_drop i r.entries lt)
+    | inr le ↦
+        let none = no_blocks le in
+        ap (misfit_after f (last_of None (drop i r.entries))) none ∙ no_misfit f (last_of None (drop i r.entries))
+        ∙ sym (ap (misfit_after f (last_of None r.entries)) none ∙ no_misfit f (last_of None r.entries))
+  ]
+
+  pub seen_left : (n : ℕ) (f : Image) → (leads_from tag n (drop i r.entries) r.blocks).left f ≡ lead_entries tag (entries_from f r i)
+  seen_left n f = ap (λ (es : List Entry). lead_entries tag (drop i r.entries ++ es)) (seen_entries f)
+
+pub within_some : (entries : List Entry) (i : ℕ) → IsSome (slice_get (drop i entries) 0) → i < length entries
+within_some entries i some = elim (cases_lt i (length entries)) [
+  | inl lt ↦ lt
+  | inr le ↦ absurd (true≢false (sym some ∙ ap (λ (es : List Entry). is_some (slice_get es 0)) (drop_all i entries le)))
+]
+
+-- the first entry that is left stands before all others
+is_past : (r : BlockReading) (i : ℕ) (e : Entry) → i < length r.entries → drop i r.entries ≡ e ∷ drop (i + 1) r.entries → is_ascending (drop i r.entries) ≡ true → IsPast e r (i + 1)
+is_past r i e lt split up =
+    let rest : List Entry = drop (i + 1) r.entries in
+    let first : stands_first e rest ≡ true = (and_parts (stands_first e rest) (is_ascending rest) (ap is_ascending (sym split) ∙ up)).0 in
+    let last = last_among e rest in
+    let same : last_of None r.entries ≡ Some last.0 = sym (last_drop i r.entries lt) ∙ ap (last_of None) split ∙ last.2 in
+    record {
+      here = first;
+      behind = λ d after.
+          let less : is_lt (order last.0 d) ≡ true = ap (λ (o : Option Entry). comes_after o (d ∷ [])) (sym same) ∙ after in
+          elim last.1 [
+            | inl is ↦ ap (λ (x : Entry). is_lt (order x d)) (sym is) ∙ less
+            | inr among ↦ ap is_lt (order_trans e last.0 d (first_of e last.0 rest first among) (is_less last.0 d less))
+          ];
+    }
+
+first_is : (entries : List Entry) (i : ℕ) (e : Entry) → slice_get (drop i entries) 0 ≡ Some e → drop i entries ≡ e ∷ drop (i + 1) entries
+first_is entries i e is = elim (cases_lt i (length entries)) [
+  | inl lt ↦
+      let split = drop_more entries i e lt in
+      let same : get_or entries i e ≡ e = let h = ap (λ (es : List Entry). slice_get es 0) (sym split) ∙ is in cc in
+      split ∙ ap (λ (x : Entry). x ∷ drop (i + 1) entries) same
+  | inr le ↦ absurd (let h = ap (λ (es : List Entry). slice_get es 0) (sym (drop_all i entries le)) ∙ is in cc)
+]
+
+head_stands : (e f : Entry) (entries : List Entry) → stands_first e entries ≡ true → slice_get entries 0 ≡ Some f → is_lt (order e f) ≡ true
+head_stands e f [] first is = absurd (cc)
+head_stands e f (d ∷ entries) first is =
+    let same : d ≡ f = cc in
+    ap (λ (x : Entry). is_lt (order e x)) (sym same) ∙ (and_parts (is_lt (order e d)) (stands_first e entries) first).0
+
+-- from one lead to the next
+pub advanced : (disk : DiskView) (tag : List ℕ) (n : ℕ) (old new : BlockReading) (i j : ℕ) → IsSome (slice_get (drop i old.entries) 0)
+    → is_settled tag (drop i old.entries) old.blocks ≡ true → is_settled tag (drop j new.entries) new.blocks ≡ true → PassesOver disk tag old (i + 1) new j
+    → Advances disk (leads_from tag n (drop i old.entries) old.blocks) (leads_from tag n (drop j new.entries) new.blocks)
+advanced disk tag n old new i j some was is passes =
+    record {
+      rest = λ c exposed. seen_left tag new j is n c ∙ passes.leads c exposed ∙ sym (one_less c) ∙ ap (drop 1) (sym (seen_left tag old i was n c));
+      later = λ e f here there.
+          head_stands e f (drop j new.entries) (passes.later e (is_past old i e lt (first_is old.entries i e here) (and_parts (is_ascending (drop i old.entries)) (begins_with_lead tag (drop i old.entries) old.blocks) was).0)).here there;
+      bound = refl;
+    }
+  where
+    lt : i < length old.entries
+    lt = within_some old.entries i some
+
+    one_less : (c : Image) → drop 1 (lead_entries tag (entries_from c old i)) ≡ lead_entries tag (entries_from c old (i + 1))
+    one_less c =
+        elim (option_cases (slice_get (drop i old.entries) 0)) [
+          | inl none ↦ absurd (true≢false (sym some ∙ ap is_some none))
+          | inr e ↦
+              let more : List Entry = drop (i + 1) old.entries ++ entries_after c (last_of None old.entries) old.blocks in
+              let split = first_is old.entries i e.0 e.1 in
+              let lead : is_tagged tag e.0.version ≡ true =
+              (and_parts (is_ascending (e.0 ∷ drop (i + 1) old.entries)) (is_tagged tag e.0.version) (ap (λ (es : List Entry). is_settled tag es old.blocks) (sym split) ∙ was)).1 in
+              ap (λ (es : List Entry). drop 1 (lead_entries tag (es ++ entries_after c (last_of None old.entries) old.blocks))) split
+              ∙ ap (λ (t : Bool). drop 1 (cond t (e.0 ∷ lead_entries tag more) (lead_entries tag more))) lead
+        ]
+
+-- a run that begins
+pub opened : (disk : DiskView) (tag versions : List ℕ) (n : ℕ) (extents : List Extent) (old new : BlockReading) (j : ℕ) → old ≡ record { entries = []; blocks = blocks_of extents } → tag ≡ versions
+    → is_settled tag (drop j new.entries) new.blocks ≡ true → PassesOver disk tag old 0 new j → (f : Image) → Exposes disk f
+    → (leads_from tag n (drop j new.entries) new.blocks).left f ≡ lead_entries versions (entries_after f None (blocks_of extents))
+opened disk tag versions n extents old new j begun same is passes f exposed =
+    seen_left tag new j is n f ∙ passes.leads f exposed
+    ∙ ap (λ (r : BlockReading). lead_entries tag (entries_from f r 0)) begun
+    ∙ ap (λ (t : List ℕ). lead_entries t (entries_after f None (blocks_of extents))) same
+
+-- a fault that is told as a trouble
+pub damage_told : {T U : Type 0} (r : Result T Trouble) (f : Fault) (b : ℕ) → IsErrAnd r (λ e. e ≡ as_trouble f) → r ≡ Err (trouble.Damaged b) → ◌≡◌ {A = Result U Fault} (Err f) (Err (fault.Damaged b))
+damage_told r f b told is =
+    let p = err_from_is_err_and r told in
+    let same : Err p.0 ≡ Err (trouble.Damaged b) = sym p.1 ∙ is in
+    let one : p.0 ≡ trouble.Damaged b = cc in
+    ap (λ (x : Fault). Err x) (go f (sym p.2 ∙ one))
+  where
+    go : (f : Fault) → as_trouble f ≡ trouble.Damaged b → f ≡ fault.Damaged b
+    go fault.Device is = absurd (cc)
+    go (fault.Damaged a) is = let same : a ≡ b = cc in ap (λ (n : ℕ). fault.Damaged n) same
+
+-- a run that is spent has nothing left
+pub settled_out : (tag : List ℕ) (i : ℕ) (r : BlockReading) → r ≡ read_out → is_settled tag (drop i r.entries) r.blocks ≡ true
+settled_out tag i r out =
+    settled_end tag r i (let none : length r.entries ≡ 0 = ap (λ (x : BlockReading). length x.entries) out in omega arith) (ap (λ (x : BlockReading). x.blocks) out)
+
+-- a block that is bad after a call was bad before it
+pub bad_before : {T E : Type 0} (r : Result T E) (disk : DiskView) (tag : List ℕ) (old new : BlockReading) (i j : ℕ) → OnOk r (PassesOver disk tag old i new j) → OnErr r (new ≡ read_out)
+    → (f : Image) (b : ℕ) → Exposes disk f → misfit_from f new ≡ Some b → misfit_from f old ≡ Some b
+bad_before (Ok x) disk tag old new i j passes out f b exposed bad = sym (passes.misfit f exposed) ∙ bad
+bad_before (Err e) disk tag old new i j passes out f b exposed bad =
+    absurd (let none = sym (ap (misfit_from f) out) ∙ bad in let gone = no_misfit f None in cc)

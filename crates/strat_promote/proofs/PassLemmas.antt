@@ -1,5 +1,5 @@
 -- One more group of a pass.
-use Rattle.std.proofs.Common.{◌≡◌, ◌<◌, ◌≤◌, ◌+◌, ◌-◌, ◌^◌, ℕ, zero, suc, Bool, true, false, min, leb, ltb, cond, is_some, List, [], ◌∷◌, ◌++◌, length, map, flat_map, Option, Some, None, option_and_then, refl, sym, ap, ◌∙◌, subst, arith}
+use Rattle.std.proofs.Common.{◌≡◌, ◌<◌, ◌≤◌, ◌+◌, ◌-◌, ◌^◌, ◌||◌, ℕ, zero, suc, Bool, true, false, min, leb, ltb, cond, is_some, inl, inr, List, [], ◌∷◌, ◌++◌, length, map, flat_map, Option, Some, None, option_and_then, refl, sym, ap, ◌∙◌, subst, arith}
 use Rattle.std.specs.List.{list_all, slice_get, find, Contains}
 use Rattle.std.specs.Option.{option_map_or}
 use Rattle.std.proofs.lemmas.Bool.{ltb-true, leb-true, le-leb}
@@ -13,7 +13,8 @@ use Rattle.strat_state.specs.Live.{deciding, first_some}
 use Rattle.strat_arena.specs.ArenaView.{KeyValue}
 use Rattle.strat_arena.specs.Items.{entry_of_item, entries_of}
 use Rattle.strat_arena.specs.declared.items.Item.{Item}
-use Rattle.strat_live.specs.Counting.{SameParents, item_versions}
+use Rattle.strat_live.specs.Counting.{SameParents, item_versions, IsTally}
+use Rattle.strat_live.specs.Tallies.{Tallies}
 use Rattle.strat_tree.proofs.PreorderLemmas.{path_same}
 use Rattle.strat_plan.specs.Groups.{grouped_entries, group_versions}
 use Rattle.strat_plan.proofs.ListLemmas.{filter_same}
@@ -22,10 +23,10 @@ use Rattle.std.proofs.Math.Nat.{min-eq_left}
 use Rattle.strat_promotion.specs.Purge.{is_valued, is_needed, purged}
 use Rattle.strat_merge.specs.Gathered.{are_under, TakesNext, CountsTaken}
 use Rattle.strat_merge.specs.Runs.{RunView, IsEntryRun, head_at, lefts, blocks_left, IsBadFor, NoneLeft}
-use Rattle.strat_promote.specs.Job.{Job, runs_in, groups_kept}
-use Rattle.strat_promotion.specs.Merging.{MergesTo, IsNext, rest_of}
+use Rattle.strat_promote.specs.Job.{Job, runs_in, input_count, groups_kept}
+use Rattle.strat_promotion.specs.Merging.{MergesTo, Merges, IsNext, rest_of}
 use Rattle.strat_promote.specs.Counted.{AreRunsOf}
-use Rattle.strat_promote.specs.Taken.{group_kept}
+use Rattle.strat_promote.specs.Taken.{group_kept, TakesKept}
 
 -- a greater number is above the versions of runs, too
 pub under_more : (n m : ℕ) (runs : List RunView) → n ≤ m → are_under n runs ≡ true → are_under m runs ≡ true
@@ -46,10 +47,10 @@ none_left view law f (r ∷ runs) none =
     ended (x ∷ es) e = absurd (cc)
 
 -- what is kept of entries does not depend on versions that were made later
-pub kept_same : (purges : Bool) (n : ℕ) (parents others : Parents) → IsTree others → SameParents n parents others → (entries : List Entry)
+pub kept_same : (purges : Bool) (n : ℕ) (parents others : Parents) → IsTree parents → SameParents n parents others → (entries : List Entry)
     → ((e : Entry) → Among e entries → e.version < n) → group_kept parents purges entries ≡ group_kept others purges entries
-kept_same false n parents others other same entries low = refl
-kept_same true n parents others other same entries low =
+kept_same false n parents others rooted same entries low = refl
+kept_same true n parents others rooted same entries low =
     filter_same (is_needed parents entries) (is_needed others entries) entries (λ e among. ap (λ (t : Bool). is_some e.value || t) (seen e (low e among)))
   where
     found : List ℕ → List ℕ → Bool
@@ -60,13 +61,13 @@ kept_same true n parents others other same entries low =
 
     seen : (e : Entry) → e.version < n → option_map_or (λ p. is_valued parents entries e.key p) (parent_of parents e.version) false ≡ option_map_or (λ p. is_valued others entries e.key p) (parent_of others e.version) false
     seen e lt =
-        elim (option_cases (parent_of others e.version)) [
-          | inl none ↦ ap (λ (o : Option ℕ). above o parents e.key) (same e.version lt ∙ none) ∙ sym (ap (λ (o : Option ℕ). above o others e.key) none)
+        elim (option_cases (parent_of parents e.version)) [
+          | inl none ↦ ap (λ (o : Option ℕ). above o parents e.key) none ∙ sym (ap (λ (o : Option ℕ). above o others e.key) (sym (same e.version lt) ∙ none))
           | inr some ↦
-              let older : some.0 < e.version = parent_older others other e.version some.0 some.1 in
+              let older : some.0 < e.version = parent_older parents rooted e.version some.0 some.1 in
               let there : is_valued parents entries e.key some.0 ≡ is_valued others entries e.key some.0 =
-              ap (found e.key) (path_same parents others other n same some.0 (omega (arith, older, lt))) in
-              ap (λ (o : Option ℕ). above o parents e.key) (same e.version lt ∙ some.1) ∙ there ∙ sym (ap (λ (o : Option ℕ). above o others e.key) some.1)
+              sym (ap (found e.key) (path_same others parents rooted n (λ v known. sym (same v known)) some.0 (omega (arith, older, lt)))) in
+              ap (λ (o : Option ℕ). above o parents e.key) some.1 ∙ there ∙ sym (ap (λ (o : Option ℕ). above o others e.key) (sym (same e.version lt) ∙ some.1))
         ]
 
 -- the versions of a group's entries
@@ -105,3 +106,32 @@ runs_more f job groups old new before now group runs next counts fewer blames =
       within = λ b here. runs.within b (fewer b here);
       blames = λ b is. runs.blames b (blames b is);
     }
+
+-- where nothing is left, all groups of a job were taken
+pub runs_ended : {R : Type 0} (view : R → RunView) (law : (r : R) → IsEntryRun (view r)) (f : Image) (job : Job) (groups : List (List Entry)) (runs : List R) (consumed : ℕ)
+    → AreRunsOf f job groups (map view runs) consumed → NoneLeft (map view runs) → Merges (runs_in f job) groups × (consumed ≡ input_count f job)
+runs_ended view law f job groups runs consumed are none =
+    let empty = none_left view law f runs none in
+    let taken = are.taken in
+    ((lefts f (map view runs), are.merged, empty), omega (arith, taken, ap (λ (es : List Entry). length es) empty))
+
+-- a count stands still where nothing is taken
+pub count_stays : (lists same : List (List Entry)) (before now : ℕ) → same ≡ lists → before ≤ 2 ^ 24 → CountsTaken lists same before now → now ≡ before
+count_stays lists same before now is small counts =
+    let size : length (grouped_entries same) ≡ length (grouped_entries lists) = ap (λ (ls : List (List Entry)). length (grouped_entries ls)) is in
+    let low : before + (length (grouped_entries lists) - length (grouped_entries same)) ≤ 2 ^ 64 - 1 = omega (arith, size, small) in
+    let same' = counts.counted ∙ min-eq_left low in
+    omega (arith, size, same')
+
+-- one more group of a job was counted
+pub counted_more : (f : Image) (job : Job) (groups : List (List Entry)) (tree : Parents) (pairs : List KeyValue) (items : List Item) (old new : Tallies) (lefts' next : List (List Entry))
+    → IsTree job.parents → SameParents job.horizon job.parents tree → (taken : TakesKept tree job.purges job.horizon lefts' next (entries_of pairs items))
+    → (IsTally job.parents (group_versions (groups_kept job groups)) old → IsTally job.parents (group_versions (groups_kept job groups) ++ item_versions items ∷ []) new)
+    → IsTally job.parents (group_versions (groups_kept job groups)) old → IsTally job.parents (group_versions (groups_kept job (groups ++ taken.group ∷ []))) new
+counted_more f job groups tree pairs items old new lefts' next rooted same taken adds tally =
+    let kept : entries_of pairs items ≡ group_kept job.parents job.purges taken.group = taken.kept ∙ sym (kept_same job.purges job.horizon job.parents tree rooted same taken.group (λ e among. ltb-true e.version job.horizon (all_at (λ (d : Entry). ltb d.version job.horizon) e taken.group taken.low among))) in
+    let versions : map (λ (e : Entry). e.version) (group_kept job.parents job.purges taken.group) ≡ item_versions items =
+    ap (λ (es : List Entry). map (λ (e : Entry). e.version) es) (sym kept) ∙ versions_of_items pairs items in
+    let all : group_versions (groups_kept job (groups ++ taken.group ∷ [])) ≡ group_versions (groups_kept job groups) ++ item_versions items ∷ [] =
+    versions_more job groups taken.group ∙ ap (λ (vs : List ℕ). group_versions (groups_kept job groups) ++ vs ∷ []) versions in
+    subst (λ (gs : List (List ℕ)). IsTally job.parents gs new) (sym all) (adds tally)

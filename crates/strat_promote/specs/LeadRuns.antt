@@ -81,9 +81,9 @@ leads_from tag n entries blocks =
     }
 
 -- the entries of the block that a scratch holds, if it holds one
-abbrev pub entries_held : Option Kept → List Entry
-entries_held None = []
-entries_held (Some kept) = kept.1
+abbrev pub entries_at_hand : Option Kept → List Entry
+entries_at_hand None = []
+entries_at_hand (Some kept) = kept.1
 
 -- the key and the version of an entry, if there is one
 abbrev pub key_alone : Option Entry → Option Entry

@@ -1,9 +1,10 @@
+pub mod Job
 pub mod LastFields
 pub mod LeadFields
+pub mod EntryRunProp
 pub mod LeadRuns
 pub mod Leads
 pub mod ZeroFields
-pub mod Job
 pub mod Taken
 pub mod ReadingFields
 pub mod TagFields

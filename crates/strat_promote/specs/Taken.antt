@@ -1,5 +1,5 @@
 -- The group that a pass takes next.
-use Rattle.std.specs.Prelude.{◌≡◌, ℕ, Bool, false, if◌then◌else◌, List, Some, IsTrue}
+use Rattle.std.specs.Prelude.{◌≡◌, ℕ, nat_lt, Bool, false, if◌then◌else◌, List, Some, IsTrue}
 use Rattle.std.specs.List.{list_all}
 use Rattle.std.specs.Ordering.{is_lt, is_gt}
 use Rattle.strat_arena.specs.ArenaView.{KeyValue}
@@ -32,9 +32,10 @@ pub record IsTakenGroup (old new : List RunView) (pairs : List KeyValue) (items 
 abbrev pub group_kept : Parents → Bool → List Entry → List Entry
 group_kept parents purges group = if purges then purged parents group else group
 
--- a group was taken from runs, and these entries are what is kept of it
-pub record TakesKept (parents : Parents) (purges : Bool) (old new : List (List Entry))
+-- a group of versions below n was taken from runs, and these entries are what is kept of it
+pub record TakesKept (parents : Parents) (purges : Bool) (n : ℕ) (old new : List (List Entry))
     (entries : List Entry) : Type 0 where
   pub group : List Entry
   pub taken : TakesNext old new group
+  pub low : IsTrue (list_all (λ e. nat_lt e.version n) group)
   pub kept : entries ≡ group_kept parents purges group

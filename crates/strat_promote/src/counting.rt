@@ -56,7 +56,7 @@ pub(crate) fn count_group<D: Disk, R: Run<D>>(
         → job.horizon ≡ length counting.old.counts.own
         → IsCounting R.view f job counting.old → IsCounting R.view f job counting.new) }
     ensures none { IfOk result (λ more. more ≡ false → (f : Image) (job : Job)
-        → IsCounting R.view f job counting.old → IsCounted R.view f job counting.new) }
+        → Exposes (D.view disk.old) f → IsCounting R.view f job counting.old → IsCounted R.view f job counting.new) }
     ensures reads { ReadsRuns R.view Device Damaged (D.view disk.old) (D.view disk.new)
         (D.faults disk.old) (D.faults disk.new) (D.reads disk.old) (D.reads disk.new)
         (runs_merged counting.old.merger) (runs_merged counting.new.merger) result }

@@ -12,7 +12,7 @@ ghost use Rattle.strat_crash.specs.Image.{Image};
 ghost use Rattle.strat_crash.specs.Moments.{Exposes, OnlyReads};
 ghost use Rattle.strat_format.specs.Arrays.{block_on, blocks_of};
 ghost use Rattle.strat_merge.specs.Runs.{ReadsFront};
-ghost use Rattle.strat_promote.specs.LeadRuns.{Turns, entries_held, key_alone, misfit_from, read_out};
+ghost use Rattle.strat_promote.specs.LeadRuns.{Turns, entries_at_hand, key_alone, misfit_from, read_out};
 ghost use Rattle.strat_promote.specs.Leads.{comes_after, last_of, misfit_after};
 
 use crate::last_read::LastRead;
@@ -47,8 +47,8 @@ impl Model for LeadBlocks {
 
 /// Takes the last entry of the block that a scratch holds, if it holds one: its key is copied once a block.
 fn keep_last(scratch: &Scratch, len: u16, last: &mut LastRead)
-    requires { len ≡ length (entries_held scratch.now) }
-    ensures ok { last.new ≡ key_alone (last_of None (entries_held scratch.now)) }
+    requires { len ≡ length (entries_at_hand scratch.now) }
+    ensures ok { last.new ≡ key_alone (last_of None (entries_at_hand scratch.now)) }
 {
     if len == 0 {
         last.clear();
@@ -66,12 +66,12 @@ fn read_after<D: Disk>(
     disk: &mut D,
 ) -> Result<u16, Fault>
     requires fits { block < 2 ^ 32 - 1 }
-    ensures len { IfOk result (λ n. (n ≡ length (entries_held scratch.new)) × (0 < n)) }
+    ensures len { IfOk result (λ n. (n ≡ length (entries_at_hand scratch.new)) × (0 < n)) }
     ensures fits { IfOk result (λ n. n ≤ 454) }
-    ensures kept { IfOk result (λ n. IsTrue (is_ascending (entries_held scratch.new))) }
-    ensures ok { IfOk result (λ n. IsTrue (comes_after last.now (entries_held scratch.new))) }
+    ensures kept { IfOk result (λ n. IsTrue (is_ascending (entries_at_hand scratch.new))) }
+    ensures ok { IfOk result (λ n. IsTrue (comes_after last.now (entries_at_hand scratch.new))) }
     ensures found { IfOk result (λ n. (f : Image) → Exposes (D.view disk.old) f
-        → block_on f block ≡ Some (entries_held scratch.new)) }
+        → block_on f block ≡ Some (entries_at_hand scratch.new)) }
     ensures err { OnErr result (scratch.new ≡ None) }
     ensures damaged { (b : ℕ) → IsErrOf result (Damaged b) → (b ≡ block)
         × ((f : Image) (blocks : List ℕ) → Exposes (D.view disk.old) f

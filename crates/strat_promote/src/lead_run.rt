@@ -1,14 +1,15 @@
 //! The leads of an array as a run.
 
 ghost use Rattle.std.specs.List.{Contains, slice_get};
-ghost use Rattle.std.specs.Prelude.{◌≡◌, ◌≤◌, ◌<◌, ℕ, true, List, drop, length, Some, IfOk, OnErr, IsErrOf, IsTrue};
+ghost use Rattle.std.specs.Prelude.{◌≡◌, ◌≤◌, ◌<◌, ℕ, true, List, drop, length, Some, IfOk, OnOk, OnErr, IsErrOf, IsTrue};
 ghost use Rattle.strat_base.specs.Entries.{is_ascending, is_tagged, lead_entries};
 ghost use Rattle.strat_base.specs.declared.failures.Fault.TheVariants.{Damaged, Device};
 ghost use Rattle.strat_crash.specs.Faults.{HasCause};
 ghost use Rattle.strat_crash.specs.Image.{Image};
 ghost use Rattle.strat_crash.specs.Moments.{Exposes, OnlyReads};
-ghost use Rattle.strat_merge.specs.Runs.{ReadsFront, IsEntryRun};
-ghost use Rattle.strat_promote.specs.LeadRuns.{PassesOver, begins_with_lead, leads_from, is_settled, misfit_from, read_out};
+ghost use Rattle.strat_merge.specs.Runs.{IsEntryRun, ReadsFront};
+ghost use Rattle.strat_promote.specs.EntryRunProp.{entry_run_prop};
+ghost use Rattle.strat_promote.specs.LeadRuns.{PassesOver, begins_with_lead, is_settled, leads_from, misfit_from, read_out};
 
 use crate::lead_blocks::LeadBlocks;
 use crate::tag::Tag;
@@ -33,19 +34,20 @@ fn first_lead(blocks: &LeadBlocks, tag: &Tag, from: u16) -> u16
     at
 }
 
-/// The index of the first lead from an index of the block at hand on, in this block or in one that is read here; past
-/// the last block it is how many entries that has. Each block is read once.
+/// Moves an index of the block at hand on to the first lead from there on, in this block or in one that is read here;
+/// past the last block it is how many entries that has. Each block is read once.
 fn reach_lead<D: Disk>(
     blocks: &mut LeadBlocks,
     tag: &Tag,
-    from: u16,
+    at: &mut u16,
     disk: &mut D,
-) -> Result<u16, Fault>
-    requires { from ≤ length blocks.old.entries }
-    ensures ok { IfOk result (λ at. PassesOver (D.view disk.old) tag.now blocks.old from
-        blocks.new at) }
-    ensures end { IfOk result (λ at. IsTrue (is_settled tag.now
-        (drop at blocks.new.entries) blocks.new.blocks)) }
+) -> Result<(), Fault>
+    requires { at.old ≤ length blocks.old.entries }
+    ensures ok { OnOk result (PassesOver (D.view disk.old) tag.now blocks.old at.old
+        blocks.new at.new) }
+    ensures end { IsTrue (is_settled tag.now
+        (drop at.new blocks.new.entries) blocks.new.blocks) }
+    ensures fits { at.new ≤ 454 }
     ensures err { OnErr result (blocks.new ≡ read_out) }
     ensures damaged { (b : ℕ) → IsErrOf result (Damaged b) → Contains blocks.old.blocks b
         × ((f : Image) → Exposes (D.view disk.old) f → misfit_from f blocks.old ≡ Some b) }
@@ -54,14 +56,14 @@ fn reach_lead<D: Disk>(
     ensures reads { ReadsFront blocks.old.blocks blocks.new.blocks
         (D.reads disk.old) (D.reads disk.new) }
 {
-    let mut at = first_lead(blocks, tag, from);
-    while at == blocks.count() {
+    *at = first_lead(blocks, tag, *at);
+    while *at == blocks.count() {
         if !blocks.next(disk)? {
-            return Ok(at);
+            return Ok(());
         }
-        at = first_lead(blocks, tag, 0);
+        *at = first_lead(blocks, tag, 0);
     }
-    Ok(at)
+    Ok(())
 }
 
 /// The leads of an array, of whose blocks one is in memory: from the first lead on at which it stands.
@@ -72,12 +74,13 @@ pub(crate) struct LeadRun {
     horizon: u32,
     at: u16,
     ghost settled: { IsTrue (is_settled tag (drop at blocks.entries) blocks.blocks) },
-    ghost law: { IsEntryRun (leads_from tag horizon (drop at blocks.entries) blocks.blocks) },
+    ghost fits: { at ≤ 454 },
+    ghost law: { IsEntryRun (leads_from tag horizon (drop at blocks.entries) blocks.blocks) } by { entry_run_prop _ },
     ghost below: { (v : ℕ) → is_tagged tag v ≡ true → v < horizon },
 }
 
 impl LeadRun {
-    ghost use Rattle.std.specs.Prelude.{option_map, IsSome, IfSome, OnOk};
+    ghost use Rattle.std.specs.Prelude.{option_map, IsSome, IfSome};
     ghost use Rattle.strat_array.specs.Within.{AreWithin};
     ghost use Rattle.strat_base.specs.EntryBytes.{fits_fields};
     ghost use Rattle.strat_base.specs.EntryView.{entry_of};
@@ -116,7 +119,8 @@ impl LeadRun {
     {
         let tag = Tag::of(alloc, desc.versions.as_slice())?;
         let mut blocks = LeadBlocks::new(alloc, desc)?;
-        let at = reach_lead(&mut blocks, &tag, 0, disk)?;
+        let mut at = 0;
+        reach_lead(&mut blocks, &tag, &mut at, disk)?;
         Ok(LeadRun {
             blocks,
             tag,
@@ -156,13 +160,7 @@ impl LeadRun {
         ensures reads { ReadsFront (lead_run_seen self.old).blocks (lead_run_seen self.new).blocks
             (D.reads disk.old) (D.reads disk.new) }
     {
-        let next = self.at + 1;
-        match reach_lead(&mut self.blocks, &self.tag, next, disk) {
-            Ok(at) => {
-                self.at = at;
-                Ok(())
-            }
-            Err(fault) => Err(fault),
-        }
+        self.at += 1;
+        reach_lead(&mut self.blocks, &self.tag, &mut self.at, disk)
     }
 }

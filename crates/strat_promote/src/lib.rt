@@ -7,6 +7,7 @@ mod input_run;
 mod zero_copy;
 mod zero_run;
 mod last_read;
+pub mod laws;
 mod lead_blocks;
 mod lead_run;
 mod tag;

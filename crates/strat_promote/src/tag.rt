@@ -20,9 +20,9 @@ impl Model for Tag {
 
     ghost Value = { List ℕ };
 
-    ghost use Rattle.strat_promote.specs.TagFields.{versions_of, IsSortedAsSaid};
+    ghost use Rattle.strat_promote.specs.TagFields.{versions_kept, IsSortedAsSaid};
 
-    ghost view = { versions_of };
+    ghost view = { versions_kept };
 
     ghost invariant = { IsSortedAsSaid };
 }

@@ -1,6 +1,4 @@
-use Rattle.std.proofs.Common.{◌≡◌, ◌≤◌, ◌+◌, ◌-◌, take, map, length, ℕ, ap, ◌∙◌, arith}
-use Rattle.strat_base.specs.EntryView.{entry_of}
-use Rattle.strat_extent.specs.Blocks.{used_count}
+use Rattle.std.proofs.Common.{◌+◌, ℕ, ap, ◌∙◌, arith}
 use Rattle.strat_array.proofs.TakesLemmas.{used_once_taken}
 use Rattle.strat_array_tests.proofs.WritingLemmas.{one_fits, pending_ascends, pending_then}
 use Rattle.strat_array_tests.proofs.writer.push_all.Goals as goal
@@ -20,7 +18,7 @@ loop-i-preserved c =
     let room' = c.loop-i.invariant.room in
     record {
       all = pending_then c.args.entries.now c.loop-i.i _ c.loop-i.writer.pending c.push.new.self.pending c.loop-i-test.true c.in_ok-push.ensures.end c.loop-i.invariant.all;
-      count = c.in_ok-push.ensures.len ∙ ap (λ (n : ℕ). n + 1) c.loop-i.invariant.count;
+      count = c.in_ok-push.ensures.len.0 ∙ ap (λ (n : ℕ). n + 1) c.loop-i.invariant.count;
       room = omega arith;
       used = used_once_taken c.loop-i.space c.push.new.space c.loop-i.writer.extents c.push.new.self.extents t c.loop-i.invariant.used;
     }

@@ -1,5 +1,4 @@
-use Rattle.std.proofs.Common.{ap, ◌∙◌, Option}
-use Rattle.strat_base.specs.Entries.{Entry}
+use Rattle.std.proofs.Common.{ap, ◌∙◌}
 use Rattle.strat_promote.specs.LeadRuns.{key_alone}
 use Rattle.strat_promote.proofs.LeadLemmas.{last_held}
 use Rattle.strat_promote.proofs.lead_blocks.keep_last.Goals as goal
