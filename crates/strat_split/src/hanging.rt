@@ -14,12 +14,12 @@ use strat_base::{NoMemory, Version, Versions};
 /// The parts that hang below the versions of each part, in chains. It is seen as the list of the carriers
 /// of all parts: the carrier of a part is the part of the version that it hangs below.
 ///
-/// Who fills the arrays of a plan with the items of one key begins with the parts of these items, whose
-/// leads they are, and then asks, from each part that takes something, for each part that hangs from it
-/// whether one of what the carrier takes is live where it hangs: `live_in` over those items alone. No
-/// other part takes anything, and no other item, as two laws say. Over all keys this looks at no more than
-/// three times the entries that are written: a part is asked for with each entry of its carrier, and
-/// since the carrier is dense, at least a third of these are live where the part hangs and become its own.
+/// A `Dealer` begins with the parts of a key's items, whose leads they are, and then asks, from each part
+/// that takes something, for each part that hangs from it whether one of what the carrier takes is live
+/// where it hangs: `live_in` over those items alone. No other part takes anything, and no other item, as
+/// two laws say. Over all keys this looks at no more than three times the entries that are written: a part
+/// is asked for with each entry of its carrier, and since the carrier is dense, at least a third of these
+/// are live where the part hangs and become its own.
 #[derive(Drop)]
 pub struct Hanging {
     carriers: Vec<u32>,
