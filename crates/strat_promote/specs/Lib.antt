@@ -14,3 +14,4 @@ pub mod Counted
 pub mod Spaces
 pub mod Closing
 pub mod Filled
+pub mod Written

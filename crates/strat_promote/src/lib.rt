@@ -11,6 +11,7 @@ mod last_read;
 pub mod laws;
 mod lead_blocks;
 mod lead_run;
+mod passing;
 mod pushing;
 mod tag;
 mod taking;
