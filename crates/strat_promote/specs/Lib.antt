@@ -15,3 +15,4 @@ pub mod Spaces
 pub mod Closing
 pub mod Filled
 pub mod Written
+pub mod Planning

@@ -12,6 +12,7 @@ pub mod laws;
 mod lead_blocks;
 mod lead_run;
 mod passing;
+mod planning;
 mod pushing;
 mod tag;
 mod taking;
