@@ -16,3 +16,7 @@ pub mod Closing
 pub mod Filled
 pub mod Written
 pub mod Planning
+pub mod Opening
+pub mod Passes
+pub mod Stages
+pub mod Steps
