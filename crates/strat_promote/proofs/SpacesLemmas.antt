@@ -74,7 +74,7 @@ takes_trans s t u old mid new one two =
 -- the blocks of extents that took more are used where those before were
 pub used_more : (s t : SpaceView) (old new : List Extent) → TakesMore s t old new → AreUsed s (blocks_of old) → AreUsed t (blocks_of new)
 used_more s t old new takes used = λ b there.
-    elim (takes.mine b there) [ | inl before ↦ takes.kept b (used b before) | inr now ↦ now ]
+    elim (takes.mine b there) [ inl before ↦ takes.kept b (used b before) | inr now ↦ now ]
 
 -- blocks that may be given back may be so once more are taken
 pub given_all : (s t : SpaceView) (old new : List Extent) → TakesMore s t old new → CanGive s old → CanGive t new
