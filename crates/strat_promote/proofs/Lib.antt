@@ -4,4 +4,6 @@ pub mod LeadRunLemmas
 pub mod TagLemmas
 pub mod TakenLemmas
 pub mod PassLemmas
+pub mod SpacesLemmas
+pub mod PushingLemmas
 pub mod PlanningLemmas
