@@ -65,6 +65,135 @@ pub(crate) enum Step {
     Made(Option<LevelDesc>),
 }
 
+/// The runs of the first pass are opened.
+fn begin<D: Disk>(
+    task: &Task,
+    desk: &mut Desk,
+    sources: &Sources<'_>,
+    disk: &mut D,
+) -> Result<Stage, Trouble>
+    requires fits { IsReadySource task.now sources.now }
+    ensures kept { IfOk result (λ stage. IsSteady task.now.horizon stage) }
+    ensures ok { IfOk result (λ stage. (f : Image) (job : Job) → Exposes (D.view disk.old) f
+        → IsTaskIn f task.now sources.now job → IsUnderway f job task.now.first stage) }
+    ensures none { IfOk result (λ stage. stage_writers stage ≡ []) }
+    ensures found { OpensInputs Device Damaged (D.view disk.old) (D.view disk.new)
+        (arrays_to sources.now.levels.now task.now.target) (D.faults disk.old)
+        (D.faults disk.new) (D.reads disk.old) (D.reads disk.new) result }
+    ensures reads { IfOk result (λ stage. D.reads disk.new
+        + blocks_due (arrays_to sources.now.levels.now task.now.target) stage
+        ≤ D.reads disk.old
+        + 2 * length (blocks_in (arrays_to sources.now.levels.now task.now.target))) }
+{
+    let counting = begin_counting(
+        desk.alloc,
+        sources.zero,
+        sources.levels,
+        sources.pool,
+        task.target as usize,
+        task.horizon,
+        disk,
+    )?;
+    Ok(Stage::Counting(counting))
+}
+
+/// A group is counted; or where none is left, the runs of the second pass are opened: then the answer is the stage that
+/// begins.
+fn count<D: Disk>(
+    task: &Task,
+    counting: &mut Counting<Input>,
+    desk: &mut Desk,
+    sources: &Sources<'_>,
+    disk: &mut D,
+) -> Result<Option<Stage>, Trouble>
+    requires kept { IsCounter input_seen task.now.horizon counting.old }
+    requires fits { IsReadySource task.now sources.now }
+    ensures kept { IfOk result (λ next. IsSteady task.now.horizon (stage_after counting.new next)) }
+    ensures ok { IfOk result (λ next. (f : Image) (job : Job) → Exposes (D.view disk.old) f
+        → IsTaskIn f task.now sources.now job → IsCounting input_seen f job counting.old
+        → IsUnderway f job task.now.first (stage_after counting.new next)) }
+    ensures none { IfOk result (λ next. AreAllNew (stage_writers (stage_after counting.new next))) }
+    ensures same { OnlyReads (D.view disk.old) (D.view disk.new) }
+    ensures cause { HasCause Device (D.faults disk.old) (D.faults disk.new) result }
+    ensures damaged { (b : ℕ) → IsErrOf result (Damaged b) → (f : Image) (job : Job)
+        → Exposes (D.view disk.old) f → IsTaskIn f task.now sources.now job
+        → IsCounting input_seen f job counting.old → IsBadInput f job.arrays b }
+    ensures reads { IfOk result (λ next. D.reads disk.new
+        + blocks_due (arrays_to sources.now.levels.now task.now.target)
+        (stage_after counting.new next)
+        ≤ D.reads disk.old + length (blocks_left (views_of input_seen counting.old.merger))
+        + length (blocks_in (arrays_to sources.now.levels.now task.now.target))) }
+{
+    let more = count_group::<D, Input>(
+        counting,
+        &mut desk.arena,
+        &mut desk.group,
+        sources.tree,
+        task.purges,
+        disk,
+    )?;
+    if more {
+        return Ok(None);
+    }
+    let before = counting.merger.consumed();
+    let writing = begin_writing(
+        desk.alloc,
+        counting,
+        sources.zero,
+        sources.levels,
+        sources.pool,
+        sources.tree,
+        task.target as usize,
+        task.first,
+        disk,
+    )?;
+    Ok(Some(Stage::Writing(writing, before)))
+}
+
+/// A group is written; or where none is left, the arrays are sealed and their level is described.
+fn write<D: Disk>(
+    task: &Task,
+    writing: &mut Writing<Input>,
+    desk: &mut Desk,
+    sources: &Sources<'_>,
+    space: &mut Space,
+    disk: &mut D,
+) -> Result<Step, Trouble>
+    requires kept { IsWriterOf input_seen task.now.horizon writing.old }
+    requires fits { IsReadySource task.now sources.now }
+    requires found { AreAllUsed space.old writing.old.filling.writers.items }
+    ensures kept { IfOk result (λ step. IsMoreOr step (IsWriterOf input_seen task.now.horizon writing.new)) }
+    ensures ok { IfOk result (λ step. (f g : Image) (job : Job) → Exposes (D.view disk.old) f
+        → Exposes (D.view disk.new) g → IsTaskIn f task.now sources.now job
+        → AreUsed space.old (blocks_in job.arrays)
+        → IsWriting input_seen f job task.now.first writing.old
+        → WritesOn g task.now job writing.new step) }
+    ensures found { AreAllUsed space.new writing.new.filling.writers.items }
+    ensures room { TakesMore space.old space.new (all_extents writing.old.filling.writers.items)
+        (all_extents writing.new.filling.writers.items) }
+    ensures same { TearsBlocks (is_free space.old) (D.view disk.old) (D.view disk.new) }
+    ensures cause { HasCause Device (D.faults disk.old) (D.faults disk.new) result }
+    ensures damaged { (b : ℕ) → IsErrOf result (Damaged b) → (f : Image) (job : Job)
+        → Exposes (D.view disk.old) f → IsTaskIn f task.now sources.now job
+        → IsWriting input_seen f job task.now.first writing.old → IsBadInput f job.arrays b }
+    ensures reads { D.reads disk.new + length (blocks_left (views_of input_seen writing.new.merger))
+        ≤ D.reads disk.old + length (blocks_left (views_of input_seen writing.old.merger)) }
+{
+    let more = write_group::<D, Input>(
+        writing,
+        &mut desk.arena,
+        &mut desk.group,
+        sources.tree,
+        task.purges,
+        space,
+        disk,
+    )?;
+    if more {
+        return Ok(Step::More);
+    }
+    close(task, desk.alloc, &mut writing.filling, space, disk)
+}
+
 /// One step: the runs of a pass are opened, or a group is taken, or the level is closed.
 pub(crate) fn step<D: Disk>(
     task: &Task,
@@ -96,8 +225,16 @@ pub(crate) fn step<D: Disk>(
         + blocks_due (arrays_to sources.now.levels.now task.now.target) stage.old) }
 {
     match stage {
-        Stage::Begun => begin(task, stage, desk, sources, disk),
-        Stage::Counting(_) => count(task, stage, desk, sources, disk),
-        Stage::Writing(_, _) => write(task, stage, desk, sources, space, disk),
+        Stage::Begun => {
+            *stage = begin(task, desk, sources, disk)?;
+            Ok(Step::More)
+        }
+        Stage::Counting(counting) => {
+            if let Some(next) = count(task, counting, desk, sources, disk)? {
+                *stage = next;
+            }
+            Ok(Step::More)
+        }
+        Stage::Writing(writing, _) => write(task, writing, desk, sources, space, disk),
     }
 }
