@@ -11,3 +11,4 @@ pub mod TagFields
 pub mod InputFields
 pub mod InputLaw
 pub mod Counted
+pub mod Opening

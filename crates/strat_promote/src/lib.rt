@@ -4,6 +4,7 @@
 mod counting;
 mod input;
 mod input_run;
+mod inputs;
 mod zero_copy;
 mod zero_run;
 mod last_read;
