@@ -5,3 +5,4 @@ pub mod TagLemmas
 pub mod TakenLemmas
 pub mod PassLemmas
 pub mod OpeningLemmas
+pub mod PlanningLemmas

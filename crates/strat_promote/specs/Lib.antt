@@ -12,3 +12,8 @@ pub mod InputFields
 pub mod InputLaw
 pub mod Counted
 pub mod Opening
+pub mod Spaces
+pub mod Closing
+pub mod Filled
+pub mod Written
+pub mod Planning

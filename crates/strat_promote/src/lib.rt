@@ -1,6 +1,7 @@
 //! Promotion: level 0 and the shallow levels become one new level.
 #![tactic(auto)]
 
+mod closing;
 mod counting;
 mod input;
 mod input_run;
@@ -11,5 +12,9 @@ mod last_read;
 pub mod laws;
 mod lead_blocks;
 mod lead_run;
+mod passing;
+mod planning;
+mod pushing;
 mod tag;
 mod taking;
+mod writing;

@@ -1,0 +1,108 @@
+//! The end of a promotion: the arrays are sealed, and their level is described.
+
+ghost use Rattle.std.specs.List.{range_with_len, slice_get};
+ghost use Rattle.std.specs.Prelude.{◌≡◌, ◌≤◌, ℕ, List, length, map, Some, OnOk, IfOk, MatchResult};
+ghost use Rattle.strat_array.specs.Pushed.{HasReason};
+ghost use Rattle.strat_crash.specs.Blocks.{TearsBlocks};
+ghost use Rattle.strat_extent.specs.Blocks.{is_free};
+ghost use Rattle.strat_plan.specs.Plan.{members};
+ghost use Rattle.strat_promote.specs.Closing.{AreAllUsed, AreSealed, all_extents, IsDescribed};
+ghost use Rattle.strat_promote.specs.Spaces.{TakesMore};
+ghost use Rattle.strat_split.specs.PlanSeen.{plan_seen};
+
+use std::alloc::Global;
+use strat_array::ArrayWriter;
+use strat_base::{Arrays, LevelDesc, NoMemory, Trouble, Versions};
+use strat_disk::Disk;
+use strat_extent::Space;
+use strat_split::parts::Plan;
+
+/// Writes what of an array is in no block yet. Where no block is free it is told as want of memory: no store that its
+/// levels describe comes so far.
+fn seal_one<D: Disk>(
+    writer: &mut ArrayWriter,
+    space: &mut Space,
+    disk: &mut D,
+) -> Result<(), Trouble> {
+    if space.free() == 0 {
+        return Err(Trouble::NoMemory);
+    }
+    writer.seal(space, disk)
+}
+
+/// Writes what of the arrays is in no block yet: one write for each at most.
+pub(crate) fn seal_all<D: Disk>(
+    writers: &mut Vec<ArrayWriter>,
+    space: &mut Space,
+    disk: &mut D,
+) -> Result<(), Trouble>
+    requires found { AreAllUsed space.old writers.old.items }
+    ensures ok { OnOk result (AreSealed (D.view disk.old) (D.view disk.new)
+        writers.old.items writers.new.items) }
+    ensures len { length writers.new.items ≡ length writers.old.items }
+    ensures found { AreAllUsed space.new writers.new.items }
+    ensures room { TakesMore space.old space.new
+        (all_extents writers.old.items) (all_extents writers.new.items) }
+    ensures same { TearsBlocks (is_free space.old) (D.view disk.old) (D.view disk.new) }
+    ensures cause { MatchResult result (λ _. D.faults disk.new ≡ D.faults disk.old)
+        (λ e. HasReason e (D.faults disk.old) (D.faults disk.new)) }
+    ensures reads { D.reads disk.new ≡ D.reads disk.old }
+{
+    for i in 0..writers.len() {
+        seal_one(&mut writers[i], space, disk)?;
+    }
+    Ok(())
+}
+
+/// The versions of each part of a plan, in ascending order. O(versions + parts).
+fn tags_of(alloc: Global, plan: &Plan) -> Result<Vec<Versions>, NoMemory>
+    requires fits { length plan.now.part_of ≤ 16384 }
+    ensures ok { IfOk result (λ tags. tags.items
+        ≡ map (members (plan_seen plan.now)) (range_with_len 0 (length plan.now.parts))) }
+{
+    let mut tags = Vec::with_capacity(alloc, plan.parts.len())?;
+    for _ in 0..plan.parts.len() {
+        tags.push(Versions::new(alloc))?;
+    }
+    let labels = plan.part_of.as_slice();
+    for v in 0..labels.len() {
+        let part = labels[v] as usize;
+        if part < tags.len() {
+            if let Err((failed, _)) = tags[part].push(v as u32) {
+                return Err(failed);
+            }
+        }
+    }
+    Ok(tags)
+}
+
+/// The level of arrays that are sealed, or `None` where there are none. O(versions + arrays + extents).
+pub(crate) fn describe_all(
+    alloc: Global,
+    writers: &[ArrayWriter],
+    plan: &Plan,
+    number: u8,
+) -> Result<Option<LevelDesc>, NoMemory>
+    requires len { length writers.now ≡ length plan.now.parts }
+    requires fits { length plan.now.part_of ≤ 16384 }
+    ensures ok { IfOk result (λ made. IsDescribed (plan_seen plan.now) number writers.now made) }
+{
+    if writers.is_empty() {
+        return Ok(None);
+    }
+    let mut arrays = Arrays::new(alloc);
+    let mut q = 0;
+    for tag in tags_of(alloc, plan)? {
+        let part = plan.parts.get(q);
+        let desc = writers[q].describe(part.leads, part.least, tag)?;
+        if let Err((failed, _)) = arrays.push(desc) {
+            return Err(failed);
+        }
+        q += 1;
+    }
+    Ok(Some(LevelDesc {
+        number,
+        horizon: plan.part_of.len() as u32,
+        arrays,
+    }))
+}
