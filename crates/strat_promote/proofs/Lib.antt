@@ -6,4 +6,5 @@ pub mod TakenLemmas
 pub mod PassLemmas
 pub mod SpacesLemmas
 pub mod PushingLemmas
+pub mod OpeningLemmas
 pub mod PlanningLemmas

@@ -16,7 +16,7 @@ use Rattle.strat_state.specs.Counted.{own_at, keys_at}
 use Rattle.strat_state.specs.Level.{TaggedArray}
 use Rattle.strat_promote.specs.Counted.{IsCounter, IsCounting}
 use Rattle.strat_promote.specs.InputFields.{input_seen}
-use Rattle.strat_promote.specs.Job.{Job, runs_in, input_count, blocks_in, groups_kept}
+use Rattle.strat_promote.specs.Job.{Job, runs_in, input_count, blocks_listed, groups_kept}
 use Rattle.strat_promote.specs.Written.{IsWriterOf, IsWriting}
 use Rattle.strat_promote.specs.declared.stage.Stage.{Stage}
 use Rattle.strat_promote.specs.declared.stage.Stage.TheVariants as stage
@@ -41,9 +41,9 @@ stage_consumed (stage.Writing w before) = before + consumed_of w.merger
 
 -- how many blocks of some arrays are still to be read, in both passes
 abbrev pub blocks_due : List ArrayDesc → Stage → ℕ
-blocks_due arrays stage.Begun = 2 * length (blocks_in arrays)
+blocks_due arrays stage.Begun = 2 * length (blocks_listed arrays)
 blocks_due arrays (stage.Counting c) =
-    length (blocks_left (views_of input_seen c.merger)) + length (blocks_in arrays)
+    length (blocks_left (views_of input_seen c.merger)) + length (blocks_listed arrays)
 blocks_due arrays (stage.Writing w before) = length (blocks_left (views_of input_seen w.merger))
 
 -- a stage is one of a job, in an image
@@ -79,9 +79,9 @@ IsPlanMade f job target first groups plan None = plan.parts ≡ []
 IsPlanMade f job target first groups plan (Some level) =
     IsLevelMade f job target first groups plan level
 
--- the level of a job is made: its runs were merged, what is kept of their groups was split, and the arrays of the plan
--- stand in an image
-pub record IsMade (f : Image) (job : Job) (target first : ℕ) (made : Option LevelDesc)
+-- the level of a job is made: its runs in an image were merged, what is kept of their groups was split, and the arrays of
+-- the plan stand in an image
+pub record IsMade (f g : Image) (job : Job) (target first : ℕ) (made : Option LevelDesc)
     : Type 0 where
   pub groups : List (List Entry)
   pub plan : Plan
@@ -90,4 +90,4 @@ pub record IsMade (f : Image) (job : Job) (target first : ℕ) (made : Option Le
   pub split : SplitsGroups job.parents (groups_kept job groups)
       (own_at (group_versions (groups_kept job groups)))
       (keys_at job.parents (group_versions (groups_kept job groups))) plan
-  pub level : IsPlanMade f job target first groups plan made
+  pub level : IsPlanMade g job target first groups plan made

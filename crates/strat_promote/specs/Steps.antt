@@ -32,6 +32,6 @@ pub record IsTaskIn (f : Image) (task : Task) (sources : Sources) (job : Job) : 
   pub purges : job.purges ≡ task.purges
 
 -- after a step there is more to do, or the level is made
-abbrev pub GoesOn : Image → Task → Job → Stage → Step → Type 0
-GoesOn g task job stage step.More = IsUnderway g job task.first stage
-GoesOn g task job stage (step.Made level) = IsMade g job task.target task.first level
+abbrev pub GoesOn : Image → Image → Task → Job → Stage → Step → Type 0
+GoesOn f g task job stage step.More = IsUnderway g job task.first stage
+GoesOn f g task job stage (step.Made level) = IsMade f g job task.target task.first level

@@ -1,9 +1,7 @@
 //! The runs of a pass are opened: level 0, and the arrays of the levels down to its target.
 
 ghost use Rattle.std.specs.List.{list_all};
-ghost use Rattle.std.specs.Prelude.{◌≡◌, ◌≤◌, ◌<◌, ◌+◌, ℕ, List, [], ◌∷◌, length, map, nat_lt, true, IfOk, OnOk, OnErr, IsErrOf, IsTrue, Contains};
-ghost use Rattle.strat_array.specs.Within.{AreWithin};
-ghost use Rattle.strat_base.specs.Entries.{is_tagged};
+ghost use Rattle.std.specs.Prelude.{◌≡◌, ◌≤◌, ◌+◌, ℕ, List, [], ◌∷◌, length, map, nat_lt, IfOk, OnOk, OnErr, IsErrOf, IsTrue, Contains};
 ghost use Rattle.strat_base.specs.declared.failures.Trouble.TheVariants.{Damaged, Device};
 ghost use Rattle.strat_crash.specs.Faults.{HasCause, ReadsAtMost};
 ghost use Rattle.strat_crash.specs.Image.{Image};
@@ -13,9 +11,9 @@ ghost use Rattle.strat_level.specs.Memtable.{entries_held, ListStands};
 ghost use Rattle.strat_merge.specs.Gathered.{are_under};
 ghost use Rattle.strat_merge.specs.Runs.{lefts, blocks_left, IsBadFor};
 ghost use Rattle.strat_promote.specs.InputFields.{input_seen};
-ghost use Rattle.strat_promote.specs.Job.{arrays_to, blocks_in, AreReadable, IsBadInput};
+ghost use Rattle.strat_promote.specs.Job.{arrays_to, blocks_listed, AreReadable, IsBadInput};
 ghost use Rattle.strat_promote.specs.Leads.{leads_in};
-ghost use Rattle.strat_promote.specs.Opening.{arrays_of, Opens, IsBlamed};
+ghost use Rattle.strat_promote.specs.Opening.{arrays_if_any, OpensRuns, IsBlamed};
 
 use crate::input::Input;
 use crate::lead_run::LeadRun;
@@ -35,14 +33,14 @@ fn open_array<D: Disk>(
     runs: &mut Vec<Input>,
 ) -> Result<(), Trouble>
     requires fits { AreReadable horizon (desc.now ∷ []) }
-    ensures ok { OnOk result (Opens horizon (D.view disk.old) (desc.now ∷ [])
+    ensures ok { OnOk result (OpensRuns horizon (D.view disk.old) (desc.now ∷ [])
         (map input_seen runs.old.items) (map input_seen runs.new.items)
         (D.reads disk.old) (D.reads disk.new)) }
     ensures same { OnlyReads (D.view disk.old) (D.view disk.new) }
     ensures cause { HasCause Device (D.faults disk.old) (D.faults disk.new) result }
     ensures damaged { (b : ℕ) → IsErrOf result (Damaged b)
         → IsBlamed (D.view disk.old) (desc.now ∷ []) b }
-    ensures err { OnErr result (ReadsAtMost (length (blocks_in (desc.now ∷ [])))
+    ensures err { OnErr result (ReadsAtMost (length (blocks_listed (desc.now ∷ [])))
         (D.reads disk.old) (D.reads disk.new)) }
 {
     let run = LeadRun::open(alloc, disk, desc, horizon)?;
@@ -59,14 +57,14 @@ fn open_arrays<D: Disk>(
     runs: &mut Vec<Input>,
 ) -> Result<(), Trouble>
     requires fits { AreReadable horizon arrays.now }
-    ensures ok { OnOk result (Opens horizon (D.view disk.old) arrays.now
+    ensures ok { OnOk result (OpensRuns horizon (D.view disk.old) arrays.now
         (map input_seen runs.old.items) (map input_seen runs.new.items)
         (D.reads disk.old) (D.reads disk.new)) }
     ensures same { OnlyReads (D.view disk.old) (D.view disk.new) }
     ensures cause { HasCause Device (D.faults disk.old) (D.faults disk.new) result }
     ensures damaged { (b : ℕ) → IsErrOf result (Damaged b)
         → IsBlamed (D.view disk.old) arrays.now b }
-    ensures err { OnErr result (ReadsAtMost (length (blocks_in arrays.now))
+    ensures err { OnErr result (ReadsAtMost (length (blocks_listed arrays.now))
         (D.reads disk.old) (D.reads disk.new)) }
 {
     for i in 0..arrays.len() {
@@ -84,17 +82,17 @@ fn open_level<D: Disk>(
     disk: &mut D,
     runs: &mut Vec<Input>,
 ) -> Result<(), Trouble>
-    requires fits { AreReadable horizon (arrays_of (level_numbered levels.now number)) }
-    ensures ok { OnOk result (Opens horizon (D.view disk.old)
-        (arrays_of (level_numbered levels.now number))
+    requires fits { AreReadable horizon (arrays_if_any (level_numbered levels.now number)) }
+    ensures ok { OnOk result (OpensRuns horizon (D.view disk.old)
+        (arrays_if_any (level_numbered levels.now number))
         (map input_seen runs.old.items) (map input_seen runs.new.items)
         (D.reads disk.old) (D.reads disk.new)) }
     ensures same { OnlyReads (D.view disk.old) (D.view disk.new) }
     ensures cause { HasCause Device (D.faults disk.old) (D.faults disk.new) result }
     ensures damaged { (b : ℕ) → IsErrOf result (Damaged b)
-        → IsBlamed (D.view disk.old) (arrays_of (level_numbered levels.now number)) b }
+        → IsBlamed (D.view disk.old) (arrays_if_any (level_numbered levels.now number)) b }
     ensures err { OnErr result
-        (ReadsAtMost (length (blocks_in (arrays_of (level_numbered levels.now number))))
+        (ReadsAtMost (length (blocks_listed (arrays_if_any (level_numbered levels.now number))))
         (D.reads disk.old) (D.reads disk.new)) }
 {
     match levels.get(number) {
@@ -113,14 +111,14 @@ fn open_levels<D: Disk>(
     runs: &mut Vec<Input>,
 ) -> Result<(), Trouble>
     requires fits { AreReadable horizon (arrays_to levels.now target) × (target ≤ 22) }
-    ensures ok { OnOk result (Opens horizon (D.view disk.old) (arrays_to levels.now target)
+    ensures ok { OnOk result (OpensRuns horizon (D.view disk.old) (arrays_to levels.now target)
         (map input_seen runs.old.items) (map input_seen runs.new.items)
         (D.reads disk.old) (D.reads disk.new)) }
     ensures same { OnlyReads (D.view disk.old) (D.view disk.new) }
     ensures cause { HasCause Device (D.faults disk.old) (D.faults disk.new) result }
     ensures damaged { (b : ℕ) → IsErrOf result (Damaged b)
         → IsBlamed (D.view disk.old) (arrays_to levels.now target) b }
-    ensures err { OnErr result (ReadsAtMost (length (blocks_in (arrays_to levels.now target)))
+    ensures err { OnErr result (ReadsAtMost (length (blocks_listed (arrays_to levels.now target)))
         (D.reads disk.old) (D.reads disk.new)) }
 {
     for done in 0..target {
@@ -184,10 +182,10 @@ pub(crate) fn open_inputs<D: Disk>(
         → IsBlamed (D.view disk.old) (arrays_to levels.now target) b }
     ensures reads { IfOk result (λ runs. (D.reads disk.old ≤ D.reads disk.new)
         × (D.reads disk.new + length (blocks_left (map input_seen runs.items))
-        ≤ D.reads disk.old + length (blocks_in (arrays_to levels.now target)))
+        ≤ D.reads disk.old + length (blocks_listed (arrays_to levels.now target)))
         × ((b : ℕ) → Contains (blocks_left (map input_seen runs.items)) b
-        → Contains (blocks_in (arrays_to levels.now target)) b)) }
-    ensures err { OnErr result (ReadsAtMost (length (blocks_in (arrays_to levels.now target)))
+        → Contains (blocks_listed (arrays_to levels.now target)) b)) }
+    ensures err { OnErr result (ReadsAtMost (length (blocks_listed (arrays_to levels.now target)))
         (D.reads disk.old) (D.reads disk.new)) }
 {
     let mut runs = open_zero(alloc, zero, pool, horizon)?;

@@ -1,7 +1,7 @@
 //! One step of a promotion.
 
 ghost use Rattle.std.specs.List.{list_all};
-ghost use Rattle.std.specs.Prelude.{◌≡◌, ◌<◌, ◌≤◌, ◌+◌, ◌^◌, ℕ, List, length, nat_lt, IfOk, OnOk, IsErrOf, IsTrue};
+ghost use Rattle.std.specs.Prelude.{◌≡◌, ◌<◌, ◌≤◌, ◌+◌, ◌*◌, ◌^◌, ℕ, List, [], length, nat_lt, IfOk, OnOk, IsErrOf, IsTrue, MatchResult};
 ghost use Rattle.strat_array.specs.Taking.{AreUsed};
 ghost use Rattle.strat_base.specs.declared.failures.Trouble.TheVariants.{Damaged, Device};
 ghost use Rattle.strat_crash.specs.Blocks.{TearsBlocks};
@@ -10,18 +10,29 @@ ghost use Rattle.strat_crash.specs.Image.{Image};
 ghost use Rattle.strat_crash.specs.Moments.{Exposes};
 ghost use Rattle.strat_extent.specs.Blocks.{is_free};
 ghost use Rattle.strat_level.specs.Memtable.{entries_held, ListStands};
+ghost use Rattle.strat_array.specs.Pushed.{HasReason};
+ghost use Rattle.strat_crash.specs.Moments.{OnlyReads};
+ghost use Rattle.strat_merge.specs.MergerFields.{views_of};
+ghost use Rattle.strat_merge.specs.Runs.{blocks_left};
 ghost use Rattle.strat_promote.specs.Closing.{AreAllUsed, all_extents};
+ghost use Rattle.strat_promote.specs.Counted.{IsCounter, IsCounting};
+ghost use Rattle.strat_promote.specs.Filled.{IsFilling};
+ghost use Rattle.strat_promote.specs.Passes.{OpensInputs};
+ghost use Rattle.strat_promote.specs.Written.{IsWriterOf, IsWriting, IsAllWritten};
+ghost use Rattle.strat_promote.specs.Turning.{stage_after, AreAllNew, IsMoreOr, WritesOn};
+ghost use Rattle.strat_promote.specs.declared.step.Sources.{Sources};
 ghost use Rattle.strat_promote.specs.InputFields.{input_seen};
-ghost use Rattle.strat_promote.specs.Job.{Job, IsBadInput, IsJobIn, AreReadable, arrays_to, blocks_in};
+ghost use Rattle.strat_promote.specs.Job.{Job, IsBadInput, IsJobIn, AreReadable, arrays_to, blocks_listed};
 ghost use Rattle.strat_promote.specs.Passes.{IsJobOver};
 ghost use Rattle.strat_promote.specs.Spaces.{TakesMore};
 ghost use Rattle.strat_promote.specs.Stages.{IsSteady, IsUnderway, IsMade, stage_writers, blocks_due};
 ghost use Rattle.strat_promote.specs.Steps.{IsReadySource, IsTaskIn, GoesOn};
 
 use crate::closing::{describe_all, seal_all};
-use crate::counting::count_group;
+use crate::counting::{Counting, count_group};
+use crate::input::Input;
 use crate::opening::{begin_counting, begin_writing};
-use crate::passing::write_group;
+use crate::passing::{Writing, write_group};
 use crate::stage::Stage;
 use std::alloc::Global;
 use strat_arena::{Arena, ArenaPool};
@@ -83,7 +94,7 @@ fn begin<D: Disk>(
     ensures reads { IfOk result (λ stage. D.reads disk.new
         + blocks_due (arrays_to sources.now.levels.now task.now.target) stage
         ≤ D.reads disk.old
-        + 2 * length (blocks_in (arrays_to sources.now.levels.now task.now.target))) }
+        + 2 * length (blocks_listed (arrays_to sources.now.levels.now task.now.target))) }
 {
     let counting = begin_counting(
         desk.alloc,
@@ -122,7 +133,7 @@ fn count<D: Disk>(
         + blocks_due (arrays_to sources.now.levels.now task.now.target)
         (stage_after counting.new next)
         ≤ D.reads disk.old + length (blocks_left (views_of input_seen counting.old.merger))
-        + length (blocks_in (arrays_to sources.now.levels.now task.now.target))) }
+        + length (blocks_listed (arrays_to sources.now.levels.now task.now.target))) }
 {
     let more = count_group::<D, Input>(
         counting,
@@ -150,6 +161,36 @@ fn count<D: Disk>(
     Ok(Some(Stage::Writing(writing, before)))
 }
 
+/// The arrays are sealed, and their level is described.
+fn close<D: Disk>(
+    task: &Task,
+    alloc: Global,
+    writing: &mut Writing<Input>,
+    space: &mut Space,
+    disk: &mut D,
+) -> Result<Option<LevelDesc>, Trouble>
+    requires kept { IsFilling task.now.horizon writing.old.filling }
+    requires found { AreAllUsed space.old writing.old.filling.writers.items }
+    ensures ok { IfOk result (λ made. (f g : Image) (sources : Sources) (job : Job)
+        → Exposes (D.view disk.old) f → Exposes (D.view disk.new) g
+        → IsReadySource task.now sources → IsTaskIn f task.now sources job
+        → IsAllWritten input_seen f job task.now.first writing.old
+        → IsMade f g job task.now.target task.now.first made) }
+    ensures kept { writing.new.merger ≡ writing.old.merger }
+    ensures found { AreAllUsed space.new writing.new.filling.writers.items }
+    ensures room { TakesMore space.old space.new (all_extents writing.old.filling.writers.items)
+        (all_extents writing.new.filling.writers.items) }
+    ensures same { TearsBlocks (is_free space.old) (D.view disk.old) (D.view disk.new) }
+    ensures cause { MatchResult result (λ _. D.faults disk.new ≡ D.faults disk.old)
+        (λ e. HasReason e (D.faults disk.old) (D.faults disk.new)) }
+    ensures reads { D.reads disk.new ≡ D.reads disk.old }
+{
+    let filling = &mut writing.filling;
+    seal_all(&mut filling.writers, space, disk)?;
+    let made = describe_all(alloc, &filling.writers, &filling.plan, task.target)?;
+    Ok(made)
+}
+
 /// A group is written; or where none is left, the arrays are sealed and their level is described.
 fn write<D: Disk>(
     task: &Task,
@@ -162,12 +203,13 @@ fn write<D: Disk>(
     requires kept { IsWriterOf input_seen task.now.horizon writing.old }
     requires fits { IsReadySource task.now sources.now }
     requires found { AreAllUsed space.old writing.old.filling.writers.items }
-    ensures kept { IfOk result (λ step. IsMoreOr step (IsWriterOf input_seen task.now.horizon writing.new)) }
+    ensures kept { IfOk result (λ step. IsMoreOr step
+        (IsWriterOf input_seen task.now.horizon writing.new)) }
     ensures ok { IfOk result (λ step. (f g : Image) (job : Job) → Exposes (D.view disk.old) f
         → Exposes (D.view disk.new) g → IsTaskIn f task.now sources.now job
-        → AreUsed space.old (blocks_in job.arrays)
+        → AreUsed space.old (blocks_listed job.arrays)
         → IsWriting input_seen f job task.now.first writing.old
-        → WritesOn g task.now job writing.new step) }
+        → WritesOn f g task.now job writing.new step) }
     ensures found { AreAllUsed space.new writing.new.filling.writers.items }
     ensures room { TakesMore space.old space.new (all_extents writing.old.filling.writers.items)
         (all_extents writing.new.filling.writers.items) }
@@ -191,7 +233,8 @@ fn write<D: Disk>(
     if more {
         return Ok(Step::More);
     }
-    close(task, desk.alloc, &mut writing.filling, space, disk)
+    let made = close(task, desk.alloc, writing, space, disk)?;
+    Ok(Step::Made(made))
 }
 
 /// One step: the runs of a pass are opened, or a group is taken, or the level is closed.
@@ -206,11 +249,11 @@ pub(crate) fn step<D: Disk>(
     requires kept { IsSteady task.now.horizon stage.old }
     requires fits { IsReadySource task.now sources.now }
     requires found { AreAllUsed space.old (stage_writers stage.old) }
-    ensures kept { OnOk result (IsSteady task.now.horizon stage.new) }
+    ensures kept { IfOk result (λ step. IsMoreOr step (IsSteady task.now.horizon stage.new)) }
     ensures ok { IfOk result (λ step. (f g : Image) (job : Job) → Exposes (D.view disk.old) f
         → Exposes (D.view disk.new) g → IsTaskIn f task.now sources.now job
-        → AreUsed space.old (blocks_in job.arrays) → IsUnderway f job task.now.first stage.old
-        → GoesOn g task.now job stage.new step) }
+        → AreUsed space.old (blocks_listed job.arrays) → IsUnderway f job task.now.first stage.old
+        → GoesOn f g task.now job stage.new step) }
     ensures found { AreAllUsed space.new (stage_writers stage.new) }
     ensures room { TakesMore space.old space.new (all_extents (stage_writers stage.old))
         (all_extents (stage_writers stage.new)) }
