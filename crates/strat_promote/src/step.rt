@@ -238,7 +238,7 @@ fn write<D: Disk>(
 }
 
 /// One step: the runs of a pass are opened, or a group is taken, or the level is closed.
-pub(crate) fn step<D: Disk>(
+pub(crate) fn take_step<D: Disk>(
     task: &Task,
     stage: &mut Stage,
     desk: &mut Desk,
