@@ -2,9 +2,14 @@
 
 ghost use Rattle.std.specs.List.{range_with_len, slice_get};
 ghost use Rattle.std.specs.Prelude.{◌≡◌, ◌≤◌, ℕ, List, length, map, Some, OnOk, IfOk, MatchResult};
-ghost use Rattle.strat_array.specs.Pushed.{HasReason};
+ghost use Rattle.strat_array.specs.Pushed.{HasReason, IsPushed};
+ghost use Rattle.strat_array.specs.Taking.{AreUsed};
+ghost use Rattle.strat_base.specs.Entries.{Entry as TheEntry};
 ghost use Rattle.strat_crash.specs.Blocks.{TearsBlocks};
+ghost use Rattle.strat_crash.specs.Image.{Image};
+ghost use Rattle.strat_crash.specs.Moments.{Exposes};
 ghost use Rattle.strat_extent.specs.Blocks.{is_free};
+ghost use Rattle.strat_format.specs.Arrays.{blocks_of, entries_on};
 ghost use Rattle.strat_plan.specs.Plan.{members};
 ghost use Rattle.strat_promote.specs.Closing.{AreAllUsed, AreSealed, all_extents, IsDescribed};
 ghost use Rattle.strat_promote.specs.Spaces.{TakesMore};
@@ -23,7 +28,18 @@ fn seal_one<D: Disk>(
     writer: &mut ArrayWriter,
     space: &mut Space,
     disk: &mut D,
-) -> Result<(), Trouble> {
+) -> Result<(), Trouble>
+    requires found { AreUsed space.old (blocks_of writer.old.extents) }
+    ensures ok { OnOk result ((f g : Image) (es : List TheEntry) → Exposes (D.view disk.old) f
+        → Exposes (D.view disk.new) g → IsPushed f writer.old es
+        → entries_on g (blocks_of writer.new.extents) ≡ Some es) }
+    ensures room { TakesMore space.old space.new writer.old.extents writer.new.extents }
+    ensures same { TearsBlocks (is_free space.old) (D.view disk.old) (D.view disk.new)
+        × (writer.new.id ≡ writer.old.id) × (writer.new.count ≡ writer.old.count) }
+    ensures cause { MatchResult result (λ _. D.faults disk.new ≡ D.faults disk.old)
+        (λ e. HasReason e (D.faults disk.old) (D.faults disk.new)) }
+    ensures reads { D.reads disk.new ≡ D.reads disk.old }
+{
     if space.free() == 0 {
         return Err(Trouble::NoMemory);
     }
