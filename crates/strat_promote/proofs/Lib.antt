@@ -5,3 +5,5 @@ pub mod TagLemmas
 pub mod TakenLemmas
 pub mod PassLemmas
 pub mod ClosingLemmas
+pub mod TagsLemmas
+pub mod DescribingLemmas
