@@ -18,6 +18,7 @@ ghost use Rattle.strat_promote.specs.Spaces.{TakesMore};
 ghost use Rattle.strat_split.specs.PlanSeen.{plan_seen};
 
 use std::alloc::Global;
+use std::mem::replace;
 use strat_array::ArrayWriter;
 use strat_base::{Arrays, LevelDesc, NoMemory, Trouble, Versions};
 use strat_disk::Disk;
@@ -123,15 +124,15 @@ fn describe_each(
         × IsDescriptor (plan_seen plan.now) q w a) }
     ensures len { IfOk result (λ arrays. length arrays ≡ length writers.now) }
 {
+    let mut tags = tags_of(alloc, plan)?;
     let mut arrays = Arrays::new(alloc);
-    let mut q = 0;
-    for tag in tags_of(alloc, plan)? {
+    for q in 0..writers.len() {
+        let tag = replace(&mut tags[q], Versions::new(alloc));
         let part = plan.parts.get(q);
         let desc = writers[q].describe(part.leads, part.least, tag)?;
         if let Err((failed, _)) = arrays.push(desc) {
             return Err(failed);
         }
-        q += 1;
     }
     Ok(arrays)
 }
