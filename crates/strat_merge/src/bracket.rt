@@ -1,9 +1,9 @@
 //! A tournament of runs, in which the run whose first entry stands first of all wins. After a run has
 //! passed over an entry only the nodes above its leaf are played again.
 
-ghost use Rattle.std.specs.Prelude.{◌≡◌, ◌≤◌, ◌<◌, ℕ, ◌+◌, ◌*◌, ◌/◌, map, length, slice_index, slice_set, IfOk, IfSome, IfNone, Some, None, IsSome, is_some, false};
+ghost use Rattle.std.specs.Prelude.{◌≡◌, ◌≤◌, ◌<◌, ℕ, ◌+◌, ◌*◌, ◌/◌, map, length, slice_index, slice_set, IfOk, IfSome, IfNone, Some, None, IsSome, is_some, true, false};
 ghost use Rattle.strat_merge.specs.Bracket.{is_ahead, winner_of, IsBracket, IsTournament, IsPlayed, PlayedBeside};
-ghost use Rattle.strat_merge.specs.Runs.{head_at};
+ghost use Rattle.strat_merge.specs.Runs.{head_at, NoneLeft};
 
 use crate::run::Run;
 use std::alloc::Global;
@@ -82,6 +82,19 @@ fn has_entry<D: Disk, R: Run<D>>(runs: &[R], run: usize) -> bool
     ensures ok { result ≡ is_some (head_at (map R.view runs.now) run) }
 {
     runs[run].peek().is_some()
+}
+
+/// Whether some run has an entry left. O(runs).
+pub(crate) fn any_left<D: Disk, R: Run<D>>(runs: &[R]) -> bool
+    ensures ok { result ≡ false → NoneLeft (map R.view runs.now) }
+    ensures found { result ≡ true → (i : ℕ) × IsSome (head_at (map R.view runs.now) i) }
+{
+    for run in 0..runs.len() {
+        if has_entry::<D, R>(runs, run) {
+            return true;
+        }
+    }
+    false
 }
 
 /// The run whose first entry stands first of all, or `None` where no run has one. O(1).

@@ -14,7 +14,7 @@ ghost use Rattle.strat_arena.specs.Items.{entries_of, have_pairs};
 ghost use Rattle.strat_merge.specs.Reading.{ReadsRuns};
 ghost use Rattle.strat_merge.specs.Runs.{RunView, head_at, lefts, NoneLeft};
 
-use crate::bracket::{leader, new_bracket, play_all, replay};
+use crate::bracket::{any_left, leader, new_bracket, play_all, replay};
 use crate::collect::{begins_with, collect, key_of_group};
 use crate::group::GroupBuf;
 use crate::run::Run;
@@ -189,6 +189,17 @@ impl<R> Merger<R> {
         ensures ok { result ≡ consumed_of self.now }
     {
         self.consumed
+    }
+
+    /// Whether some run has an entry left. O(runs), and nothing is read.
+    pub fn has_left<D: Disk>(&self) -> bool
+    where
+        R: Run<D>,
+        ensures ok { result ≡ false → NoneLeft (views_of R.view self.now) }
+        ensures found { result ≡ true
+            → (i : ℕ) × IsSome (head_at (views_of R.view self.now) i) }
+    {
+        any_left::<D, R>(&self.runs)
     }
 
     /// Gathers the entries of the least key that is left: of each version once, the newest run's. The arena and

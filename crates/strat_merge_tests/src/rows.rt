@@ -3,7 +3,7 @@
 ghost use Rattle.std.specs.Prelude.{OnOk};
 ghost use Rattle.strat_merge.specs.MergerFields.{IsUnspent};
 
-use crate::groups::{gives, gone, make_bench, put};
+use crate::groups::{gives, gone, make_bench, next, put};
 use crate::list_run::ListRun;
 use std::alloc::Global;
 use std::process::Abort;
@@ -85,5 +85,37 @@ fn the_newest_of_three_stands(rt: HostRuntime) -> Result<(), Fail> {
         &mut bench.group,
     )?;
     assert!(rt; found && bench.disk.reads() == 9);
+    Ok(())
+}
+
+/// Whether a merger of the three has entries left until it gave its three groups.
+fn has_left_until_the_end<D: Disk, R: Run<D>>(
+    merger: &mut Merger<R>,
+    disk: &mut D,
+    arena: &mut Arena,
+    group: &mut GroupBuf,
+) -> Result<bool, Trouble>
+    requires kept { IsUnspent R.view merger.old }
+{
+    for left in [true, true, true, false, false] {
+        if merger.has_left::<D>() != left {
+            return Ok(false);
+        }
+        next(merger, disk, arena, group)?;
+    }
+    Ok(true)
+}
+
+#[test]
+fn entries_are_left_until_the_last_group(rt: HostRuntime) -> Result<(), Fail> {
+    let mut bench = make_bench(rt.alloc(), &[])?;
+    let mut merger = Merger::new(rt.alloc(), three(rt.alloc(), 9)?)?;
+    let found = has_left_until_the_end(
+        &mut merger,
+        &mut bench.disk,
+        &mut bench.arena,
+        &mut bench.group,
+    )?;
+    assert!(rt; found);
     Ok(())
 }

@@ -7,3 +7,6 @@ pub mod PassLemmas
 pub mod ClosingLemmas
 pub mod TagsLemmas
 pub mod DescribingLemmas
+pub mod SpacesLemmas
+pub mod PushingLemmas
+pub mod PlanningLemmas

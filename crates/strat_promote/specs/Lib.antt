@@ -13,3 +13,6 @@ pub mod InputLaw
 pub mod Counted
 pub mod Spaces
 pub mod Closing
+pub mod Filled
+pub mod Written
+pub mod Planning

@@ -9,3 +9,4 @@ pub mod PaidLemmas
 pub mod SealedLemmas
 pub mod TargetLemmas
 pub mod ReadLemmas
+pub mod UniqueLemmas

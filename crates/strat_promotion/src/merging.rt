@@ -32,6 +32,18 @@ pub fn merged_groups_are_the_union()
         → MergesTo runs (groups ++ group ∷ []) (map (rest_of key) left) }
 {}
 
+/// A merge has no choice: its groups so far and the next one are the first of all groups, and where nothing is left
+/// they are all.
+pub fn merges_are_unique()
+    ensures more { (runs all groups left : List (List Entry)) (key : List ℕ) (group : List Entry)
+        → Merges runs all → MergesTo runs groups left → IsNext left key group
+        → (rest : List (List Entry)) × (all ≡ groups ++ group ∷ rest) }
+    ensures end { (runs all groups left : List (List Entry)) → Merges runs all
+        → MergesTo runs groups left → grouped_entries left ≡ [] → all ≡ groups }
+    ensures same { (runs all groups : List (List Entry)) → Merges runs all → Merges runs groups
+        → all ≡ groups }
+{}
+
 /// The runs of a state say what the state says: the journal's updates in order, and then the leads
 /// array by array, the shallowest level first.
 pub fn runs_say_what_a_state_says()

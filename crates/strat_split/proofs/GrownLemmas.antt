@@ -22,7 +22,7 @@ module _ (parents : Parents) (tree : IsTree parents) (n : ℕ) (others : Parents
             ap (λ (o : Option ℕ). v ∷ option_map_or (λ p. climb k others p) o []) some.1 ∙ ap (λ (x : List ℕ). v ∷ x) (climb_same k some.0 (omega arith)) ∙ sym (ap (λ (o : Option ℕ). v ∷ option_map_or (λ p. climb k parents p) o []) some.1)
       ]
 
-  live_item_same : (items : List Item) (p : ℕ) (item : Item) → p < n → is_live_item others items p item ≡ is_live_item parents items p item
+  pub live_item_same : (items : List Item) (p : ℕ) (item : Item) → p < n → is_live_item others items p item ≡ is_live_item parents items p item
   live_item_same items p item lt =
       ap (λ (us : List ℕ). list_any (λ w. eqb w item.version) us && not (list_any (λ (other : Item). ltb item.version other.version && list_any (λ w. eqb w other.version) us) items)) (climb_same p p lt)
 

@@ -5,7 +5,16 @@ pub mod PlaceLemmas
 pub mod LeastLemmas
 pub mod SplitLemmas
 pub mod TakenLemmas
-pub mod HangingLemmas
+pub mod ChainLemmas
 pub mod CarrierLemmas
 pub mod GrownLemmas
 pub mod KeyedLemmas
+pub mod LeadLemmas
+pub mod PassedLemmas
+pub mod ShareLemmas
+pub mod DealtLemmas
+pub mod NextLemmas
+pub mod WaitingLemmas
+pub mod WorkLemmas
+pub mod FollowLemmas
+pub mod DownLemmas

@@ -15,13 +15,13 @@ use Rattle.strat_live.specs.Group.{is_descending, is_nearer, is_live_item}
 use Rattle.strat_plan.specs.Plan.{Plan, horizon_of, part_of, part_at, IsSplit}
 use Rattle.strat_split.specs.Taken.{is_inherited_item, is_taken_item}
 
-item_among : (items : List Item) (j : ℕ) (d : Item) → j < length items → Among (get_or items j d) items
+pub item_among : (items : List Item) (j : ℕ) (d : Item) → j < length items → Among (get_or items j d) items
 item_among [] j d lt = absurd (omega arith)
 item_among (x ∷ items) zero d lt = inl refl
 item_among (x ∷ items) (suc j) d lt = inr (item_among items j d (omega arith))
 
 -- versions descend
-version_less : (items : List Item) → is_descending items ≡ true → (i j : ℕ) (d : Item) → i < j → j < length items → (get_or items j d).version < (get_or items i d).version
+pub version_less : (items : List Item) → is_descending items ≡ true → (i j : ℕ) (d : Item) → i < j → j < length items → (get_or items j d).version < (get_or items i d).version
 version_less [] down i j d less lt = absurd (omega arith)
 version_less (x ∷ items) down i zero d less lt = absurd (omega arith)
 version_less (x ∷ items) down zero (suc j) d less lt =

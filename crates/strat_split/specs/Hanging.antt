@@ -1,7 +1,7 @@
 -- Which parts hang below the versions of each part.
-use Rattle.std.specs.Prelude.{◌≡◌, ◌<◌, ◌≤◌, ℕ, ◌+◌, ◌-◌, ◌==◌, List, length, map, find, slice_get, slice_index, slice_index_or, Option, None, unwrap_or, option_and_then}
-use Rattle.std.specs.List.{range_with_len}
+use Rattle.std.specs.Prelude.{ℕ, List, map, slice_get, Option, unwrap_or, option_and_then}
 use Rattle.strat_plan.specs.Plan.{in_no_part}
+use Rattle.strat_split.specs.Chains.{first_labelled}
 use Rattle.strat_split.specs.declared.parts.Part.{Part}
 
 -- the part of the version that a part hangs below, by these labels
@@ -14,14 +14,4 @@ carriers_of labels parts = map (λ part. carrier_of labels part.above) parts
 
 -- the first part from q on that hangs below a version of another
 abbrev pub first_hanging : List ℕ → ℕ → ℕ → Option ℕ
-first_hanging carriers part q =
-    find (λ r. slice_index carriers r == part) (range_with_len q (length carriers - q))
-
--- from each part and for each part from q on the chains of parts are linked
-pub record IsLinked (carriers : List ℕ) (firsts nexts : List (Option ℕ)) (q : ℕ) : Type 0 where
-  pub firsts_len : length firsts ≡ length carriers
-  pub nexts_len : length nexts ≡ length carriers
-  pub first : (part : ℕ) → part < length carriers
-      → slice_index_or firsts part None ≡ first_hanging carriers part q
-  pub next : (r : ℕ) → q ≤ r → r < length carriers → slice_index carriers r < length carriers
-      → slice_index_or nexts r None ≡ first_hanging carriers (slice_index carriers r) (r + 1)
+first_hanging carriers part q = first_labelled carriers part q

@@ -3,5 +3,10 @@ pub mod Greedy
 pub mod Placing
 pub mod PlanSeen
 pub mod Taken
+pub mod Chains
 pub mod Hanging
 pub mod HangingFields
+pub mod Waiting
+pub mod Dealing
+pub mod DealerFields
+pub mod Shares

@@ -2,8 +2,10 @@
 //! from each part that it is in, in those that hang below a version which sees the key.
 
 ghost use Rattle.std.specs.Prelude.{◌≡◌, ◌<◌, ◌≤◌, ◌+◌, List, length, slice_index, IfOk, IfSome};
-ghost use Rattle.strat_split.specs.Hanging.{carrier_of, carriers_of, first_hanging, IsLinked};
+ghost use Rattle.strat_split.specs.Chains.{IsLinked};
+ghost use Rattle.strat_split.specs.Hanging.{carrier_of, carriers_of, first_hanging};
 
+use crate::chains::link_place;
 use crate::parts::{IN_NO_PART, Plan};
 use std::alloc::Global;
 use std::marker::Model;
@@ -12,12 +14,12 @@ use strat_base::{NoMemory, Version, Versions};
 /// The parts that hang below the versions of each part, in chains. It is seen as the list of the carriers
 /// of all parts: the carrier of a part is the part of the version that it hangs below.
 ///
-/// Who fills the arrays of a plan with the items of one key begins with the parts of these items, whose
-/// leads they are, and then asks, from each part that takes something, for each part that hangs from it
-/// whether one of what the carrier takes is live where it hangs: `live_in` over those items alone. No
-/// other part takes anything, and no other item, as two laws say. Over all keys this looks at no more than
-/// three times the entries that are written: a part is asked for with each entry of its carrier, and
-/// since the carrier is dense, at least a third of these are live where the part hangs and become its own.
+/// A `Dealer` begins with the parts of a key's items, whose leads they are, and then asks, from each part
+/// that takes something, for each part that hangs from it whether one of what the carrier takes is live
+/// where it hangs: `live_in` over those items alone. No other part takes anything, and no other item, as
+/// two laws say. Over all keys this looks at no more than three times the entries that are written: a part
+/// is asked for with each entry of its carrier, and since the carrier is dense, at least a third of these
+/// are live where the part hangs and become its own.
 #[derive(Drop)]
 pub struct Hanging {
     carriers: Vec<u32>,
@@ -110,20 +112,6 @@ fn link(carriers: &[u32], firsts: &mut [Option<u32>], nexts: &mut [Option<u32>])
     let mut q = carriers.len();
     while q > 0 {
         q -= 1;
-        link_part(carriers, firsts, nexts, q);
-    }
-}
-
-/// Puts a part before those that hang from its carrier.
-fn link_part(carriers: &[u32], firsts: &mut [Option<u32>], nexts: &mut [Option<u32>], q: usize)
-    requires len { IsLinked carriers.now firsts.old nexts.old (q + 1) }
-    requires fits { q < length carriers.now }
-    requires room { length carriers.now ≤ 4294967295 }
-    ensures ok { IsLinked carriers.now firsts.new nexts.new q }
-{
-    let carrier = carriers[q] as usize;
-    if carrier < firsts.len() {
-        nexts[q] = firsts[carrier];
-        firsts[carrier] = Some(q as u32);
+        link_place(carriers[q], firsts, nexts, q);
     }
 }

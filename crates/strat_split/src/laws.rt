@@ -1,15 +1,19 @@
 //! Laws of what parts take. Each is the contract of a function that does nothing.
 
-ghost use Rattle.std.specs.List.{list_all};
+ghost use Rattle.std.specs.List.{list_all, Contains};
 ghost use Rattle.std.specs.Prelude.{◌≡◌, ◌<◌, ℕ, List, length, map, filter, IsTrue};
 ghost use Rattle.strat_arena.specs.declared.items.Item.{Item};
 ghost use Rattle.strat_base.specs.Entries.{Entry, is_of};
 ghost use Rattle.strat_base.specs.Tree.{Parents, IsTree};
-ghost use Rattle.strat_live.specs.Counting.{SameParents};
+ghost use Rattle.strat_live.specs.Counting.{SameParents, item_versions};
 ghost use Rattle.strat_live.specs.Group.{is_descending, is_live_item};
 ghost use Rattle.strat_plan.specs.Plan.{Plan, horizon_of, part_of, IsSplit};
 ghost use Rattle.strat_plan.specs.Planned.{is_taken};
+ghost use Rattle.strat_split.specs.Dealing.{IsSplitFor};
+ghost use Rattle.strat_split.specs.PlanSeen.{plan_seen};
 ghost use Rattle.strat_split.specs.Taken.{is_taken_item};
+ghost use Rattle.strat_split.specs.declared.parts.Plan.{Plan as PlanHere};
+ghost use Rattle.strat_state.specs.Counted.{own_at, keys_at};
 
 /// What is live at a version of a part is taken by the part. So a part that hangs below a version of
 /// another takes nothing over that the other does not take.
@@ -49,4 +53,13 @@ pub fn what_is_live_in_a_part_is_found_among_what_it_takes()
         → is_live_item parents
         (filter (is_taken_item parents plan items (part_of plan v)) items) v item
         ≡ is_live_item parents items v item }
+{}
+
+/// A split by counts is one for the items of each key that was counted.
+pub fn a_split_serves_each_key_that_was_counted()
+    ensures { (tree parents : Parents) (groups : List (List ℕ)) (plan : PlanHere)
+        (items : List Item) → IsTree parents
+        → SameParents (length plan.part_of) parents tree
+        → IsSplit parents (own_at groups) (keys_at parents groups) (plan_seen plan)
+        → Contains groups (item_versions items) → IsSplitFor tree parents plan items }
 {}

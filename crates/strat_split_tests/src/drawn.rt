@@ -16,17 +16,17 @@ use strat_split::parts::{IN_NO_PART, Part, Plan};
 use strat_split::{Hanging, plan, takes};
 use strat_tree::Tree;
 
-/// Whether a key has an item at a version: about one in four has.
+/// Whether a key has an item at a version: key 0 has one at each, of another key about one in four has.
 fn has(key: u32, v: Version) -> bool {
     let mixed = key
         .wrapping_mul(2_654_435_761)
         .wrapping_add(v)
         .wrapping_mul(2_246_822_519);
-    (mixed >> 13) % 4 == 0
+    key == 0 || (mixed >> 13) % 4 == 0
 }
 
 /// The items of a key, the greatest version first.
-fn group_of(alloc: Global, key: u32, versions: u32) -> Result<Vec<Item>, NoMemory>
+pub(crate) fn group_of(alloc: Global, key: u32, versions: u32) -> Result<Vec<Item>, NoMemory>
     ensures kept { IfOk result (λ group. IsGroupFrom 0 versions group.items) }
 {
     let mut group = Vec::new(alloc);
@@ -50,7 +50,12 @@ fn push_item(group: &mut Vec<Item>, key: u32, v: Version, versions: u32) -> Resu
 }
 
 /// Counts over so many keys.
-fn counted(alloc: Global, tree: &Tree, versions: u32, keys: u32) -> Result<Counts, NoMemory>
+pub(crate) fn counted(
+    alloc: Global,
+    tree: &Tree,
+    versions: u32,
+    keys: u32,
+) -> Result<Counts, NoMemory>
     requires fits { (versions ≤ length tree.now.parents) × (versions ≤ 64) × (keys ≤ 1000) }
     ensures len { IfOk result (λ counts. length counts.own ≡ versions) }
 {

@@ -1,6 +1,6 @@
 -- The parts from q on are linked.
 use Rattle.std.proofs.Common.{◌≤◌, length}
-use Rattle.strat_split.specs.Hanging.{IsLinked}
+use Rattle.strat_split.specs.Chains.{IsLinked}
 use Rattle.strat_split.proofs.hanging.link.Given as goal
 
 abbrev pub invariant-loop-q : goal.invariant-loop-q
