@@ -112,11 +112,7 @@ fn tags_of(alloc: Global, plan: &Plan) -> Result<Vec<Versions>, NoMemory>
 }
 
 /// The descriptors of arrays that are sealed, in the order of the parts that they are for.
-fn describe_each(
-    alloc: Global,
-    writers: &[ArrayWriter],
-    plan: &Plan,
-) -> Result<Arrays, NoMemory>
+fn describe_each(alloc: Global, writers: &[ArrayWriter], plan: &Plan) -> Result<Arrays, NoMemory>
     requires len { length writers.now ≡ length plan.now.parts }
     requires fits { length plan.now.part_of ≤ 16384 }
     ensures ok { IfOk result (λ arrays. (q : ℕ) (w : ArrayProgress)

@@ -1,4 +1,4 @@
-use Rattle.std.proofs.Common.{◌≡◌, ◌∙◌, Some, slice_set, refl, sym, arith}
+use Rattle.std.proofs.Common.{◌≡◌, ◌∙◌, Some, slice_set, refl, arith}
 use Rattle.std.specs.List.{slice_get}
 use Rattle.std.proofs.lemmas.Option.{slice_get_read}
 use Rattle.strat_promote.proofs.ClosingLemmas.{AreTaking, taking_next, sealing_next, all_sealed}

@@ -1,4 +1,4 @@
-use Rattle.std.proofs.Common.{◌≡◌, ◌++◌, ◌∷◌, [], List, ℕ, length, get_or, set, replicate, sym, ap, ◌∙◌}
+use Rattle.std.proofs.Common.{◌++◌, ◌∷◌, [], List, ℕ, length, get_or, set, replicate, ap, ◌∙◌}
 use Rattle.strat_promote.proofs.TagsLemmas.{no_members, member_more}
 use Rattle.strat_promote.proofs.closing.tags_of.Goals as goal
 
