@@ -9,4 +9,5 @@ pub mod TagsLemmas
 pub mod DescribingLemmas
 pub mod SpacesLemmas
 pub mod PushingLemmas
+pub mod OpeningLemmas
 pub mod PlanningLemmas

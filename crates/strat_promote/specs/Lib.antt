@@ -11,8 +11,13 @@ pub mod TagFields
 pub mod InputFields
 pub mod InputLaw
 pub mod Counted
+pub mod Opening
 pub mod Spaces
 pub mod Closing
 pub mod Filled
 pub mod Written
 pub mod Planning
+pub mod Passes
+pub mod Stages
+pub mod Steps
+pub mod Turning
