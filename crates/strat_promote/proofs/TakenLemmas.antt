@@ -31,6 +31,7 @@ fewer_taken old new pairs items kept key group fewer down =
       lawful = pass fits_fields group.lawful;
       low = λ n under. fewer _ (group.low n under);
       bound = group.bound;
+      begins = group.begins;
       least = group.least;
       behind = group.behind;
     }
