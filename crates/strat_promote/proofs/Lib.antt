@@ -4,3 +4,5 @@ pub mod LeadRunLemmas
 pub mod TagLemmas
 pub mod TakenLemmas
 pub mod PassLemmas
+pub mod SpacesLemmas
+pub mod PushingLemmas
