@@ -6,3 +6,4 @@ pub mod TakenLemmas
 pub mod PassLemmas
 pub mod SpacesLemmas
 pub mod PushingLemmas
+pub mod FilledLemmas
