@@ -40,7 +40,7 @@ none_so_far v s w = record {
 }
 
 -- a disk that exposed its content does so after what passed
-still_told : (old mid : DiskView) (f : Image) → Passes old mid → Exposes old f → (g : Image) × Exposes mid g
+pub still_told : (old mid : DiskView) (f : Image) → Passes old mid → Exposes old f → (g : Image) × Exposes mid g
 still_told old mid f passes told = given mid.content (passes.exposed (told_some old.content told))
   where
     told_some : (o : Option Image) → o ≡ Some f → IsSome o

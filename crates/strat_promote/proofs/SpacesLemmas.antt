@@ -106,7 +106,7 @@ takes_all s t old part was is takes there =
     record { used = used'; kept = takes.kept; free = takes.free; mine = mine_from s t (all_extents old) (all_extents (set old part is)) used'; first = takes.first }
 
 -- what stands in a list after a change is what was put there, or stood there before
-set_or_before : {X : Type 0} (xs : List X) (i q : ℕ) (y x : X) → slice_get (set xs i y) q ≡ Some x → (y ≡ x) ⊎ (slice_get xs q ≡ Some x)
+pub set_or_before : {X : Type 0} (xs : List X) (i q : ℕ) (y x : X) → slice_get (set xs i y) q ≡ Some x → (y ≡ x) ⊎ (slice_get xs q ≡ Some x)
 set_or_before [] i q y x there = inr there
 set_or_before (z ∷ xs) zero zero y x there = inl (cc)
 set_or_before (z ∷ xs) zero (suc q) y x there = inr there
