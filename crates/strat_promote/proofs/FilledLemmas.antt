@@ -33,7 +33,8 @@ use Rattle.strat_split.specs.declared.parts.Plan.{Plan}
 use Rattle.strat_promote.specs.Closing.{all_extents, AreAllUsed}
 use Rattle.strat_promote.specs.Filled.{AreReadyFor, DealsOut}
 use Rattle.strat_promote.specs.Spaces.{TakesMore, PushesPart}
-use Rattle.strat_promote.proofs.SpacesLemmas.{takes_refl, takes_trans, torn_on, takes_all, used_all, others_stay}
+use Rattle.strat_promote.proofs.SpacesLemmas.{takes_refl, takes_trans, torn_on, takes_all, used_all, set_or_before, others_stay}
+use Rattle.strat_promote.proofs.PushingLemmas.{still_told}
 use Rattle.strat_promote.proofs.TakenLemmas.{items_pass}
 
 -- Entries of one key behind lesser keys ascend.
@@ -113,40 +114,19 @@ module _ (key later : List ℕ) (less : is_lt (key_cmp key later) ≡ true) wher
       → IsEndOf is.pending (was.pending ++ entries) → AreReadyFor later (set writers part is)
   ready_next writers part was is entries there ready up before keyed ends =
       record {
-        ascending = λ q w at. elim (here_or_not q w at) [
+        ascending = λ q w at. elim (set_or_before writers part q is w at) [
           | inl same ↦
               subst (λ (x : ArrayProgress). is_ascending x.pending ≡ true) same
               (last_ascend ends.front is.pending (ap is_ascending (sym ends.split) ∙ up))
           | inr other ↦ ready.ascending q w other
         ];
-        before = λ q w at. elim (here_or_not q w at) [
+        before = λ q w at. elim (set_or_before writers part q is w at) [
           | inl same ↦
               subst (λ (x : ArrayProgress). list_all (λ (e : Entry). is_lt (key_cmp e.key later)) x.pending ≡ true) same
               (end_before was.pending entries is.pending before keyed ends)
           | inr other ↦ ready.before q w other
         ];
       }
-    where
-      here_or_not : (q : ℕ) (w : ArrayProgress) → slice_get (set writers part is) q ≡ Some w → (is ≡ w) ⊎ (slice_get writers q ≡ Some w)
-      here_or_not q w at =
-          elim (cases_eq q part) [
-            | inl same ↦
-                inl
-                (let e : Some is ≡ Some w = sym (get_set_same writers part was is there) ∙ ap (λ (k : ℕ). slice_get (set writers part is) k) (sym same) ∙ at in cc)
-            | inr apart ↦ inr (sym (get_set_other writers part q is apart) ∙ at)
-          ]
-
--- a disk that exposed its content does so at each moment between
-told_between : (old mid : DiskView) (f : Image) → Passes old mid → Exposes old f → (h : Image) × Exposes mid h
-told_between old mid f passes told = given mid.content (passes.exposed (told_some old.content told))
-  where
-    told_some : (o : Option Image) → o ≡ Some f → IsSome o
-    told_some None e = absurd (cc)
-    told_some (Some x) e = refl
-
-    given : (o : Option Image) → IsSome o → (h : Image) × (o ≡ Some h)
-    given None some = absurd (true≢false (sym some))
-    given (Some h) some = (h, refl)
 
 -- a part has pushed these entries
 abbrev pub HasPushed : DiskView → DiskView → List ArrayProgress → ℕ → ArrayProgress → List Entry → Type 0
@@ -247,7 +227,7 @@ module _ (disk mid now : DiskView) (s t u : SpaceView) (tree : Parents) (plan : 
         let apart : q ≢ part = λ same. absurd (omega (arith, lt, late, same)) in (
           had.0, others_now q apart ∙ had.1, had.2,
           λ f g es told tells pushed.
-              let between = told_between disk mid f before.torn.torn.time told in
+              let between = still_told disk mid f before.torn.torn.time told in
               others_stay t mid now between.0 g had.0 (es ++ entries_of pairs (items_taken parents plan items q)) (before.torn.used q had.0 had.1) torn between.1 tells
               (had.3 f between.0 es told between.1 pushed),
         )
@@ -268,7 +248,7 @@ module _ (disk mid now : DiskView) (s t u : SpaceView) (tree : Parents) (plan : 
         let same : pushes.was ≡ w = let e : Some pushes.was ≡ Some w = sym was_there ∙ there in cc in (
           pushes.is, there_now, pushes.id ∙ ap (λ (x : ArrayProgress). x.id) same,
           λ f g es told tells pushed.
-              let between = told_between disk mid f before.torn.torn.time told in
+              let between = still_told disk mid f before.torn.torn.time told in
               let mine : IsPushed f pushes.was es = subst (λ (x : ArrayProgress). IsPushed f x es) (sym same) pushed in
               subst (λ (l : List Item). IsPushed g pushes.is (es ++ entries_of pairs l)) (next parents split).all
               (pushes.pushed between.0 g es between.1 tells
