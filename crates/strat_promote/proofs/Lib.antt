@@ -7,3 +7,4 @@ pub mod PassLemmas
 pub mod SpacesLemmas
 pub mod PushingLemmas
 pub mod FilledLemmas
+pub mod WrittenLemmas
