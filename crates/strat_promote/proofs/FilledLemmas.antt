@@ -1,5 +1,5 @@
 -- One part after another has pushed what it takes.
-use Rattle.std.proofs.Common.{◌≡◌, ◌≢◌, ◌<◌, ◌≤◌, ◌+◌, ◌&&◌, ℕ, zero, suc, ltb, Bool, true, inl, inr, ◌⊎◌, List, [], ◌∷◌, ◌++◌, length, map, set, Option, Some, None, Ok, Result, IsSome, refl, sym, ap, ◌∙◌, subst, arith, true≢false}
+use Rattle.std.proofs.Common.{◌≡◌, ◌≢◌, ◌<◌, ◌≤◌, ◌+◌, ℕ, zero, suc, ltb, Bool, true, inl, inr, List, [], ◌∷◌, ◌++◌, length, set, Some, Ok, Result, refl, sym, ap, ◌∙◌, subst, arith, true≢false}
 use Rattle.std.specs.Cmp.{nat_cmp_is}
 use Rattle.std.specs.List.{list_all, slice_get}
 use Rattle.std.specs.Ordering.{is_lt, nat_cmp, ordering_then}
@@ -16,13 +16,12 @@ use Rattle.strat_base.specs.Entries.{Entry, is_of, is_ascending}
 use Rattle.strat_base.specs.Order.{key_cmp, entry_cmp}
 use Rattle.strat_base.specs.Tree.{Parents}
 use Rattle.strat_base.proofs.EntryLemmas.{is_of_key}
-use Rattle.strat_base.proofs.ListFacts.{Among, all_at, all_from}
+use Rattle.strat_base.proofs.ListFacts.{all_at, all_from}
 use Rattle.strat_crash.specs.Blocks.{TearsBlocks}
 use Rattle.strat_crash.specs.Image.{Image}
-use Rattle.strat_crash.specs.Moments.{DiskView, Exposes, Passes}
-use Rattle.strat_crash.proofs.BlockLemmas.{blocks_refl, exposed_once}
+use Rattle.strat_crash.specs.Moments.{DiskView, Exposes}
+use Rattle.strat_crash.proofs.BlockLemmas.{blocks_refl}
 use Rattle.strat_extent.specs.Blocks.{SpaceView, is_free}
-use Rattle.strat_format.specs.Arrays.{blocks_of}
 use Rattle.strat_array.specs.Progress.{ArrayProgress}
 use Rattle.strat_array.specs.Pushed.{IsEndOf, IsPushed}
 use Rattle.strat_live.specs.Counting.{are_below}
@@ -225,7 +224,9 @@ module _ (disk mid now : DiskView) (s t u : SpaceView) (tree : Parents) (plan : 
     earlier parents split q w lt there =
         let had = before.dealt parents split q w lt there in
         let apart : q ≢ part = λ same. absurd (omega (arith, lt, late, same)) in (
-          had.0, others_now q apart ∙ had.1, had.2,
+          had.0,
+          others_now q apart ∙ had.1,
+          had.2,
           λ f g es told tells pushed.
               let between = still_told disk mid f before.torn.torn.time told in
               others_stay t mid now between.0 g had.0 (es ++ entries_of pairs (items_taken parents plan items q)) (before.torn.used q had.0 had.1) torn between.1 tells
@@ -235,7 +236,9 @@ module _ (disk mid now : DiskView) (s t u : SpaceView) (tree : Parents) (plan : 
     -- one between, which takes nothing
     between_parts : (parents : Parents) → IsSplitFor tree parents plan items → (q : ℕ) (w : ArrayProgress) → from ≤ q → q < part → slice_get old q ≡ Some w → HasPushed disk now new q w (entries_of pairs (items_taken parents plan items q))
     between_parts parents split q w le lt there = (
-      w, others_now q (λ same. absurd (omega (arith, lt, same))) ∙ before.rest q le ∙ there, refl,
+      w,
+      others_now q (λ same. absurd (omega (arith, lt, same))) ∙ before.rest q le ∙ there,
+      refl,
       λ f g es told tells pushed.
           none_behind g w es (entries_of pairs (items_taken parents plan items q)) (ap (entries_of pairs) ((next parents split).none q le lt))
           (others_stay s disk now f g w es (used q w there) all_torn.torn told tells pushed),
@@ -246,7 +249,9 @@ module _ (disk mid now : DiskView) (s t u : SpaceView) (tree : Parents) (plan : 
     itself parents split w there =
         let was_there : slice_get old part ≡ Some pushes.was = sym (before.rest part late) ∙ pushes.there in
         let same : pushes.was ≡ w = let e : Some pushes.was ≡ Some w = sym was_there ∙ there in cc in (
-          pushes.is, there_now, pushes.id ∙ ap (λ (x : ArrayProgress). x.id) same,
+          pushes.is,
+          there_now,
+          pushes.id ∙ ap (λ (x : ArrayProgress). x.id) same,
           λ f g es told tells pushed.
               let between = still_told disk mid f before.torn.torn.time told in
               let mine : IsPushed f pushes.was es = subst (λ (x : ArrayProgress). IsPushed f x es) (sym same) pushed in
@@ -281,11 +286,13 @@ all_dealt disk now s t tree parents plan pairs items old new from used dealt spl
   each = λ q w there. elim (cases_lt q from) [
     | inl early ↦ dealt.dealt parents split q w early there
     | inr le ↦ (
-        w, dealt.rest q le ∙ there, refl,
-        λ f g es told tells pushed.
-            none_behind g w es (entries_of pairs (items_taken parents plan items q)) (ap (entries_of pairs) (none q le (let lt = within old q w there in omega (arith, lt, size))))
-            (others_stay s disk now f g w es (used q w there) dealt.torn.torn told tells pushed),
-      )
+      w,
+      dealt.rest q le ∙ there,
+      refl,
+      λ f g es told tells pushed.
+          none_behind g w es (entries_of pairs (items_taken parents plan items q)) (ap (entries_of pairs) (none q le (let lt = within old q w there in omega (arith, lt, size))))
+          (others_stay s disk now f g w es (used q w there) dealt.torn.torn told tells pushed),
+    )
   ];
 }
   where

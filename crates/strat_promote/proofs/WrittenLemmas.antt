@@ -1,7 +1,6 @@
 -- One more group of the second pass.
-use Rattle.std.proofs.Common.{◌≡◌, ◌<◌, ◌≤◌, ◌+◌, ◌^◌, ℕ, zero, suc, Bool, true, false, ltb, cond, inl, inr, List, [], ◌∷◌, ◌++◌, length, map, filter, flat_map, Option, Some, None, refl, sym, ap, ◌∙◌, subst, arith}
+use Rattle.std.proofs.Common.{◌≡◌, ◌<◌, ◌≤◌, ◌+◌, ◌^◌, ℕ, zero, suc, Bool, true, false, ltb, cond, inl, inr, List, [], ◌∷◌, ◌++◌, length, map, filter, Some, None, refl, sym, ap, ◌∙◌, subst, arith}
 use Rattle.std.specs.List.{list_all, slice_get, count_by, Contains}
-use Rattle.std.specs.Ordering.{is_lt}
 use Rattle.std.proofs.lemmas.Bool.{ltb-true}
 use Rattle.std.proofs.lemmas.Grind.{flat_map-append}
 use Rattle.std.proofs.lemmas.List.{append-nil, map-append}
@@ -11,7 +10,6 @@ use Rattle.strat_arena.specs.ArenaView.{KeyValue}
 use Rattle.strat_arena.specs.Items.{entry_of_item, entries_of}
 use Rattle.strat_arena.specs.declared.items.Item.{Item}
 use Rattle.strat_base.specs.Entries.{Entry, is_of, lead_entries}
-use Rattle.strat_base.specs.Order.{key_cmp}
 use Rattle.strat_base.specs.Tree.{Parents, IsTree}
 use Rattle.strat_base.specs.declared.descriptors.ArrayDesc.{ArrayDesc}
 use Rattle.strat_base.proofs.ListFacts.{Among, all_at, among_right, get_among}
@@ -22,9 +20,9 @@ use Rattle.strat_format.specs.Arrays.{blocks_of}
 use Rattle.strat_array.specs.Progress.{ArrayProgress}
 use Rattle.strat_array.specs.Pushed.{IsPushed}
 use Rattle.strat_live.specs.Counting.{SameParents, item_versions}
-use Rattle.strat_merge.specs.Gathered.{are_under, CountsTaken}
-use Rattle.strat_merge.specs.MergerFields.{views_of, consumed_of, IsUnspent}
-use Rattle.strat_merge.specs.Runs.{RunView, IsEntryRun, head_at, lefts, blocks_left, IsBadFor, NoneLeft}
+use Rattle.strat_merge.specs.Gathered.{CountsTaken}
+use Rattle.strat_merge.specs.MergerFields.{views_of, consumed_of}
+use Rattle.strat_merge.specs.Runs.{RunView, IsEntryRun, lefts, blocks_left, IsBadFor, NoneLeft}
 use Rattle.strat_merge.specs.declared.merger.Merger.{Merger}
 use Rattle.strat_merge.proofs.PassLemmas.{contains_at}
 use Rattle.strat_merge.proofs.TurnLemmas.{all_runs}
@@ -40,13 +38,12 @@ use Rattle.strat_split.specs.declared.parts.Plan.{Plan}
 use Rattle.strat_split.proofs.KeyedLemmas.{group_taken}
 use Rattle.strat_state.specs.Counted.{own_at, sees_one, keys_at}
 use Rattle.strat_promote.specs.Counted.{AreRunsOf}
-use Rattle.strat_promote.specs.Filled.{AreReadyFor, DealsOut, SameFilling}
+use Rattle.strat_promote.specs.Filled.{DealsOut, SameFilling}
 use Rattle.strat_promote.specs.Job.{Job, runs_in, input_count, blocks_in, IsBadInput, IsJobIn, groups_kept, part_content}
-use Rattle.strat_promote.specs.Leads.{leads_in, misfit_in}
+use Rattle.strat_promote.specs.Leads.{leads_in}
 use Rattle.strat_promote.specs.Taken.{group_kept, TakesKept}
-use Rattle.strat_promote.specs.Written.{PlansJob, HasContent, IsWriterOf, IsWriting, IsWritten}
+use Rattle.strat_promote.specs.Written.{IsWriting, IsWritten}
 use Rattle.strat_promote.specs.declared.passing.Writing.{Writing}
-use Rattle.strat_promote.specs.declared.writing.Filling.{Filling}
 use Rattle.strat_promote.proofs.LeadLemmas.{entries_same, misfit_same}
 use Rattle.strat_promote.proofs.PassLemmas.{none_left, kept_same, kept_more, versions_of_items, runs_more, runs_ended, count_stays}
 use Rattle.strat_promote.proofs.TakenLemmas.{items_pass}
@@ -211,17 +208,18 @@ module _ {R : Type 0} (view : R → RunView) (law : (r : R) → IsEntryRun (view
       (runs_in f job) writing.all writing.groups w.filling.plan horizon writing.merged writing.runs.merged writing.planned.split in
       let dealt = deals job.parents split in
       let one : (q : ℕ) (y : ArrayProgress) → slice_get x.filling.writers.items q ≡ Some y
-          → (y.id ≡ first + q) × IsPushed g y (part_content job.parents (plan_seen w.filling.plan) (groups_kept job (writing.groups ++ group ∷ [])) q) =
+      → (y.id ≡ first + q) × IsPushed g y (part_content job.parents (plan_seen w.filling.plan) (groups_kept job (writing.groups ++ group ∷ [])) q) =
       λ q y at.
       let was = get_there w.filling.writers.items q (let lt = get_within x.filling.writers.items q y at in omega (arith, lt, same.len)) in
       let had = writing.content.each q was.0 was.1 in
       let got = dealt.each q was.0 was.1 in
       let is : got.0 ≡ y = let e : Some got.0 ≡ Some y = sym got.1 ∙ at in cc in
-      subst (λ (z : ArrayProgress). (z.id ≡ first + q) × IsPushed g z (part_content job.parents (plan_seen w.filling.plan) (groups_kept job (writing.groups ++ group ∷ [])) q)) is
-      (got.2 ∙ had.0,
-      subst (λ (es : List Entry). IsPushed g got.0 es)
-      (content_more job tree pairs items (lefts f (views_of view w.merger)) (lefts f (views_of view x.merger)) within.rooted within.same taken w.filling.plan writing.groups key q keyed)
-      (got.3 f g (part_content job.parents (plan_seen w.filling.plan) (groups_kept job writing.groups) q) told tells had.1)) in
+      subst (λ (z : ArrayProgress). (z.id ≡ first + q) × IsPushed g z (part_content job.parents (plan_seen w.filling.plan) (groups_kept job (writing.groups ++ group ∷ [])) q)) is (
+        got.2 ∙ had.0,
+        subst (λ (es : List Entry). IsPushed g got.0 es)
+            (content_more job tree pairs items (lefts f (views_of view w.merger)) (lefts f (views_of view x.merger)) within.rooted within.same taken w.filling.plan writing.groups key q keyed)
+            (got.3 f g (part_content job.parents (plan_seen w.filling.plan) (groups_kept job writing.groups) q) told tells had.1),
+      ) in
       record {
         all = writing.all;
         merged = subst (λ (rs : List (List Entry)). Merges rs writing.all) (sym (inputs_same f g job agree)) writing.merged;

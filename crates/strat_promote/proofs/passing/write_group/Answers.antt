@@ -1,10 +1,8 @@
-use Rattle.std.proofs.Common.{◌≡◌, ℕ, Bool, true, List, refl, sym, ap, ◌∙◌, subst}
+use Rattle.std.proofs.Common.{◌≡◌, ℕ, Bool, true, List, sym, ap, ◌∙◌, subst}
 use Rattle.std.specs.List.{list_all}
 use Rattle.strat_arena.specs.Items.{entries_of}
 use Rattle.strat_arena.specs.declared.items.Item.{Item}
 use Rattle.strat_base.specs.Entries.{is_of}
-use Rattle.strat_base.specs.Tree.{Parents}
-use Rattle.strat_crash.specs.Blocks.{TearsBlocks}
 use Rattle.strat_crash.specs.Image.{Image}
 use Rattle.strat_crash.specs.Moments.{Exposes}
 use Rattle.strat_crash.proofs.BlockLemmas.{blocks_trans, reads_tear_none, exposed_once}
@@ -15,7 +13,7 @@ use Rattle.strat_merge.specs.MergerFields.{views_of}
 use Rattle.strat_merge.specs.Runs.{RunView, lefts}
 use Rattle.strat_split.specs.Dealing.{IsSplitFor}
 use Rattle.strat_promote.specs.Filled.{AreReadyFor, DealsOut}
-use Rattle.strat_promote.specs.Job.{Job, blocks_in}
+use Rattle.strat_promote.specs.Job.{blocks_in}
 use Rattle.strat_promote.specs.Taken.{TakesKept}
 use Rattle.strat_promote.specs.Written.{IsWritten}
 use Rattle.strat_promote.proofs.PassLemmas.{under_more}
@@ -70,8 +68,8 @@ returns-clause-ok g c = λ _ f g' job first told tells within purges horizon use
     (c.in_ok-take_group.ensures.len f told) reads.left.fewer (λ b is. reads.fewer f b told is) found.1.keyed c.deal_out.ensures.same.1
     (λ parents split.
     subst (λ (items : List Item). IsSplitFor c.args.tree.now.parents parents c.args.writing.now.filling.plan items
-        → DealsOut (g.D.Disk.view c.take_group.new.disk) (g.D.Disk.view c.deal_out.new.disk) parents c.args.writing.now.filling.plan c.take_group.new.arena.pairs items
-        c.args.writing.now.filling.writers.items c.deal_out.new.filling.writers.items) c.items.ensures.ok (c.in_ok-deal_out.ensures.ok parents) split)
+    → DealsOut (g.D.Disk.view c.take_group.new.disk) (g.D.Disk.view c.deal_out.new.disk) parents c.args.writing.now.filling.plan c.take_group.new.arena.pairs items
+    c.args.writing.now.filling.writers.items c.deal_out.new.filling.writers.items) c.items.ensures.ok (c.in_ok-deal_out.ensures.ok parents) split)
     between tells
 
 pub returns-clause-same : goal.returns-clause-same

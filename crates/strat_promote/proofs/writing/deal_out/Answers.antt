@@ -1,10 +1,9 @@
 use Rattle.std.proofs.Common.{◌≡◌, ◌+◌, ℕ, true, Bool, List, refl, ap, sym, ◌∙◌, subst, arith}
 use Rattle.std.specs.List.{list_all}
-use Rattle.strat_arena.specs.Items.{entry_of_item, entries_of}
+use Rattle.strat_arena.specs.Items.{entries_of}
 use Rattle.strat_arena.specs.declared.items.Item.{Item}
 use Rattle.strat_base.specs.Entries.{Entry, is_of}
 use Rattle.strat_base.specs.EntryBytes.{fits_fields}
-use Rattle.strat_base.specs.Tree.{Parents}
 use Rattle.strat_live.specs.Group.{is_descending}
 use Rattle.strat_live.proofs.BegunLemmas.{few_items}
 use Rattle.strat_split.specs.Dealing.{IsDealing, IsSplitFor, IsNextPart, TakeNothing}
@@ -52,14 +51,14 @@ pub loop-part-preserved : goal.loop-part-preserved
 loop-part-preserved g c =
     let inv = c.loop-part.invariant in
     let more : HaveDealt (g.D.Disk.view c.args.disk.now) (g.D.Disk.view c.push_part.new.disk) c.args.space.now c.push_part.new.space c.args.tree.now.parents c.args.filling.now.plan c.args.arena.now.pairs
-        c.args.items.now c.args.filling.now.writers.items c.push_part.new.writers.items (c.in-Some.part + 1) =
+    c.args.items.now c.args.filling.now.writers.items c.push_part.new.writers.items (c.in-Some.part + 1) =
     dealt_more (g.D.Disk.view c.args.disk.now) (g.D.Disk.view c.loop-part.disk) (g.D.Disk.view c.push_part.new.disk) c.args.space.now c.loop-part.space c.push_part.new.space c.args.tree.now.parents
     c.args.filling.now.plan c.args.arena.now.pairs c.args.items.now c.taken.result.now c.args.filling.now.writers.items c.loop-part.filling.writers.items c.push_part.new.writers.items
     c.loop-part.filling.dealer.from c.in-Some.part c.requires.found inv.dealt c.in-Some.ensures.found.0
     (λ parents split.
     subst (λ (items : List Item). IsNextPart parents c.args.filling.now.plan c.args.items.now c.loop-part.filling.dealer.from c.in-Some.part items) (sym c.taken.ensures.ok)
     (subst (λ (plan : Plan). IsSplitFor c.args.tree.now.parents parents plan c.args.items.now
-        → IsNextPart parents plan c.args.items.now c.loop-part.filling.dealer.from c.in-Some.part c.next_part.new.self.taken) inv.same.plan (c.in-Some.ensures.ok parents) split))
+    → IsNextPart parents plan c.args.items.now c.loop-part.filling.dealer.from c.in-Some.part c.next_part.new.self.taken) inv.same.plan (c.in-Some.ensures.ok parents) split))
     (λ test all. ap (list_all test) c.taken.ensures.ok ∙ c.in-Some.ensures.same test all)
     (ap is_descending c.taken.ensures.ok ∙ c.in-Some.ensures.fits)
     c.in_ok-push_part.field-0 c.in_ok-push_part.ensures.ok c.push_part.ensures.same in

@@ -1,4 +1,4 @@
-use Rattle.std.proofs.Common.{◌≡◌, ◌≤◌, ◌-◌, length}
+use Rattle.std.proofs.Common.{◌≡◌, ◌-◌, length}
 use Rattle.strat_split.specs.Dealing.{IsDealing}
 use Rattle.strat_promote.specs.Filled.{SameFilling}
 use Rattle.strat_promote.proofs.FilledLemmas.{HaveDealt}
