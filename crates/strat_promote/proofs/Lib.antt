@@ -11,3 +11,5 @@ pub mod SpacesLemmas
 pub mod PushingLemmas
 pub mod OpeningLemmas
 pub mod PlanningLemmas
+pub mod FilledLemmas
+pub mod WrittenLemmas
