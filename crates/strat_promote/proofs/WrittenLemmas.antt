@@ -39,10 +39,10 @@ use Rattle.strat_split.proofs.KeyedLemmas.{group_taken}
 use Rattle.strat_state.specs.Counted.{own_at, sees_one, keys_at}
 use Rattle.strat_promote.specs.Counted.{AreRunsOf}
 use Rattle.strat_promote.specs.Filled.{DealsOut, SameFilling}
-use Rattle.strat_promote.specs.Job.{Job, runs_in, input_count, blocks_in, IsBadInput, IsJobIn, groups_kept, part_content}
+use Rattle.strat_promote.specs.Job.{Job, runs_in, input_count, blocks_listed, IsBadInput, IsJobIn, groups_kept, part_content}
 use Rattle.strat_promote.specs.Leads.{leads_in}
 use Rattle.strat_promote.specs.Taken.{group_kept, TakesKept}
-use Rattle.strat_promote.specs.Written.{IsWriting, IsWritten}
+use Rattle.strat_promote.specs.Written.{IsWriting, IsAllWritten}
 use Rattle.strat_promote.specs.declared.passing.Writing.{Writing}
 use Rattle.strat_promote.proofs.LeadLemmas.{entries_same, misfit_same}
 use Rattle.strat_promote.proofs.PassLemmas.{none_left, kept_same, kept_more, versions_of_items, runs_more, runs_ended, count_stays}
@@ -51,25 +51,25 @@ use Rattle.strat_promote.proofs.TakenLemmas.{items_pass}
 -- Where the blocks of a job keep their bytes its runs stay the same.
 
 module _ (f g : Image) where
-  leads_same : (arrays : List ArrayDesc) → AgreeOn (blocks_in arrays) f g → map (leads_in g) arrays ≡ map (leads_in f) arrays
+  leads_same : (arrays : List ArrayDesc) → AgreeOn (blocks_listed arrays) f g → map (leads_in g) arrays ≡ map (leads_in f) arrays
   leads_same [] agree = refl
   leads_same (a ∷ arrays) agree =
       let first : leads_in g a ≡ leads_in f a =
-      ap (lead_entries a.versions) (sym (entries_same f g None (blocks_of a.extents) (λ b here. agree b (Contains-append_left (blocks_of a.extents) (blocks_in arrays) b here)))) in
-      let rest = leads_same arrays (λ b here. agree b (Contains-append_right (blocks_of a.extents) (blocks_in arrays) b here)) in
+      ap (lead_entries a.versions) (sym (entries_same f g None (blocks_of a.extents) (λ b here. agree b (Contains-append_left (blocks_of a.extents) (blocks_listed arrays) b here)))) in
+      let rest = leads_same arrays (λ b here. agree b (Contains-append_right (blocks_of a.extents) (blocks_listed arrays) b here)) in
       λ i. first i ∷ rest i
 
-  pub inputs_same : (job : Job) → AgreeOn (blocks_in job.arrays) f g → runs_in g job ≡ runs_in f job
+  pub inputs_same : (job : Job) → AgreeOn (blocks_listed job.arrays) f g → runs_in g job ≡ runs_in f job
   inputs_same job agree = ap (λ (runs : List (List Entry)). job.zero ∷ runs) (leads_same job.arrays agree)
 
-  in_arrays : (arrays : List ArrayDesc) (a : ArrayDesc) (b : ℕ) → Contains arrays a → Contains (blocks_of a.extents) b → Contains (blocks_in arrays) b
+  in_arrays : (arrays : List ArrayDesc) (a : ArrayDesc) (b : ℕ) → Contains arrays a → Contains (blocks_of a.extents) b → Contains (blocks_listed arrays) b
   in_arrays [] a b (k, lt, e) here = absurd (omega arith)
   in_arrays (x ∷ arrays) a b (zero, lt, e) here =
-      Contains-append_left (blocks_of x.extents) (blocks_in arrays) b (subst (λ (y : ArrayDesc). Contains (blocks_of y.extents) b) (sym e) here)
+      Contains-append_left (blocks_of x.extents) (blocks_listed arrays) b (subst (λ (y : ArrayDesc). Contains (blocks_of y.extents) b) (sym e) here)
   in_arrays (x ∷ arrays) a b (suc k, lt, e) here =
-      Contains-append_right (blocks_of x.extents) (blocks_in arrays) b (in_arrays arrays a b (k, omega arith, e) here)
+      Contains-append_right (blocks_of x.extents) (blocks_listed arrays) b (in_arrays arrays a b (k, omega arith, e) here)
 
-  bad_input_same : (arrays : List ArrayDesc) (b : ℕ) → AgreeOn (blocks_in arrays) f g → IsBadInput f arrays b → IsBadInput g arrays b
+  bad_input_same : (arrays : List ArrayDesc) (b : ℕ) → AgreeOn (blocks_listed arrays) f g → IsBadInput f arrays b → IsBadInput g arrays b
   bad_input_same arrays b agree bad = record {
     array = bad.array;
     one = bad.one;
@@ -95,7 +95,7 @@ module _ (f g : Image) where
         }
 
     -- so a pass stands where it did
-    pub runs_stay : (job : Job) (groups : List (List Entry)) (runs : List R) (n : ℕ) → AgreeOn (blocks_in job.arrays) f g → AreRunsOf f job groups (map view runs) n → AreRunsOf g job groups (map view runs) n
+    pub runs_stay : (job : Job) (groups : List (List Entry)) (runs : List R) (n : ℕ) → AgreeOn (blocks_listed job.arrays) f g → AreRunsOf f job groups (map view runs) n → AreRunsOf g job groups (map view runs) n
     runs_stay job groups runs n agree are =
         let all = inputs_same job agree in
         let near : AgreeOn (blocks_left (map view runs)) f g = λ b here. agree b (are.within b here) in
@@ -191,7 +191,7 @@ get_there (y ∷ xs) (suc i) lt = get_there xs i (omega arith)
 -- one more group was written
 module _ {R : Type 0} (view : R → RunView) (law : (r : R) → IsEntryRun (view r)) where
   pub written_more : (f g : Image) (job : Job) (first : ℕ) (tree : Parents) (pairs : List KeyValue) (items : List Item) (key : List ℕ) (disk now : DiskView) (w x : Writing R)
-      → IsWriting view f job first w → IsJobIn tree job → job.horizon ≡ length w.filling.plan.part_of → AgreeOn (blocks_in job.arrays) f g
+      → IsWriting view f job first w → IsJobIn tree job → job.horizon ≡ length w.filling.plan.part_of → AgreeOn (blocks_listed job.arrays) f g
       → TakesKept tree job.purges job.horizon (lefts f (views_of view w.merger)) (lefts f (views_of view x.merger)) (entries_of pairs items)
       → CountsTaken (lefts f (views_of view w.merger)) (lefts f (views_of view x.merger)) (consumed_of w.merger) (consumed_of x.merger)
       → ((b : ℕ) → Contains (blocks_left (views_of view x.merger)) b → Contains (blocks_left (views_of view w.merger)) b)
@@ -238,7 +238,7 @@ module _ {R : Type 0} (view : R → RunView) (law : (r : R) → IsEntryRun (view
   -- where nothing is left all groups were written
   pub written_all : (f : Image) (job : Job) (first : ℕ) (w : Writing R) (merger : Merger R) → IsWriting view f job first w → NoneLeft (views_of view w.merger) → merger.runs.items ≡ w.merger.runs.items
       → CountsTaken (lefts f (views_of view w.merger)) (lefts f (views_of view merger)) (consumed_of w.merger) (consumed_of merger)
-      → IsWritten view f job first (record { merger = merger; filling = w.filling })
+      → IsAllWritten view f job first (record { merger = merger; filling = w.filling })
   written_all f job first w merger writing none same counts =
       let ended = runs_ended view law f job writing.groups w.merger.runs.items (consumed_of w.merger) writing.runs none in
       let few = writing.runs.few in

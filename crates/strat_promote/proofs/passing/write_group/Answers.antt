@@ -13,9 +13,9 @@ use Rattle.strat_merge.specs.MergerFields.{views_of}
 use Rattle.strat_merge.specs.Runs.{RunView, lefts}
 use Rattle.strat_split.specs.Dealing.{IsSplitFor}
 use Rattle.strat_promote.specs.Filled.{AreReadyFor, DealsOut}
-use Rattle.strat_promote.specs.Job.{blocks_in}
+use Rattle.strat_promote.specs.Job.{blocks_listed}
 use Rattle.strat_promote.specs.Taken.{TakesKept}
-use Rattle.strat_promote.specs.Written.{IsWritten}
+use Rattle.strat_promote.specs.Written.{IsAllWritten}
 use Rattle.strat_promote.proofs.PassLemmas.{under_more}
 use Rattle.strat_promote.proofs.WrittenLemmas.{written_more, written_all}
 use Rattle.strat_promote.proofs.passing.write_group.Goals as goal
@@ -27,7 +27,7 @@ pub returns-then-not-branch-clause-none : goal.returns-then-not-branch-clause-no
 returns-then-not-branch-clause-none g c = λ _ f g' job first told tells writing.
     let none = c.in_ok-take_group.ensures.none c.if-not-branch.true in
     let reads = c.take_group.ensures.reads in
-    subst (λ (h : Image). IsWritten g.R.Run.view h job first (record { merger = c.take_group.new.merger; filling = c.args.writing.now.filling }))
+    subst (λ (h : Image). IsAllWritten g.R.Run.view h job first (record { merger = c.take_group.new.merger; filling = c.args.writing.now.filling }))
     (exposed_once (g.D.Disk.view c.take_group.new.disk) f g' (reads.same.same ∙ told) tells)
     (written_all g.R.Run.view g.met.R.Run.leaves_run f job first c.args.writing.now c.take_group.new.merger writing none.0 none.1 (c.in_ok-take_group.ensures.len f told))
 
@@ -64,7 +64,7 @@ returns-clause-ok g c = λ _ f g' job first told tells within purges horizon use
     (c.in_ok-take_group.ensures.ok c.if-not-branch.false f job.horizon told under) in
     written_more g.R.Run.view g.met.R.Run.leaves_run f g' job first c.args.tree.now.parents c.take_group.new.arena.pairs c.take_group.new.group found.0
     (g.D.Disk.view c.take_group.new.disk) (g.D.Disk.view c.deal_out.new.disk) c.args.writing.now (record { merger = c.take_group.new.merger; filling = c.deal_out.new.filling })
-    writing within horizon (used_agree c.args.space.now (blocks_in job.arrays) f g' used (c.deal_out.ensures.same.0.content f g' between tells)) taken
+    writing within horizon (used_agree c.args.space.now (blocks_listed job.arrays) f g' used (c.deal_out.ensures.same.0.content f g' between tells)) taken
     (c.in_ok-take_group.ensures.len f told) reads.left.fewer (λ b is. reads.fewer f b told is) found.1.keyed c.deal_out.ensures.same.1
     (λ parents split.
     subst (λ (items : List Item). IsSplitFor c.args.tree.now.parents parents c.args.writing.now.filling.plan items
