@@ -4,5 +4,7 @@ pub mod LeadRunLemmas
 pub mod TagLemmas
 pub mod TakenLemmas
 pub mod PassLemmas
+pub mod SpacesLemmas
+pub mod PushingLemmas
 pub mod OpeningLemmas
 pub mod PlanningLemmas

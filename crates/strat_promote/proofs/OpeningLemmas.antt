@@ -16,7 +16,7 @@ use Rattle.strat_format.specs.Arrays.{blocks_of}
 use Rattle.strat_level.specs.Levels.{level_numbered}
 use Rattle.strat_merge.specs.Gathered.{are_under}
 use Rattle.strat_merge.specs.Runs.{RunView, blocks_left, IsBadFor, ReadsFront}
-use Rattle.strat_promote.specs.Job.{arrays_to, blocks_in, AreReadable, IsBadInput}
+use Rattle.strat_promote.specs.Job.{arrays_to, blocks_listed, AreReadable, IsBadInput}
 use Rattle.strat_promote.specs.Leads.{leads_in, misfit_in}
 use Rattle.strat_promote.specs.Opening.{arrays_if_any, OpensRuns, IsBlamed}
 use Rattle.strat_promote.proofs.LeadLemmas.{front_contains}
@@ -48,10 +48,10 @@ module _ (before part all : List ArrayDesc) (is : IsPart before part all) where
   part_contains a here =
       subst (λ (xs : List ArrayDesc). Contains xs a) (sym is.split) (Contains-append_right before (part ++ is.behind) a (Contains-append_left part is.behind a here))
 
-  blocks_split : blocks_in all ≡ blocks_in before ++ (blocks_in part ++ blocks_in is.behind)
+  blocks_split : blocks_listed all ≡ blocks_listed before ++ (blocks_listed part ++ blocks_listed is.behind)
   blocks_split =
-      ap blocks_in is.split ∙ flat_map-append (λ (a : ArrayDesc). blocks_of a.extents) before (part ++ is.behind)
-      ∙ ap (λ (bs : List ℕ). blocks_in before ++ bs) (flat_map-append (λ (a : ArrayDesc). blocks_of a.extents) part is.behind)
+      ap blocks_listed is.split ∙ flat_map-append (λ (a : ArrayDesc). blocks_of a.extents) before (part ++ is.behind)
+      ∙ ap (λ (bs : List ℕ). blocks_listed before ++ bs) (flat_map-append (λ (a : ArrayDesc). blocks_of a.extents) part is.behind)
 
   pub part_readable : (n : ℕ) → AreReadable n all → AreReadable n part
   part_readable n readable = record { within = λ a here. readable.within a (part_contains a here); low = λ a v here. readable.low a v (part_contains a here) }
@@ -59,20 +59,20 @@ module _ (before part all : List ArrayDesc) (is : IsPart before part all) where
   -- what is blamed of the part is blamed of all
   pub part_blamed : (start now : DiskView) (b : ℕ) → OnlyReads start now → IsBlamed now part b → IsBlamed start all b
   part_blamed start now b same blamed = (
-    subst (λ (bs : List ℕ). Contains bs b) (sym blocks_split) (Contains-append_right (blocks_in before) (blocks_in part ++ blocks_in is.behind) b (Contains-append_left (blocks_in part) (blocks_in is.behind) b blamed.0)),
+    subst (λ (bs : List ℕ). Contains bs b) (sym blocks_split) (Contains-append_right (blocks_listed before) (blocks_listed part ++ blocks_listed is.behind) b (Contains-append_left (blocks_listed part) (blocks_listed is.behind) b blamed.0)),
     λ f exposed. let bad = blamed.1 f (same.same ∙ exposed) in record { array = bad.array; one = part_contains bad.array bad.one; misfit = bad.misfit },
   )
 
   -- the reads of the part, too, are among those of all
-  pub part_reads : (n : ℕ) (start : DiskView) (old mid : List RunView) (first then last : ℕ) → OpensRuns n start before old mid first then → ReadsAtMost (length (blocks_in part)) then last → ReadsAtMost (length (blocks_in all)) first last
+  pub part_reads : (n : ℕ) (start : DiskView) (old mid : List RunView) (first then last : ℕ) → OpensRuns n start before old mid first then → ReadsAtMost (length (blocks_listed part)) then last → ReadsAtMost (length (blocks_listed all)) first last
   part_reads n start old mid first then last opens reads =
       let most = opens.most in
       let later = opens.later in
       let bound = reads.bound in
       let on = reads.later in
-      let size : length (blocks_in all) ≡ length (blocks_in before ++ (blocks_in part ++ blocks_in is.behind)) = ap (λ (bs : List ℕ). length bs) blocks_split in
-      let parts = length-append (blocks_in before) (blocks_in part ++ blocks_in is.behind) in
-      let rest = length-append (blocks_in part) (blocks_in is.behind) in
+      let size : length (blocks_listed all) ≡ length (blocks_listed before ++ (blocks_listed part ++ blocks_listed is.behind)) = ap (λ (bs : List ℕ). length bs) blocks_split in
+      let parts = length-append (blocks_listed before) (blocks_listed part ++ blocks_listed is.behind) in
+      let rest = length-append (blocks_listed part) (blocks_listed is.behind) in
       record { later = omega (arith, later, on); bound = omega (arith, most, bound, size, parts, rest) }
 
 pub array_part : (all : List ArrayDesc) (i : ℕ) (a : ArrayDesc) → i < length all → a ≡ get_or all i a → IsPart (take i all) (a ∷ []) all
@@ -141,7 +141,7 @@ opens_one n disk a old new run before now behind left versions misfit reads =
     let most = reads.most in
     let size : length (blocks_of a.extents) ≡ length (reads.read ++ run.blocks) = ap (λ (bs : List ℕ). length bs) reads.split in
     let parts = length-append reads.read run.blocks in
-    let one : length (blocks_in (a ∷ [])) ≡ length (blocks_of a.extents) = ap (λ (bs : List ℕ). length bs) (append-nil (blocks_of a.extents)) in
+    let one : length (blocks_listed (a ∷ [])) ≡ length (blocks_of a.extents) = ap (λ (bs : List ℕ). length bs) (append-nil (blocks_of a.extents)) in
     let two : length (blocks_left (run ∷ [])) ≡ length run.blocks = ap (λ (bs : List ℕ). length bs) (append-nil run.blocks) in
     record {
       opened = run ∷ [];
@@ -164,10 +164,10 @@ opens_more n disk after xs ys old mid new first then last one same two =
     let on = two.later in
     let most = one.most in
     let more = two.most in
-    let blocks : blocks_in (xs ++ ys) ≡ blocks_in xs ++ blocks_in ys = flat_map-append (λ (a : ArrayDesc). blocks_of a.extents) xs ys in
+    let blocks : blocks_listed (xs ++ ys) ≡ blocks_listed xs ++ blocks_listed ys = flat_map-append (λ (a : ArrayDesc). blocks_of a.extents) xs ys in
     let still : blocks_left (one.opened ++ two.opened) ≡ blocks_left one.opened ++ blocks_left two.opened = flat_map-append (λ (run : RunView). run.blocks) one.opened two.opened in
-    let size : length (blocks_in (xs ++ ys)) ≡ length (blocks_in xs ++ blocks_in ys) = ap (λ (bs : List ℕ). length bs) blocks in
-    let parts = length-append (blocks_in xs) (blocks_in ys) in
+    let size : length (blocks_listed (xs ++ ys)) ≡ length (blocks_listed xs ++ blocks_listed ys) = ap (λ (bs : List ℕ). length bs) blocks in
+    let parts = length-append (blocks_listed xs) (blocks_listed ys) in
     let count : length (blocks_left (one.opened ++ two.opened)) ≡ length (blocks_left one.opened ++ blocks_left two.opened) = ap (λ (bs : List ℕ). length bs) still in
     let counts = length-append (blocks_left one.opened) (blocks_left two.opened) in
     record {
@@ -186,8 +186,8 @@ opens_more n disk after xs ys old mid new first then last one same two =
       within = λ b here.
           subst (λ (bs : List ℕ). Contains bs b) (sym blocks)
           (elim (Contains-append_cases (blocks_left one.opened) (blocks_left two.opened) b (subst (λ (bs : List ℕ). Contains bs b) still here)) [
-            | inl left ↦ Contains-append_left (blocks_in xs) (blocks_in ys) b (one.within b left)
-            | inr right ↦ Contains-append_right (blocks_in xs) (blocks_in ys) b (two.within b right)
+            | inl left ↦ Contains-append_left (blocks_listed xs) (blocks_listed ys) b (one.within b left)
+            | inr right ↦ Contains-append_right (blocks_listed xs) (blocks_listed ys) b (two.within b right)
           ]);
       later = omega (arith, later, on);
       most = omega (arith, most, more, size, parts, count, counts);

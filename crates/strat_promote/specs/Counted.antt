@@ -9,7 +9,7 @@ use Rattle.strat_merge.specs.MergerFields.{consumed_of, views_of, IsUnspent}
 use Rattle.strat_merge.specs.Runs.{RunView, lefts, blocks_left, IsBadFor}
 use Rattle.strat_plan.specs.Groups.{grouped_entries, group_versions}
 use Rattle.strat_promotion.specs.Merging.{MergesTo, Merges}
-use Rattle.strat_promote.specs.Job.{Job, runs_in, input_count, blocks_in, IsBadInput, groups_kept}
+use Rattle.strat_promote.specs.Job.{Job, runs_in, input_count, blocks_listed, IsBadInput, groups_kept}
 use Rattle.strat_promote.specs.declared.counting.Counting.{Counting}
 
 -- what is known of a first pass over the versions below n, whatever disk its runs lie on
@@ -26,7 +26,7 @@ pub record AreRunsOf (f : Image) (job : Job) (groups : List (List Entry)) (runs 
   pub few : input_count f job ≤ 2 ^ 24
   pub merged : MergesTo (runs_in f job) groups (lefts f runs)
   pub taken : consumed + length (grouped_entries (lefts f runs)) ≡ input_count f job
-  pub within : (b : ℕ) → Contains (blocks_left runs) b → Contains (blocks_in job.arrays) b
+  pub within : (b : ℕ) → Contains (blocks_left runs) b → Contains (blocks_listed job.arrays) b
   pub blames : (b : ℕ) → IsBadFor runs f b → IsBadInput f job.arrays b
 
 -- some groups of a job were counted

@@ -38,8 +38,8 @@ arrays_to levels target =
     flat_map (λ level. option_map_or (λ l. l.arrays) level []) (take target levels)
 
 -- the blocks of arrays
-abbrev pub blocks_in : List ArrayDesc → List ℕ
-blocks_in arrays = flat_map (λ a. blocks_of a.extents) arrays
+abbrev pub blocks_listed : List ArrayDesc → List ℕ
+blocks_listed arrays = flat_map (λ a. blocks_of a.extents) arrays
 
 -- one of some arrays has a block that holds no entries in an image, or none that come after those before it
 pub record IsBadInput (f : Image) (arrays : List ArrayDesc) (b : ℕ) : Type 0 where

@@ -17,3 +17,7 @@ pub mod Closing
 pub mod Filled
 pub mod Written
 pub mod Planning
+pub mod Passes
+pub mod Stages
+pub mod Steps
+pub mod Turning

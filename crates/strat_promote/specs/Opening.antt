@@ -7,7 +7,7 @@ use Rattle.strat_crash.specs.Image.{Image}
 use Rattle.strat_crash.specs.Moments.{DiskView, Exposes}
 use Rattle.strat_merge.specs.Gathered.{are_under}
 use Rattle.strat_merge.specs.Runs.{RunView, lefts, blocks_left, IsBadFor}
-use Rattle.strat_promote.specs.Job.{blocks_in, IsBadInput}
+use Rattle.strat_promote.specs.Job.{blocks_listed, IsBadInput}
 use Rattle.strat_promote.specs.Leads.{leads_in}
 
 -- the arrays of a level, if there is one
@@ -24,12 +24,12 @@ pub record OpensRuns (n : ℕ) (disk : DiskView) (arrays : List ArrayDesc) (old 
   pub under : IsTrue (are_under n opened)
   pub blames : (f : Image) (b : ℕ) → Exposes disk f → IsBadFor opened f b
       → IsBadInput f arrays b
-  pub within : (b : ℕ) → Contains (blocks_left opened) b → Contains (blocks_in arrays) b
+  pub within : (b : ℕ) → Contains (blocks_left opened) b → Contains (blocks_listed arrays) b
   pub later : before ≤ now
-  pub most : now + length (blocks_left opened) ≤ before + length (blocks_in arrays)
+  pub most : now + length (blocks_left opened) ≤ before + length (blocks_listed arrays)
 
 -- a block of some arrays is bad for one of them where the disk exposes its content
 abbrev pub IsBlamed : DiskView → List ArrayDesc → ℕ → Type 0
 IsBlamed disk arrays b =
-    Contains (blocks_in arrays) b
+    Contains (blocks_listed arrays) b
     × ((f : Image) → Exposes disk f → IsBadInput f arrays b)

@@ -52,7 +52,7 @@ pub record IsWriting {R : Type 0} (view : R → RunView) (f : Image) (job : Job)
   pub content : HasContent f job first groups w
 
 -- all groups of a job were written
-pub record IsWritten {R : Type 0} (view : R → RunView) (f : Image) (job : Job) (first : ℕ)
+pub record IsAllWritten {R : Type 0} (view : R → RunView) (f : Image) (job : Job) (first : ℕ)
     (w : Writing R) : Type 0 where
   pub all : List (List Entry)
   pub merged : Merges (runs_in f job) all

@@ -11,7 +11,7 @@ ghost use Rattle.strat_level.specs.Memtable.{entries_held, ListStands};
 ghost use Rattle.strat_merge.specs.Gathered.{are_under};
 ghost use Rattle.strat_merge.specs.Runs.{lefts, blocks_left, IsBadFor};
 ghost use Rattle.strat_promote.specs.InputFields.{input_seen};
-ghost use Rattle.strat_promote.specs.Job.{arrays_to, blocks_in, AreReadable, IsBadInput};
+ghost use Rattle.strat_promote.specs.Job.{arrays_to, blocks_listed, AreReadable, IsBadInput};
 ghost use Rattle.strat_promote.specs.Leads.{leads_in};
 ghost use Rattle.strat_promote.specs.Opening.{arrays_if_any, OpensRuns, IsBlamed};
 
@@ -40,7 +40,7 @@ fn open_array<D: Disk>(
     ensures cause { HasCause Device (D.faults disk.old) (D.faults disk.new) result }
     ensures damaged { (b : ℕ) → IsErrOf result (Damaged b)
         → IsBlamed (D.view disk.old) (desc.now ∷ []) b }
-    ensures err { OnErr result (ReadsAtMost (length (blocks_in (desc.now ∷ [])))
+    ensures err { OnErr result (ReadsAtMost (length (blocks_listed (desc.now ∷ [])))
         (D.reads disk.old) (D.reads disk.new)) }
 {
     let run = LeadRun::open(alloc, disk, desc, horizon)?;
@@ -64,7 +64,7 @@ fn open_arrays<D: Disk>(
     ensures cause { HasCause Device (D.faults disk.old) (D.faults disk.new) result }
     ensures damaged { (b : ℕ) → IsErrOf result (Damaged b)
         → IsBlamed (D.view disk.old) arrays.now b }
-    ensures err { OnErr result (ReadsAtMost (length (blocks_in arrays.now))
+    ensures err { OnErr result (ReadsAtMost (length (blocks_listed arrays.now))
         (D.reads disk.old) (D.reads disk.new)) }
 {
     for i in 0..arrays.len() {
@@ -92,7 +92,7 @@ fn open_level<D: Disk>(
     ensures damaged { (b : ℕ) → IsErrOf result (Damaged b)
         → IsBlamed (D.view disk.old) (arrays_if_any (level_numbered levels.now number)) b }
     ensures err { OnErr result
-        (ReadsAtMost (length (blocks_in (arrays_if_any (level_numbered levels.now number))))
+        (ReadsAtMost (length (blocks_listed (arrays_if_any (level_numbered levels.now number))))
         (D.reads disk.old) (D.reads disk.new)) }
 {
     match levels.get(number) {
@@ -118,7 +118,7 @@ fn open_levels<D: Disk>(
     ensures cause { HasCause Device (D.faults disk.old) (D.faults disk.new) result }
     ensures damaged { (b : ℕ) → IsErrOf result (Damaged b)
         → IsBlamed (D.view disk.old) (arrays_to levels.now target) b }
-    ensures err { OnErr result (ReadsAtMost (length (blocks_in (arrays_to levels.now target)))
+    ensures err { OnErr result (ReadsAtMost (length (blocks_listed (arrays_to levels.now target)))
         (D.reads disk.old) (D.reads disk.new)) }
 {
     for done in 0..target {
@@ -182,10 +182,10 @@ pub(crate) fn open_inputs<D: Disk>(
         → IsBlamed (D.view disk.old) (arrays_to levels.now target) b }
     ensures reads { IfOk result (λ runs. (D.reads disk.old ≤ D.reads disk.new)
         × (D.reads disk.new + length (blocks_left (map input_seen runs.items))
-        ≤ D.reads disk.old + length (blocks_in (arrays_to levels.now target)))
+        ≤ D.reads disk.old + length (blocks_listed (arrays_to levels.now target)))
         × ((b : ℕ) → Contains (blocks_left (map input_seen runs.items)) b
-        → Contains (blocks_in (arrays_to levels.now target)) b)) }
-    ensures err { OnErr result (ReadsAtMost (length (blocks_in (arrays_to levels.now target)))
+        → Contains (blocks_listed (arrays_to levels.now target)) b)) }
+    ensures err { OnErr result (ReadsAtMost (length (blocks_listed (arrays_to levels.now target)))
         (D.reads disk.old) (D.reads disk.new)) }
 {
     let mut runs = open_zero(alloc, zero, pool, horizon)?;

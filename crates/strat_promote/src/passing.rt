@@ -8,9 +8,9 @@ ghost use Rattle.strat_crash.specs.Moments.{Exposes};
 ghost use Rattle.strat_extent.specs.Blocks.{is_free};
 ghost use Rattle.strat_array.specs.Taking.{AreUsed};
 ghost use Rattle.strat_promote.specs.Closing.{AreAllUsed, all_extents};
-ghost use Rattle.strat_promote.specs.Job.{Job, IsJobIn, blocks_in};
+ghost use Rattle.strat_promote.specs.Job.{Job, IsJobIn, blocks_listed};
 ghost use Rattle.strat_promote.specs.Spaces.{TakesMore};
-ghost use Rattle.strat_promote.specs.Written.{IsWriterOf, IsWriting, IsWritten, TakesInput};
+ghost use Rattle.strat_promote.specs.Written.{IsWriterOf, IsWriting, IsAllWritten, TakesInput};
 
 use crate::taking::take_group;
 use crate::writing::{Filling, deal_out};
@@ -47,11 +47,11 @@ pub(crate) fn write_group<D: Disk, R: Run<D>>(
         → Exposes (D.view disk.old) f → Exposes (D.view disk.new) g
         → IsJobIn tree.now.parents job → job.purges ≡ purges
         → job.horizon ≡ length writing.old.filling.plan.part_of
-        → AreUsed space.old (blocks_in job.arrays)
+        → AreUsed space.old (blocks_listed job.arrays)
         → IsWriting R.view f job first writing.old → IsWriting R.view g job first writing.new) }
     ensures none { IfOk result (λ more. more ≡ false → (f g : Image) (job : Job) (first : ℕ)
         → Exposes (D.view disk.old) f → Exposes (D.view disk.new) g
-        → IsWriting R.view f job first writing.old → IsWritten R.view g job first writing.new) }
+        → IsWriting R.view f job first writing.old → IsAllWritten R.view g job first writing.new) }
     ensures found { AreAllUsed space.new writing.new.filling.writers.items }
     ensures room { TakesMore space.old space.new (all_extents writing.old.filling.writers.items)
         (all_extents writing.new.filling.writers.items) }

@@ -62,7 +62,7 @@ fn push_all<D: Disk>(
     space: &mut Space,
     disk: &mut D,
 ) -> Result<(), Trouble>
-    requires slots { IsTrue (have_pairs arena.now.pairs items.now) }
+    requires room { IsTrue (have_pairs arena.now.pairs items.now) }
     requires fits { IsTrue (list_all fits_fields (entries_of arena.now.pairs items.now)) }
     requires kept { IsTrue
         (is_ascending (writer.old.pending ++ entries_of arena.now.pairs items.now)) }
@@ -95,7 +95,7 @@ pub(crate) fn push_part<D: Disk>(
     disk: &mut D,
 ) -> Result<(), Trouble>
     requires len { part < length writers.old.items }
-    requires slots { IsTrue (have_pairs arena.now.pairs items.now) }
+    requires room { IsTrue (have_pairs arena.now.pairs items.now) }
     requires fits { IsTrue (list_all fits_fields (entries_of arena.now.pairs items.now)) }
     requires kept { (w : ArrayProgress) → slice_get writers.old.items part ≡ Some w → IsTrue
         (is_ascending (w.pending ++ entries_of arena.now.pairs items.now)) }
