@@ -13,3 +13,4 @@ pub mod OpeningLemmas
 pub mod PlanningLemmas
 pub mod FilledLemmas
 pub mod WrittenLemmas
+pub mod SliceLemmas

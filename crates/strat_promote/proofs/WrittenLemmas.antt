@@ -69,7 +69,7 @@ module _ (f g : Image) where
   in_arrays (x ∷ arrays) a b (suc k, lt, e) here =
       Contains-append_right (blocks_of x.extents) (blocks_listed arrays) b (in_arrays arrays a b (k, omega arith, e) here)
 
-  bad_input_same : (arrays : List ArrayDesc) (b : ℕ) → AgreeOn (blocks_listed arrays) f g → IsBadInput f arrays b → IsBadInput g arrays b
+  pub bad_input_same : (arrays : List ArrayDesc) (b : ℕ) → AgreeOn (blocks_listed arrays) f g → IsBadInput f arrays b → IsBadInput g arrays b
   bad_input_same arrays b agree bad = record {
     array = bad.array;
     one = bad.one;
