@@ -4,6 +4,9 @@ pub mod LeadRunLemmas
 pub mod TagLemmas
 pub mod TakenLemmas
 pub mod PassLemmas
+pub mod ClosingLemmas
+pub mod TagsLemmas
+pub mod DescribingLemmas
 pub mod SpacesLemmas
 pub mod PushingLemmas
 pub mod OpeningLemmas

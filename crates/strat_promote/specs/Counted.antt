@@ -37,7 +37,8 @@ pub record IsCounting {R : Type 0} (view : R → RunView) (f : Image) (job : Job
   pub tallied : IsTally job.parents (group_versions (groups_kept job groups)) c.counts
 
 -- all groups of a job were counted
-pub record IsCounted {R : Type 0} (view : R → RunView) (f : Image) (job : Job) (c : Counting R) : Type 0 where
+pub record IsCounted {R : Type 0} (view : R → RunView) (f : Image) (job : Job)
+    (c : Counting R) : Type 0 where
   pub groups : List (List Entry)
   pub merged : Merges (runs_in f job) groups
   pub tallied : IsTally job.parents (group_versions (groups_kept job groups)) c.counts

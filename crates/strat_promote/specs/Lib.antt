@@ -21,3 +21,4 @@ pub mod Passes
 pub mod Stages
 pub mod Steps
 pub mod Turning
+pub mod Promotions

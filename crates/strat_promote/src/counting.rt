@@ -54,9 +54,11 @@ pub(crate) fn count_group<D: Disk, R: Run<D>>(
     ensures ok { OnOk result ((f : Image) (job : Job) → Exposes (D.view disk.old) f
         → IsJobIn tree.now.parents job → job.purges ≡ purges
         → job.horizon ≡ length counting.old.counts.own
-        → IsCounting R.view f job counting.old → IsCounting R.view f job counting.new) }
+        → IsCounting R.view f job counting.old
+        → IsCounting R.view f job counting.new) }
     ensures none { IfOk result (λ more. more ≡ false → (f : Image) (job : Job)
-        → Exposes (D.view disk.old) f → IsCounting R.view f job counting.old → IsCounted R.view f job counting.new) }
+        → Exposes (D.view disk.old) f → IsCounting R.view f job counting.old
+        → IsCounted R.view f job counting.new) }
     ensures reads { ReadsRuns R.view Device Damaged (D.view disk.old) (D.view disk.new)
         (D.faults disk.old) (D.faults disk.new) (D.reads disk.old) (D.reads disk.new)
         (runs_merged counting.old.merger) (runs_merged counting.new.merger) result }

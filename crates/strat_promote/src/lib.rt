@@ -15,6 +15,7 @@ mod lead_run;
 mod opening;
 mod passing;
 mod planning;
+pub mod promotion;
 mod pushing;
 mod stage;
 mod step;

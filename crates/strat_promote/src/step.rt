@@ -20,13 +20,12 @@ ghost use Rattle.strat_promote.specs.Filled.{IsFilling};
 ghost use Rattle.strat_promote.specs.Passes.{OpensInputs};
 ghost use Rattle.strat_promote.specs.Written.{IsWriterOf, IsWriting, IsAllWritten};
 ghost use Rattle.strat_promote.specs.Turning.{stage_after, AreAllNew, IsMoreOr, WritesOn};
-ghost use Rattle.strat_promote.specs.declared.step.Sources.{Sources};
 ghost use Rattle.strat_promote.specs.InputFields.{input_seen};
 ghost use Rattle.strat_promote.specs.Job.{Job, IsBadInput, IsJobIn, AreReadable, arrays_to, blocks_listed};
 ghost use Rattle.strat_promote.specs.Passes.{IsJobOver};
 ghost use Rattle.strat_promote.specs.Spaces.{TakesMore};
 ghost use Rattle.strat_promote.specs.Stages.{IsSteady, IsUnderway, IsMade, stage_writers, blocks_due};
-ghost use Rattle.strat_promote.specs.Steps.{IsReadySource, IsTaskIn, GoesOn};
+ghost use Rattle.strat_promote.specs.Steps.{Inputs, inputs_of, IsReadySource, IsTaskIn, StepsOn};
 
 use crate::closing::{describe_all, seal_all};
 use crate::counting::{Counting, count_group};
@@ -83,10 +82,10 @@ fn begin<D: Disk>(
     sources: &Sources<'_>,
     disk: &mut D,
 ) -> Result<Stage, Trouble>
-    requires fits { IsReadySource task.now sources.now }
+    requires fits { IsReadySource task.now (inputs_of sources.now) }
     ensures kept { IfOk result (λ stage. IsSteady task.now.horizon stage) }
     ensures ok { IfOk result (λ stage. (f : Image) (job : Job) → Exposes (D.view disk.old) f
-        → IsTaskIn f task.now sources.now job → IsUnderway f job task.now.first stage) }
+        → IsTaskIn f task.now (inputs_of sources.now) job → IsUnderway f job task.now.first stage) }
     ensures none { IfOk result (λ stage. stage_writers stage ≡ []) }
     ensures found { OpensInputs Device Damaged (D.view disk.old) (D.view disk.new)
         (arrays_to sources.now.levels.now task.now.target) (D.faults disk.old)
@@ -118,16 +117,16 @@ fn count<D: Disk>(
     disk: &mut D,
 ) -> Result<Option<Stage>, Trouble>
     requires kept { IsCounter input_seen task.now.horizon counting.old }
-    requires fits { IsReadySource task.now sources.now }
+    requires fits { IsReadySource task.now (inputs_of sources.now) }
     ensures kept { IfOk result (λ next. IsSteady task.now.horizon (stage_after counting.new next)) }
     ensures ok { IfOk result (λ next. (f : Image) (job : Job) → Exposes (D.view disk.old) f
-        → IsTaskIn f task.now sources.now job → IsCounting input_seen f job counting.old
+        → IsTaskIn f task.now (inputs_of sources.now) job → IsCounting input_seen f job counting.old
         → IsUnderway f job task.now.first (stage_after counting.new next)) }
     ensures none { IfOk result (λ next. AreAllNew (stage_writers (stage_after counting.new next))) }
     ensures same { OnlyReads (D.view disk.old) (D.view disk.new) }
     ensures cause { HasCause Device (D.faults disk.old) (D.faults disk.new) result }
     ensures damaged { (b : ℕ) → IsErrOf result (Damaged b) → (f : Image) (job : Job)
-        → Exposes (D.view disk.old) f → IsTaskIn f task.now sources.now job
+        → Exposes (D.view disk.old) f → IsTaskIn f task.now (inputs_of sources.now) job
         → IsCounting input_seen f job counting.old → IsBadInput f job.arrays b }
     ensures reads { IfOk result (λ next. D.reads disk.new
         + blocks_due (arrays_to sources.now.levels.now task.now.target)
@@ -171,9 +170,9 @@ fn close<D: Disk>(
 ) -> Result<Option<LevelDesc>, Trouble>
     requires kept { IsFilling task.now.horizon writing.old.filling }
     requires found { AreAllUsed space.old writing.old.filling.writers.items }
-    ensures ok { IfOk result (λ made. (f g : Image) (sources : Sources) (job : Job)
+    ensures ok { IfOk result (λ made. (f g : Image) (inputs : Inputs) (job : Job)
         → Exposes (D.view disk.old) f → Exposes (D.view disk.new) g
-        → IsReadySource task.now sources → IsTaskIn f task.now sources job
+        → IsReadySource task.now inputs → IsTaskIn f task.now inputs job
         → IsAllWritten input_seen f job task.now.first writing.old
         → IsMade f g job task.now.target task.now.first made) }
     ensures kept { writing.new.merger ≡ writing.old.merger }
@@ -201,12 +200,12 @@ fn write<D: Disk>(
     disk: &mut D,
 ) -> Result<Step, Trouble>
     requires kept { IsWriterOf input_seen task.now.horizon writing.old }
-    requires fits { IsReadySource task.now sources.now }
+    requires fits { IsReadySource task.now (inputs_of sources.now) }
     requires found { AreAllUsed space.old writing.old.filling.writers.items }
     ensures kept { IfOk result (λ step. IsMoreOr step
         (IsWriterOf input_seen task.now.horizon writing.new)) }
     ensures ok { IfOk result (λ step. (f g : Image) (job : Job) → Exposes (D.view disk.old) f
-        → Exposes (D.view disk.new) g → IsTaskIn f task.now sources.now job
+        → Exposes (D.view disk.new) g → IsTaskIn f task.now (inputs_of sources.now) job
         → AreUsed space.old (blocks_listed job.arrays)
         → IsWriting input_seen f job task.now.first writing.old
         → WritesOn f g task.now job writing.new step) }
@@ -216,7 +215,7 @@ fn write<D: Disk>(
     ensures same { TearsBlocks (is_free space.old) (D.view disk.old) (D.view disk.new) }
     ensures cause { HasCause Device (D.faults disk.old) (D.faults disk.new) result }
     ensures damaged { (b : ℕ) → IsErrOf result (Damaged b) → (f : Image) (job : Job)
-        → Exposes (D.view disk.old) f → IsTaskIn f task.now sources.now job
+        → Exposes (D.view disk.old) f → IsTaskIn f task.now (inputs_of sources.now) job
         → IsWriting input_seen f job task.now.first writing.old → IsBadInput f job.arrays b }
     ensures reads { D.reads disk.new + length (blocks_left (views_of input_seen writing.new.merger))
         ≤ D.reads disk.old + length (blocks_left (views_of input_seen writing.old.merger)) }
@@ -247,20 +246,20 @@ pub(crate) fn take_step<D: Disk>(
     disk: &mut D,
 ) -> Result<Step, Trouble>
     requires kept { IsSteady task.now.horizon stage.old }
-    requires fits { IsReadySource task.now sources.now }
+    requires fits { IsReadySource task.now (inputs_of sources.now) }
     requires found { AreAllUsed space.old (stage_writers stage.old) }
     ensures kept { IfOk result (λ step. IsMoreOr step (IsSteady task.now.horizon stage.new)) }
     ensures ok { IfOk result (λ step. (f g : Image) (job : Job) → Exposes (D.view disk.old) f
-        → Exposes (D.view disk.new) g → IsTaskIn f task.now sources.now job
+        → Exposes (D.view disk.new) g → IsTaskIn f task.now (inputs_of sources.now) job
         → AreUsed space.old (blocks_listed job.arrays) → IsUnderway f job task.now.first stage.old
-        → GoesOn f g task.now job stage.new step) }
+        → StepsOn f g task.now job stage.new step) }
     ensures found { AreAllUsed space.new (stage_writers stage.new) }
     ensures room { TakesMore space.old space.new (all_extents (stage_writers stage.old))
         (all_extents (stage_writers stage.new)) }
     ensures same { TearsBlocks (is_free space.old) (D.view disk.old) (D.view disk.new) }
     ensures cause { HasCause Device (D.faults disk.old) (D.faults disk.new) result }
     ensures damaged { (b : ℕ) → IsErrOf result (Damaged b) → (f : Image) (job : Job)
-        → Exposes (D.view disk.old) f → IsTaskIn f task.now sources.now job
+        → Exposes (D.view disk.old) f → IsTaskIn f task.now (inputs_of sources.now) job
         → IsUnderway f job task.now.first stage.old → IsBadInput f job.arrays b }
     ensures reads { OnOk result (D.reads disk.new
         + blocks_due (arrays_to sources.now.levels.now task.now.target) stage.new

@@ -1,0 +1,60 @@
+-- A promotion as its caller sees it.
+use Rattle.std.specs.Prelude.{◌≡◌, ◌<◌, ◌≤◌, ℕ, ◌+◌, ◌-◌, Bool, true, false, not, is_some, List, [], ◌∷◌, length, map, drop, Option, None, Some, IsTrue}
+use Rattle.std.specs.List.{list_all, list_any, range_with_len}
+use Rattle.strat_base.specs.declared.descriptors.Extent.{Extent}
+use Rattle.strat_base.specs.declared.descriptors.LevelDesc.{LevelDesc}
+use Rattle.strat_crash.specs.Image.{Image}
+use Rattle.strat_level.specs.Levels.{level_numbered, leads_if_any}
+use Rattle.strat_level.specs.Memtable.{ItemList}
+use Rattle.strat_level.specs.Target.{IsTarget}
+use Rattle.strat_promote.specs.Closing.{all_extents}
+use Rattle.strat_promote.specs.Job.{Job}
+use Rattle.strat_promote.specs.Stages.{IsSteady, IsUnderway, IsMade, stage_writers, stage_consumed}
+use Rattle.strat_promote.specs.declared.promotion.Progress.{Progress}
+use Rattle.strat_promote.specs.declared.promotion.Progress.TheVariants as progress
+use Rattle.strat_promote.specs.declared.promotion.Promotion.{Promotion}
+use Rattle.strat_promote.specs.declared.stage.Stage.TheVariants as stage
+
+-- how many leads level 0 has, and then levels 1 to 22
+abbrev pub leads_listed : ItemList → List (Option LevelDesc) → List ℕ
+leads_listed zero levels =
+    length zero.items
+    ∷ map (λ n. leads_if_any (level_numbered levels n)) (range_with_len 1 22)
+
+-- no level is deeper than one
+abbrev pub is_deepest : List (Option LevelDesc) → ℕ → Bool
+is_deepest levels target = list_all (λ level. not (is_some level)) (drop target levels)
+
+-- a promotion was begun: it is to fill the first level with room, and has read nothing
+pub record IsBegun (zero : ItemList) (levels : List (Option LevelDesc)) (mem horizon first : ℕ)
+    (p : Promotion) : Type 0 where
+  pub target : IsTarget (leads_listed zero levels) mem p.task.target
+  pub fits : p.task.target ≤ 22
+  pub horizon : p.task.horizon ≡ horizon
+  pub first : p.task.first ≡ first
+  pub purges : p.task.purges ≡ is_deepest levels p.task.target
+  pub stage : p.stage ≡ stage.Begun
+  pub open : p.is_done ≡ false
+
+-- it is neither spent nor done
+pub record IsOpen (p : Promotion) : Type 0 where
+  pub open : p.is_done ≡ false
+  pub steady : IsSteady p.task.horizon p.stage
+
+-- the blocks that it has taken
+abbrev pub extents_taken : Promotion → List Extent
+extents_taken p = all_extents (stage_writers p.stage)
+
+-- how many entries of level 0 and of the arrays it has taken, in both passes
+abbrev pub entries_taken : Promotion → ℕ
+entries_taken p = stage_consumed p.stage
+
+-- it has the same to do
+pub record SamePromotion (old new : Promotion) : Type 0 where
+  pub task : new.task ≡ old.task
+
+-- after a slice there is more to do, or the level is made
+abbrev pub IsSliced : Image → Image → Job → Promotion → Progress → Type 0
+IsSliced f g job p progress.More = IsUnderway g job p.task.first p.stage
+IsSliced f g job p progress.Done =
+    (p.is_done ≡ true) × IsMade f g job p.task.target p.task.first p.level
