@@ -33,10 +33,9 @@ use Rattle.strat_promote.specs.Filled.{IsFilling}
 use Rattle.strat_promote.specs.Job.{Job, runs_in, groups_kept, arrays_to, part_content}
 use Rattle.strat_promote.specs.Leads.{leads_in}
 use Rattle.strat_promote.specs.Stages.{IsArrayMade, IsLevelMade, IsPlanMade, IsMade}
-use Rattle.strat_promote.specs.Steps.{IsReadySource, IsTaskIn}
+use Rattle.strat_promote.specs.Steps.{Inputs, IsReadySource, IsTaskIn}
 use Rattle.strat_promote.specs.Written.{IsAllWritten, HasContent}
 use Rattle.strat_promote.specs.declared.passing.Writing.{Writing}
-use Rattle.strat_promote.specs.declared.step.Sources.{Sources}
 use Rattle.strat_promote.specs.declared.step.Task.{Task}
 
 contains_from : {X : Type 0} (xs : List X) (x : X) → Among x xs → Contains xs x
@@ -84,23 +83,25 @@ merged_from runs groups merges e among =
     let union = (merged runs groups merges).0 in
     found_among (grouped_entries groups) (grouped_entries runs) union.first (ascending_single (grouped_entries groups) union.ascending) e among
 
-module _ (f : Image) (task : Task) (sources : Sources) (job : Job) (ready : IsReadySource task sources) (told : IsTaskIn f task sources job) where
+module _ (f : Image) (task : Task) (inputs : Inputs) (job : Job) (ready : IsReadySource task inputs) (told : IsTaskIn f task inputs job) where
   -- the versions of what a job merges are below its horizon
+  zero_low : (e : Entry) → Among e job.zero → e.version < task.horizon
+  zero_low e among =
+      ltb-true e.version task.horizon
+      (all_at (λ (d : Entry). ltb d.version task.horizon) e (entries_held inputs.pool inputs.zero) ready.low (subst (λ (es : List Entry). Among e es) told.over.zero_is among))
+
+  lead_low : (e : Entry) → Among e (grouped_entries (map (leads_in f) job.arrays)) → e.version < task.horizon
+  lead_low e among =
+      let run = among_flat (λ (r : List Entry). r) (map (leads_in f) job.arrays) e among in
+      let array = among_map (leads_in f) job.arrays run.0 run.1 in
+      let a = array.0 in
+      let passes = filter_among (λ (d : Entry). is_tagged a.versions d.version) _ e (subst (λ (es : List Entry). Among e es) array.2 run.2) in
+      let one : Among a (arrays_to inputs.levels task.target) = subst (λ (xs : List ArrayDesc). Among a xs) told.over.arrays_are array.1 in
+      ready.arrays.low a e.version (contains_from _ a one) passes.1
+
   input_low : (e : Entry) → Among e (grouped_entries (runs_in f job)) → e.version < task.horizon
   input_low e among =
-      elim (among_split job.zero (grouped_entries (map (leads_in f) job.arrays)) e among) [
-        | inl zero ↦
-            ltb-true e.version task.horizon
-            (all_at (λ (d : Entry). ltb d.version task.horizon) e (entries_held sources.pool.now sources.zero.now) ready.low
-            (subst (λ (es : List Entry). Among e es) told.over.zero_is zero))
-        | inr lead ↦
-            let run = among_flat (λ (r : List Entry). r) (map (leads_in f) job.arrays) e lead in
-            let array = among_map (leads_in f) job.arrays run.0 run.1 in
-            let a = array.0 in
-            let passes = filter_among (λ (d : Entry). is_tagged a.versions d.version) _ e (subst (λ (es : List Entry). Among e es) array.2 run.2) in
-            let there : Among a (arrays_to sources.levels.now task.target) = subst (λ (xs : List ArrayDesc). Among a xs) told.over.arrays_are array.1 in
-            ready.arrays.low a e.version (contains_from _ a there) passes.1
-      ]
+      elim (among_split job.zero (grouped_entries (map (leads_in f) job.arrays)) e among) [ inl here ↦ zero_low e here | inr there ↦ lead_low e there ]
 
 -- arrays that are sealed stand as their descriptors say
 module _ (g : Image) (job : Job) (first : ℕ) (groups : List (List Entry)) (plan : Plan) where
@@ -150,11 +151,11 @@ module _ {R : Type 0} (view : R → RunView) (f g : Image) (disk now : DiskView)
   }
 
   -- the level of a task is made
-  pub level_made : (task : Task) (sources : Sources) (made : Option LevelDesc) → IsReadySource task sources → IsTaskIn f task sources job → IsFilling task.horizon w.filling
+  pub level_made : (task : Task) (inputs : Inputs) (made : Option LevelDesc) → IsReadySource task inputs → IsTaskIn f task inputs job → IsFilling task.horizon w.filling
       → IsDescribed (plan_seen w.filling.plan) task.target new made → IsMade f g job task.target first made
-  level_made task sources made ready is filling described =
+  level_made task inputs made ready is filling described =
       let horizon : horizon_of (plan_seen w.filling.plan) ≡ task.horizon = filling.labels in
-      let low = kept_low job.parents job.purges task.horizon written.all (λ e among. input_low f task sources job ready is e (merged_from (runs_in f job) written.all written.merged e among)) in
+      let low = kept_low job.parents job.purges task.horizon written.all (λ e among. input_low f task inputs job ready is e (merged_from (runs_in f job) written.all written.merged e among)) in
       record {
         groups = written.all;
         plan = plan_seen w.filling.plan;
