@@ -17,7 +17,7 @@ use Rattle.strat_crash.specs.Moments.{DiskView, Exposes}
 use Rattle.strat_format.specs.Arrays.{blocks_of, entries_on}
 use Rattle.strat_level.specs.Memtable.{entries_held}
 use Rattle.strat_merge.specs.Runs.{RunView}
-use Rattle.strat_plan.specs.Groups.{grouped_entries, group_versions, AreGroups, SplitsGroups, array_of_groups}
+use Rattle.strat_plan.specs.Groups.{grouped_entries, AreGroups, array_of_groups}
 use Rattle.strat_plan.specs.Plan.{horizon_of}
 use Rattle.strat_promotion.specs.Merging.{Merges}
 use Rattle.strat_promotion.specs.Purge.{is_needed, purged}
@@ -26,15 +26,14 @@ use Rattle.strat_promotion.proofs.PromotedLemmas.{over_are}
 use Rattle.strat_promotion.proofs.UnionLemmas.{found_among}
 use Rattle.strat_split.specs.PlanSeen.{part_seen, plan_seen}
 use Rattle.strat_split.specs.declared.parts.Plan.{Plan}
-use Rattle.strat_state.specs.Counted.{own_at, keys_at}
 use Rattle.strat_state.proofs.LevelLemmas.{ascending_single}
 use Rattle.strat_promote.specs.Closing.{AreSealed, IsDescriptor, IsDescribed}
 use Rattle.strat_promote.specs.Filled.{IsFilling}
 use Rattle.strat_promote.specs.Job.{Job, runs_in, groups_kept, arrays_to, part_content}
 use Rattle.strat_promote.specs.Leads.{leads_in}
-use Rattle.strat_promote.specs.Stages.{IsArrayMade, IsLevelMade, IsPlanMade, IsMade}
+use Rattle.strat_promote.specs.Stages.{IsArrayMade, IsPlanMade, IsMade}
 use Rattle.strat_promote.specs.Steps.{Inputs, IsReadySource, IsTaskIn}
-use Rattle.strat_promote.specs.Written.{IsAllWritten, HasContent}
+use Rattle.strat_promote.specs.Written.{IsAllWritten}
 use Rattle.strat_promote.specs.declared.passing.Writing.{Writing}
 use Rattle.strat_promote.specs.declared.step.Task.{Task}
 
