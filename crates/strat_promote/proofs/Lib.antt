@@ -14,3 +14,4 @@ pub mod PlanningLemmas
 pub mod FilledLemmas
 pub mod WrittenLemmas
 pub mod SliceLemmas
+pub mod MadeLemmas
