@@ -15,3 +15,4 @@ pub mod FilledLemmas
 pub mod WrittenLemmas
 pub mod SliceLemmas
 pub mod MadeLemmas
+pub mod StartLemmas
