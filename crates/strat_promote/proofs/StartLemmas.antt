@@ -22,6 +22,7 @@ use Rattle.strat_promote.specs.Job.{Job, runs_in, input_count, blocks_listed, gr
 use Rattle.strat_promote.specs.Leads.{leads_in}
 use Rattle.strat_promote.specs.Passes.{IsJobOver}
 use Rattle.strat_promote.specs.Planning.{AreNew}
+use Rattle.strat_promote.specs.Turning.{AreAllNew}
 
 -- what is kept of no groups is none
 pub nothing_kept : (job : Job) → groups_kept job [] ≡ []
@@ -61,6 +62,10 @@ new_ready first writers key new = record {
   ascending = λ q w there. ap (λ (x : ArrayProgress). is_ascending x.pending) (new.each q w there);
   before = λ q w there. ap (λ (x : ArrayProgress). list_all (λ (e : Entry). is_lt (key_cmp e.key key)) x.pending) (new.each q w there);
 }
+
+-- they have no block
+pub new_empty : (first : ℕ) (writers : List ArrayProgress) → AreNew first writers → AreAllNew writers
+new_empty first writers new = record { each = λ q w there. ap (λ (x : ArrayProgress). x.extents) (new.each q w there) }
 
 -- nothing was pushed into them
 new_pushed : (f : Image) (w : ArrayProgress) (id : ℕ) → w ≡ record { id = id; count = 0; pending = []; extents = [] } → IsPushed f w []
