@@ -1,12 +1,11 @@
 -- How a pass is begun.
-use Rattle.std.proofs.Common.{◌≡◌, ◌+◌, ℕ, zero, suc, Bool, true, false, List, [], ◌∷◌, length, map, flat_map, Some, cond, refl, sym, ap, ◌∙◌, subst, arith}
+use Rattle.std.proofs.Common.{◌≡◌, ◌+◌, ℕ, Bool, true, false, List, [], ◌∷◌, length, map, Some, cond, refl, sym, ap, ◌∙◌, subst, arith}
 use Rattle.std.specs.List.{list_all, slice_get, Contains}
 use Rattle.std.specs.Ordering.{is_lt}
 use Rattle.strat_array.specs.Progress.{ArrayProgress}
 use Rattle.strat_array.specs.Pushed.{IsPushed}
 use Rattle.strat_base.specs.Entries.{Entry, is_ascending}
 use Rattle.strat_base.specs.Order.{key_cmp}
-use Rattle.strat_base.specs.Tree.{Parents}
 use Rattle.strat_base.specs.declared.descriptors.ArrayDesc.{ArrayDesc}
 use Rattle.strat_crash.specs.Image.{Image}
 use Rattle.strat_format.specs.Arrays.{blocks_of, entries_on}
