@@ -1,22 +1,31 @@
 -- Steps of a promotion, one after the other.
-use Rattle.std.proofs.Common.{◌≡◌, ◌≤◌, ◌+◌, ◌^◌, ℕ, List, Option, length, refl, sym, ap, ◌∙◌, subst, arith}
+use Rattle.std.proofs.Common.{◌≡◌, ◌≤◌, ◌+◌, ◌++◌, ◌^◌, ℕ, suc, List, [], ◌∷◌, Option, None, Some, unwrap_or, length, refl, sym, ap, ◌∙◌, subst, arith}
 use Rattle.strat_base.specs.Entries.{Entry}
 use Rattle.strat_base.specs.declared.descriptors.LevelDesc.{LevelDesc}
 use Rattle.strat_crash.specs.Blocks.{AgreeOn, TearsBlocks}
 use Rattle.strat_crash.proofs.BlockLemmas.{blocks_refl, exposed_once}
 use Rattle.strat_crash.specs.Image.{Image}
 use Rattle.strat_crash.specs.Moments.{DiskView, Exposes}
+use Rattle.std.specs.List.{Contains}
+use Rattle.strat_base.specs.declared.descriptors.Extent.{Extent}
+use Rattle.strat_array.specs.Progress.{ArrayProgress}
 use Rattle.strat_array.specs.Taking.{AreUsed}
+use Rattle.strat_format.specs.Arrays.{blocks_of}
 use Rattle.strat_array.proofs.TakesLemmas.{used_agree}
 use Rattle.strat_extent.specs.Blocks.{SpaceView, is_free}
 use Rattle.strat_plan.specs.Groups.{grouped_entries}
 use Rattle.strat_promotion.specs.Merging.{Merges}
 use Rattle.strat_promote.specs.Closing.{AreAllUsed, all_extents}
-use Rattle.strat_promote.specs.Job.{Job, IsBadInput, runs_in, arrays_to, blocks_listed}
+use Rattle.strat_promote.specs.Job.{Job, IsBadInput, runs_in, input_count, arrays_to, blocks_listed}
 use Rattle.strat_promote.specs.Spaces.{TakesMore}
 use Rattle.strat_promote.specs.Stages.{IsSteady, IsUnderway, IsMade, stage_writers, blocks_due}
 use Rattle.strat_promote.specs.Steps.{Inputs, IsTaskIn, StepsOn}
+use Rattle.strat_promote.specs.Turning.{stage_after, AreAllNew, WritesOn}
+use Rattle.strat_promote.specs.declared.counting.Counting.{Counting}
+use Rattle.strat_promote.specs.declared.input.Input.{Input}
+use Rattle.strat_promote.specs.declared.passing.Writing.{Writing}
 use Rattle.strat_promote.specs.declared.stage.Stage.{Stage}
+use Rattle.strat_promote.specs.declared.stage.Stage.TheVariants as stage
 use Rattle.strat_promote.specs.declared.step.Step.{Step}
 use Rattle.strat_promote.specs.declared.step.Step.TheVariants as step
 use Rattle.strat_promote.specs.declared.step.Task.{Task}
@@ -133,3 +142,41 @@ module _ (task : Task) (inputs : Inputs) (start mid now : DiskView) (s t u : Spa
         goes = slice_goes step.More does;
         due = omega (arith, before, due);
       }
+
+-- arrays that are begun have no blocks
+pub new_used : (s : SpaceView) (writers : List ArrayProgress) → AreAllNew writers → AreAllUsed s writers
+new_used s writers new = λ q w there b here.
+    let none : Contains (blocks_of []) b = subst (λ (xs : List Extent). Contains (blocks_of xs) b) (new.each q w there) here in
+    absurd (none_contained b none)
+  where
+    none_contained : (b : ℕ) → Contains [] b → ⊥
+    none_contained b (k, lt, e) = absurd (omega (arith, lt))
+
+pub new_extents : (writers : List ArrayProgress) → AreAllNew writers → all_extents writers ≡ []
+new_extents [] new = refl
+new_extents (w ∷ writers) new =
+    let rest : AreAllNew writers = record { each = λ q x there. new.each (suc q) x there } in
+    ap (λ (xs : List Extent). xs ++ all_extents writers) (new.each 0 w refl) ∙ new_extents writers rest
+
+-- a stage after a count has new arrays alone
+pub turned_used : (s : SpaceView) (counting : Counting Input) (next : Option Stage) (was is : Stage) → was ≡ stage.Counting counting → is ≡ unwrap_or next was → AreAllNew (stage_writers (stage_after counting next)) → AreAllUsed s (stage_writers is)
+turned_used s counting None was is before turned new = new_used s (stage_writers is) (subst (λ (x : Stage). AreAllNew (stage_writers x)) (sym (turned ∙ before)) new)
+turned_used s counting (Some next) was is before turned new = new_used s (stage_writers is) (subst (λ (x : Stage). AreAllNew (stage_writers x)) (sym turned) new)
+
+pub turned_is : (counting : Counting Input) (next : Option Stage) (was is : Stage) → was ≡ stage.Counting counting → is ≡ unwrap_or next was → is ≡ stage_after counting next
+turned_is counting None was is before turned = turned ∙ before
+turned_is counting (Some next) was is before turned = turned
+
+pub turned_takes : (s : SpaceView) (counting : Counting Input) (next : Option Stage) (old was is : Stage) → stage_writers old ≡ [] → is ≡ stage_after counting next → AreAllNew (stage_writers (stage_after counting next))
+    → TakesMore s s (all_extents (stage_writers old)) (all_extents (stage_writers is))
+turned_takes s counting next old was is none turned new =
+    let before : all_extents (stage_writers old) ≡ [] = ap all_extents none in
+    let after : all_extents (stage_writers is) ≡ [] = ap (λ (x : Stage). all_extents (stage_writers x)) turned ∙ new_extents (stage_writers (stage_after counting next)) new in
+    subst (λ (xs : List Extent). TakesMore s s xs (all_extents (stage_writers is))) (sym before) (subst (λ (ys : List Extent). TakesMore s s [] ys) (sym after) (takes_refl s []))
+
+-- what a step of the second pass does, said of the stage
+pub writes_on : (f g : Image) (task : Task) (job : Job) (w : Writing Input) (before : ℕ) (r : Step) → AgreeOn (blocks_listed job.arrays) f g → before ≡ input_count f job → WritesOn f g task job w r
+    → StepsOn f g task job (stage.Writing w before) r
+writes_on f g task job w before step.More agree is writing =
+    (writing, is ∙ sym (ap (λ (rs : List (List Entry)). length (grouped_entries rs)) (inputs_same f g job agree)))
+writes_on f g task job w before (step.Made level) agree is made = made

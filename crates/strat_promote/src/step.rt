@@ -1,7 +1,7 @@
 //! One step of a promotion.
 
 ghost use Rattle.std.specs.List.{list_all};
-ghost use Rattle.std.specs.Prelude.{◌≡◌, ◌<◌, ◌≤◌, ◌+◌, ◌*◌, ◌^◌, ℕ, List, [], length, nat_lt, IfOk, OnOk, IsErrOf, IsTrue, MatchResult};
+ghost use Rattle.std.specs.Prelude.{◌≡◌, ◌<◌, ◌≤◌, ◌+◌, ◌*◌, ◌^◌, ℕ, List, [], length, nat_lt, unwrap_or, IfOk, OnOk, IsErrOf, IsTrue, MatchResult};
 ghost use Rattle.strat_array.specs.Taking.{AreUsed};
 ghost use Rattle.strat_base.specs.declared.failures.Trouble.TheVariants.{Damaged, Device};
 ghost use Rattle.strat_crash.specs.Blocks.{TearsBlocks};
@@ -236,6 +236,15 @@ fn write<D: Disk>(
     Ok(Step::Made(made))
 }
 
+/// Begins the next stage, if there is one.
+fn turn(stage: &mut Stage, next: Option<Stage>)
+    ensures ok { stage.new ≡ unwrap_or next stage.old }
+{
+    if let Some(next) = next {
+        *stage = next;
+    }
+}
+
 /// One step: the runs of a pass are opened, or a group is taken, or the level is closed.
 pub(crate) fn take_step<D: Disk>(
     task: &Task,
@@ -272,9 +281,8 @@ pub(crate) fn take_step<D: Disk>(
             Ok(Step::More)
         }
         Stage::Counting(counting) => {
-            if let Some(next) = count(task, counting, desk, sources, disk)? {
-                *stage = next;
-            }
+            let next = count(task, counting, desk, sources, disk)?;
+            turn(stage, next);
             Ok(Step::More)
         }
         Stage::Writing(writing, _) => write(task, writing, desk, sources, space, disk),
