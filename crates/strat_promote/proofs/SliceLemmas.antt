@@ -1,5 +1,5 @@
 -- Steps of a promotion, one after the other.
-use Rattle.std.proofs.Common.{◌≡◌, ◌≤◌, ◌+◌, ◌++◌, ◌^◌, ℕ, suc, List, [], ◌∷◌, Option, None, Some, unwrap_or, length, refl, sym, ap, ◌∙◌, subst, arith}
+use Rattle.std.proofs.Common.{◌≡◌, ◌≤◌, ◌+◌, ◌++◌, ◌^◌, ℕ, suc, List, [], ◌∷◌, Option, None, Some, unwrap_or, Result, Ok, Err, IfOk, length, refl, sym, ap, ◌∙◌, subst, arith}
 use Rattle.strat_base.specs.Entries.{Entry}
 use Rattle.strat_base.specs.declared.descriptors.LevelDesc.{LevelDesc}
 use Rattle.strat_crash.specs.Blocks.{AgreeOn, TearsBlocks}
@@ -180,3 +180,8 @@ pub writes_on : (f g : Image) (task : Task) (job : Job) (w : Writing Input) (bef
 writes_on f g task job w before step.More agree is writing =
     (writing, is ∙ sym (ap (λ (rs : List (List Entry)). length (grouped_entries rs)) (inputs_same f g job agree)))
 writes_on f g task job w before (step.Made level) agree is made = made
+
+-- what holds of a result that is Ok, where it gives something else
+pub if_ok : {T E : Type 0} {P Q : T → Type 0} (r : Result T E) → IfOk r P → ((x : T) → P x → Q x) → IfOk r Q
+if_ok (Ok x) p more = more x p
+if_ok (Err e) p more = tt

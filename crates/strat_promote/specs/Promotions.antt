@@ -34,11 +34,11 @@ pub record IsBegun (zero : ItemList) (levels : List (Option LevelDesc)) (mem hor
   pub first : p.task.first ≡ first
   pub purges : p.task.purges ≡ is_deepest levels p.task.target
   pub stage : p.stage ≡ stage.Begun
-  pub open : p.is_done ≡ false
+  pub unfinished : p.is_done ≡ false
 
 -- it is neither spent nor done
 pub record IsOpen (p : Promotion) : Type 0 where
-  pub open : p.is_done ≡ false
+  pub unfinished : p.is_done ≡ false
   pub steady : IsSteady p.task.horizon p.stage
 
 -- the blocks that it has taken
