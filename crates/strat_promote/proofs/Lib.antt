@@ -12,3 +12,4 @@ pub mod PushingLemmas
 pub mod OpeningLemmas
 pub mod PlanningLemmas
 pub mod MadeLemmas
+pub mod ReplacingLemmas
