@@ -11,5 +11,9 @@ pub mod SpacesLemmas
 pub mod PushingLemmas
 pub mod OpeningLemmas
 pub mod PlanningLemmas
+pub mod FilledLemmas
+pub mod WrittenLemmas
+pub mod SliceLemmas
 pub mod MadeLemmas
 pub mod ReplacingLemmas
+pub mod StartLemmas

@@ -17,6 +17,7 @@ mod passing;
 mod planning;
 pub mod promotion;
 mod pushing;
+mod slicing;
 mod stage;
 mod step;
 mod tag;
