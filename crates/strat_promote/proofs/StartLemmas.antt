@@ -1,12 +1,11 @@
 -- How a pass is begun.
-use Rattle.std.proofs.Common.{◌≡◌, ◌+◌, ℕ, zero, suc, Bool, true, false, List, [], ◌∷◌, length, map, flat_map, Some, cond, refl, sym, ap, ◌∙◌, subst, arith}
+use Rattle.std.proofs.Common.{◌≡◌, ◌+◌, ℕ, Bool, true, false, List, [], ◌∷◌, length, map, Some, cond, refl, sym, ap, ◌∙◌, subst, arith}
 use Rattle.std.specs.List.{list_all, slice_get, Contains}
 use Rattle.std.specs.Ordering.{is_lt}
 use Rattle.strat_array.specs.Progress.{ArrayProgress}
 use Rattle.strat_array.specs.Pushed.{IsPushed}
 use Rattle.strat_base.specs.Entries.{Entry, is_ascending}
 use Rattle.strat_base.specs.Order.{key_cmp}
-use Rattle.strat_base.specs.Tree.{Parents}
 use Rattle.strat_base.specs.declared.descriptors.ArrayDesc.{ArrayDesc}
 use Rattle.strat_crash.specs.Image.{Image}
 use Rattle.strat_format.specs.Arrays.{blocks_of, entries_on}
@@ -22,6 +21,7 @@ use Rattle.strat_promote.specs.Job.{Job, runs_in, input_count, blocks_listed, gr
 use Rattle.strat_promote.specs.Leads.{leads_in}
 use Rattle.strat_promote.specs.Passes.{IsJobOver}
 use Rattle.strat_promote.specs.Planning.{AreNew}
+use Rattle.strat_promote.specs.Turning.{AreAllNew}
 
 -- what is kept of no groups is none
 pub nothing_kept : (job : Job) → groups_kept job [] ≡ []
@@ -61,6 +61,10 @@ new_ready first writers key new = record {
   ascending = λ q w there. ap (λ (x : ArrayProgress). is_ascending x.pending) (new.each q w there);
   before = λ q w there. ap (λ (x : ArrayProgress). list_all (λ (e : Entry). is_lt (key_cmp e.key key)) x.pending) (new.each q w there);
 }
+
+-- they have no block
+pub new_empty : (first : ℕ) (writers : List ArrayProgress) → AreNew first writers → AreAllNew writers
+new_empty first writers new = record { each = λ q w there. ap (λ (x : ArrayProgress). x.extents) (new.each q w there) }
 
 -- nothing was pushed into them
 new_pushed : (f : Image) (w : ArrayProgress) (id : ℕ) → w ≡ record { id = id; count = 0; pending = []; extents = [] } → IsPushed f w []
