@@ -15,4 +15,5 @@ pub mod FilledLemmas
 pub mod WrittenLemmas
 pub mod SliceLemmas
 pub mod MadeLemmas
+pub mod ReplacingLemmas
 pub mod StartLemmas

@@ -19,6 +19,7 @@ use Rattle.strat_level.specs.Memtable.{entries_held}
 use Rattle.strat_merge.specs.Runs.{RunView}
 use Rattle.strat_plan.specs.Groups.{grouped_entries, AreGroups, array_of_groups}
 use Rattle.strat_plan.specs.Plan.{horizon_of}
+use Rattle.strat_plan.proofs.ListLemmas.{map_among}
 use Rattle.strat_promotion.specs.Merging.{Merges}
 use Rattle.strat_promotion.specs.Purge.{is_needed, purged}
 use Rattle.strat_promotion.proofs.MergingLemmas.{merged}
@@ -41,11 +42,6 @@ contains_from : {X : Type 0} (xs : List X) (x : X) → Among x xs → Contains x
 contains_from [] x among = absurd among
 contains_from (y ∷ ys) x (inl here) = (0, omega arith, sym here)
 contains_from (y ∷ ys) x (inr there) = Contains-append_right (y ∷ []) ys x (contains_from ys x there)
-
-among_map : {X Y : Type 0} (f : X → Y) (xs : List X) (y : Y) → Among y (map f xs) → (x : X) × Among x xs × (y ≡ f x)
-among_map f [] y among = absurd among
-among_map f (x ∷ xs) y (inl here) = (x, inl refl, here)
-among_map f (x ∷ xs) y (inr there) = let found = among_map f xs y there in (found.0, inr found.1, found.2)
 
 there_at : {X : Type 0} (xs : List X) (i : ℕ) → i < length xs → (x : X) × (slice_get xs i ≡ Some x)
 there_at [] i within = absurd (omega (arith, within))
@@ -92,7 +88,7 @@ module _ (f : Image) (task : Task) (inputs : Inputs) (job : Job) (ready : IsRead
   lead_low : (e : Entry) → Among e (grouped_entries (map (leads_in f) job.arrays)) → e.version < task.horizon
   lead_low e among =
       let run = among_flat (λ (r : List Entry). r) (map (leads_in f) job.arrays) e among in
-      let array = among_map (leads_in f) job.arrays run.0 run.1 in
+      let array = map_among (leads_in f) job.arrays run.0 run.1 in
       let a = array.0 in
       let passes = filter_among (λ (d : Entry). is_tagged a.versions d.version) _ e (subst (λ (es : List Entry). Among e es) array.2 run.2) in
       let one : Among a (arrays_to inputs.levels task.target) = subst (λ (xs : List ArrayDesc). Among a xs) told.over.arrays_are array.1 in

@@ -22,3 +22,4 @@ pub mod Stages
 pub mod Steps
 pub mod Turning
 pub mod Promotions
+pub mod Replacing
