@@ -8,3 +8,4 @@ pub mod SpacesLemmas
 pub mod PushingLemmas
 pub mod OpeningLemmas
 pub mod PlanningLemmas
+pub mod EdgeLemmas
