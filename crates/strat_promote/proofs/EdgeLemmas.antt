@@ -1,15 +1,13 @@
--- How a promotion begins, and what is told and given back at its end.
-use Rattle.std.proofs.Common.{◌≡◌, ℕ, zero, suc, ◌+◌, ◌-◌, ◌*◌, ◌^◌, ◌<◌, ◌≤◌, min, Bool, true, false, not, is_some, List, [], ◌∷◌, ◌++◌, append-nil, get_or, take, drop, length, map, Option, None, Some, refl, sym, ap, ◌∙◌, subst, arith}
-use Rattle.std.specs.List.{list_all, range_with_len, sum, sum_by}
+-- How a promotion begins, and what is given back at its end.
+use Rattle.std.proofs.Common.{◌≡◌, ℕ, zero, suc, ◌+◌, ◌-◌, ◌<◌, ◌≤◌, true, false, not, is_some, List, [], ◌∷◌, ◌++◌, append-nil, get_or, take, drop, length, map, Option, None, Some, refl, sym, ap, ◌∙◌, subst, arith}
+use Rattle.std.specs.List.{list_all, range_with_len}
 use Rattle.std.proofs.lemmas.Grind.{flat_map-append}
 use Rattle.std.proofs.lemmas.List.{length-drop, take-append-drop, take_more, get_or-drop}
 use Rattle.std.proofs.lemmas.List.Folds.{list_all_at}
 use Rattle.std.proofs.lemmas.List.FromFn.{map-range_with_len_more}
-use Rattle.std.proofs.lemmas.List.Sums.{sum_by_more}
 use Rattle.strat_array.specs.Progress.{ArrayProgress}
-use Rattle.strat_base.specs.declared.descriptors.ArrayDesc.{ArrayDesc}
 use Rattle.strat_base.specs.declared.descriptors.LevelDesc.{LevelDesc}
-use Rattle.strat_extent.specs.Blocks.{SpaceView, times_in, total_len, uses}
+use Rattle.strat_extent.specs.Blocks.{SpaceView, times_in, total_len}
 use Rattle.strat_extent.specs.Change.{IsMarked, CanGive}
 use Rattle.strat_extent.proofs.CountLemmas.{times_append, total_append}
 use Rattle.strat_level.specs.Levels.{level_numbered}
@@ -90,7 +88,3 @@ given_writer s t u ws i w lt is before now = record {
     total_append (all_extents (take i ws)) w.extents,
   );
 }
-
--- where there are no extents, nothing was given back
-pub given_none : (s : SpaceView) → IsMarked s [] s
-given_none s = record { first = refl; used = λ b. omega arith; count = omega arith }

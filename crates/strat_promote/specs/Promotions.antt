@@ -59,6 +59,10 @@ IsSliced f g job p progress.More = IsUnderway g job p.task.first p.stage
 IsSliced f g job p progress.Done =
     (p.is_done ≡ true) × IsMade f g job p.task.target p.task.first p.level
 
+-- nothing is left to do
+abbrev pub has_ended : Promotion → Bool
+has_ended p = p.is_done
+
 -- the level that it fills
 abbrev pub target_of : Promotion → ℕ
 target_of p = p.task.target

@@ -47,11 +47,11 @@ pub struct Promotion {
 impl Promotion {
     ghost use Rattle.std.specs.Prelude.{◌-◌, min};
     ghost use Rattle.strat_extent.specs.Change.{IsMarked, CanGive};
-    ghost use Rattle.strat_promote.specs.Promotions.{IsBegun, leads_listed, entries_taken, entries_if_any, extents_taken, target_of, level_of};
+    ghost use Rattle.strat_promote.specs.Promotions.{IsBegun, leads_listed, entries_taken, entries_if_any, extents_taken, has_ended, target_of, level_of};
 
     /// The promotion of level 0 and the levels down to the first with room for all their leads, where level j has room for
     /// `mem * 2^j`. `horizon` is the number of versions that take part, and the arrays are numbered from `next_array` on.
-    /// Nothing is read yet. O(levels); takes room for a group of `horizon` entries.
+    /// Nothing is read yet. The only error is want of memory. O(levels); takes room for a group of `horizon` entries.
     pub fn begin(
         alloc: Global,
         zero: &Zero,
@@ -89,7 +89,8 @@ impl Promotion {
         })
     }
 
-    /// How many entries of level 0 and of the arrays it has taken, in both passes together: what it has paid off. O(1).
+    /// How many entries of level 0 and of the arrays it has taken, in both passes together; past the greatest number it
+    /// stands still. O(1).
     pub fn consumed(&self) -> u64
         ensures ok { result ≡ min (entries_taken self.now) (2 ^ 64 - 1) }
     {
@@ -103,7 +104,7 @@ impl Promotion {
     /// The number of the level that it filled, the level, or `None` where no entry was left, and how many entries its
     /// arrays have. O(arrays).
     pub fn finish(self) -> (usize, Option<LevelDesc>, u64)
-        requires { self.is_done ≡ true }
+        requires { has_ended self ≡ true }
         ensures ok { result.0 ≡ target_of self }
         ensures found { result.1 ≡ level_of self }
         ensures len { result.2 ≡ min (entries_if_any (level_of self)) (2 ^ 64 - 1) }
