@@ -23,7 +23,7 @@ use Rattle.strat_plan.proofs.ListLemmas.{filter_ascending}
 use Rattle.strat_state.proofs.SettingLemmas.{order, order_trans, stands_first, first_of}
 use Rattle.strat_promote.specs.LeadRuns.{BlockReading, entries_from, misfit_from, read_out, ReadsNext, IsPast, PassesOver, begins_with_lead, is_settled, leads_from}
 use Rattle.strat_promote.specs.Leads.{comes_after, last_of, entries_after, misfit_after}
-use Rattle.strat_promote.proofs.LeadLemmas.{is_less, first_before_all, ascends_both, read_ascends, nothing_after, no_misfit, entries_step, misfit_step, last_same, last_among, front_refl, front_trans, entries_same}
+use Rattle.strat_promote.proofs.LeadLemmas.{is_less, first_before_all, ascends_both, read_ascends, nothing_after, no_misfit, entries_step, misfit_step, last_same, last_among, front_refl, front_trans, entries_same, misfit_same}
 
 -- Within one block.
 
@@ -184,6 +184,7 @@ module _ (tag : List ℕ) (n : ℕ) (entries : List Entry) (blocks : List ℕ) (
             (ascends_both None entries (entries_after c (last_of None entries) blocks) parts'.0 (read_ascends c (last_of None entries) blocks));
         begins = λ c. run_begins c entries blocks parts'.1;
         stays = λ c d agree. ap (λ (xs : List Entry). lead_entries tag (entries ++ xs)) (entries_same c d (last_of None entries) blocks agree);
+        fits = λ c d agree. misfit_same c d (last_of None entries) blocks agree;
       }
 
 -- no block is left where no entry is

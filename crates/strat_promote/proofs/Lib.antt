@@ -4,8 +4,16 @@ pub mod LeadRunLemmas
 pub mod TagLemmas
 pub mod TakenLemmas
 pub mod PassLemmas
+pub mod ClosingLemmas
+pub mod TagsLemmas
+pub mod DescribingLemmas
 pub mod SpacesLemmas
 pub mod PushingLemmas
 pub mod OpeningLemmas
 pub mod PlanningLemmas
 pub mod EdgeLemmas
+pub mod FilledLemmas
+pub mod WrittenLemmas
+pub mod SliceLemmas
+pub mod MadeLemmas
+pub mod StartLemmas

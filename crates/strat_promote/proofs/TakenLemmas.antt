@@ -1,5 +1,5 @@
 -- What is kept of a group that a merge gave.
-use Rattle.std.proofs.Common.{◌≡◌, ℕ, Bool, true, ltb, ◌&&◌, List, [], ◌∷◌, map, refl, sym, ap, ◌∙◌}
+use Rattle.std.proofs.Common.{◌≡◌, ℕ, Bool, true, ltb, ◌&&◌, List, [], ◌∷◌, refl, sym, ap, ◌∙◌}
 use Rattle.std.specs.List.{list_all}
 use Rattle.strat_arena.specs.ArenaView.{KeyValue}
 use Rattle.strat_arena.specs.Items.{entry_of_item, entries_of}
@@ -31,6 +31,7 @@ fewer_taken old new pairs items kept key group fewer down =
       lawful = pass fits_fields group.lawful;
       low = λ n under. fewer _ (group.low n under);
       bound = group.bound;
+      begins = group.begins;
       least = group.least;
       behind = group.behind;
     }

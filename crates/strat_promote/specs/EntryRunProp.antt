@@ -21,4 +21,6 @@ entry_run_prop run = λ x y i.
       begins = λ c. Coded-set (coded_option entry_code) _ _ (x.begins c) (y.begins c) i;
       stays = λ c d agree.
           Coded-set (coded_list entry_code) _ _ (x.stays c d agree) (y.stays c d agree) i;
+      fits = λ c d agree.
+          Coded-set (coded_option coded_ℕ) _ _ (x.fits c d agree) (y.fits c d agree) i;
     }

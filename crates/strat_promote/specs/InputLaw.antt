@@ -35,6 +35,7 @@ zero_law r = record {
   ascending = λ c. rest_ascends r.next (copied r) r.ascending;
   begins = λ c. first_left (copied r) r.next;
   stays = λ c d same. refl;
+  fits = λ c d same. refl;
 }
 
 -- a run of a promotion is one

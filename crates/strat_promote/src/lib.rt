@@ -18,6 +18,7 @@ mod passing;
 mod planning;
 pub mod promotion;
 mod pushing;
+mod slicing;
 mod stage;
 mod step;
 mod tag;

@@ -11,6 +11,7 @@ ghost use Rattle.strat_promote.specs.Counted.{IsCounter, IsCounting, IsCounted};
 ghost use Rattle.strat_promote.specs.InputFields.{input_seen};
 ghost use Rattle.strat_promote.specs.Job.{Job, IsJobIn, AreReadable, arrays_to};
 ghost use Rattle.strat_promote.specs.Passes.{OpensInputs, LeavesBlocks, IsJobOver};
+ghost use Rattle.strat_promote.specs.Planning.{AreNew};
 ghost use Rattle.strat_promote.specs.Written.{IsWriterOf, IsWriting};
 
 use crate::counting::Counting;
@@ -82,6 +83,7 @@ pub(crate) fn begin_writing<D: Disk>(
         × (target ≤ 22) × (1 ≤ length counting.old.counts.own)
         × (length counting.old.counts.own ≤ length tree.now.parents) }
     ensures kept { IfOk result (λ w. IsWriterOf input_seen (length counting.old.counts.own) w) }
+    ensures none { IfOk result (λ w. AreNew first w.filling.writers.items) }
     ensures ok { IfOk result (λ w. (f : Image) (job : Job) → Exposes (D.view disk.old) f
         → IsJobOver f (entries_held pool.now zero.now) (arrays_to levels.now target) job
         → IsJobIn tree.now.parents job → job.horizon ≡ length counting.old.counts.own
@@ -92,6 +94,8 @@ pub(crate) fn begin_writing<D: Disk>(
     ensures reads { IfOk result (λ w. LeavesBlocks (arrays_to levels.now target)
         (views_of input_seen w.merger) (D.reads disk.old) (D.reads disk.new)) }
 {
+    // A tree says with its count how many versions there are at most.
+    let _versions = tree.count();
     counting.counts.finish(tree);
     let horizon = counting.counts.own_counts().len() as u32;
     let filling = begin_filling(alloc, &counting.counts, tree, horizon, first)?;

@@ -63,6 +63,13 @@ pub(crate) fn write_group<D: Disk, R: Run<D>>(
     if !take_group::<D, R>(&mut writing.merger, arena, group, tree, purges, disk)? {
         return Ok(false);
     }
-    deal_out(&mut writing.filling, arena, group.items(), tree, space, disk)?;
+    deal_out(
+        &mut writing.filling,
+        arena,
+        group.items(),
+        tree,
+        space,
+        disk,
+    )?;
     Ok(true)
 }
