@@ -11,6 +11,7 @@ pub mod SpacesLemmas
 pub mod PushingLemmas
 pub mod OpeningLemmas
 pub mod PlanningLemmas
+pub mod EdgeLemmas
 pub mod FilledLemmas
 pub mod WrittenLemmas
 pub mod SliceLemmas

@@ -85,7 +85,7 @@ pub array_next : (all : List ArrayDesc) (i : ℕ) (a : ArrayDesc) → i < length
 array_next all i a within is = take_more all i a within ∙ ap (λ (x : ArrayDesc). take i all ++ x ∷ []) (sym is)
 
 -- the arrays of the levels, one level after another
-level_here : (levels : List (Option LevelDesc)) (k : ℕ) → level_numbered levels (k + 1) ≡ get_or levels k None
+pub level_here : (levels : List (Option LevelDesc)) (k : ℕ) → level_numbered levels (k + 1) ≡ get_or levels k None
 level_here levels k =
     let some : leb 1 (k + 1) ≡ true = le-leb 1 (k + 1) (omega arith) in
     let same : (k + 1) - 1 ≡ k = omega arith in

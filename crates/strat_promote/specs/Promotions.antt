@@ -1,6 +1,6 @@
 -- A promotion as its caller sees it.
 use Rattle.std.specs.Prelude.{◌≡◌, ◌<◌, ◌≤◌, ℕ, ◌+◌, ◌-◌, Bool, true, false, not, is_some, List, [], ◌∷◌, length, map, drop, Option, None, Some, IsTrue}
-use Rattle.std.specs.List.{list_all, list_any, range_with_len}
+use Rattle.std.specs.List.{list_all, list_any, range_with_len, sum_by}
 use Rattle.strat_base.specs.declared.descriptors.Extent.{Extent}
 use Rattle.strat_base.specs.declared.descriptors.LevelDesc.{LevelDesc}
 use Rattle.strat_crash.specs.Image.{Image}
@@ -26,19 +26,19 @@ abbrev pub is_deepest : List (Option LevelDesc) → ℕ → Bool
 is_deepest levels target = list_all (λ level. not (is_some level)) (drop target levels)
 
 -- a promotion was begun: it is to fill the first level with room, and has read nothing
-pub record IsBegun (zero : ItemList) (levels : List (Option LevelDesc)) (mem horizon first : ℕ)
+pub record IsBegun (zero : ItemList) (levels : List (Option LevelDesc)) (mem versions id : ℕ)
     (p : Promotion) : Type 0 where
   pub target : IsTarget (leads_listed zero levels) mem p.task.target
   pub fits : p.task.target ≤ 22
-  pub horizon : p.task.horizon ≡ horizon
-  pub first : p.task.first ≡ first
+  pub horizon : p.task.horizon ≡ versions
+  pub first : p.task.first ≡ id
   pub purges : p.task.purges ≡ is_deepest levels p.task.target
   pub stage : p.stage ≡ stage.Begun
-  pub unfinished : p.is_done ≡ false
+  pub more : p.is_done ≡ false
 
 -- it is neither spent nor done
 pub record IsOpen (p : Promotion) : Type 0 where
-  pub unfinished : p.is_done ≡ false
+  pub more : p.is_done ≡ false
   pub steady : IsSteady p.task.horizon p.stage
 
 -- the blocks that it has taken
@@ -58,3 +58,20 @@ abbrev pub IsSliced : Image → Image → Job → Promotion → Progress → Typ
 IsSliced f g job p progress.More = IsUnderway g job p.task.first p.stage
 IsSliced f g job p progress.Done =
     (p.is_done ≡ true) × IsMade f g job p.task.target p.task.first p.level
+
+-- nothing is left to do
+abbrev pub has_ended : Promotion → Bool
+has_ended p = p.is_done
+
+-- the level that it fills
+abbrev pub target_of : Promotion → ℕ
+target_of p = p.task.target
+
+-- the level that it made, once it is done
+abbrev pub level_of : Promotion → Option LevelDesc
+level_of p = p.level
+
+-- how many entries the arrays of a level have, if there is one
+abbrev pub entries_if_any : Option LevelDesc → ℕ
+entries_if_any None = 0
+entries_if_any (Some level) = sum_by (λ a. a.entries) level.arrays

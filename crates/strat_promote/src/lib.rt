@@ -3,6 +3,7 @@
 
 mod closing;
 mod counting;
+mod edges;
 mod input;
 mod input_run;
 mod inputs;

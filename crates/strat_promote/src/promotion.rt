@@ -10,6 +10,7 @@ ghost use Rattle.strat_crash.specs.Image.{Image};
 ghost use Rattle.strat_crash.specs.Moments.{Exposes};
 ghost use Rattle.strat_extent.specs.Blocks.{is_free};
 
+use crate::edges::{count_entries, give_all, is_deepest, leads_of};
 use crate::stage::Stage;
 use crate::step::{Desk, Sources, Step, Task, take_step};
 use std::alloc::Global;
@@ -41,4 +42,88 @@ pub struct Promotion {
     desk: Desk,
     level: Option<LevelDesc>,
     is_done: bool,
+}
+
+impl Promotion {
+    ghost use Rattle.std.specs.Prelude.{◌-◌, min};
+    ghost use Rattle.strat_extent.specs.Change.{IsMarked, CanGive};
+    ghost use Rattle.strat_promote.specs.Promotions.{IsBegun, leads_listed, entries_taken, entries_if_any, extents_taken, has_ended, target_of, level_of};
+
+    /// The promotion of level 0 and the levels down to the first with room for all their leads, where level j has room for
+    /// `mem * 2^j`. `horizon` is the number of versions that take part, and the arrays are numbered from `next_array` on.
+    /// Nothing is read yet. The only error is want of memory. O(levels); takes room for a group of `horizon` entries.
+    pub fn begin(
+        alloc: Global,
+        zero: &Zero,
+        levels: &Levels,
+        tree: &Tree,
+        horizon: u32,
+        mem: u32,
+        next_array: u64,
+    ) -> Result<Promotion, NoMemory>
+        requires fits { sum (leads_listed zero.now.list levels.now) ≤ 2 ^ 24 }
+        requires room { (4 ≤ mem) × (mem ≤ 4096) }
+        ensures ok { IfOk result
+            (λ p. IsBegun zero.now.list levels.now mem horizon next_array p) }
+    {
+        let _versions = tree.count();
+        let leads = leads_of(alloc, zero, levels)?;
+        let target = target(&leads, mem);
+        let task = Task {
+            target: target as u8,
+            horizon,
+            first: next_array,
+            purges: is_deepest(levels, target),
+        };
+        let desk = Desk {
+            alloc,
+            arena: Arena::new(alloc),
+            group: GroupBuf::new(alloc, horizon)?,
+        };
+        Ok(Promotion {
+            task,
+            stage: Stage::Begun,
+            desk,
+            level: None,
+            is_done: false,
+        })
+    }
+
+    /// How many entries of level 0 and of the arrays it has taken, in both passes together; past the greatest number it
+    /// stands still. O(1).
+    pub fn consumed(&self) -> u64
+        ensures ok { result ≡ min (entries_taken self.now) (2 ^ 64 - 1) }
+    {
+        match &self.stage {
+            Stage::Begun => 0,
+            Stage::Counting(counting) => counting.merger.consumed(),
+            Stage::Writing(writing, before) => before.saturating_add(writing.merger.consumed()),
+        }
+    }
+
+    /// The number of the level that it filled, the level, or `None` where no entry was left, and how many entries its
+    /// arrays have. O(arrays).
+    pub fn finish(self) -> (usize, Option<LevelDesc>, u64)
+        requires { has_ended self ≡ true }
+        ensures ok { result.0 ≡ target_of self }
+        ensures found { result.1 ≡ level_of self }
+        ensures len { result.2 ≡ min (entries_if_any (level_of self)) (2 ^ 64 - 1) }
+    {
+        let entries = match &self.level {
+            Some(level) => count_entries(level.arrays.as_slice()),
+            None => 0,
+        };
+        (self.task.target as usize, self.level, entries)
+    }
+
+    /// Gives the blocks back that it has taken: what it wrote is in no level. It takes no memory. O(extents), each with what
+    /// `Space::give` takes.
+    pub fn abandon(self, space: &mut Space)
+        requires found { CanGive space.old (extents_taken self) }
+        ensures ok { IsMarked space.new (extents_taken self) space.old }
+    {
+        if let Stage::Writing(writing, _) = &self.stage {
+            give_all(&writing.filling.writers, space);
+        }
+    }
 }
