@@ -11,6 +11,7 @@ ghost use Rattle.strat_crash.specs.Moments.{Exposes};
 ghost use Rattle.strat_extent.specs.Blocks.{is_free};
 
 use crate::edges::{count_entries, give_all, is_deepest, leads_of};
+use crate::slicing::taken_in;
 use crate::stage::Stage;
 use crate::step::{Desk, Sources, Step, Task, take_step};
 use std::alloc::Global;
@@ -94,11 +95,7 @@ impl Promotion {
     pub fn consumed(&self) -> u64
         ensures ok { result ≡ min (entries_taken self.now) (2 ^ 64 - 1) }
     {
-        match &self.stage {
-            Stage::Begun => 0,
-            Stage::Counting(counting) => counting.merger.consumed(),
-            Stage::Writing(writing, before) => before.saturating_add(writing.merger.consumed()),
-        }
+        taken_in(&self.stage)
     }
 
     /// The number of the level that it filled, the level, or `None` where no entry was left, and how many entries its

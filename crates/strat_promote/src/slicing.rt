@@ -66,14 +66,13 @@ pub(crate) fn take_steps<D: Disk>(
     requires fits { IsReadySource task.now (inputs_of sources.now) }
     requires found { AreAllUsed space.old (stage_writers stage.old) }
     requires room { 1 ≤ budget }
-    ensures kept { IfOk result (λ step. IsMoreOr step (IsSteady task.now.horizon stage.new)) }
+    ensures kept { IfOk result (λ step. IsMoreOr step (IsSteady task.now.horizon stage.new
+        × (stage_consumed stage.old + budget ≤ stage_consumed stage.new))) }
     ensures ok { IfOk result (λ step. (f g : Image) (job : Job) → Exposes (D.view disk.old) f
         → Exposes (D.view disk.new) g → IsTaskIn f task.now (inputs_of sources.now) job
         → AreUsed space.old (blocks_listed job.arrays)
         → IsUnderway f job task.now.first stage.old
         → StepsOn f g task.now job stage.new step) }
-    ensures end { IfOk result (λ step. IsMoreOr step
-        (stage_consumed stage.old + budget ≤ stage_consumed stage.new)) }
     ensures found { AreAllUsed space.new (stage_writers stage.new) }
     ensures room { TakesMore space.old space.new (all_extents (stage_writers stage.old))
         (all_extents (stage_writers stage.new)) }
