@@ -50,9 +50,10 @@ impl Promotion {
     ghost use Rattle.strat_extent.specs.Change.{IsMarked, CanGive};
     ghost use Rattle.strat_promote.specs.Promotions.{IsBegun, leads_listed, entries_taken, entries_if_any, extents_taken, has_ended, target_of, level_of};
 
-    /// The promotion of level 0 and the levels down to the first with room for all their leads, where level j has room for
-    /// `mem * 2^j`. `horizon` is the number of versions that take part, and the arrays are numbered from `next_array` on.
-    /// Nothing is read yet. The only error is want of memory. O(levels); takes room for a group of `horizon` entries.
+    /// The promotion of level 0 and the levels down to the first with room for all their leads, where level j has
+    /// room for `mem * 2^j`. `horizon` is the number of versions that take part, and the arrays are numbered from
+    /// `next_array` on. Nothing is read yet. The only error is want of memory. O(levels); takes room for a group of
+    /// `horizon` entries.
     pub fn begin(
         alloc: Global,
         zero: &Zero,
@@ -113,8 +114,8 @@ impl Promotion {
         (self.task.target as usize, self.level, entries)
     }
 
-    /// Gives the blocks back that it has taken: what it wrote is in no level. It takes no memory. O(extents), each with what
-    /// `Space::give` takes.
+    /// Gives the blocks back that it has taken: what it wrote is in no level. It takes no memory. O(extents), each
+    /// with what `Space::give` takes.
     pub fn abandon(self, space: &mut Space)
         requires found { CanGive space.old (extents_taken self) }
         ensures ok { IsMarked space.new (extents_taken self) space.old }
