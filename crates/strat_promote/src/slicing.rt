@@ -52,6 +52,15 @@ fn has_left<D: Disk>(stage: &Stage) -> bool {
     }
 }
 
+/// Whether at least as many entries as a budget were taken since a count, and one is left.
+fn may_pause<D: Disk>(start: u64, budget: u64, stage: &Stage) -> bool
+    requires { 1 ≤ budget }
+    ensures ok { result ≡ true → (n : ℕ) → start ≡ min n (2 ^ 64 - 1)
+        → n + budget ≤ stage_consumed stage.now }
+{
+    is_used_up(start, budget, stage) && has_left::<D>(stage)
+}
+
 /// Takes steps until at least as many entries as the budget were taken and one is left, or until the level is made.
 pub(crate) fn take_steps<D: Disk>(
     task: &Task,
@@ -89,11 +98,13 @@ pub(crate) fn take_steps<D: Disk>(
 {
     let start = taken_in(stage);
     for _ in 0..STEPS_MAX {
-        if let Step::Made(level) = take_step(task, stage, desk, sources, space, disk)? {
-            return Ok(Step::Made(level));
-        }
-        if is_used_up(start, budget, stage) && has_left::<D>(stage) {
-            return Ok(Step::More);
+        match take_step(task, stage, desk, sources, space, disk)? {
+            Step::Made(level) => return Ok(Step::Made(level)),
+            Step::More => {
+                if may_pause::<D>(start, budget, stage) {
+                    return Ok(Step::More);
+                }
+            }
         }
     }
     Err(Trouble::NoMemory)
