@@ -1,6 +1,10 @@
 -- A promotion as its caller sees it.
 use Rattle.std.specs.Prelude.{◌≡◌, ◌<◌, ◌≤◌, ℕ, ◌+◌, ◌-◌, Bool, true, false, not, is_some, List, [], ◌∷◌, length, map, drop, Option, None, Some, IsTrue}
 use Rattle.std.specs.List.{list_all, list_any, range_with_len, sum_by}
+use Rattle.strat_arena.specs.declared.pool.PoolEntry.{PoolEntry}
+use Rattle.strat_array.specs.Progress.{ArrayProgress}
+use Rattle.strat_base.specs.Tree.{Parents}
+use Rattle.strat_base.specs.declared.descriptors.ArrayDesc.{ArrayDesc}
 use Rattle.strat_base.specs.declared.descriptors.Extent.{Extent}
 use Rattle.strat_base.specs.declared.descriptors.LevelDesc.{LevelDesc}
 use Rattle.strat_crash.specs.Image.{Image}
@@ -9,7 +13,8 @@ use Rattle.strat_level.specs.Memtable.{ItemList}
 use Rattle.strat_level.specs.Target.{IsTarget}
 use Rattle.strat_promote.specs.Closing.{all_extents}
 use Rattle.strat_promote.specs.Job.{Job}
-use Rattle.strat_promote.specs.Stages.{IsSteady, IsUnderway, IsMade, stage_writers, stage_consumed}
+use Rattle.strat_promote.specs.Stages.{IsSteady, IsUnderway, IsMade, stage_writers, stage_consumed, blocks_due}
+use Rattle.strat_promote.specs.Steps.{Inputs, IsReadySource, IsTaskIn}
 use Rattle.strat_promote.specs.declared.promotion.Progress.{Progress}
 use Rattle.strat_promote.specs.declared.promotion.Progress.TheVariants as progress
 use Rattle.strat_promote.specs.declared.promotion.Promotion.{Promotion}
@@ -49,15 +54,34 @@ extents_taken p = all_extents (stage_writers p.stage)
 abbrev pub entries_taken : Promotion → ℕ
 entries_taken p = stage_consumed p.stage
 
+-- the arrays that it is writing
+abbrev pub writers_of : Promotion → List ArrayProgress
+writers_of p = stage_writers p.stage
+
+-- what is given to it: level 0 and its pool, the levels, and the parents of versions
+abbrev pub inputs_given : ItemList → List PoolEntry → List (Option LevelDesc) → Parents → Inputs
+inputs_given zero pool levels parents =
+    record { zero = zero; pool = pool; levels = levels; parents = parents }
+
+-- these are there, and reach no further than its horizon
+abbrev pub IsFed : Promotion → Inputs → Type 0
+IsFed p inputs = IsReadySource p.task inputs
+
+-- a job is what it is to do with them
+abbrev pub IsItsJob : Image → Promotion → Inputs → Job → Type 0
+IsItsJob f p inputs job = IsTaskIn f p.task inputs job
+
+-- it has done a part of a job
+abbrev pub HasBegun : Image → Job → Promotion → Type 0
+HasBegun f job p = IsUnderway f job p.task.first p.stage
+
+-- how many blocks of arrays it has still to read, in both passes
+abbrev pub blocks_to_read : List ArrayDesc → Promotion → ℕ
+blocks_to_read arrays p = blocks_due arrays p.stage
+
 -- it has the same to do
 pub record SamePromotion (old new : Promotion) : Type 0 where
   pub task : new.task ≡ old.task
-
--- after a slice there is more to do, or the level is made
-abbrev pub IsSliced : Image → Image → Job → Promotion → Progress → Type 0
-IsSliced f g job p progress.More = IsUnderway g job p.task.first p.stage
-IsSliced f g job p progress.Done =
-    (p.is_done ≡ true) × IsMade f g job p.task.target p.task.first p.level
 
 -- nothing is left to do
 abbrev pub has_ended : Promotion → Bool
@@ -70,6 +94,17 @@ target_of p = p.task.target
 -- the level that it made, once it is done
 abbrev pub level_of : Promotion → Option LevelDesc
 level_of p = p.level
+
+-- something holds, where there is more to do
+abbrev pub IfMore : Progress → Type 0 → Type 0
+IfMore progress.More P = P
+IfMore progress.Done P = Unit {0}
+
+-- after a slice there is more to do, or the level is made
+abbrev pub IsSliced : Image → Image → Job → Promotion → Progress → Type 0
+IsSliced f g job p progress.More = HasBegun g job p
+IsSliced f g job p progress.Done =
+    (has_ended p ≡ true) × IsMade f g job (target_of p) p.task.first (level_of p)
 
 -- how many entries the arrays of a level have, if there is one
 abbrev pub entries_if_any : Option LevelDesc → ℕ

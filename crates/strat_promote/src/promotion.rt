@@ -11,9 +11,9 @@ ghost use Rattle.strat_crash.specs.Moments.{Exposes};
 ghost use Rattle.strat_extent.specs.Blocks.{is_free};
 
 use crate::edges::{count_entries, give_all, is_deepest, leads_of};
-use crate::slicing::taken_in;
+use crate::slicing::{taken_in, take_steps};
 use crate::stage::Stage;
-use crate::step::{Desk, Sources, Step, Task, take_step};
+use crate::step::{Desk, Sources, Step, Task};
 use std::alloc::Global;
 use strat_arena::{Arena, ArenaPool};
 use strat_base::limits::LEVELS;
@@ -48,7 +48,10 @@ pub struct Promotion {
 impl Promotion {
     ghost use Rattle.std.specs.Prelude.{◌-◌, min};
     ghost use Rattle.strat_extent.specs.Change.{IsMarked, CanGive};
-    ghost use Rattle.strat_promote.specs.Promotions.{IsBegun, leads_listed, entries_taken, entries_if_any, extents_taken, has_ended, target_of, level_of};
+    ghost use Rattle.strat_promote.specs.Closing.{AreAllUsed};
+    ghost use Rattle.strat_promote.specs.Job.{Job, IsBadInput, arrays_to, blocks_listed};
+    ghost use Rattle.strat_promote.specs.Promotions.{IsBegun, IsOpen, IsFed, IsItsJob, HasBegun, IsSliced, IfMore, SamePromotion, inputs_given, writers_of, blocks_to_read, leads_listed, entries_taken, entries_if_any, extents_taken, has_ended, target_of, level_of};
+    ghost use Rattle.strat_promote.specs.Spaces.{TakesMore};
 
     /// The promotion of level 0 and the levels down to the first with room for all their leads, where level j has
     /// room for `mem * 2^j`. `horizon` is the number of versions that take part, and the arrays are numbered from
@@ -89,6 +92,76 @@ impl Promotion {
             level: None,
             is_done: false,
         })
+    }
+
+    /// Goes on until at least `budget` entries were taken in this call and one is left, or until the level is made. What it
+    /// takes at once are the entries of one key, so that a call takes fewer than `budget` and these. Level 0, the levels and
+    /// the parents of the versions below the horizon are those that were given to `begin`. Each block of the arrays is read
+    /// once in each pass, and nothing is written but blocks that were free.
+    ///
+    /// `Device` comes only where the disk failed; `Damaged` names a block of an array that holds no entries, or none that
+    /// come after those before it. After an error it is good for nothing but `abandon`. `NoMemory` also stands for a disk on
+    /// which no block is free, and for arrays that are not as their descriptors say.
+    pub fn slice<D: Disk>(
+        &mut self,
+        zero: &Zero,
+        levels: &Levels,
+        pool: &ArenaPool,
+        tree: &Tree,
+        space: &mut Space,
+        disk: &mut D,
+        budget: u64,
+    ) -> Result<Progress, Trouble>
+        requires kept { IsOpen self.old }
+        requires fits { IsFed self.old
+            (inputs_given zero.now.list pool.now levels.now tree.now.parents) }
+        requires found { AreAllUsed space.old (writers_of self.old) }
+        requires room { 1 ≤ budget }
+        ensures kept { IfOk result (λ p. IfMore p (IsOpen self.new
+            × (entries_taken self.old + budget ≤ entries_taken self.new))) }
+        ensures ok { IfOk result (λ p. (f g : Image) (job : Job) → Exposes (D.view disk.old) f
+            → Exposes (D.view disk.new) g → IsItsJob f self.old
+            (inputs_given zero.now.list pool.now levels.now tree.now.parents) job
+            → AreUsed space.old (blocks_listed job.arrays) → HasBegun f job self.old
+            → IsSliced f g job self.new p) }
+        ensures found { AreAllUsed space.new (writers_of self.new) }
+        ensures room { TakesMore space.old space.new
+            (extents_taken self.old) (extents_taken self.new) }
+        ensures same { TearsBlocks (is_free space.old) (D.view disk.old) (D.view disk.new)
+            × SamePromotion self.old self.new }
+        ensures cause { HasCause Device (D.faults disk.old) (D.faults disk.new) result }
+        ensures damaged { (b : ℕ) → IsErrOf result (Damaged b) → (f : Image) (job : Job)
+            → Exposes (D.view disk.old) f → IsItsJob f self.old
+            (inputs_given zero.now.list pool.now levels.now tree.now.parents) job
+            → AreUsed space.old (blocks_listed job.arrays) → HasBegun f job self.old
+            → IsBadInput f job.arrays b }
+        ensures reads { OnOk result (D.reads disk.new
+            + blocks_to_read (arrays_to levels.now (target_of self.old)) self.new
+            ≤ D.reads disk.old
+            + blocks_to_read (arrays_to levels.now (target_of self.old)) self.old) }
+    {
+        let sources = Sources {
+            zero: zero.view(),
+            levels,
+            pool,
+            tree,
+        };
+        match take_steps(
+            &self.task,
+            &mut self.stage,
+            &mut self.desk,
+            &sources,
+            space,
+            disk,
+            budget,
+        )? {
+            Step::More => Ok(Progress::More),
+            Step::Made(level) => {
+                self.level = level;
+                self.is_done = true;
+                Ok(Progress::Done)
+            }
+        }
     }
 
     /// How many entries of level 0 and of the arrays it has taken, in both passes together; past the greatest number it

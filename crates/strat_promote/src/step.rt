@@ -53,6 +53,7 @@ pub(crate) struct Task {
 }
 
 /// What it reads: level 0 and the levels, as they were when it began.
+#[derive(Clone, Copy)]
 pub(crate) struct Sources<'a> {
     pub(crate) zero: &'a ZeroView,
     pub(crate) levels: &'a Levels,
