@@ -8,7 +8,7 @@ ghost use Rattle.strat_base.specs.declared.failures.Fault.TheVariants.{Damaged, 
 ghost use Rattle.strat_crash.specs.Faults.{HasCause, ReadsAtMost};
 ghost use Rattle.strat_crash.specs.Image.{Image};
 ghost use Rattle.strat_crash.specs.Moments.{Exposes, OnlyReads};
-ghost use Rattle.strat_format.specs.Block.{block_in};
+ghost use Rattle.strat_format.specs.Block.{block_in, fits_block};
 ghost use Rattle.strat_format.specs.Arrays.{block_on};
 ghost use Rattle.strat_array.specs.Kept.{held_block};
 
@@ -132,6 +132,7 @@ impl Scratch {
         requires found { IsSome self.now }
         ensures ok { IfSome self.now (λ kept. result ≡ length kept.1) }
         ensures fits { (0 < result) × (result ≤ 454) }
+        ensures kept { IfSome self.now (λ kept. IsTrue (fits_block kept.1)) }
     {
         self.block().len() as u16
     }

@@ -18,11 +18,12 @@ pub record RunView : Type 0 where
   pub misfit : Image → Option ℕ
 
 -- what holds of every run: its entries ascend, the first of them is the same on every content, and the others depend
--- only on the blocks that are still to be read
+-- only on the blocks that are still to be read, as does which of these is bad
 pub record IsEntryRun (run : RunView) : Type 0 where
   pub ascending : (c : Image) → IsTrue (is_ascending (run.left c))
   pub begins : (c : Image) → run.first ≡ slice_get (run.left c) 0
   pub stays : (c d : Image) → AgreeOn run.blocks c d → run.left c ≡ run.left d
+  pub fits : (c d : Image) → AgreeOn run.blocks c d → run.misfit c ≡ run.misfit d
 
 -- a run has one entry less, the first: on the content that the disk exposes the others are left; on any disk what is
 -- first now stands after what was first before

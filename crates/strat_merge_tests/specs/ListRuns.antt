@@ -51,4 +51,5 @@ list_law versions block good at entries kept = record {
       (list_all fits_fields entries && list_all (λ e. nat_lt e.version versions) entries) kept).0;
   begins = λ _. refl;
   stays = λ _ _ _. refl;
+  fits = λ _ _ _. refl;
 }

@@ -1,8 +1,11 @@
 -- What a promotion merges: level 0 and the arrays of the levels down to its target.
-use Rattle.std.specs.Prelude.{◌≡◌, ◌≤◌, ℕ, ◌*◌, ◌^◌, Bool, if◌then◌else◌, List, ◌∷◌, length, map, filter, flat_map, Some, Contains}
+use Rattle.std.specs.Prelude.{◌≡◌, ◌<◌, ℕ, Bool, true, if◌then◌else◌, List, [], ◌∷◌, length, map, filter, flat_map, take, Option, Some, Contains}
+use Rattle.std.specs.Option.{option_map_or}
 use Rattle.strat_base.specs.Tree.{Parents, IsTree}
-use Rattle.strat_base.specs.Entries.{Entry}
+use Rattle.strat_array.specs.Within.{AreWithin}
+use Rattle.strat_base.specs.Entries.{Entry, is_tagged}
 use Rattle.strat_base.specs.declared.descriptors.ArrayDesc.{ArrayDesc}
+use Rattle.strat_base.specs.declared.descriptors.LevelDesc.{LevelDesc}
 use Rattle.strat_crash.specs.Image.{Image}
 use Rattle.strat_format.specs.Arrays.{blocks_of}
 use Rattle.strat_live.specs.Counting.{SameParents}
@@ -29,15 +32,25 @@ runs_in f job = job.zero ∷ map (leads_in f) job.arrays
 abbrev pub input_count : Image → Job → ℕ
 input_count f job = length (grouped_entries (runs_in f job))
 
--- the blocks of its arrays
-abbrev pub blocks_read : Job → List ℕ
-blocks_read job = flat_map (λ a. blocks_of a.extents) job.arrays
+-- the arrays of the levels from 1 to a number, the shallowest level first
+abbrev pub arrays_to : List (Option LevelDesc) → ℕ → List ArrayDesc
+arrays_to levels target =
+    flat_map (λ level. option_map_or (λ l. l.arrays) level []) (take target levels)
 
--- one of its arrays has a block that holds no entries there, or none that come after those before it
-pub record IsBadInput (f : Image) (job : Job) (b : ℕ) : Type 0 where
+-- the blocks of arrays
+abbrev pub blocks_listed : List ArrayDesc → List ℕ
+blocks_listed arrays = flat_map (λ a. blocks_of a.extents) arrays
+
+-- one of some arrays has a block that holds no entries in an image, or none that come after those before it
+pub record IsBadInput (f : Image) (arrays : List ArrayDesc) (b : ℕ) : Type 0 where
   pub array : ArrayDesc
-  pub one : Contains job.arrays array
+  pub one : Contains arrays array
   pub misfit : misfit_in f array ≡ Some b
+
+-- arrays may be read, and their tags have versions below a number alone
+pub record AreReadable (n : ℕ) (arrays : List ArrayDesc) : Type 0 where
+  pub within : (a : ArrayDesc) → Contains arrays a → AreWithin a.extents
+  pub low : (a : ArrayDesc) (v : ℕ) → Contains arrays a → is_tagged a.versions v ≡ true → v < n
 
 -- a tree gives the versions of a job their parents
 pub record IsJobIn (tree : Parents) (job : Job) : Type 0 where

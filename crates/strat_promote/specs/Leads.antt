@@ -25,8 +25,8 @@ entries_after c before [] = []
 entries_after c before (b ∷ blocks) =
     option_map_or
     (λ entries.
-        if comes_after before entries
-        then entries ++ entries_after c (last_of before entries) blocks else [])
+    if comes_after before entries
+    then entries ++ entries_after c (last_of before entries) blocks else [])
     (block_on c b) []
 
 -- that block, if there is one
@@ -35,8 +35,8 @@ misfit_after c before [] = None
 misfit_after c before (b ∷ blocks) =
     option_map_or
     (λ entries.
-        if comes_after before entries
-        then misfit_after c (last_of before entries) blocks else Some b)
+    if comes_after before entries
+    then misfit_after c (last_of before entries) blocks else Some b)
     (block_on c b) (Some b)
 
 -- the leads of an array in an image, as far as its blocks are in order

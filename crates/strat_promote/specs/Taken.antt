@@ -1,5 +1,5 @@
 -- The group that a pass takes next.
-use Rattle.std.specs.Prelude.{◌≡◌, ℕ, Bool, false, if◌then◌else◌, List, Some, IsTrue}
+use Rattle.std.specs.Prelude.{◌≡◌, ℕ, nat_lt, Bool, false, if◌then◌else◌, List, Some, IsTrue}
 use Rattle.std.specs.List.{list_all}
 use Rattle.std.specs.Ordering.{is_lt, is_gt}
 use Rattle.strat_arena.specs.ArenaView.{KeyValue}
@@ -15,8 +15,8 @@ use Rattle.strat_merge.specs.Gathered.{TakesNext, are_under}
 use Rattle.strat_merge.specs.Runs.{RunView, head_at}
 use Rattle.strat_promotion.specs.Purge.{purged}
 
--- the items of a key that runs had left, on whatever disk: no run began before the key, and afterwards each begins
--- behind it
+-- the items of a key that runs had left, on whatever disk: some run began with the key and none before it, and
+-- afterwards each begins behind it
 pub record IsTakenGroup (old new : List RunView) (pairs : List KeyValue) (items : List Item)
     (key : List ℕ) : Type 0 where
   pub slots : IsTrue (have_pairs pairs items)
@@ -25,6 +25,7 @@ pub record IsTakenGroup (old new : List RunView) (pairs : List KeyValue) (items 
   pub lawful : IsTrue (list_all fits_fields (entries_of pairs items))
   pub low : (n : ℕ) → IsTrue (are_under n old) → IsTrue (are_below n items)
   pub bound : (n : ℕ) → IsTrue (are_under n old) → IsTrue (are_under n new)
+  pub begins : (i : ℕ) × ((e : Entry) × (head_at old i ≡ Some e) × (e.key ≡ key))
   pub least : (i : ℕ) (e : Entry) → head_at old i ≡ Some e → is_gt (key_cmp key e.key) ≡ false
   pub behind : (i : ℕ) (e : Entry) → head_at new i ≡ Some e → IsTrue (is_lt (key_cmp key e.key))
 
@@ -32,9 +33,10 @@ pub record IsTakenGroup (old new : List RunView) (pairs : List KeyValue) (items 
 abbrev pub group_kept : Parents → Bool → List Entry → List Entry
 group_kept parents purges group = if purges then purged parents group else group
 
--- a group was taken from runs, and these entries are what is kept of it
-pub record TakesKept (parents : Parents) (purges : Bool) (old new : List (List Entry))
+-- a group of versions below n was taken from runs, and these entries are what is kept of it
+pub record TakesKept (parents : Parents) (purges : Bool) (n : ℕ) (old new : List (List Entry))
     (entries : List Entry) : Type 0 where
   pub group : List Entry
   pub taken : TakesNext old new group
+  pub low : IsTrue (list_all (λ e. nat_lt e.version n) group)
   pub kept : entries ≡ group_kept parents purges group

@@ -1,5 +1,26 @@
 //! Promotion: level 0 and the shallow levels become one new level.
 #![tactic(auto)]
 
+mod closing;
+mod counting;
+mod edges;
+mod input;
+mod input_run;
+mod inputs;
 mod zero_copy;
 mod zero_run;
+mod last_read;
+pub mod laws;
+mod lead_blocks;
+mod lead_run;
+mod opening;
+mod passing;
+mod planning;
+pub mod promotion;
+mod pushing;
+mod slicing;
+mod stage;
+mod step;
+mod tag;
+mod taking;
+mod writing;

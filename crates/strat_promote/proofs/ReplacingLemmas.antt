@@ -1,0 +1,212 @@
+-- What was made of a state's runs takes their place.
+use Rattle.std.proofs.Common.{◌≡◌, ◌<◌, ◌+◌, ℕ, zero, suc, Bool, true, cond, eqb, ◌&&◌, List, [], ◌∷◌, ◌++◌, length, map, flat_map, Option, Some, None, refl, sym, ap, ◌∙◌, subst, arith}
+use Rattle.std.specs.List.{list_all, slice_get, range_with_len, filter_map}
+use Rattle.std.specs.Option.{option_map, option_map_or, option_and_then, option_to_list}
+use Rattle.std.proofs.lemmas.Bool.{and_parts, eqb-true, ne_eqb}
+use Rattle.std.proofs.lemmas.List.{map-append}
+use Rattle.strat_base.specs.Change.{Change}
+use Rattle.strat_base.specs.Entries.{Entry, is_ascending, lead_entries}
+use Rattle.strat_base.specs.Tree.{Parents}
+use Rattle.strat_base.specs.declared.descriptors.ArrayDesc.{ArrayDesc}
+use Rattle.strat_base.specs.declared.descriptors.LevelDesc.{LevelDesc}
+use Rattle.strat_base.proofs.ListFacts.{Among, all_at, all_from, among_left, among_range}
+use Rattle.strat_crash.specs.Image.{Image}
+use Rattle.strat_format.specs.Arrays.{all_some, blocks_of, entries_on}
+use Rattle.strat_plan.specs.Groups.{grouped_entries, group_versions, SplitsGroups, array_of_groups, level_of_groups}
+use Rattle.strat_plan.specs.Plan.{Part, part_at}
+use Rattle.strat_plan.proofs.LawLemmas.{groups_described}
+use Rattle.strat_plan.proofs.ListLemmas.{among_map}
+use Rattle.strat_promotion.specs.Merging.{runs_taken, Merges}
+use Rattle.strat_promotion.specs.Promoted.{promoted, level_if, Takeable, PromotesGroups, fresh_of_groups}
+use Rattle.strat_promotion.specs.Purge.{purged, groups_over}
+use Rattle.strat_promotion.specs.Sealed.{sealed_at, grown_by}
+use Rattle.strat_promotion.proofs.MergingLemmas.{merged, runs_union}
+use Rattle.strat_promotion.proofs.PromotedLemmas.{groups_say, groups_sound}
+use Rattle.strat_promotion.proofs.SealedLemmas.{before_sound, sealed_follows}
+use Rattle.strat_recovery.specs.Opened.{array_on, level_on}
+use Rattle.strat_recovery.proofs.OpeningLemmas.{map_some, each_some}
+use Rattle.strat_state.specs.Counted.{own_at, keys_at}
+use Rattle.strat_state.specs.Level.{TaggedArray, Level, own_leads, least_live}
+use Rattle.strat_state.specs.Setting.{set_all}
+use Rattle.strat_state.specs.Sound.{has_ascending_entries, IsSound}
+use Rattle.strat_state.specs.State.{State, versions_of, journal_updates}
+use Rattle.strat_state.proofs.SoundLemmas.{sound_tree}
+use Rattle.strat_promote.specs.Job.{Job, runs_in, groups_kept}
+use Rattle.strat_promote.specs.Leads.{leads_in}
+use Rattle.strat_promote.specs.Replacing.{IsJobOf, LeavesTheSame}
+use Rattle.strat_promote.specs.Stages.{IsArrayMade, IsLevelMade, IsPlanMade, IsMade}
+use Rattle.strat_promote.proofs.LeadLemmas.{read_whole}
+
+-- the runs of a job over levels that stand in an image
+module _ (f : Image) where
+  array_leads : (a : ArrayDesc) (t : TaggedArray) → array_on f a ≡ Some t → is_ascending t.content ≡ true → leads_in f a ≡ own_leads t
+  array_leads a t on up =
+      let made = map_some (λ entries. record { id = a.id; tag = a.versions; content = entries; entries = a.entries; leads = a.leads; least = a.least }) (entries_on f (blocks_of a.extents)) t on in
+      let content : made.0 ≡ t.content = ap (λ (x : TaggedArray). x.content) made.2 in
+      let tag : a.versions ≡ t.tag = ap (λ (x : TaggedArray). x.tag) made.2 in
+      ap (lead_entries a.versions) (read_whole f None (blocks_of a.extents) made.0 made.1 (ap is_ascending content ∙ up)).0 ∙ (λ i. lead_entries (tag i) (content i))
+
+  arrays_leads : (descs : List ArrayDesc) (arrays : List TaggedArray) → all_some (array_on f) descs ≡ Some arrays → list_all has_ascending_entries arrays ≡ true
+      → map (leads_in f) descs ≡ map own_leads arrays
+  arrays_leads [] arrays on up = let none : [] ≡ arrays = cc in ap (λ (ts : List TaggedArray). map own_leads ts) none
+  arrays_leads (a ∷ descs) arrays on up =
+      let parts = each_some (array_on f) a descs arrays on in
+      let t = parts.0 in
+      let ups = and_parts (has_ascending_entries t) (list_all has_ascending_entries parts.1) (ap (λ (ts : List TaggedArray). list_all has_ascending_entries ts) parts.4 ∙ up) in
+      (λ i. array_leads a t parts.2 ups.0 i ∷ arrays_leads descs parts.1 parts.3 ups.1 i) ∙ ap (λ (ts : List TaggedArray). map own_leads ts) parts.4
+
+  level_leads : (desc : LevelDesc) (level : Level) → level_on f desc ≡ Some level → list_all has_ascending_entries level.arrays ≡ true → map (leads_in f) desc.arrays ≡ map own_leads level.arrays
+  level_leads desc level on up =
+      let made = map_some (λ arrays. record { number = desc.number; horizon = desc.horizon; arrays = arrays }) (all_some (array_on f) desc.arrays) level on in
+      let same : made.0 ≡ level.arrays = ap (λ (l : Level). l.arrays) made.2 in
+      arrays_leads desc.arrays made.0 made.1 (ap (λ (ts : List TaggedArray). list_all has_ascending_entries ts) same ∙ up) ∙ ap (λ (ts : List TaggedArray). map own_leads ts) same
+
+  pub levels_leads : (descs : List LevelDesc) (taken : List Level) → all_some (level_on f) descs ≡ Some taken → list_all (λ (level : Level). list_all has_ascending_entries level.arrays) taken ≡ true
+      → map (leads_in f) (flat_map (λ level. level.arrays) descs) ≡ flat_map (λ level. map own_leads level.arrays) taken
+  levels_leads [] taken on up = let none : [] ≡ taken = cc in ap (λ (ls : List Level). flat_map (λ level. map own_leads level.arrays) ls) none
+  levels_leads (desc ∷ descs) taken on up =
+      let parts = each_some (level_on f) desc descs taken on in
+      let ups = and_parts (list_all has_ascending_entries parts.0.arrays) (list_all (λ (level : Level). list_all has_ascending_entries level.arrays) parts.1)
+      (ap (λ (ls : List Level). list_all (λ (level : Level). list_all has_ascending_entries level.arrays) ls) parts.4 ∙ up) in
+      map-append (leads_in f) desc.arrays (flat_map (λ (level : LevelDesc). level.arrays) descs)
+      ∙ (λ i. level_leads desc parts.0 parts.2 ups.0 i ++ levels_leads descs parts.1 parts.3 ups.1 i)
+      ∙ ap (λ (ls : List Level). flat_map (λ level. map own_leads level.arrays) ls) parts.4
+
+  pub runs_same : (s : State) (taken kept : List Level) (descs : List LevelDesc) (job : Job) → IsSound s → s.levels ≡ taken ++ kept → all_some (level_on f) descs ≡ Some taken
+      → job.zero ≡ set_all (journal_updates s) → job.arrays ≡ flat_map (λ level. level.arrays) descs → runs_in f job ≡ runs_taken s taken
+  runs_same s taken kept descs job sound levels on first arrays =
+      let up : list_all (λ (level : Level). list_all has_ascending_entries level.arrays) taken ≡ true =
+      all_from (λ (level : Level). list_all has_ascending_entries level.arrays) taken (λ level among.
+      all_at (λ (l : Level). list_all has_ascending_entries l.arrays) level s.levels sound.ascending
+      (subst (λ (ls : List Level). Among level ls) (sym levels) (among_left taken kept level among))) in
+      let leads = ap (λ (xs : List ArrayDesc). map (leads_in f) xs) arrays ∙ levels_leads descs taken on up in
+      λ i. first i ∷ leads i
+
+-- the arrays down to a level are those of the levels that are there
+pub arrays_there : (levels : List (Option LevelDesc)) → flat_map (λ level. option_map_or (λ l. l.arrays) level []) levels ≡ flat_map (λ level. level.arrays) (filter_map (λ level. level) levels)
+arrays_there [] = refl
+arrays_there (None ∷ levels) = arrays_there levels
+arrays_there (Some level ∷ levels) = ap (λ (xs : List ArrayDesc). level.arrays ++ xs) (arrays_there levels)
+
+-- what is kept of groups where no level lies deeper
+kept_over : (parents : Parents) (purges : Bool) (kept : List Level) (groups : List (List Entry)) → purges ≡ eqb (length kept) 0
+    → cond purges (map (purged parents) groups) groups ≡ groups_over parents kept groups
+kept_over parents purges [] groups is = ap (λ (b : Bool). cond b (map (purged parents) groups) groups) is
+kept_over parents purges (level ∷ kept) groups is =
+    ap (λ (b : Bool). cond b (map (purged parents) groups) groups) (is ∙ ne_eqb (length (level ∷ kept)) 0 (λ e. omega (arith, e)))
+
+-- what is made of each of some items, which are counted from a number
+all_made : {A B : Type 0} (f : A → Option B) (h : ℕ → B) (xs : List A) (k n : ℕ) → length xs ≡ n → ((q : ℕ) → q < n → (x : A) × (slice_get xs q ≡ Some x) × (f x ≡ Some (h (k + q))))
+    → all_some f xs ≡ Some (map h (range_with_len k n))
+all_made f h [] k zero len each = refl
+all_made f h [] k (suc n) len each = absurd (cc)
+all_made f h (x ∷ xs) k zero len each = absurd (cc)
+all_made f h (x ∷ xs) k (suc n) len each =
+    let first = each 0 (omega arith) in
+    let same : first.0 ≡ x = (let e = first.1 in cc) in
+    let here : k + 0 ≡ k = omega arith in
+    let head : f x ≡ Some (h k) = ap f (sym same) ∙ first.2 ∙ ap (λ (m : ℕ). Some (h m)) here in
+    let rest : all_some f xs ≡ Some (map h (range_with_len (k + 1) n)) =
+    all_made f h xs (k + 1) n (let e = len in omega (arith, e)) (λ q within.
+    let next = each (suc q) (omega (arith, within)) in
+    let there : k + suc q ≡ k + 1 + q = omega arith in
+    (next.0, next.1, next.2 ∙ ap (λ (m : ℕ). Some (h m)) there)) in
+    ap (λ o. option_and_then (λ y. option_map (λ ys. y ∷ ys) (all_some f xs)) o) head ∙ ap (λ o. option_map (λ ys. h k ∷ ys) o) rest
+
+made_on : (g : Image) (t : TaggedArray) (a : ArrayDesc) → IsArrayMade g t a → t.entries ≡ length t.content → array_on g a ≡ Some t
+made_on g t a is counted =
+    ap (λ o. option_map (λ entries. record { id = a.id; tag = a.versions; content = entries; entries = a.entries; leads = a.leads; least = a.least }) o) is.content
+    ∙ (λ i. Some (record { id = is.id i; tag = is.versions i; content = t.content; entries = (is.entries ∙ sym counted) i; leads = is.leads i; least = is.least i }))
+
+one_level : (parts : List Part) (level : Level) → 0 < length parts → level_if parts level ≡ level ∷ []
+one_level [] level some = absurd (omega (arith, some))
+one_level (part ∷ parts) level some = refl
+
+-- what was made of the runs of a state
+module _ (f g : Image) (s : State) (j first : ℕ) (taken kept : List Level) (job : Job) (made : Option LevelDesc) (m : IsMade f g job j first made) (of : IsJobOf f s taken kept job) where
+  abbrev over : List (List Entry)
+  over = groups_over (versions_of s) kept m.groups
+
+  over_is : groups_kept job m.groups ≡ over
+  over_is = ap (λ (p : Parents). cond job.purges (map (purged p) m.groups) m.groups) of.parents ∙ kept_over (versions_of s) job.purges kept m.groups of.purges
+
+  splits : SplitsGroups (versions_of s) over (own_at (group_versions over)) (keys_at (versions_of s) (group_versions over)) m.plan
+  splits =
+      subst (λ (p : Parents). SplitsGroups p over (own_at (group_versions over)) (keys_at p (group_versions over)) m.plan) of.parents
+      (subst (λ (gs : List (List Entry)). SplitsGroups job.parents gs (own_at (group_versions gs)) (keys_at job.parents (group_versions gs)) m.plan) over_is m.split)
+
+  merges : Merges (runs_taken s taken) m.groups
+  merges = subst (λ (runs : List (List Entry)). Merges runs m.groups) of.runs m.merged
+
+  pub made_promotes : Takeable s j taken kept → PromotesGroups s j taken kept m.groups (own_at (group_versions over)) (keys_at (versions_of s) (group_versions over)) m.plan
+  made_promotes takes =
+      let union = merged (runs_taken s taken) m.groups merges in
+      record {
+        takes = takes;
+        union = runs_union s taken (grouped_entries m.groups) union.0;
+        grouped = union.1;
+        horizon = m.horizon ∙ of.horizon;
+        split = splits;
+      }
+
+  module _ (sound : IsSound s) where
+    counted : (q : ℕ) → q < length m.plan.parts → (part_at m.plan q).entries ≡ length (array_of_groups (versions_of s) over m.plan first q).content
+    counted q within =
+        let t : TaggedArray = array_of_groups (versions_of s) over m.plan first q in
+        let there : Among t (level_of_groups (versions_of s) over m.plan j first).arrays =
+        among_map (array_of_groups (versions_of s) over m.plan first) (range_with_len 0 (length m.plan.parts)) q (among_range 0 (length m.plan.parts) q (omega arith) (omega (arith, within))) in
+        let described = all_at (λ (a : TaggedArray). (eqb a.entries (length a.content) && eqb a.leads (length (own_leads a))) && eqb a.least (least_live (versions_of s) a)) t
+        (level_of_groups (versions_of s) over m.plan j first).arrays (groups_described (versions_of s) (sound_tree s sound) over _ _ m.plan j first splits) there in
+        eqb-true t.entries (length t.content)
+        (and_parts (eqb t.entries (length t.content)) (eqb t.leads (length (own_leads t)))
+        (and_parts (eqb t.entries (length t.content) && eqb t.leads (length (own_leads t))) (eqb t.least (least_live (versions_of s) t)) described).0).0
+
+    level_read : (level : LevelDesc) → IsLevelMade g job j first m.groups m.plan level → level_on g level ≡ Some (level_of_groups (versions_of s) over m.plan j first)
+    level_read level is =
+        let arrays : all_some (array_on g) level.arrays ≡ Some (map (array_of_groups (versions_of s) over m.plan first) (range_with_len 0 (length m.plan.parts))) =
+        all_made (array_on g) (array_of_groups (versions_of s) over m.plan first) level.arrays 0 (length m.plan.parts) is.len (λ q within.
+        let a = is.each q within in
+        let same : array_of_groups job.parents (groups_kept job m.groups) m.plan first q ≡ array_of_groups (versions_of s) over m.plan first q =
+        λ i. array_of_groups (of.parents i) (over_is i) m.plan first q in
+        let here : 0 + q ≡ q = omega arith in
+        (a.0, a.1, made_on g _ a.0 (subst (λ (t : TaggedArray). IsArrayMade g t a.0) same a.2) (counted q within) ∙ ap (λ (k : ℕ). Some (array_of_groups (versions_of s) over m.plan first k)) (sym here))) in
+        ap (λ o. option_map (λ arrays. record { number = level.number; horizon = level.horizon; arrays = arrays }) o) arrays
+        ∙ (λ i. Some (record {
+          number = is.number i;
+          horizon = (is.horizon ∙ sym m.horizon) i;
+          arrays = map (array_of_groups (versions_of s) over m.plan first) (range_with_len 0 (length m.plan.parts));
+        }))
+
+    fresh_read : (desc : Option LevelDesc) → IsPlanMade g job j first m.groups m.plan desc → all_some (level_on g) (option_to_list desc) ≡ Some (fresh_of_groups s j kept m.groups m.plan first)
+    fresh_read None none = ap (λ (parts : List Part). Some (level_if parts (level_of_groups (versions_of s) over m.plan j first))) (sym none)
+    fresh_read (Some level) is =
+        ap (λ o. option_and_then (λ y. option_map (λ ys. y ∷ ys) (Some [])) o) (level_read level is)
+        ∙ ap (λ (levels : List Level). Some levels) (sym (one_level m.plan.parts (level_of_groups (versions_of s) over m.plan j first) is.some))
+
+    pub made_read : all_some (level_on g) (option_to_list made) ≡ Some (fresh_of_groups s j kept m.groups m.plan first)
+    made_read = fresh_read made m.level
+
+    -- the state with the level says the same
+    pub made_leaves : Takeable s j taken kept → LeavesTheSame g made s (λ fresh written next_array. promoted s (fresh ++ kept) written next_array)
+    made_leaves takes =
+        let promotes = made_promotes takes in
+        record {
+          fresh = fresh_of_groups s j kept m.groups m.plan first;
+          read = made_read;
+          says = λ written next_array. groups_say s sound j taken kept m.groups _ _ m.plan first promotes written next_array;
+          sound = λ written next_array. groups_sound s sound j taken kept m.groups _ _ m.plan first promotes written next_array;
+        }
+
+-- and still does where changes came since the level was begun
+module _ (f g : Image) (s : State) (before rest : List Change) (j first : ℕ) (taken kept : List Level) (job : Job) (made : Option LevelDesc) (m : IsMade f g job j first made)
+    (of : IsJobOf f (sealed_at s before) taken kept job) (sound : IsSound s) (parts : s.journal ≡ before ++ rest) where
+  pub made_leaves_later : Takeable (sealed_at s before) j taken kept → LeavesTheSame g made s (λ fresh written next_array. grown_by (promoted (sealed_at s before) (fresh ++ kept) written next_array) rest)
+  made_leaves_later takes =
+      let old : IsSound (sealed_at s before) = before_sound s sound before rest parts in
+      let leaves = made_leaves f g (sealed_at s before) j first taken kept job made m of old takes in
+      record {
+        fresh = leaves.fresh;
+        read = leaves.read;
+        says = λ written next_array. (sealed_follows s sound before rest parts (promoted (sealed_at s before) (leaves.fresh ++ kept) written next_array) (leaves.sound written next_array) (leaves.says written next_array) refl).1;
+        sound = λ written next_array. (sealed_follows s sound before rest parts (promoted (sealed_at s before) (leaves.fresh ++ kept) written next_array) (leaves.sound written next_array) (leaves.says written next_array) refl).0;
+      }

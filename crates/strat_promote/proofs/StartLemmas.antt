@@ -1,0 +1,87 @@
+-- How a pass is begun.
+use Rattle.std.proofs.Common.{◌≡◌, ◌+◌, ℕ, Bool, true, false, List, [], ◌∷◌, length, map, Some, cond, refl, sym, ap, ◌∙◌, subst, arith}
+use Rattle.std.specs.List.{list_all, slice_get, Contains}
+use Rattle.std.specs.Ordering.{is_lt}
+use Rattle.strat_array.specs.Progress.{ArrayProgress}
+use Rattle.strat_array.specs.Pushed.{IsPushed}
+use Rattle.strat_base.specs.Entries.{Entry, is_ascending}
+use Rattle.strat_base.specs.Order.{key_cmp}
+use Rattle.strat_base.specs.declared.descriptors.ArrayDesc.{ArrayDesc}
+use Rattle.strat_crash.specs.Image.{Image}
+use Rattle.strat_format.specs.Arrays.{blocks_of, entries_on}
+use Rattle.strat_live.specs.Counting.{IsTally}
+use Rattle.strat_live.specs.Tallies.{Tallies}
+use Rattle.strat_merge.specs.Runs.{RunView, lefts, blocks_left, IsBadFor}
+use Rattle.strat_plan.specs.Groups.{grouped_entries, group_versions}
+use Rattle.strat_plan.specs.Plan.{Plan}
+use Rattle.strat_promotion.specs.Purge.{purged}
+use Rattle.strat_promote.specs.Counted.{AreRunsOf}
+use Rattle.strat_promote.specs.Filled.{AreReadyFor}
+use Rattle.strat_promote.specs.Job.{Job, runs_in, input_count, blocks_listed, groups_kept, part_content, IsBadInput}
+use Rattle.strat_promote.specs.Leads.{leads_in}
+use Rattle.strat_promote.specs.Passes.{IsJobOver}
+use Rattle.strat_promote.specs.Planning.{AreNew}
+use Rattle.strat_promote.specs.Turning.{AreAllNew}
+
+-- what is kept of no groups is none
+pub nothing_kept : (job : Job) → groups_kept job [] ≡ []
+nothing_kept job = go job.purges
+  where
+    go : (purges : Bool) → cond purges (map (purged job.parents) []) [] ≡ []
+    go true = refl
+    go false = refl
+
+-- the runs that were opened are those of a job, of which no group was taken
+pub runs_begun : {R : Type 0} (view : R → RunView) (f : Image) (zero : List Entry) (arrays : List ArrayDesc) (job : Job) (runs opened : List R) (consumed : ℕ)
+    → IsJobOver f zero arrays job → runs ≡ opened → consumed ≡ 0 → lefts f (map view opened) ≡ zero ∷ map (leads_in f) arrays
+    → ((b : ℕ) → Contains (blocks_left (map view opened)) b → Contains (blocks_listed arrays) b) → ((b : ℕ) → IsBadFor (map view opened) f b → IsBadInput f arrays b)
+    → AreRunsOf f job [] (map view runs) consumed
+runs_begun view f entries arrays job runs opened consumed over same none left within blames =
+    let first : entries ∷ map (leads_in f) arrays ≡ job.zero ∷ map (leads_in f) arrays = ap (λ (es : List Entry). es ∷ map (leads_in f) arrays) (sym over.zero_is) in
+    let others : job.zero ∷ map (leads_in f) arrays ≡ runs_in f job = ap (λ (xs : List ArrayDesc). job.zero ∷ map (leads_in f) xs) (sym over.arrays_are) in
+    let all : lefts f (map view runs) ≡ runs_in f job = ap (λ (rs : List _). lefts f (map view rs)) same ∙ left ∙ first ∙ others in
+    let count : length (grouped_entries (lefts f (map view runs))) ≡ input_count f job = ap (λ (ls : List (List Entry)). length (grouped_entries ls)) all in
+    record {
+      few = over.few;
+      merged = all;
+      taken = omega (arith, none, count);
+      within = λ b here.
+          subst (λ (xs : List ArrayDesc). Contains (blocks_listed xs) b) (sym over.arrays_are) (within b (subst (λ (rs : List _). Contains (blocks_left (map view rs)) b) same here));
+      blames = λ b bad.
+          subst (λ (xs : List ArrayDesc). IsBadInput f xs b) (sym over.arrays_are) (blames b (subst (λ (rs : List _). IsBadFor (map view rs) f b) same bad));
+    }
+
+-- where no group was taken, a new tally has counted what is kept
+pub nothing_tallied : (job : Job) (tallies : Tallies) → IsTally job.parents [] tallies → IsTally job.parents (group_versions (groups_kept job [])) tallies
+nothing_tallied job tallies tally = subst (λ (gs : List (List Entry)). IsTally job.parents (group_versions gs) tallies) (sym (nothing_kept job)) tally
+
+-- new arrays are ready for any key
+pub new_ready : (first : ℕ) (writers : List ArrayProgress) (key : List ℕ) → AreNew first writers → AreReadyFor key writers
+new_ready first writers key new = record {
+  ascending = λ q w there. ap (λ (x : ArrayProgress). is_ascending x.pending) (new.each q w there);
+  before = λ q w there. ap (λ (x : ArrayProgress). list_all (λ (e : Entry). is_lt (key_cmp e.key key)) x.pending) (new.each q w there);
+}
+
+-- they have no block
+pub new_empty : (first : ℕ) (writers : List ArrayProgress) → AreNew first writers → AreAllNew writers
+new_empty first writers new = record { each = λ q w there. ap (λ (x : ArrayProgress). x.extents) (new.each q w there) }
+
+-- nothing was pushed into them
+new_pushed : (f : Image) (w : ArrayProgress) (id : ℕ) → w ≡ record { id = id; count = 0; pending = []; extents = [] } → IsPushed f w []
+unfolding entries_on
+new_pushed f w id new = record {
+  stands = record {
+    written = [];
+    read = ap (λ (x : ArrayProgress). entries_on f (blocks_of x.extents)) new;
+    all = sym (ap (λ (x : ArrayProgress). x.pending) new);
+  };
+  count = ap (λ (x : ArrayProgress). x.count) new;
+}
+
+-- and each has what its part takes of no groups
+pub new_content : (f : Image) (job : Job) (plan : Plan) (first : ℕ) (writers : List ArrayProgress) → AreNew first writers → (q : ℕ) (x : ArrayProgress) → slice_get writers q ≡ Some x
+    → (x.id ≡ first + q) × IsPushed f x (part_content job.parents plan (groups_kept job []) q)
+new_content f job plan first writers new q x there = (
+  ap (λ (w : ArrayProgress). w.id) (new.each q x there),
+  subst (λ (gs : List (List Entry)). IsPushed f x (part_content job.parents plan gs q)) (sym (nothing_kept job)) (new_pushed f x (first + q) (new.each q x there)),
+)

@@ -1,0 +1,9 @@
+-- The writers below i are sealed.
+use Rattle.std.proofs.Common.{◌≡◌}
+use Rattle.strat_promote.proofs.ClosingLemmas.{AreSealing}
+use Rattle.strat_promote.proofs.closing.seal_all.Given as goal
+
+abbrev pub invariant-loop-i : goal.invariant-loop-i
+invariant-loop-i g l =
+    AreSealing (g.D.Disk.view l.initial.disk) (g.D.Disk.view l.disk) l.initial.space l.space l.i l.initial.writers.items l.writers.items
+    × (g.D.Disk.faults l.disk ≡ g.D.Disk.faults l.initial.disk) × (g.D.Disk.reads l.disk ≡ g.D.Disk.reads l.initial.disk)

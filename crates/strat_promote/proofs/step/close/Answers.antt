@@ -1,0 +1,13 @@
+use Rattle.std.proofs.Common.{List, subst}
+use Rattle.strat_array.specs.Progress.{ArrayProgress}
+use Rattle.strat_promote.specs.Closing.{IsDescribed}
+use Rattle.strat_promote.specs.InputFields.{input_seen}
+use Rattle.strat_split.specs.PlanSeen.{plan_seen}
+use Rattle.strat_promote.proofs.MadeLemmas.{level_made}
+use Rattle.strat_promote.proofs.step.close.Goals as goal
+
+pub returns-clause-ok : goal.returns-clause-ok
+returns-clause-ok g c = λ f h inputs job told tells ready is written.
+    let described = subst (λ (ws : List ArrayProgress). IsDescribed (plan_seen c.args.writing.now.filling.plan) c.args.task.now.target ws c.in_ok-made.made) c.deref.ensures.value c.in_ok-made.ensures.ok in
+    level_made input_seen f h _ _ job c.args.task.now.first c.args.writing.now _ written c.in_ok-seal_all.ensures.ok told tells c.in_ok-seal_all.ensures.len c.requires.kept.writers
+    c.args.task.now inputs c.in_ok-made.made ready is c.requires.kept described

@@ -1,0 +1,20 @@
+use Rattle.std.proofs.Common.{◌∙◌, sym}
+use Rattle.strat_crash.proofs.MomentLemmas.{reads_trans}
+use Rattle.strat_promote.proofs.StartLemmas.{new_empty}
+use Rattle.strat_promote.proofs.step.count.Goals as goal
+
+pub returns-in_err-writing-clause-same : goal.returns-in_err-writing-clause-same
+returns-in_err-writing-clause-same g c = reads_trans c.in_ok-more.ensures.reads.same c.begin_writing.ensures.found.same
+
+pub returns-clause-same : goal.returns-clause-same
+returns-clause-same g c = reads_trans c.in_ok-more.ensures.reads.same c.begin_writing.ensures.found.same
+
+pub returns-clause-none : goal.returns-clause-none
+returns-clause-none g c = new_empty _ _ c.in_ok-writing.ensures.none
+
+pub returns-clause-ok : goal.returns-clause-ok
+returns-clause-ok g c = λ f job told task counting.
+    let counted = c.in_ok-more.ensures.none c.if-more.false f job told counting in
+    let still = c.in_ok-more.ensures.reads.same.same ∙ told in
+    let horizon = task.horizon ∙ sym c.requires.kept.len ∙ sym c.in_ok-more.ensures.kept.len in
+    (c.in_ok-writing.ensures.ok f job still task.over task.tree horizon counted, c.consumed-before.ensures.ok ∙ counted.taken)

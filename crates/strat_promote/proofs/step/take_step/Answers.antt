@@ -1,0 +1,27 @@
+use Rattle.std.proofs.Common.{refl, ap, subst}
+use Rattle.strat_promote.specs.Closing.{AreAllUsed}
+use Rattle.strat_promote.specs.Job.{blocks_listed}
+use Rattle.strat_promote.specs.Stages.{IsUnderway, stage_writers}
+use Rattle.strat_promote.specs.declared.stage.Stage.{Stage}
+use Rattle.strat_promote.specs.declared.stage.Stage.TheVariants as stage
+use Rattle.strat_promote.proofs.SliceLemmas.{turned_used, turned_is, turned_takes, writes_on, inputs_agree, if_ok}
+use Rattle.strat_promote.proofs.step.take_step.Goals as goal
+
+pub write-requires-clause-found : goal.write-requires-clause-found
+write-requires-clause-found g c = subst (λ (s : Stage). AreAllUsed c.args.space.now (stage_writers s)) c.in-Writing.is c.requires.found
+
+pub returns-in_ok-next-in-Counting-clause-found : goal.returns-in_ok-next-in-Counting-clause-found
+returns-in_ok-next-in-Counting-clause-found g c =
+    turned_used c.args.space.now c.count.new.counting c.in_ok-next-in-Counting.next (stage.Counting c.count.new.counting) c.turn.new.stage refl c.turn.ensures.ok c.in_ok-next-in-Counting.ensures.none
+
+pub returns-in_ok-next-in-Counting-clause-room : goal.returns-in_ok-next-in-Counting-clause-room
+returns-in_ok-next-in-Counting-clause-room g c =
+    turned_takes c.args.space.now c.count.new.counting c.in_ok-next-in-Counting.next c.args.stage.now (stage.Counting c.count.new.counting) c.turn.new.stage (ap stage_writers c.in-Counting.is)
+    (turned_is c.count.new.counting c.in_ok-next-in-Counting.next (stage.Counting c.count.new.counting) c.turn.new.stage refl c.turn.ensures.ok) c.in_ok-next-in-Counting.ensures.none
+
+pub returns-in-Writing-clause-ok : goal.returns-in-Writing-clause-ok
+returns-in-Writing-clause-ok g c =
+    if_ok c.write.result c.write.ensures.ok (λ did writes f g' job told tells task used underway.
+        let parts = subst (λ (s : Stage). IsUnderway f job c.args.task.now.first s) c.in-Writing.is underway in
+        writes_on f g' c.args.task.now job c.write.new.writing c.in-Writing.field-1 did (inputs_agree c.args.space.now (blocks_listed job.arrays) _ _ f g' used c.write.ensures.same told tells) parts.1
+        (writes f g' job told tells task used parts.0))

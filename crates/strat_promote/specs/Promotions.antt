@@ -1,0 +1,112 @@
+-- A promotion as its caller sees it.
+use Rattle.std.specs.Prelude.{◌≡◌, ◌<◌, ◌≤◌, ℕ, ◌+◌, ◌-◌, Bool, true, false, not, is_some, List, [], ◌∷◌, length, map, drop, Option, None, Some, IsTrue}
+use Rattle.std.specs.List.{list_all, list_any, range_with_len, sum_by}
+use Rattle.strat_arena.specs.declared.pool.PoolEntry.{PoolEntry}
+use Rattle.strat_array.specs.Progress.{ArrayProgress}
+use Rattle.strat_base.specs.Tree.{Parents}
+use Rattle.strat_base.specs.declared.descriptors.ArrayDesc.{ArrayDesc}
+use Rattle.strat_base.specs.declared.descriptors.Extent.{Extent}
+use Rattle.strat_base.specs.declared.descriptors.LevelDesc.{LevelDesc}
+use Rattle.strat_crash.specs.Image.{Image}
+use Rattle.strat_level.specs.Levels.{level_numbered, leads_if_any}
+use Rattle.strat_level.specs.Memtable.{ItemList}
+use Rattle.strat_level.specs.Target.{IsTarget}
+use Rattle.strat_promote.specs.Closing.{all_extents}
+use Rattle.strat_promote.specs.Job.{Job}
+use Rattle.strat_promote.specs.Stages.{IsSteady, IsUnderway, IsMade, stage_writers, stage_consumed, blocks_due}
+use Rattle.strat_promote.specs.Steps.{Inputs, IsReadySource, IsTaskIn}
+use Rattle.strat_promote.specs.declared.promotion.Progress.{Progress}
+use Rattle.strat_promote.specs.declared.promotion.Progress.TheVariants as progress
+use Rattle.strat_promote.specs.declared.promotion.Promotion.{Promotion}
+use Rattle.strat_promote.specs.declared.stage.Stage.TheVariants as stage
+
+-- how many leads level 0 has, and then levels 1 to 22
+abbrev pub leads_listed : ItemList → List (Option LevelDesc) → List ℕ
+leads_listed zero levels =
+    length zero.items
+    ∷ map (λ n. leads_if_any (level_numbered levels n)) (range_with_len 1 22)
+
+-- no level is deeper than one
+abbrev pub is_deepest : List (Option LevelDesc) → ℕ → Bool
+is_deepest levels target = list_all (λ level. not (is_some level)) (drop target levels)
+
+-- a promotion was begun: it is to fill the first level with room, and has read nothing
+pub record IsBegun (zero : ItemList) (levels : List (Option LevelDesc)) (mem versions id : ℕ)
+    (p : Promotion) : Type 0 where
+  pub target : IsTarget (leads_listed zero levels) mem p.task.target
+  pub fits : p.task.target ≤ 22
+  pub horizon : p.task.horizon ≡ versions
+  pub first : p.task.first ≡ id
+  pub purges : p.task.purges ≡ is_deepest levels p.task.target
+  pub stage : p.stage ≡ stage.Begun
+  pub more : p.is_done ≡ false
+
+-- it is neither spent nor done
+pub record IsOpen (p : Promotion) : Type 0 where
+  pub more : p.is_done ≡ false
+  pub steady : IsSteady p.task.horizon p.stage
+
+-- the blocks that it has taken
+abbrev pub extents_taken : Promotion → List Extent
+extents_taken p = all_extents (stage_writers p.stage)
+
+-- how many entries of level 0 and of the arrays it has taken, in both passes
+abbrev pub entries_taken : Promotion → ℕ
+entries_taken p = stage_consumed p.stage
+
+-- the arrays that it is writing
+abbrev pub writers_of : Promotion → List ArrayProgress
+writers_of p = stage_writers p.stage
+
+-- what is given to it: level 0 and its pool, the levels, and the parents of versions
+abbrev pub inputs_given : ItemList → List PoolEntry → List (Option LevelDesc) → Parents → Inputs
+inputs_given zero pool levels parents =
+    record { zero = zero; pool = pool; levels = levels; parents = parents }
+
+-- these are there, and reach no further than its horizon
+abbrev pub IsFed : Promotion → Inputs → Type 0
+IsFed p inputs = IsReadySource p.task inputs
+
+-- a job is what it is to do with them
+abbrev pub IsItsJob : Image → Promotion → Inputs → Job → Type 0
+IsItsJob f p inputs job = IsTaskIn f p.task inputs job
+
+-- it has done a part of a job
+abbrev pub HasBegun : Image → Job → Promotion → Type 0
+HasBegun f job p = IsUnderway f job p.task.first p.stage
+
+-- how many blocks of arrays it has still to read, in both passes
+abbrev pub blocks_to_read : List ArrayDesc → Promotion → ℕ
+blocks_to_read arrays p = blocks_due arrays p.stage
+
+-- it has the same to do
+pub record SamePromotion (old new : Promotion) : Type 0 where
+  pub task : new.task ≡ old.task
+
+-- nothing is left to do
+abbrev pub has_ended : Promotion → Bool
+has_ended p = p.is_done
+
+-- the level that it fills
+abbrev pub target_of : Promotion → ℕ
+target_of p = p.task.target
+
+-- the level that it made, once it is done
+abbrev pub level_of : Promotion → Option LevelDesc
+level_of p = p.level
+
+-- something holds, where there is more to do
+abbrev pub IfMore : Progress → Type 0 → Type 0
+IfMore progress.More P = P
+IfMore progress.Done P = Unit {0}
+
+-- after a slice there is more to do, or the level is made
+abbrev pub IsSliced : Image → Image → Job → Promotion → Progress → Type 0
+IsSliced f g job p progress.More = HasBegun g job p
+IsSliced f g job p progress.Done =
+    (has_ended p ≡ true) × IsMade f g job (target_of p) p.task.first (level_of p)
+
+-- how many entries the arrays of a level have, if there is one
+abbrev pub entries_if_any : Option LevelDesc → ℕ
+entries_if_any None = 0
+entries_if_any (Some level) = sum_by (λ a. a.entries) level.arrays

@@ -1,0 +1,56 @@
+-- One step of a promotion.
+use Rattle.std.specs.Prelude.{◌≡◌, ◌≤◌, ℕ, ◌^◌, nat_lt, List, Option, length, IsTrue}
+use Rattle.std.specs.List.{list_all}
+use Rattle.strat_crash.specs.Image.{Image}
+use Rattle.strat_arena.specs.declared.pool.PoolEntry.{PoolEntry}
+use Rattle.strat_base.specs.Tree.{Parents}
+use Rattle.strat_base.specs.declared.descriptors.LevelDesc.{LevelDesc}
+use Rattle.strat_level.specs.Memtable.{ItemList, entries_held, ListStands}
+use Rattle.strat_promote.specs.Job.{Job, IsJobIn, AreReadable, arrays_to}
+use Rattle.strat_promote.specs.Passes.{IsJobOver}
+use Rattle.strat_promote.specs.Stages.{IsUnderway, IsMade}
+use Rattle.strat_promote.specs.declared.stage.Stage.{Stage}
+use Rattle.strat_promote.specs.declared.step.Task.{Task}
+use Rattle.strat_promote.specs.declared.step.Sources.{Sources}
+use Rattle.strat_promote.specs.declared.step.Step.{Step}
+use Rattle.strat_promote.specs.declared.step.Step.TheVariants as step
+
+-- what a task reads: level 0 and its pool, the levels, and the parents of versions
+pub record Inputs : Type 0 where
+  pub zero : ItemList
+  pub pool : List PoolEntry
+  pub levels : List (Option LevelDesc)
+  pub parents : Parents
+
+-- the same of what is lent
+abbrev pub inputs_of : Sources → Inputs
+inputs_of sources = record {
+  zero = sources.zero.now;
+  pool = sources.pool.now;
+  levels = sources.levels.now;
+  parents = sources.tree.now.parents;
+}
+
+-- it is there: level 0 stands in its pool, and the versions of all entries are below the horizon
+pub record IsReadySource (task : Task) (inputs : Inputs) : Type 0 where
+  pub zero : ListStands inputs.pool inputs.zero
+  pub low : IsTrue (list_all (λ e. nat_lt e.version task.horizon)
+      (entries_held inputs.pool inputs.zero))
+  pub arrays : AreReadable task.horizon (arrays_to inputs.levels task.target)
+  pub target : task.target ≤ 22
+  pub some : 1 ≤ task.horizon
+  pub known : task.horizon ≤ length inputs.parents
+  pub first : task.first ≤ 2 ^ 63
+
+-- a job is that of a task
+pub record IsTaskIn (f : Image) (task : Task) (inputs : Inputs) (job : Job) : Type 0 where
+  pub over : IsJobOver f (entries_held inputs.pool inputs.zero)
+      (arrays_to inputs.levels task.target) job
+  pub tree : IsJobIn inputs.parents job
+  pub horizon : job.horizon ≡ task.horizon
+  pub purges : job.purges ≡ task.purges
+
+-- after a step there is more to do, or the level is made
+abbrev pub StepsOn : Image → Image → Task → Job → Stage → Step → Type 0
+StepsOn f g task job stage step.More = IsUnderway g job task.first stage
+StepsOn f g task job stage (step.Made level) = IsMade f g job task.target task.first level

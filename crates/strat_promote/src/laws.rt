@@ -1,0 +1,84 @@
+//! Laws of promotion. Each is the contract of a function that does nothing.
+
+ghost use Rattle.std.specs.List.{filter_map};
+ghost use Rattle.std.specs.Option.{option_to_list};
+ghost use Rattle.std.specs.Prelude.{◌≡◌, ℕ, List, ◌++◌, flat_map, take, Option, Some, None, IsTrue};
+ghost use Rattle.strat_base.specs.Change.{Change};
+ghost use Rattle.strat_base.specs.Entries.{Entry, is_ascending, lead_entries};
+ghost use Rattle.strat_base.specs.declared.descriptors.ArrayDesc.{ArrayDesc};
+ghost use Rattle.strat_base.specs.declared.descriptors.LevelDesc.{LevelDesc};
+ghost use Rattle.strat_crash.specs.Blocks.{AgreeOn};
+ghost use Rattle.strat_crash.specs.Image.{Image};
+ghost use Rattle.strat_format.specs.Arrays.{all_some, blocks_of, entries_on};
+ghost use Rattle.strat_plan.specs.Groups.{group_versions};
+ghost use Rattle.strat_promotion.specs.Merging.{runs_taken};
+ghost use Rattle.strat_promotion.specs.Promoted.{promoted, Takeable, PromotesGroups, fresh_of_groups};
+ghost use Rattle.strat_promotion.specs.Purge.{groups_over};
+ghost use Rattle.strat_promotion.specs.Sealed.{sealed_at, grown_by};
+ghost use Rattle.strat_recovery.specs.Opened.{level_on};
+ghost use Rattle.strat_state.specs.Counted.{own_at, keys_at};
+ghost use Rattle.strat_state.specs.Level.{Level};
+ghost use Rattle.strat_state.specs.Setting.{set_all};
+ghost use Rattle.strat_state.specs.Sound.{IsSound};
+ghost use Rattle.strat_state.specs.State.{State, versions_of, journal_updates};
+ghost use Rattle.strat_promote.specs.Job.{Job, runs_in, arrays_to};
+ghost use Rattle.strat_promote.specs.Leads.{leads_in, misfit_in};
+ghost use Rattle.strat_promote.specs.Replacing.{IsJobOf, LeavesTheSame};
+ghost use Rattle.strat_promote.specs.Stages.{IsMade};
+
+/// Where an array's blocks hold entries that ascend, its leads are those among them, and none of its blocks is bad.
+pub fn leads_are_those_among_the_entries()
+    ensures { (f : Image) (a : ArrayDesc) (entries : List Entry)
+        → entries_on f (blocks_of a.extents) ≡ Some entries → IsTrue (is_ascending entries)
+        → (leads_in f a ≡ lead_entries a.versions entries) × (misfit_in f a ≡ None) }
+{}
+
+/// The leads of an array depend on its blocks alone, and so does which of them is bad first.
+pub fn leads_stay_where_their_blocks_do()
+    ensures { (f g : Image) (a : ArrayDesc) → AgreeOn (blocks_of a.extents) f g
+        → (leads_in g a ≡ leads_in f a) × (misfit_in g a ≡ misfit_in f a) }
+{}
+
+/// Where the levels of a sound state stand in an image, a job over their arrays merges the runs of the state.
+pub fn a_job_merges_the_runs_of_a_state()
+    ensures runs { (f : Image) (s : State) (taken kept : List Level) (descs : List LevelDesc)
+        (job : Job) → IsSound s → s.levels ≡ taken ++ kept
+        → all_some (level_on f) descs ≡ Some taken → job.zero ≡ set_all (journal_updates s)
+        → job.arrays ≡ flat_map (λ level. level.arrays) descs
+        → runs_in f job ≡ runs_taken s taken }
+    ensures arrays { (levels : List (Option LevelDesc)) (target : ℕ) → arrays_to levels target
+        ≡ flat_map (λ level. level.arrays) (filter_map (λ level. level) (take target levels)) }
+{}
+
+/// The groups of a level that was made are promoted, and an image has that level.
+pub fn groups_of_a_made_level_are_promoted()
+    ensures promotes { (f g : Image) (s : State) (j first : ℕ) (taken kept : List Level) (job : Job)
+        (made : Option LevelDesc) (m : IsMade f g job j first made) → IsJobOf f s taken kept job
+        → Takeable s j taken kept
+        → PromotesGroups s j taken kept m.groups
+        (own_at (group_versions (groups_over (versions_of s) kept m.groups)))
+        (keys_at (versions_of s) (group_versions (groups_over (versions_of s) kept m.groups)))
+        m.plan }
+    ensures read { (f g : Image) (s : State) (j first : ℕ) (taken kept : List Level) (job : Job)
+        (made : Option LevelDesc) (m : IsMade f g job j first made) → IsJobOf f s taken kept job
+        → IsSound s
+        → all_some (level_on g) (option_to_list made)
+        ≡ Some (fresh_of_groups s j kept m.groups m.plan first) }
+{}
+
+/// The level that a promotion made, in the place of level 0 and of levels 1 to j, leaves a sound state that says the same,
+/// also where changes came since the promotion began.
+pub fn a_made_level_says_the_same()
+    ensures says { (f g : Image) (s : State) (j first : ℕ) (taken kept : List Level) (job : Job)
+        (made : Option LevelDesc) → IsSound s → Takeable s j taken kept
+        → IsJobOf f s taken kept job → IsMade f g job j first made
+        → LeavesTheSame g made s
+        (λ fresh written next_array. promoted s (fresh ++ kept) written next_array) }
+    ensures later { (f g : Image) (s : State) (sealed rest : List Change) (j first : ℕ)
+        (taken kept : List Level) (job : Job) (made : Option LevelDesc) → IsSound s
+        → s.journal ≡ sealed ++ rest → Takeable (sealed_at s sealed) j taken kept
+        → IsJobOf f (sealed_at s sealed) taken kept job → IsMade f g job j first made
+        → LeavesTheSame g made s
+        (λ fresh written next_array.
+        grown_by (promoted (sealed_at s sealed) (fresh ++ kept) written next_array) rest) }
+{}

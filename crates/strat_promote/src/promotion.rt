@@ -1,0 +1,200 @@
+//! Promotions, slice by slice.
+
+ghost use Rattle.std.specs.List.{sum};
+ghost use Rattle.std.specs.Prelude.{◌≡◌, ◌<◌, ◌≤◌, ◌+◌, ◌*◌, ◌^◌, ℕ, List, [], length, true, IfOk, OnOk, IsErrOf, IsTrue};
+ghost use Rattle.strat_array.specs.Taking.{AreUsed};
+ghost use Rattle.strat_base.specs.declared.failures.Trouble.TheVariants.{Damaged, Device};
+ghost use Rattle.strat_crash.specs.Blocks.{TearsBlocks};
+ghost use Rattle.strat_crash.specs.Faults.{HasCause};
+ghost use Rattle.strat_crash.specs.Image.{Image};
+ghost use Rattle.strat_crash.specs.Moments.{Exposes};
+ghost use Rattle.strat_extent.specs.Blocks.{is_free};
+
+use crate::edges::{count_entries, give_all, is_deepest, leads_of};
+use crate::slicing::{taken_in, take_steps};
+use crate::stage::Stage;
+use crate::step::{Desk, Sources, Step, Task};
+use std::alloc::Global;
+use strat_arena::{Arena, ArenaPool};
+use strat_base::limits::LEVELS;
+use strat_base::{LevelDesc, NoMemory, Trouble};
+use strat_disk::Disk;
+use strat_extent::Space;
+use strat_level::{Levels, Zero, target};
+use strat_merge::GroupBuf;
+use strat_tree::Tree;
+
+/// Whether a promotion is done, or has more to do.
+#[derive(Clone, Copy, Debug, PartialEq, Eq)]
+pub enum Progress {
+    Done,
+    More,
+}
+
+/// Level 0 and levels 1 to j, on their way into a new level j. It holds no borrow between two slices.
+///
+/// It goes twice over the entries: once to count them, and once, when the versions are split, to write them. In memory it
+/// holds a block for each array that it reads and for each that it writes, the entries of level 0, the group of one key, 28
+/// bytes for each version and some 60 for each part of the plan. There are at most as many arrays in a level as versions.
+#[derive(Drop)]
+pub struct Promotion {
+    task: Task,
+    stage: Stage,
+    desk: Desk,
+    level: Option<LevelDesc>,
+    is_done: bool,
+}
+
+impl Promotion {
+    ghost use Rattle.std.specs.Prelude.{◌-◌, min};
+    ghost use Rattle.strat_extent.specs.Change.{IsMarked, CanGive};
+    ghost use Rattle.strat_promote.specs.Closing.{AreAllUsed};
+    ghost use Rattle.strat_promote.specs.Job.{Job, IsBadInput, arrays_to, blocks_listed};
+    ghost use Rattle.strat_promote.specs.Promotions.{IsBegun, IsOpen, IsFed, IsItsJob, HasBegun, IsSliced, IfMore, SamePromotion, inputs_given, writers_of, blocks_to_read, leads_listed, entries_taken, entries_if_any, extents_taken, has_ended, target_of, level_of};
+    ghost use Rattle.strat_promote.specs.Spaces.{TakesMore};
+
+    /// The promotion of level 0 and the levels down to the first with room for all their leads, where level j has
+    /// room for `mem * 2^j`. `horizon` is the number of versions that take part, and the arrays are numbered from
+    /// `next_array` on. Nothing is read yet. The only error is want of memory. O(levels); takes room for a group of
+    /// `horizon` entries.
+    pub fn begin(
+        alloc: Global,
+        zero: &Zero,
+        levels: &Levels,
+        tree: &Tree,
+        horizon: u32,
+        mem: u32,
+        next_array: u64,
+    ) -> Result<Promotion, NoMemory>
+        requires fits { sum (leads_listed zero.now.list levels.now) ≤ 2 ^ 24 }
+        requires room { (4 ≤ mem) × (mem ≤ 4096) }
+        ensures ok { IfOk result
+            (λ p. IsBegun zero.now.list levels.now mem horizon next_array p) }
+    {
+        let _versions = tree.count();
+        let leads = leads_of(alloc, zero, levels)?;
+        let target = target(&leads, mem);
+        let task = Task {
+            target: target as u8,
+            horizon,
+            first: next_array,
+            purges: is_deepest(levels, target),
+        };
+        let desk = Desk {
+            alloc,
+            arena: Arena::new(alloc),
+            group: GroupBuf::new(alloc, horizon)?,
+        };
+        Ok(Promotion {
+            task,
+            stage: Stage::Begun,
+            desk,
+            level: None,
+            is_done: false,
+        })
+    }
+
+    /// Goes on until at least `budget` entries were taken in this call and one is left, or until the level is made. What it
+    /// takes at once are the entries of one key, so that a call takes fewer than `budget` and these. Level 0, the levels and
+    /// the parents of the versions below the horizon are those that were given to `begin`. Each block of the arrays is read
+    /// once in each pass, and nothing is written but blocks that were free.
+    ///
+    /// `Device` comes only where the disk failed; `Damaged` names a block of an array that holds no entries, or none that
+    /// come after those before it. After an error it is good for nothing but `abandon`. `NoMemory` also stands for a disk on
+    /// which no block is free, and for arrays that are not as their descriptors say.
+    pub fn slice<D: Disk>(
+        &mut self,
+        zero: &Zero,
+        levels: &Levels,
+        pool: &ArenaPool,
+        tree: &Tree,
+        space: &mut Space,
+        disk: &mut D,
+        budget: u64,
+    ) -> Result<Progress, Trouble>
+        requires kept { IsOpen self.old }
+        requires fits { IsFed self.old
+            (inputs_given zero.now.list pool.now levels.now tree.now.parents) }
+        requires found { AreAllUsed space.old (writers_of self.old) }
+        requires room { 1 ≤ budget }
+        ensures kept { IfOk result (λ p. IfMore p (IsOpen self.new
+            × (entries_taken self.old + budget ≤ entries_taken self.new))) }
+        ensures ok { IfOk result (λ p. (f g : Image) (job : Job) → Exposes (D.view disk.old) f
+            → Exposes (D.view disk.new) g → IsItsJob f self.old
+            (inputs_given zero.now.list pool.now levels.now tree.now.parents) job
+            → AreUsed space.old (blocks_listed job.arrays) → HasBegun f job self.old
+            → IsSliced f g job self.new p) }
+        ensures found { AreAllUsed space.new (writers_of self.new) }
+        ensures room { TakesMore space.old space.new
+            (extents_taken self.old) (extents_taken self.new) }
+        ensures same { TearsBlocks (is_free space.old) (D.view disk.old) (D.view disk.new)
+            × SamePromotion self.old self.new }
+        ensures cause { HasCause Device (D.faults disk.old) (D.faults disk.new) result }
+        ensures damaged { (b : ℕ) → IsErrOf result (Damaged b) → (f : Image) (job : Job)
+            → Exposes (D.view disk.old) f → IsItsJob f self.old
+            (inputs_given zero.now.list pool.now levels.now tree.now.parents) job
+            → AreUsed space.old (blocks_listed job.arrays) → HasBegun f job self.old
+            → IsBadInput f job.arrays b }
+        ensures reads { OnOk result (D.reads disk.new
+            + blocks_to_read (arrays_to levels.now (target_of self.old)) self.new
+            ≤ D.reads disk.old
+            + blocks_to_read (arrays_to levels.now (target_of self.old)) self.old) }
+    {
+        let sources = Sources {
+            zero: zero.view(),
+            levels,
+            pool,
+            tree,
+        };
+        match take_steps(
+            &self.task,
+            &mut self.stage,
+            &mut self.desk,
+            &sources,
+            space,
+            disk,
+            budget,
+        )? {
+            Step::More => Ok(Progress::More),
+            Step::Made(level) => {
+                self.level = level;
+                self.is_done = true;
+                Ok(Progress::Done)
+            }
+        }
+    }
+
+    /// How many entries of level 0 and of the arrays it has taken, in both passes together; past the greatest number it
+    /// stands still. O(1).
+    pub fn consumed(&self) -> u64
+        ensures ok { result ≡ min (entries_taken self.now) (2 ^ 64 - 1) }
+    {
+        taken_in(&self.stage)
+    }
+
+    /// The number of the level that it filled, the level, or `None` where no entry was left, and how many entries its
+    /// arrays have. O(arrays).
+    pub fn finish(self) -> (usize, Option<LevelDesc>, u64)
+        requires { has_ended self ≡ true }
+        ensures ok { result.0 ≡ target_of self }
+        ensures found { result.1 ≡ level_of self }
+        ensures len { result.2 ≡ min (entries_if_any (level_of self)) (2 ^ 64 - 1) }
+    {
+        let entries = match &self.level {
+            Some(level) => count_entries(level.arrays.as_slice()),
+            None => 0,
+        };
+        (self.task.target as usize, self.level, entries)
+    }
+
+    /// Gives the blocks back that it has taken: what it wrote is in no level. It takes no memory. O(extents), each
+    /// with what `Space::give` takes.
+    pub fn abandon(self, space: &mut Space)
+        requires found { CanGive space.old (extents_taken self) }
+        ensures ok { IsMarked space.new (extents_taken self) space.old }
+    {
+        if let Stage::Writing(writing, _) = &self.stage {
+            give_all(&writing.filling.writers, space);
+        }
+    }
+}

@@ -1,0 +1,111 @@
+//! Steps of a promotion, as many as a budget allows.
+
+ghost use Rattle.std.specs.Prelude.{◌≡◌, ◌<◌, ◌≤◌, ◌+◌, ◌-◌, ◌*◌, ◌^◌, ℕ, List, length, min, true, IfOk, OnOk, IsErrOf, IsSome, IsTrue};
+ghost use Rattle.strat_array.specs.Taking.{AreUsed};
+ghost use Rattle.strat_base.specs.declared.failures.Trouble.TheVariants.{Damaged, Device};
+ghost use Rattle.strat_crash.specs.Blocks.{TearsBlocks};
+ghost use Rattle.strat_crash.specs.Faults.{HasCause};
+ghost use Rattle.strat_crash.specs.Image.{Image};
+ghost use Rattle.strat_crash.specs.Moments.{Exposes};
+ghost use Rattle.strat_extent.specs.Blocks.{is_free};
+ghost use Rattle.strat_promote.specs.Closing.{AreAllUsed, all_extents};
+ghost use Rattle.strat_promote.specs.Job.{Job, IsBadInput, arrays_to, blocks_listed};
+ghost use Rattle.strat_promote.specs.Spaces.{TakesMore};
+ghost use Rattle.strat_promote.specs.Stages.{IsSteady, IsUnderway, stage_writers, stage_consumed, blocks_due};
+ghost use Rattle.strat_promote.specs.Steps.{inputs_of, IsReadySource, IsTaskIn, StepsOn};
+ghost use Rattle.strat_promote.specs.Turning.{IsMoreOr};
+
+use crate::stage::Stage;
+use crate::step::{Desk, Sources, Step, Task, take_step};
+use strat_base::Trouble;
+use strat_disk::Disk;
+use strat_extent::Space;
+
+/// The most steps of a slice: more than the entries of any store in both passes.
+const STEPS_MAX: u32 = 67_108_864;
+
+/// How many entries were taken in both passes.
+pub(crate) fn taken_in(stage: &Stage) -> u64
+    ensures ok { result ≡ min (stage_consumed stage.now) (2 ^ 64 - 1) }
+{
+    match stage {
+        Stage::Begun => 0,
+        Stage::Counting(counting) => counting.merger.consumed(),
+        Stage::Writing(writing, before) => before.saturating_add(writing.merger.consumed()),
+    }
+}
+
+/// Whether at least as many entries as a budget were taken since a count.
+fn is_used_up(start: u64, budget: u64, stage: &Stage) -> bool
+    requires { 1 ≤ budget }
+    ensures ok { result ≡ true → (n : ℕ) → start ≡ min n (2 ^ 64 - 1)
+        → n + budget ≤ stage_consumed stage.now }
+{
+    taken_in(stage).saturating_sub(start) >= budget
+}
+
+/// Whether an entry is left in either pass.
+fn has_left<D: Disk>(stage: &Stage) -> bool {
+    match stage {
+        Stage::Writing(writing, _) => writing.merger.has_left::<D>(),
+        _ => true,
+    }
+}
+
+/// Whether at least as many entries as a budget were taken since a count, and one is left.
+fn may_pause<D: Disk>(start: u64, budget: u64, stage: &Stage) -> bool
+    requires { 1 ≤ budget }
+    ensures ok { result ≡ true → (n : ℕ) → start ≡ min n (2 ^ 64 - 1)
+        → n + budget ≤ stage_consumed stage.now }
+{
+    is_used_up(start, budget, stage) && has_left::<D>(stage)
+}
+
+/// Takes steps until at least as many entries as the budget were taken and one is left, or until the level is made.
+pub(crate) fn take_steps<D: Disk>(
+    task: &Task,
+    stage: &mut Stage,
+    desk: &mut Desk,
+    sources: &Sources<'_>,
+    space: &mut Space,
+    disk: &mut D,
+    budget: u64,
+) -> Result<Step, Trouble>
+    requires kept { IsSteady task.now.horizon stage.old }
+    requires fits { IsReadySource task.now (inputs_of sources.now) }
+    requires found { AreAllUsed space.old (stage_writers stage.old) }
+    requires room { 1 ≤ budget }
+    ensures kept { IfOk result (λ step. IsMoreOr step (IsSteady task.now.horizon stage.new
+        × (stage_consumed stage.old + budget ≤ stage_consumed stage.new))) }
+    ensures ok { IfOk result (λ step. (f g : Image) (job : Job) → Exposes (D.view disk.old) f
+        → Exposes (D.view disk.new) g → IsTaskIn f task.now (inputs_of sources.now) job
+        → AreUsed space.old (blocks_listed job.arrays)
+        → IsUnderway f job task.now.first stage.old
+        → StepsOn f g task.now job stage.new step) }
+    ensures found { AreAllUsed space.new (stage_writers stage.new) }
+    ensures room { TakesMore space.old space.new (all_extents (stage_writers stage.old))
+        (all_extents (stage_writers stage.new)) }
+    ensures same { TearsBlocks (is_free space.old) (D.view disk.old) (D.view disk.new) }
+    ensures cause { HasCause Device (D.faults disk.old) (D.faults disk.new) result }
+    ensures damaged { (b : ℕ) → IsErrOf result (Damaged b) → (f : Image) (job : Job)
+        → Exposes (D.view disk.old) f → IsTaskIn f task.now (inputs_of sources.now) job
+        → AreUsed space.old (blocks_listed job.arrays)
+        → IsUnderway f job task.now.first stage.old → IsBadInput f job.arrays b }
+    ensures reads { OnOk result (D.reads disk.new
+        + blocks_due (arrays_to sources.now.levels.now task.now.target) stage.new
+        ≤ D.reads disk.old
+        + blocks_due (arrays_to sources.now.levels.now task.now.target) stage.old) }
+{
+    let start = taken_in(stage);
+    for _ in 0..STEPS_MAX {
+        match take_step(task, stage, desk, sources, space, disk)? {
+            Step::Made(level) => return Ok(Step::Made(level)),
+            Step::More => {
+                if may_pause::<D>(start, budget, stage) {
+                    return Ok(Step::More);
+                }
+            }
+        }
+    }
+    Err(Trouble::NoMemory)
+}

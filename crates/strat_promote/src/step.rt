@@ -1,0 +1,291 @@
+//! One step of a promotion.
+
+ghost use Rattle.std.specs.List.{list_all};
+ghost use Rattle.std.specs.Prelude.{◌≡◌, ◌<◌, ◌≤◌, ◌+◌, ◌*◌, ◌^◌, ℕ, List, [], length, nat_lt, unwrap_or, IfOk, OnOk, IsErrOf, IsTrue, MatchResult};
+ghost use Rattle.strat_array.specs.Taking.{AreUsed};
+ghost use Rattle.strat_base.specs.declared.failures.Trouble.TheVariants.{Damaged, Device};
+ghost use Rattle.strat_crash.specs.Blocks.{TearsBlocks};
+ghost use Rattle.strat_crash.specs.Faults.{HasCause};
+ghost use Rattle.strat_crash.specs.Image.{Image};
+ghost use Rattle.strat_crash.specs.Moments.{Exposes};
+ghost use Rattle.strat_extent.specs.Blocks.{is_free};
+ghost use Rattle.strat_level.specs.Memtable.{entries_held, ListStands};
+ghost use Rattle.strat_array.specs.Pushed.{HasReason};
+ghost use Rattle.strat_crash.specs.Moments.{OnlyReads};
+ghost use Rattle.strat_merge.specs.MergerFields.{views_of};
+ghost use Rattle.strat_merge.specs.Runs.{blocks_left};
+ghost use Rattle.strat_promote.specs.Closing.{AreAllUsed, all_extents};
+ghost use Rattle.strat_promote.specs.Counted.{IsCounter, IsCounting};
+ghost use Rattle.strat_promote.specs.Filled.{IsFilling};
+ghost use Rattle.strat_promote.specs.Passes.{OpensInputs};
+ghost use Rattle.strat_promote.specs.Written.{IsWriterOf, IsWriting, IsAllWritten};
+ghost use Rattle.strat_promote.specs.Turning.{stage_after, AreAllNew, IsMoreOr, WritesOn};
+ghost use Rattle.strat_promote.specs.InputFields.{input_seen};
+ghost use Rattle.strat_promote.specs.Job.{Job, IsBadInput, IsJobIn, AreReadable, arrays_to, blocks_listed};
+ghost use Rattle.strat_promote.specs.Passes.{IsJobOver};
+ghost use Rattle.strat_promote.specs.Spaces.{TakesMore};
+ghost use Rattle.strat_promote.specs.Stages.{IsSteady, IsUnderway, IsMade, stage_writers, blocks_due};
+ghost use Rattle.strat_promote.specs.Steps.{Inputs, inputs_of, IsReadySource, IsTaskIn, StepsOn};
+
+use crate::closing::{describe_all, seal_all};
+use crate::counting::{Counting, count_group};
+use crate::input::Input;
+use crate::opening::{begin_counting, begin_writing};
+use crate::passing::{Writing, write_group};
+use crate::stage::Stage;
+use std::alloc::Global;
+use strat_arena::{Arena, ArenaPool};
+use strat_base::{LevelDesc, Trouble};
+use strat_disk::Disk;
+use strat_extent::Space;
+use strat_level::{Levels, ZeroView};
+use strat_merge::GroupBuf;
+use strat_tree::Tree;
+
+/// What a promotion is to do: the level that it fills, how many versions there were when it began, the number of its first
+/// array, and whether nothing lies deeper.
+#[derive(Clone, Copy)]
+pub(crate) struct Task {
+    pub(crate) target: u8,
+    pub(crate) horizon: u32,
+    pub(crate) first: u64,
+    pub(crate) purges: bool,
+}
+
+/// What it reads: level 0 and the levels, as they were when it began.
+#[derive(Clone, Copy)]
+pub(crate) struct Sources<'a> {
+    pub(crate) zero: &'a ZeroView,
+    pub(crate) levels: &'a Levels,
+    pub(crate) pool: &'a ArenaPool,
+    pub(crate) tree: &'a Tree,
+}
+
+/// Room for the group at hand.
+#[derive(Drop)]
+pub(crate) struct Desk {
+    pub(crate) alloc: Global,
+    pub(crate) arena: Arena,
+    pub(crate) group: GroupBuf,
+}
+
+/// What a step did: there is more to do, or the level is made, if it has an entry.
+#[derive(Drop)]
+pub(crate) enum Step {
+    More,
+    Made(Option<LevelDesc>),
+}
+
+/// The runs of the first pass are opened.
+fn begin<D: Disk>(
+    task: &Task,
+    desk: &mut Desk,
+    sources: &Sources<'_>,
+    disk: &mut D,
+) -> Result<Stage, Trouble>
+    requires fits { IsReadySource task.now (inputs_of sources.now) }
+    ensures kept { IfOk result (λ stage. IsSteady task.now.horizon stage) }
+    ensures ok { IfOk result (λ stage. (f : Image) (job : Job) → Exposes (D.view disk.old) f
+        → IsTaskIn f task.now (inputs_of sources.now) job → IsUnderway f job task.now.first stage) }
+    ensures none { IfOk result (λ stage. stage_writers stage ≡ []) }
+    ensures found { OpensInputs Device Damaged (D.view disk.old) (D.view disk.new)
+        (arrays_to sources.now.levels.now task.now.target) (D.faults disk.old)
+        (D.faults disk.new) (D.reads disk.old) (D.reads disk.new) result }
+    ensures reads { IfOk result (λ stage. D.reads disk.new
+        + blocks_due (arrays_to sources.now.levels.now task.now.target) stage
+        ≤ D.reads disk.old
+        + 2 * length (blocks_listed (arrays_to sources.now.levels.now task.now.target))) }
+{
+    let counting = begin_counting(
+        desk.alloc,
+        sources.zero,
+        sources.levels,
+        sources.pool,
+        task.target as usize,
+        task.horizon,
+        disk,
+    )?;
+    Ok(Stage::Counting(counting))
+}
+
+/// A group is counted; or where none is left, the runs of the second pass are opened: then the answer is the stage that
+/// begins.
+fn count<D: Disk>(
+    task: &Task,
+    counting: &mut Counting<Input>,
+    desk: &mut Desk,
+    sources: &Sources<'_>,
+    disk: &mut D,
+) -> Result<Option<Stage>, Trouble>
+    requires kept { IsCounter input_seen task.now.horizon counting.old }
+    requires fits { IsReadySource task.now (inputs_of sources.now) }
+    ensures kept { IfOk result (λ next. IsSteady task.now.horizon (stage_after counting.new next)) }
+    ensures ok { IfOk result (λ next. (f : Image) (job : Job) → Exposes (D.view disk.old) f
+        → IsTaskIn f task.now (inputs_of sources.now) job → IsCounting input_seen f job counting.old
+        → IsUnderway f job task.now.first (stage_after counting.new next)) }
+    ensures none { IfOk result (λ next. AreAllNew (stage_writers (stage_after counting.new next))) }
+    ensures same { OnlyReads (D.view disk.old) (D.view disk.new) }
+    ensures cause { HasCause Device (D.faults disk.old) (D.faults disk.new) result }
+    ensures damaged { (b : ℕ) → IsErrOf result (Damaged b) → (f : Image) (job : Job)
+        → Exposes (D.view disk.old) f → IsTaskIn f task.now (inputs_of sources.now) job
+        → IsCounting input_seen f job counting.old → IsBadInput f job.arrays b }
+    ensures reads { IfOk result (λ next. D.reads disk.new
+        + blocks_due (arrays_to sources.now.levels.now task.now.target)
+        (stage_after counting.new next)
+        ≤ D.reads disk.old + length (blocks_left (views_of input_seen counting.old.merger))
+        + length (blocks_listed (arrays_to sources.now.levels.now task.now.target))) }
+{
+    let more = count_group::<D, Input>(
+        counting,
+        &mut desk.arena,
+        &mut desk.group,
+        sources.tree,
+        task.purges,
+        disk,
+    )?;
+    if more {
+        return Ok(None);
+    }
+    let before = counting.merger.consumed();
+    let writing = begin_writing(
+        desk.alloc,
+        counting,
+        sources.zero,
+        sources.levels,
+        sources.pool,
+        sources.tree,
+        task.target as usize,
+        task.first,
+        disk,
+    )?;
+    Ok(Some(Stage::Writing(writing, before)))
+}
+
+/// The arrays are sealed, and their level is described.
+fn close<D: Disk>(
+    task: &Task,
+    alloc: Global,
+    writing: &mut Writing<Input>,
+    space: &mut Space,
+    disk: &mut D,
+) -> Result<Option<LevelDesc>, Trouble>
+    requires kept { IsFilling task.now.horizon writing.old.filling }
+    requires found { AreAllUsed space.old writing.old.filling.writers.items }
+    ensures ok { IfOk result (λ made. (f g : Image) (inputs : Inputs) (job : Job)
+        → Exposes (D.view disk.old) f → Exposes (D.view disk.new) g
+        → IsReadySource task.now inputs → IsTaskIn f task.now inputs job
+        → IsAllWritten input_seen f job task.now.first writing.old
+        → IsMade f g job task.now.target task.now.first made) }
+    ensures kept { writing.new.merger ≡ writing.old.merger }
+    ensures found { AreAllUsed space.new writing.new.filling.writers.items }
+    ensures room { TakesMore space.old space.new (all_extents writing.old.filling.writers.items)
+        (all_extents writing.new.filling.writers.items) }
+    ensures same { TearsBlocks (is_free space.old) (D.view disk.old) (D.view disk.new) }
+    ensures cause { MatchResult result (λ _. D.faults disk.new ≡ D.faults disk.old)
+        (λ e. HasReason e (D.faults disk.old) (D.faults disk.new)) }
+    ensures reads { D.reads disk.new ≡ D.reads disk.old }
+{
+    let filling = &mut writing.filling;
+    seal_all(&mut filling.writers, space, disk)?;
+    let made = describe_all(alloc, &filling.writers, &filling.plan, task.target)?;
+    Ok(made)
+}
+
+/// A group is written; or where none is left, the arrays are sealed and their level is described.
+fn write<D: Disk>(
+    task: &Task,
+    writing: &mut Writing<Input>,
+    desk: &mut Desk,
+    sources: &Sources<'_>,
+    space: &mut Space,
+    disk: &mut D,
+) -> Result<Step, Trouble>
+    requires kept { IsWriterOf input_seen task.now.horizon writing.old }
+    requires fits { IsReadySource task.now (inputs_of sources.now) }
+    requires found { AreAllUsed space.old writing.old.filling.writers.items }
+    ensures kept { IfOk result (λ step. IsMoreOr step
+        (IsWriterOf input_seen task.now.horizon writing.new)) }
+    ensures ok { IfOk result (λ step. (f g : Image) (job : Job) → Exposes (D.view disk.old) f
+        → Exposes (D.view disk.new) g → IsTaskIn f task.now (inputs_of sources.now) job
+        → AreUsed space.old (blocks_listed job.arrays)
+        → IsWriting input_seen f job task.now.first writing.old
+        → WritesOn f g task.now job writing.new step) }
+    ensures found { AreAllUsed space.new writing.new.filling.writers.items }
+    ensures room { TakesMore space.old space.new (all_extents writing.old.filling.writers.items)
+        (all_extents writing.new.filling.writers.items) }
+    ensures same { TearsBlocks (is_free space.old) (D.view disk.old) (D.view disk.new) }
+    ensures cause { HasCause Device (D.faults disk.old) (D.faults disk.new) result }
+    ensures damaged { (b : ℕ) → IsErrOf result (Damaged b) → (f : Image) (job : Job)
+        → Exposes (D.view disk.old) f → IsTaskIn f task.now (inputs_of sources.now) job
+        → IsWriting input_seen f job task.now.first writing.old → IsBadInput f job.arrays b }
+    ensures reads { D.reads disk.new + length (blocks_left (views_of input_seen writing.new.merger))
+        ≤ D.reads disk.old + length (blocks_left (views_of input_seen writing.old.merger)) }
+{
+    let more = write_group::<D, Input>(
+        writing,
+        &mut desk.arena,
+        &mut desk.group,
+        sources.tree,
+        task.purges,
+        space,
+        disk,
+    )?;
+    if more {
+        return Ok(Step::More);
+    }
+    let made = close(task, desk.alloc, writing, space, disk)?;
+    Ok(Step::Made(made))
+}
+
+/// Begins the next stage, if there is one.
+fn turn(stage: &mut Stage, next: Option<Stage>)
+    ensures ok { stage.new ≡ unwrap_or next stage.old }
+{
+    if let Some(next) = next {
+        *stage = next;
+    }
+}
+
+/// One step: the runs of a pass are opened, or a group is taken, or the level is closed.
+pub(crate) fn take_step<D: Disk>(
+    task: &Task,
+    stage: &mut Stage,
+    desk: &mut Desk,
+    sources: &Sources<'_>,
+    space: &mut Space,
+    disk: &mut D,
+) -> Result<Step, Trouble>
+    requires kept { IsSteady task.now.horizon stage.old }
+    requires fits { IsReadySource task.now (inputs_of sources.now) }
+    requires found { AreAllUsed space.old (stage_writers stage.old) }
+    ensures kept { IfOk result (λ step. IsMoreOr step (IsSteady task.now.horizon stage.new)) }
+    ensures ok { IfOk result (λ step. (f g : Image) (job : Job) → Exposes (D.view disk.old) f
+        → Exposes (D.view disk.new) g → IsTaskIn f task.now (inputs_of sources.now) job
+        → AreUsed space.old (blocks_listed job.arrays) → IsUnderway f job task.now.first stage.old
+        → StepsOn f g task.now job stage.new step) }
+    ensures found { AreAllUsed space.new (stage_writers stage.new) }
+    ensures room { TakesMore space.old space.new (all_extents (stage_writers stage.old))
+        (all_extents (stage_writers stage.new)) }
+    ensures same { TearsBlocks (is_free space.old) (D.view disk.old) (D.view disk.new) }
+    ensures cause { HasCause Device (D.faults disk.old) (D.faults disk.new) result }
+    ensures damaged { (b : ℕ) → IsErrOf result (Damaged b) → (f : Image) (job : Job)
+        → Exposes (D.view disk.old) f → IsTaskIn f task.now (inputs_of sources.now) job
+        → IsUnderway f job task.now.first stage.old → IsBadInput f job.arrays b }
+    ensures reads { OnOk result (D.reads disk.new
+        + blocks_due (arrays_to sources.now.levels.now task.now.target) stage.new
+        ≤ D.reads disk.old
+        + blocks_due (arrays_to sources.now.levels.now task.now.target) stage.old) }
+{
+    match stage {
+        Stage::Begun => {
+            *stage = begin(task, desk, sources, disk)?;
+            Ok(Step::More)
+        }
+        Stage::Counting(counting) => {
+            let next = count(task, counting, desk, sources, disk)?;
+            turn(stage, next);
+            Ok(Step::More)
+        }
+        Stage::Writing(writing, _) => write(task, writing, desk, sources, space, disk),
+    }
+}
