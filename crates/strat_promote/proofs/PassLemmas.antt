@@ -1,17 +1,17 @@
 -- One more group of a pass.
-use Rattle.std.proofs.Common.{◌≡◌, ◌<◌, ◌≤◌, ◌+◌, ◌-◌, ◌^◌, ◌||◌, ℕ, zero, suc, Bool, true, false, min, leb, ltb, cond, is_some, inl, inr, List, [], ◌∷◌, ◌++◌, length, map, flat_map, Option, Some, None, option_and_then, refl, sym, ap, ◌∙◌, subst, arith}
-use Rattle.std.specs.List.{list_all, slice_get, find, Contains}
+use Rattle.std.proofs.Common.{◌≡◌, ◌<◌, ◌≤◌, ◌+◌, ◌-◌, ◌^◌, ◌||◌, ℕ, suc, Bool, true, false, leb, ltb, cond, is_some, inl, inr, List, [], ◌∷◌, ◌++◌, length, map, Option, None, option_and_then, refl, sym, ap, ◌∙◌, subst, arith}
+use Rattle.std.specs.List.{slice_get, find, Contains}
 use Rattle.std.specs.Option.{option_map_or}
 use Rattle.std.proofs.lemmas.Bool.{ltb-true, leb-true, le-leb}
 use Rattle.std.proofs.lemmas.List.{map-append}
 use Rattle.strat_crash.specs.Image.{Image}
-use Rattle.strat_base.specs.Tree.{Parents, parent_of, path, IsTree}
+use Rattle.strat_base.specs.Tree.{Parents, parent_of, IsTree}
 use Rattle.strat_base.specs.Entries.{Entry, is_at}
 use Rattle.strat_base.proofs.ListFacts.{Among, all_at, all_from}
 use Rattle.strat_base.proofs.TreeLemmas.{option_cases, parent_older}
-use Rattle.strat_state.specs.Live.{deciding, first_some}
+use Rattle.strat_state.specs.Live.{first_some}
 use Rattle.strat_arena.specs.ArenaView.{KeyValue}
-use Rattle.strat_arena.specs.Items.{entry_of_item, entries_of}
+use Rattle.strat_arena.specs.Items.{entries_of}
 use Rattle.strat_arena.specs.declared.items.Item.{Item}
 use Rattle.strat_live.specs.Counting.{SameParents, item_versions, IsTally}
 use Rattle.strat_live.specs.Tallies.{Tallies}
@@ -22,9 +22,9 @@ use Rattle.strat_promotion.proofs.MergingLemmas.{merged_more}
 use Rattle.std.proofs.Math.Nat.{min-eq_left}
 use Rattle.strat_promotion.specs.Purge.{is_valued, is_needed, purged}
 use Rattle.strat_merge.specs.Gathered.{are_under, TakesNext, CountsTaken}
-use Rattle.strat_merge.specs.Runs.{RunView, IsEntryRun, head_at, lefts, blocks_left, IsBadFor, NoneLeft}
+use Rattle.strat_merge.specs.Runs.{RunView, IsEntryRun, lefts, blocks_left, IsBadFor, NoneLeft}
 use Rattle.strat_promote.specs.Job.{Job, runs_in, input_count, groups_kept}
-use Rattle.strat_promotion.specs.Merging.{MergesTo, Merges, IsNext, rest_of}
+use Rattle.strat_promotion.specs.Merging.{MergesTo, Merges}
 use Rattle.strat_promote.specs.Counted.{AreRunsOf}
 use Rattle.strat_promote.specs.Taken.{group_kept, TakesKept}
 

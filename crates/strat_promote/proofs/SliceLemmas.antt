@@ -1,5 +1,5 @@
 -- Steps of a promotion, one after the other.
-use Rattle.std.proofs.Common.{◌≡◌, ◌≤◌, ◌+◌, ◌++◌, ◌^◌, ℕ, suc, List, [], ◌∷◌, Option, None, Some, unwrap_or, Result, Ok, Err, IfOk, length, refl, sym, ap, ◌∙◌, subst, arith}
+use Rattle.std.proofs.Common.{◌≡◌, ◌≤◌, ◌+◌, ◌++◌, ℕ, suc, List, [], ◌∷◌, Option, None, Some, unwrap_or, Result, Ok, Err, IfOk, length, refl, sym, ap, ◌∙◌, subst, arith}
 use Rattle.strat_base.specs.Entries.{Entry}
 use Rattle.strat_base.specs.declared.descriptors.LevelDesc.{LevelDesc}
 use Rattle.strat_crash.specs.Blocks.{AgreeOn, TearsBlocks}

@@ -3,7 +3,7 @@ use Rattle.std.specs.Prelude.{◌≡◌, ◌≤◌, ℕ, ◌+◌, ◌^◌, List,
 use Rattle.strat_base.specs.Entries.{Entry}
 use Rattle.strat_crash.specs.Image.{Image}
 use Rattle.strat_live.specs.Counting.{IsTally}
-use Rattle.strat_live.specs.Tallies.{Tallies, items_counted}
+use Rattle.strat_live.specs.Tallies.{items_counted}
 use Rattle.strat_merge.specs.Gathered.{are_under}
 use Rattle.strat_merge.specs.MergerFields.{consumed_of, views_of, IsUnspent}
 use Rattle.strat_merge.specs.Runs.{RunView, lefts, blocks_left, IsBadFor}

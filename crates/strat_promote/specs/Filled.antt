@@ -1,5 +1,5 @@
 -- The arrays of a plan's parts as the second pass fills them.
-use Rattle.std.specs.Prelude.{◌≡◌, ◌<◌, ◌≤◌, ℕ, List, ◌++◌, length, Some, IsTrue}
+use Rattle.std.specs.Prelude.{◌≡◌, ◌≤◌, ℕ, List, ◌++◌, length, Some, IsTrue}
 use Rattle.std.specs.List.{list_all, slice_get}
 use Rattle.std.specs.Ordering.{is_lt}
 use Rattle.strat_arena.specs.ArenaView.{KeyValue}

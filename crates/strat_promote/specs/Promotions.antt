@@ -1,6 +1,6 @@
 -- A promotion as its caller sees it.
-use Rattle.std.specs.Prelude.{◌≡◌, ◌<◌, ◌≤◌, ℕ, ◌+◌, ◌-◌, Bool, true, false, not, is_some, List, [], ◌∷◌, length, map, drop, Option, None, Some, IsTrue}
-use Rattle.std.specs.List.{list_all, list_any, range_with_len, sum_by}
+use Rattle.std.specs.Prelude.{◌≡◌, ◌≤◌, ℕ, Bool, true, false, not, is_some, List, ◌∷◌, length, map, drop, Option, None, Some}
+use Rattle.std.specs.List.{list_all, range_with_len, sum_by}
 use Rattle.strat_arena.specs.declared.pool.PoolEntry.{PoolEntry}
 use Rattle.strat_array.specs.Progress.{ArrayProgress}
 use Rattle.strat_base.specs.Tree.{Parents}

@@ -1,5 +1,5 @@
 -- One step of a promotion.
-use Rattle.std.specs.Prelude.{◌≡◌, ◌≤◌, ℕ, ◌^◌, nat_lt, List, Option, length, IsTrue}
+use Rattle.std.specs.Prelude.{◌≡◌, ◌≤◌, ◌^◌, nat_lt, List, Option, length, IsTrue}
 use Rattle.std.specs.List.{list_all}
 use Rattle.strat_crash.specs.Image.{Image}
 use Rattle.strat_arena.specs.declared.pool.PoolEntry.{PoolEntry}

@@ -1,5 +1,5 @@
 -- The second pass of a promotion.
-use Rattle.std.specs.Prelude.{◌≡◌, ◌≤◌, ℕ, ◌+◌, List, length, map, Some, Contains, Result, IsErrOf, IsTrue}
+use Rattle.std.specs.Prelude.{◌≡◌, ℕ, ◌+◌, List, Some, Contains, Result, IsErrOf, IsTrue}
 use Rattle.std.specs.List.{slice_get}
 use Rattle.strat_array.specs.Progress.{ArrayProgress}
 use Rattle.strat_array.specs.Pushed.{IsPushed}
@@ -8,7 +8,7 @@ use Rattle.strat_crash.specs.Faults.{HasCause}
 use Rattle.strat_crash.specs.Image.{Image}
 use Rattle.strat_crash.specs.Moments.{DiskView, Exposes}
 use Rattle.strat_merge.specs.Gathered.{are_under}
-use Rattle.strat_merge.specs.MergerFields.{runs_merged, consumed_of, views_of, IsUnspent}
+use Rattle.strat_merge.specs.MergerFields.{consumed_of, views_of, IsUnspent}
 use Rattle.strat_merge.specs.Runs.{RunView, head_at, blocks_left, ReadsLeft, IsBadFor}
 use Rattle.strat_plan.specs.Groups.{group_versions}
 use Rattle.strat_plan.specs.Plan.{IsSplit}

@@ -1,5 +1,5 @@
 -- What a merge sees of a copy of level 0.
-use Rattle.std.specs.Prelude.{ℕ, [], None, List, drop, slice_get}
+use Rattle.std.specs.Prelude.{[], None, List, drop, slice_get}
 use Rattle.strat_arena.specs.Items.{entries_of}
 use Rattle.strat_base.specs.Entries.{Entry}
 use Rattle.strat_merge.specs.Runs.{RunView}

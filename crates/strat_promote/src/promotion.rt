@@ -11,7 +11,7 @@ ghost use Rattle.strat_crash.specs.Moments.{Exposes};
 ghost use Rattle.strat_extent.specs.Blocks.{is_free};
 
 use crate::edges::{count_entries, give_all, is_deepest, leads_of};
-use crate::slicing::{taken_in, take_steps};
+use crate::slicing::{take_steps, taken_in};
 use crate::stage::Stage;
 use crate::step::{Desk, Sources, Step, Task};
 use std::alloc::Global;

@@ -19,7 +19,6 @@ use strat_base::{Entry, NoMemory};
 use strat_level::ZeroView;
 use strat_merge::{GroupBuf, add_entry};
 
-
 impl ZeroRun {
     /// A copy of level 0. O(bytes), and memory for as many.
     pub(crate) fn new(

@@ -1,15 +1,12 @@
-use Rattle.std.proofs.Common.{◌≡◌, ◌≤◌, ◌+◌, ◌^◌, ◌++◌, ◌∷◌, [], ℕ, Bool, true, List, map, refl, sym, ap, ◌∙◌, subst, arith, IsTrue}
-use Rattle.strat_crash.specs.Moments.{Exposes}
-use Rattle.strat_base.specs.Entries.{Entry}
+use Rattle.std.proofs.Common.{◌≡◌, ◌++◌, ◌∷◌, [], ℕ, Bool, true, List, map, sym, ap, ◌∙◌, subst, arith}
 use Rattle.strat_merge.specs.Gathered.{are_under}
 use Rattle.strat_merge.specs.MergerFields.{views_of}
-use Rattle.strat_merge.specs.Runs.{RunView, lefts, NoneLeft}
-use Rattle.strat_plan.specs.Groups.{grouped_entries}
+use Rattle.strat_merge.specs.Runs.{lefts}
 use Rattle.strat_arena.specs.Items.{entries_of}
 use Rattle.strat_arena.specs.declared.items.Item.{Item}
 use Rattle.strat_live.specs.Counting.{SameParents, item_versions, IsTally}
 use Rattle.strat_plan.specs.Groups.{group_versions}
-use Rattle.strat_promote.specs.Job.{Job, groups_kept}
+use Rattle.strat_promote.specs.Job.{groups_kept}
 use Rattle.strat_promote.specs.Taken.{TakesKept}
 use Rattle.strat_promote.proofs.PassLemmas.{under_more, runs_ended, count_stays, runs_more, counted_more}
 use Rattle.strat_promote.proofs.counting.count_group.Goals as goal
@@ -42,5 +39,5 @@ returns-clause-ok g c = λ f job told within purges horizon counting.
       tallied = counted_more f job counting.groups c.args.tree.now.parents c.take_group.new.arena.pairs c.take_group.new.group c.args.counting.now.counts c.add.new.self
           (lefts f (views_of g.R.Run.view c.args.counting.now.merger)) (lefts f (views_of g.R.Run.view c.take_group.new.merger)) within.rooted within.same kept
           (λ tally. subst (λ (items : List Item). IsTally job.parents (group_versions (groups_kept job counting.groups) ++ item_versions items ∷ []) c.add.new.self) c.items-2.ensures.ok
-              (c.add.ensures.ok job.parents (group_versions (groups_kept job counting.groups)) same tally)) counting.tallied;
+          (c.add.ensures.ok job.parents (group_versions (groups_kept job counting.groups)) same tally)) counting.tallied;
     }

@@ -1,4 +1,4 @@
-use Rattle.std.proofs.Common.{sym, subst, IfOk}
+use Rattle.std.proofs.Common.{subst}
 use Rattle.strat_array.proofs.SearchLemmas.{err_of}
 use Rattle.strat_promote.specs.Stages.{IsSteady}
 use Rattle.strat_promote.specs.Turning.{IsMoreOr}
@@ -41,4 +41,3 @@ loop-preserved g c =
     (subst (λ (r : Step). IsMoreOr r (IsSteady c.args.task.now.horizon c.take_step.new.stage)) c.in-More.is c.in_ok-level.ensures.kept) c.in_ok-level.ensures.found c.in_ok-level.ensures.cause.ok
     (λ f g' job told tells is used underway. subst (λ (r : Step). StepsOn f g' c.args.task.now job c.take_step.new.stage r) c.in-More.is (c.in_ok-level.ensures.ok f g' job told tells is used underway))
     c.in_ok-level.ensures.reads
-

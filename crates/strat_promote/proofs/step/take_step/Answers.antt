@@ -22,6 +22,6 @@ returns-in_ok-next-in-Counting-clause-room g c =
 pub returns-in-Writing-clause-ok : goal.returns-in-Writing-clause-ok
 returns-in-Writing-clause-ok g c =
     if_ok c.write.result c.write.ensures.ok (λ did writes f g' job told tells task used underway.
-        let parts = subst (λ (s : Stage). IsUnderway f job c.args.task.now.first s) c.in-Writing.is underway in
-        writes_on f g' c.args.task.now job c.write.new.writing c.in-Writing.field-1 did (inputs_agree c.args.space.now (blocks_listed job.arrays) _ _ f g' used c.write.ensures.same told tells) parts.1
-        (writes f g' job told tells task used parts.0))
+    let parts = subst (λ (s : Stage). IsUnderway f job c.args.task.now.first s) c.in-Writing.is underway in
+    writes_on f g' c.args.task.now job c.write.new.writing c.in-Writing.field-1 did (inputs_agree c.args.space.now (blocks_listed job.arrays) _ _ f g' used c.write.ensures.same told tells) parts.1
+    (writes f g' job told tells task used parts.0))

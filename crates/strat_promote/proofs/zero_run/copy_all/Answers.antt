@@ -1,4 +1,4 @@
-use Rattle.std.proofs.Common.{◌≡◌, ◌<◌, ◌++◌, ◌∷◌, [], length, List, sym, ap, ◌∙◌, arith}
+use Rattle.std.proofs.Common.{◌<◌, ◌++◌, ◌∷◌, [], length, List, ap, ◌∙◌, arith}
 use Rattle.std.proofs.lemmas.List.{length-map}
 use Rattle.strat_arena.specs.Items.{entry_of_item}
 use Rattle.strat_arena.specs.PoolView.{arena_at}
