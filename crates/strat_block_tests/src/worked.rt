@@ -7,8 +7,8 @@ ghost use Rattle.strat_base.specs.EntryBytes.{fits_fields};
 ghost use Rattle.strat_base.specs.EntryView.{entry_of};
 
 use std::alloc::Global;
-use strat_base::{Entry, NoMemory};
 use strat_base::limits::BLOCK;
+use strat_base::{Entry, NoMemory};
 use strat_block::{Block, BlockView, BlockWriter, is_block};
 
 /// A writer with these entries, or the place of the first that has no room.
