@@ -95,10 +95,10 @@ target_of p = p.task.target
 abbrev pub level_of : Promotion → Option LevelDesc
 level_of p = p.level
 
--- something holds, where there is more to do
-abbrev pub IfMore : Progress → Type 0 → Type 0
-IfMore progress.More P = P
-IfMore progress.Done P = Unit {0}
+-- one thing holds where there is more to do, and another where the level is made
+abbrev pub MatchProgress : Progress → Type 0 → Type 0 → Type 0
+MatchProgress progress.More more done = more
+MatchProgress progress.Done more done = done
 
 -- after a slice there is more to do, or the level is made
 abbrev pub IsSliced : Image → Image → Job → Promotion → Progress → Type 0

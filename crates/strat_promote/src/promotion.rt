@@ -50,7 +50,7 @@ impl Promotion {
     ghost use Rattle.strat_extent.specs.Change.{IsMarked, CanGive};
     ghost use Rattle.strat_promote.specs.Closing.{AreAllUsed};
     ghost use Rattle.strat_promote.specs.Job.{Job, IsBadInput, arrays_to, blocks_listed};
-    ghost use Rattle.strat_promote.specs.Promotions.{IsBegun, IsOpen, IsFed, IsItsJob, HasBegun, IsSliced, IfMore, SamePromotion, inputs_given, writers_of, blocks_to_read, leads_listed, entries_taken, entries_if_any, extents_taken, has_ended, target_of, level_of};
+    ghost use Rattle.strat_promote.specs.Promotions.{IsBegun, IsOpen, IsFed, IsItsJob, HasBegun, IsSliced, MatchProgress, SamePromotion, inputs_given, writers_of, blocks_to_read, leads_listed, entries_taken, entries_if_any, extents_taken, has_ended, target_of, level_of};
     ghost use Rattle.strat_promote.specs.Spaces.{TakesMore};
 
     /// The promotion of level 0 and the levels down to the first with room for all their leads, where level j has
@@ -117,8 +117,9 @@ impl Promotion {
             (inputs_given zero.now.list pool.now levels.now tree.now.parents) }
         requires found { AreAllUsed space.old (writers_of self.old) }
         requires room { 1 ≤ budget }
-        ensures kept { IfOk result (λ p. IfMore p (IsOpen self.new
-            × (entries_taken self.old + budget ≤ entries_taken self.new))) }
+        ensures kept { IfOk result (λ p. MatchProgress p (IsOpen self.new
+            × (entries_taken self.old + budget ≤ entries_taken self.new))
+            (has_ended self.new ≡ true)) }
         ensures ok { IfOk result (λ p. (f g : Image) (job : Job) → Exposes (D.view disk.old) f
             → Exposes (D.view disk.new) g → IsItsJob f self.old
             (inputs_given zero.now.list pool.now levels.now tree.now.parents) job
