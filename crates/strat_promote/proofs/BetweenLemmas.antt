@@ -1,5 +1,5 @@
 -- A promotion between two of its slices.
-use Rattle.std.proofs.Common.{◌≡◌, ℕ, zero, suc, List, [], ◌∷◌, Some, length, refl, sym, ap, ◌∙◌, subst}
+use Rattle.std.proofs.Common.{◌≡◌, ℕ, zero, suc, List, [], ◌∷◌, Some, length, sym, ap, ◌∙◌, subst}
 use Rattle.std.specs.List.{slice_get, range_with_len, Contains}
 use Rattle.std.proofs.lemmas.Grind.{flat_map-append}
 use Rattle.std.proofs.lemmas.List.Elements.{Contains-append_left, Contains-append_right}
@@ -21,7 +21,7 @@ use Rattle.strat_promote.specs.Closing.{all_extents}
 use Rattle.strat_promote.specs.Counted.{IsCounting}
 use Rattle.strat_promote.specs.InputFields.{input_seen}
 use Rattle.strat_promote.specs.InputLaw.{input_law}
-use Rattle.strat_promote.specs.Job.{Job, input_count, blocks_listed, groups_kept, part_content}
+use Rattle.strat_promote.specs.Job.{Job, blocks_listed, groups_kept, part_content}
 use Rattle.strat_promote.specs.Promotions.{HasBegun, IsItsJob}
 use Rattle.strat_promote.specs.Stages.{IsUnderway, stage_writers}
 use Rattle.strat_promote.specs.Steps.{Inputs}

@@ -1,27 +1,24 @@
 -- A promotion that was begun over what holds a state.
-use Rattle.std.proofs.Common.{◌≡◌, ◌<◌, ◌≤◌, ◌+◌, ◌*◌, ◌^◌, ℕ, zero, suc, Bool, true, cond, eqb, leb, ltb, List, [], ◌∷◌, ◌++◌, length, map, filter, flat_map, length-append, take, get_or, Option, Some, None, refl, sym, ap, ◌∙◌, subst, arith}
-use Rattle.std.specs.List.{list_all, range_with_len, sum, sum_by, slice_get}
-use Rattle.std.specs.Option.{option_to_list}
+use Rattle.std.proofs.Common.{◌≡◌, ◌<◌, ◌≤◌, ◌+◌, ℕ, zero, suc, Bool, cond, eqb, List, [], ◌∷◌, ◌++◌, length, map, filter, flat_map, length-append, take, Option, Some, refl, sym, ap, ◌∙◌, subst, arith}
+use Rattle.std.specs.List.{sum_by}
 use Rattle.std.proofs.lemmas.Bool.{eq-eqb, ne_eqb}
 use Rattle.std.proofs.lemmas.List.{length-map}
 use Rattle.std.proofs.lemmas.List.Sums.{sum_by-cons, sum_by-take-le}
 use Rattle.strat_arena.specs.Items.{entry_of_item}
 use Rattle.strat_arena.specs.PoolView.{arena_at}
-use Rattle.strat_array.specs.Progress.{ArrayProgress}
 use Rattle.strat_base.specs.Change.{Change}
 use Rattle.strat_base.specs.Entries.{Entry}
-use Rattle.strat_base.specs.declared.descriptors.ArrayDesc.{ArrayDesc}
 use Rattle.strat_base.specs.declared.descriptors.LevelDesc.{LevelDesc}
 use Rattle.strat_crash.specs.Blocks.{AgreeOn}
 use Rattle.strat_crash.specs.Image.{Image}
 use Rattle.strat_extent.specs.Blocks.{SpaceView}
 use Rattle.strat_format.specs.Arrays.{all_some}
 use Rattle.strat_level.specs.Levels.{level_numbered, leads_if_any}
-use Rattle.strat_level.specs.Memtable.{ItemList, entries_held}
+use Rattle.strat_level.specs.Memtable.{ItemList}
 use Rattle.strat_level.specs.Target.{leads_down_to}
 use Rattle.strat_plan.specs.Groups.{grouped_entries}
 use Rattle.strat_promotion.specs.Merging.{runs_taken}
-use Rattle.strat_promotion.specs.Paid.{entries_written, leads_at, IsLeastTarget}
+use Rattle.strat_promotion.specs.Paid.{leads_at, IsLeastTarget}
 use Rattle.strat_promotion.specs.Promoted.{levels_to, levels_behind, promoted, Takeable, fresh_of_groups}
 use Rattle.strat_promotion.specs.Sealed.{sealed_at, grown_by}
 use Rattle.strat_promotion.proofs.CutLemmas.{takeable}
@@ -34,10 +31,10 @@ use Rattle.strat_state.specs.Level.{TaggedArray, Level, level_leads, own_leads}
 use Rattle.strat_state.specs.Reading.{level_zero}
 use Rattle.strat_state.specs.Setting.{set_all}
 use Rattle.strat_state.specs.Sound.{IsSound}
-use Rattle.strat_state.specs.State.{State, versions_of, journal_updates, IsPaid}
+use Rattle.strat_state.specs.State.{State, journal_updates, IsPaid}
 use Rattle.strat_state.proofs.SoundLemmas.{sound_tree}
 use Rattle.strat_promote.specs.Closing.{AreAllUsed}
-use Rattle.strat_promote.specs.Job.{Job, runs_in, blocks_listed, arrays_to}
+use Rattle.strat_promote.specs.Job.{Job, blocks_listed, arrays_to}
 use Rattle.strat_promote.specs.Promotions.{IsBegun, IsOpen, HasBegun, IsItsJob, leads_listed, target_of, writers_of, SamePromotion}
 use Rattle.strat_promote.specs.Replacing.{IsJobOf, LeavesTheSame}
 use Rattle.strat_promote.specs.Stages.{IsSteady, IsUnderway, IsMade, stage_writers}

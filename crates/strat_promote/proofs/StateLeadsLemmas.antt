@@ -1,27 +1,25 @@
 -- Levels that hold those of a state have as many leads, and are cut at a number as they are.
-use Rattle.std.proofs.Common.{◌≡◌, ◌<◌, ◌≤◌, ◌+◌, ◌-◌, ℕ, zero, suc, Bool, true, false, not, is_some, cond, eqb, leb, ltb, ◌&&◌, inl, inr, List, [], ◌∷◌, ◌++◌, length, length-append, map, filter, flat_map, take, drop, get_or, Option, Some, None, refl, sym, ap, ◌∙◌, subst, arith}
+use Rattle.std.proofs.Common.{◌≡◌, ◌<◌, ◌≤◌, ◌+◌, ◌-◌, ℕ, zero, suc, Bool, true, false, not, is_some, cond, eqb, leb, ltb, ◌&&◌, inl, inr, List, [], ◌∷◌, length, length-append, map, filter, flat_map, take, drop, get_or, Option, Some, None, refl, sym, ap, ◌∙◌, subst, arith}
 use Rattle.std.specs.List.{list_all, range_with_len, filter_map, sum, sum_by}
 use Rattle.std.specs.Option.{option_map, option_and_then, option_to_list}
 use Rattle.std.proofs.lemmas.Bool.{and_parts, eqb-true, eq-eqb, ne_eqb, le-leb, lt-leb, lt-ltb, le-ltb}
-use Rattle.std.proofs.lemmas.List.{get_or_past, length-map}
+use Rattle.std.proofs.lemmas.List.{get_or_past}
 use Rattle.std.proofs.lemmas.List.FromFn.{take-map-range_with_len}
 use Rattle.std.proofs.lemmas.List.Sums.{sum_by-cons, sum-map}
-use Rattle.strat_arena.specs.Items.{entry_of_item}
-use Rattle.strat_arena.specs.PoolView.{arena_at}
 use Rattle.strat_base.specs.Entries.{Entry, latest}
 use Rattle.strat_base.specs.declared.descriptors.ArrayDesc.{ArrayDesc}
 use Rattle.strat_base.specs.declared.descriptors.LevelDesc.{LevelDesc}
 use Rattle.strat_base.proofs.ListFacts.{Among}
 use Rattle.strat_crash.specs.Image.{Image}
 use Rattle.strat_format.specs.Arrays.{all_some, blocks_of, entries_on}
-use Rattle.strat_level.specs.Levels.{level_numbered, leads_if_any}
+use Rattle.strat_level.specs.Levels.{leads_if_any}
 use Rattle.strat_plan.proofs.ListLemmas.{filter_none, filter_every}
-use Rattle.strat_promotion.specs.Paid.{entries_written, leads_at}
+use Rattle.strat_promotion.specs.Paid.{entries_written}
 use Rattle.strat_promotion.proofs.PaidLemmas.{count, sum_filter}
 use Rattle.strat_promotion.proofs.UnionLemmas.{found_among, single_fits}
 use Rattle.strat_recovery.specs.Opened.{array_on, level_on}
 use Rattle.strat_recovery.proofs.OpeningLemmas.{map_some, each_some}
-use Rattle.strat_state.specs.Level.{TaggedArray, Level, own_leads, least_live, level_leads}
+use Rattle.strat_state.specs.Level.{TaggedArray, Level, own_leads, least_live}
 use Rattle.strat_state.specs.Setting.{set_all}
 use Rattle.strat_state.specs.Sound.{is_described}
 use Rattle.strat_state.specs.State.{State, versions_of}

@@ -1,5 +1,4 @@
 -- What stays between two slices of a promotion.
-use Rattle.std.specs.Prelude.{List, ℕ}
 use Rattle.strat_array.specs.Taking.{AreUsed}
 use Rattle.strat_crash.specs.Blocks.{AgreeOn}
 use Rattle.strat_crash.specs.Image.{Image}
