@@ -199,7 +199,7 @@ impl Journal {
     /// The other region becomes active, with nothing in the list, and the region that was active is closed
     /// where its first gate reads open: at most one read, one write and one sync, and one copy of the batch,
     /// which stays. What the list had should be in a manifest by then, and the other region closed. After an
-    /// error the journal is as it was, and only another recovery tells which region is active.
+    /// error the journal is as it was, and nothing but another recovery is of use.
     pub fn turn<D: Disk>(&mut self, disk: &mut D) -> Result<(), Failed>
         ensures ok { OnOk result (self.new ≡ region_begun self.old) }
         ensures err { OnErr result (self.new ≡ self.old) }
