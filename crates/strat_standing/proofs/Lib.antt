@@ -10,4 +10,9 @@ pub mod AppendLemmas
 pub mod TableLemmas
 pub mod PromotedLemmas
 pub mod PublishLemmas
+pub mod DescribedLemmas
+pub mod PartLemmas
+pub mod NextLemmas
+pub mod BelongLemmas
+pub mod OccupiedLemmas
 pub mod WorkedLemmas
