@@ -36,7 +36,7 @@ module _ (f g : Image) (old new : Contents) (made : Option LevelDesc) (taken kep
   abbrev ids : List ArrayDesc → List ℕ
   ids rs = map (λ a. a.id) rs
 
-  own_versions : list_all has_own_versions now.levels ≡ true
+  pub own_versions : list_all has_own_versions now.levels ≡ true
   own_versions = all_from has_own_versions now.levels (λ d among.
       let l = next.level_at f g old new made taken kept m d among in
       let tags = tags_kept g d.arrays l.level.arrays l.arrays in
@@ -77,7 +77,7 @@ module _ (f g : Image) (old new : Contents) (made : Option LevelDesc) (taken kep
       let x = next.array_at f g old new made taken kept m found.0 a found.1 found.2 in
       and_from (leb a.entries (2 * a.leads)) (leb (array_blocks a) a.entries) (le-leb a.entries (2 * a.leads) x.led) (le-leb (array_blocks a) a.entries (omega (arith, x.few, blocks_counted a.extents))))
 
-  few_publications : has_few_publications new.sb now ≡ true
+  pub few_publications : has_few_publications new.sb now ≡ true
   few_publications =
       let before = and_parts (leb old.sb.generation (was.changes + 1) && leb was.next_array (16384 * was.changes + 1)) (leb was.written (33554432 * was.changes)) (pass_at (belonging_tests old.sb old.chained) 7 m.reads.lies.belonging) in
       let generation = leb-true old.sb.generation (was.changes + 1) (and_parts (leb old.sb.generation (was.changes + 1)) (leb was.next_array (16384 * was.changes + 1)) before.0).0 in

@@ -14,5 +14,6 @@ pub mod DescribedLemmas
 pub mod PartLemmas
 pub mod NextLemmas
 pub mod BelongLemmas
+pub mod LongLemmas
 pub mod OccupiedLemmas
 pub mod WorkedLemmas

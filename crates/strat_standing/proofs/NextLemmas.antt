@@ -139,7 +139,7 @@ one_of_sum (b ∷ rs) a (inl here) = omega (arith, ap (λ (x : ArrayDesc). x.lea
 one_of_sum (b ∷ rs) a (inr there) = omega (arith, one_of_sum rs a there, sum_by-cons (λ (x : ArrayDesc). x.leads) b rs)
 
 -- extents that are not empty are no more than their blocks
-extents_few : (xs : List Extent) → list_all is_lawful_extent xs ≡ true → length xs ≤ length (blocks_of xs)
+pub extents_few : (xs : List Extent) → list_all is_lawful_extent xs ≡ true → length xs ≤ length (blocks_of xs)
 extents_few [] lawful = omega arith
 extents_few (x ∷ xs) lawful =
     let parts = and_parts (is_lawful_extent x) (list_all is_lawful_extent xs) lawful in
@@ -227,6 +227,9 @@ module _ (f g : Image) (old new : Contents) (made : Option LevelDesc) (taken kep
   leads_most : (a : ArrayDesc) → Among a (descriptors now) → a.leads ≤ 16777216
   leads_most a among = omega (arith, one_of_sum (descriptors now) a among, leads_within, updates_within, changes_bound)
 
+  pub entries_all : sum_by (λ a. a.entries) (descriptors now) ≤ 33554432
+  entries_all = omega (arith, entries_led (descriptors now) led_at, leads_within, updates_within, changes_bound)
+
   pub entries_made : sum_by (λ a. a.entries) (arrays_made made) ≤ 33554432
   entries_made =
       omega (
@@ -248,7 +251,7 @@ module _ (f g : Image) (old new : Contents) (made : Option LevelDesc) (taken kep
       let below = tagged_below (versions_of state) (sound_tree state m.is_sound) l.level (each_of (IsStratified (versions_of state)) new.levels l.level m.is_sound.stratified l.among) v tagged in
       omega (arith, below, l.aged)
 
-  horizon_most : (d : LevelDesc) → Among d now.levels → d.horizon ≤ versions_in now
+  pub horizon_most : (d : LevelDesc) → Among d now.levels → d.horizon ≤ versions_in now
   horizon_most d among =
       let l = level_at d among in
       let parts = and_parts (leb l.level.horizon (length (parents_in now))) (list_all (λ (other : Level). leb l.level.horizon other.horizon) (shallower state l.level)) (all_at (has_old_horizon state) l.level new.levels m.is_sound.old l.among) in
@@ -329,7 +332,7 @@ module _ (f g : Image) (old new : Contents) (made : Option LevelDesc) (taken kep
   pub lawful_was : (d : LevelDesc) → Among d was.levels → is_lawful_level (versions_in was) was.next_array d ≡ true
   lawful_was d among = all_at (is_lawful_level (versions_in was) was.next_array) d was.levels (pass_at (manifest_tests was) 8 was_lawful) among
 
-  lawful_at : (d : LevelDesc) → Among d now.levels → is_lawful_level (versions_in now) now.next_array d ≡ true
+  pub lawful_at : (d : LevelDesc) → Among d now.levels → is_lawful_level (versions_in now) now.next_array d ≡ true
   lawful_at d among = elim (among_split (option_to_list made) kept d (subst (Among d) m.next.levels_are among)) [
     | inl here ↦ by made refl here
     | inr there ↦ level_wider (versions_in was) (versions_in now) was.next_array now.next_array d versions_more next_more (lawful_was d (kept_was d there))
