@@ -55,12 +55,12 @@ abbrev pub chain_made : Option LevelDesc
 chain_made = slice_get chain_manifest.levels 0
 
 -- a level with its arrays changed
-abbrev pub with_arrays : (ArrayDesc → ArrayDesc) → LevelDesc → LevelDesc
-with_arrays change level = record level { arrays = map change level.arrays }
+abbrev pub with_each_array : (ArrayDesc → ArrayDesc) → LevelDesc → LevelDesc
+with_each_array change level = record level { arrays = map change level.arrays }
 
 -- the level that was made, with its arrays changed
 abbrev pub made_with : (ArrayDesc → ArrayDesc) → Option LevelDesc
-made_with change = option_map (with_arrays change) chain_made
+made_with change = option_map (with_each_array change) chain_made
 
 -- an array with other versions, or in other extents
 abbrev pub with_versions : List ℕ → ArrayDesc → ArrayDesc
@@ -96,4 +96,4 @@ with_one_more a = record a { entries = a.entries + 1 }
 abbrev pub miscounted : Image
 miscounted =
     published_by chain_super
-    (record chain_manifest { levels = map (with_arrays with_one_more) chain_manifest.levels })
+    (record chain_manifest { levels = map (with_each_array with_one_more) chain_manifest.levels })

@@ -37,7 +37,8 @@ pub fn the_next_contents_are_computed()
     ensures tag { ¬ AreNewArrays 1 (arrays_made (made_with (with_versions (1 ∷ 3 ∷ 2 ∷ [])))) }
     ensures touching { ¬ AreNewArrays 1 (arrays_made (made_with (with_extents
         (blocks_from 7 1 ∷ blocks_from 8 1 ∷ [])))) }
-    ensures bare { ¬ AreNewArrays 1 (arrays_made (made_with (with_extents (blocks_from 7 0 ∷ [])))) }
+    ensures bare { ¬ AreNewArrays 1 (arrays_made (made_with (with_extents
+        (blocks_from 7 0 ∷ [])))) }
 {}
 
 /// The space has block 6 of the old manifest, then those of the array and of the next manifest too, and
