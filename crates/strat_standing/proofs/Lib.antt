@@ -16,4 +16,5 @@ pub mod NextLemmas
 pub mod BelongLemmas
 pub mod LongLemmas
 pub mod OccupiedLemmas
+pub mod ComputedLemmas
 pub mod WorkedLemmas

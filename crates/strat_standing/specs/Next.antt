@@ -1,19 +1,22 @@
 -- The next contents of a store: what it computes of them, and what it is told of the level that was made.
-use Rattle.std.specs.Prelude.{◌≡◌, ◌≤◌, ◌<◌, ℕ, ◌+◌, ◌-◌, List, [], ◌++◌, length, map, sum_by, Option, None, Some, IsTrue}
+use Rattle.std.specs.Prelude.{◌≡◌, ◌≤◌, ◌<◌, ℕ, ◌+◌, ◌-◌, List, [], ◌++◌, length, map, sum_by, Option, None, Some, IsTrue, drop, ◌∷◌}
 use Rattle.std.specs.List.{list_all, range_with_len, slice_get, AllByRecursion}
 use Rattle.std.specs.Option.{option_to_list}
 use Rattle.strat_base.specs.declared.descriptors.ArrayDesc.{ArrayDesc}
 use Rattle.strat_base.specs.declared.descriptors.LevelDesc.{LevelDesc}
 use Rattle.strat_crash.specs.Image.{Image}
 use Rattle.strat_format.specs.Arrays.{all_some}
+use Rattle.strat_format.specs.Chain.{IsChain}
 use Rattle.strat_format.specs.Layout.{other_region}
-use Rattle.strat_format.specs.Manifest.{is_rising, is_lawful_extent, are_apart, first_version}
+use Rattle.strat_format.specs.Manifest.{is_rising, is_lawful_extent, are_apart, first_version, manifest_bytes}
 use Rattle.strat_plan.specs.Plan.{Plan, part_at, members}
+use Rattle.strat_promotion.specs.Promoted.{SaysTheSame, promoted}
 use Rattle.strat_recovery.specs.Opened.{level_on}
+use Rattle.strat_state.specs.Level.{Level}
 use Rattle.strat_state.specs.Sound.{IsSound}
 use Rattle.strat_standing.specs.Contents.{Contents, contents_state}
 use Rattle.strat_standing.specs.Publication.{IsPromotedFrom}
-use Rattle.strat_standing.specs.Standing.{ReadsAs}
+use Rattle.strat_standing.specs.Standing.{LiesIn, ReadsAs}
 
 -- the arrays of a level that was made, or none
 abbrev pub arrays_made : Option LevelDesc → List ArrayDesc
@@ -73,3 +76,23 @@ pub record MayBeNext (f g : Image) (old new : Contents) (made : Option LevelDesc
   pub was_sound : IsSound (contents_state old)
   pub is_sound : IsSound (contents_state new)
   pub fresh : AreNewArrays old.chained.manifest.next_array (arrays_made made)
+
+-- the manifest of contents stands in an image: in a chain that begins where their superblock says, and of so many bytes
+pub record HasManifest (c : Image) (x : Contents) : Type 0 where
+  pub others : List ℕ
+  pub blocks : x.chained.blocks ≡ x.sb.manifest ∷ others
+  pub size : x.sb.length ≡ length (manifest_bytes x.chained.manifest)
+  pub chain : IsChain c (x.sb.manifest ∷ others) (manifest_bytes x.chained.manifest)
+
+-- what a promotion leaves: the old contents lie in an image still, which has the level that was made, and in the
+-- next contents its array is in front of the levels that are kept; their state is sound and says the same
+pub record IsPromotion (g : Image) (old new : Contents) (made : Option LevelDesc)
+    (taken : List LevelDesc) : Type 0 where
+  pub fresh : List Level
+  pub lies : LiesIn g old
+  pub read : all_some (level_on g) (option_to_list made) ≡ Some fresh
+  pub levels : new.levels ≡ fresh ++ drop (length taken) old.levels
+  pub sound : IsSound (promoted (contents_state old) new.levels
+      new.chained.manifest.written new.chained.manifest.next_array)
+  pub says : SaysTheSame (contents_state old) (promoted (contents_state old) new.levels
+      new.chained.manifest.written new.chained.manifest.next_array)

@@ -1,17 +1,27 @@
 //! Laws of the next contents of a store. Each is the contract of a function that does nothing.
 
-ghost use Rattle.std.specs.Prelude.{◌≡◌, ◌≤◌, ◌<◌, ◌^◌, ℕ, List, ◌∷◌, length, Option, IsTrue};
+ghost use Rattle.std.specs.Prelude.{◌≡◌, ◌≤◌, ◌<◌, ◌^◌, ℕ, List, length, Option, Some, IsTrue};
 ghost use Rattle.strat_base.specs.Tree.{Parents};
 ghost use Rattle.strat_base.specs.declared.descriptors.ArrayDesc.{ArrayDesc as TheDesc};
 ghost use Rattle.strat_base.specs.declared.descriptors.LevelDesc.{LevelDesc};
+ghost use Rattle.strat_base.specs.declared.descriptors.Extent.{Extent};
 ghost use Rattle.strat_crash.specs.Image.{Image};
+ghost use Rattle.strat_crash.specs.Moments.{OnlyReads, IsDurable};
+ghost use Rattle.strat_extent.specs.Blocks.{SpaceView};
+ghost use Rattle.strat_format.specs.Arrays.{all_some};
+ghost use Rattle.strat_recovery.specs.Opened.{level_on};
+ghost use Rattle.strat_state.specs.Sound.{IsSound};
 ghost use Rattle.strat_format.specs.Manifest.{SpellsManifest, manifest_bytes};
 ghost use Rattle.strat_plan.specs.Plan.{Plan, IsSplit};
 ghost use Rattle.strat_promotion.specs.Promoted.{SaysTheSame};
 ghost use Rattle.strat_recovery.specs.Opening.{belongs, has_own_blocks};
 ghost use Rattle.strat_standing.specs.Contents.{Contents, contents_state};
-ghost use Rattle.strat_standing.specs.Next.{MayBeNext, AreNewArrays, AreArraysOf};
-ghost use Rattle.strat_standing.specs.Publication.{Succeeds};
+ghost use Rattle.strat_standing.specs.Next.{IsNextOf, MayBeNext, AreNewArrays, AreArraysOf, HasManifest, IsPromotion, arrays_made};
+ghost use Rattle.strat_standing.specs.Occupied.{IsSpaceOf};
+ghost use Rattle.strat_standing.specs.Publication.{Succeeds, IsPrepared};
+ghost use Rattle.strat_standing.specs.Standing.{LiesIn, ReadsAs, LeavesContent, ContentsStand};
+
+use strat_crash::laws::Viewed;
 
 /// The arrays of the parts of a plan are new arrays: their numbers follow one another, and their tags ascend, as do
 /// the first versions of these.
@@ -44,13 +54,37 @@ pub fn the_next_manifest_belongs()
         → IsTrue (belongs new.sb new.chained) }
 {}
 
-/// Contents that may be the next may take the place of the others, where their manifest is told by its length and its first
-/// block, their blocks are their own, and their state says the same.
-pub fn the_next_contents_succeed()
+/// What a promotion leaves may be the next contents, and says the same.
+pub fn promoted_contents_may_be_next()
     ensures ok { (f g : Image) (old new : Contents) (made : Option LevelDesc)
-        (taken kept : List LevelDesc) (blocks : List ℕ) → MayBeNext f g old new made taken kept
-        → new.sb.length ≡ length (manifest_bytes new.chained.manifest)
-        → new.chained.blocks ≡ new.sb.manifest ∷ blocks → new.sb.manifest < 4294967295
-        → IsTrue (has_own_blocks new.sb new.chained.blocks new.chained.manifest)
+        (taken kept : List LevelDesc) → ReadsAs f old → 0 < length old.journal
+        → IsSound (contents_state old) → IsNextOf old new made taken kept
+        → AreNewArrays old.chained.manifest.next_array (arrays_made made)
+        → IsPromotion g old new made taken
+        → MayBeNext f g old new made taken kept
+        × SaysTheSame (contents_state old) (contents_state new) }
+{}
+
+/// Contents that may be the next may take the place of the others where an image has their manifest, their blocks are just
+/// used and their state says the same; and they lie in that image where it has their levels.
+pub fn the_next_contents_succeed()
+    ensures ok { (f g c : Image) (old new : Contents) (made : Option LevelDesc)
+        (taken kept : List LevelDesc) (s : SpaceView) (others : List Extent)
+        → MayBeNext f g old new made taken kept → IsSpaceOf s new others → HasManifest c new
         → SaysTheSame (contents_state old) (contents_state new) → Succeeds old new }
+    ensures found { (f g c : Image) (old new : Contents) (made : Option LevelDesc)
+        (taken kept : List LevelDesc) (s : SpaceView) (others : List Extent)
+        → MayBeNext f g old new made taken kept → IsSpaceOf s new others → HasManifest c new
+        → all_some (level_on c) new.chained.manifest.levels ≡ Some new.levels → LiesIn c new }
+{}
+
+/// Once they were written beside contents that stand, a sync prepares them: then their superblock may be laid.
+pub fn a_sync_prepares_what_was_computed<D: Viewed>()
+    ensures ok { (v w : D) (old new : Contents) (made : Option LevelDesc)
+        (taken kept : List LevelDesc) (s : SpaceView) (others : List Extent)
+        (stands : ContentsStand (D.view v) old) (f : Image)
+        → MayBeNext f stands.content old new made taken kept
+        → SaysTheSame (contents_state old) (contents_state new) → IsSpaceOf s new others
+        → HasManifest stands.content new → OnlyReads (D.view v) (D.view w)
+        → IsDurable (D.view w) → LeavesContent (D.view w) → IsPrepared (D.view w) old new }
 {}

@@ -6,7 +6,7 @@ ghost use Rattle.strat_model.specs.Table.{Table};
 ghost use Rattle.strat_recovery.specs.Disks.{formatted};
 ghost use Rattle.strat_standing.specs.Appending.{IsLogOf};
 ghost use Rattle.strat_standing.specs.Contents.{named_blocks};
-ghost use Rattle.strat_standing.specs.Next.{IsNextOf, MayBeNext, AreNewArrays, arrays_made};
+ghost use Rattle.strat_standing.specs.Next.{IsNextOf, MayBeNext, AreNewArrays, HasManifest, IsPromotion, arrays_made};
 ghost use Rattle.strat_standing.specs.Occupied.{IsSpaceOf, UsesMore};
 ghost use Rattle.strat_standing.specs.Publication.{Succeeds, IsPrepared, IsPromotedFrom};
 ghost use Rattle.strat_standing.specs.Standing.{ShowsTable, AreFree, ContentsStand};
@@ -31,6 +31,8 @@ pub fn a_disk_is_prepared()
 /// an extent begins where the one before it ends, or where it has no block.
 pub fn the_next_contents_are_computed()
     ensures ok { MayBeNext prepared_disk prepared_disk chain_logged chain_next chain_made [] [] }
+    ensures promoted { IsPromotion prepared_disk chain_logged chain_next chain_made [] }
+    ensures written { HasManifest prepared_disk chain_next }
     ensures generation { ¬ IsNextOf chain_logged (at_generation 3 chain_next) chain_made [] [] }
     ensures made { ¬ IsNextOf chain_logged chain_next None [] [] }
     ensures number { ¬ AreNewArrays 2 (arrays_made chain_made) }
