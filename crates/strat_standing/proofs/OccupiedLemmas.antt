@@ -1,7 +1,7 @@
 -- The blocks of contents in a space.
-use Rattle.std.proofs.Common.{◌≡◌, ◌≤◌, ◌+◌, ℕ, Bool, true, false, cond, eqb, leb, ltb, not, ◌&&◌, inl, inr, List, [], ◌∷◌, ◌++◌, Option, refl, sym, ap, ◌∙◌, subst, arith, append_assoc}
+use Rattle.std.proofs.Common.{◌≡◌, ◌≤◌, ◌+◌, ℕ, Bool, true, false, cond, eqb, leb, ltb, not, ◌&&◌, inl, inr, List, [], ◌∷◌, ◌++◌, Option, refl, sym, ap, ◌∙◌, subst, arith, append_assoc, true≢false}
 use Rattle.std.specs.List.{count_by, flat_map, list_all}
-use Rattle.std.proofs.lemmas.Bool.{and_parts, and_from, leb-true, le-leb, eq-eqb, cases_Bool, not_from_false}
+use Rattle.std.proofs.lemmas.Bool.{and_parts, and_from, leb-true, le-leb, eq-eqb, cases_Bool, not_from_false, not-true, false_from_ne_true}
 use Rattle.std.proofs.lemmas.Grind.{flat_map-append}
 use Rattle.std.proofs.lemmas.List.Sums.{sum_by-cons, sum_by-append}
 use Rattle.strat_base.specs.declared.descriptors.ArrayDesc.{ArrayDesc}
@@ -9,7 +9,7 @@ use Rattle.strat_base.specs.declared.descriptors.Extent.{Extent}
 use Rattle.strat_base.specs.declared.descriptors.LevelDesc.{LevelDesc}
 use Rattle.strat_base.specs.Entries.{is_tagged}
 use Rattle.strat_base.proofs.ListFacts.{Among, all_from}
-use Rattle.strat_extent.specs.Blocks.{SpaceView, times_in, is_used, uses}
+use Rattle.strat_extent.specs.Blocks.{SpaceView, times_in, is_used, is_free, uses}
 use Rattle.strat_extent.specs.Change.{IsMarked, CanGive}
 use Rattle.strat_extent.proofs.BlockLemmas.{times_listed}
 use Rattle.strat_extent.proofs.CountLemmas.{times_append}
@@ -22,6 +22,8 @@ use Rattle.strat_state.proofs.LevelLemmas.{tagged_among}
 use Rattle.strat_standing.specs.Contents.{Contents, named_blocks}
 use Rattle.strat_standing.specs.Next.{arrays_made, IsNextOf}
 use Rattle.strat_standing.specs.Occupied.{times_named, IsSpaceOf, UsesMore, extents_of, arrays_in}
+use Rattle.strat_standing.specs.Standing.{AreFree}
+use Rattle.strat_standing.proofs.ListLemmas.{contained_among}
 use Rattle.strat_standing.proofs.NextLemmas.{made_by}
 
 abbrev times : List ℕ → ℕ → ℕ
@@ -150,3 +152,49 @@ blocks_published s t u old new made taken kept chain gone next chain_is gone_is 
     subst (IsSpaceOf t old) (append_assoc chain (extents_of (arrays_made made)) []) (taken_beside s t old [] (chain ++ extents_of (arrays_made made)) is more) in
     let after = next_space t old new made taken kept chain gone [] next chain_is gone_is before in
     given_back t u new [] (gone ++ extents_of (arrays_in taken)) (subst (IsSpaceOf t new) (sym (append_assoc gone (extents_of (arrays_in taken)) [])) after) back
+
+-- blocks that join others
+pub joined_beside : (s t : SpaceView) (x : Contents) (others xs ys : List Extent) → IsSpaceOf s x (xs ++ others) → t.first ≡ s.first
+    → ((b : ℕ) → uses t b + times_in xs b ≡ uses s b + times_in ys b) → IsSpaceOf t x (ys ++ others)
+joined_beside s t x others xs ys is first more = record {
+  first = first ∙ is.first;
+  used = λ b. omega (arith, more b, is.used b, times_append xs others b, times_append ys others b);
+}
+
+pub uses_both : (s t u : SpaceView) (xs ys : List Extent) → UsesMore s xs t → UsesMore t ys u → UsesMore s (xs ++ ys) u
+uses_both s t u xs ys one two = record { first = two.first ∙ one.first; used = λ b. omega (arith, one.used b, two.used b, times_append xs ys b) }
+
+-- a space with just the blocks of contents
+pub marked_space : (s t : SpaceView) (x : Contents) (chain : List Extent) → s.first ≡ first_free x.sb.mem → ((b : ℕ) → is_used s b ≡ false) → blocks_of chain ≡ x.chained.blocks
+    → UsesMore s (chain ++ extents_of (descriptors x.chained.manifest)) t → IsSpaceOf t x []
+marked_space s t x chain first none chain_is more = record {
+  first = more.first ∙ first;
+  used = λ b. omega (
+    arith,
+    more.used b,
+    ap once_if (none b),
+    named_times x b,
+    ap (λ (l : List ℕ). times l b) chain_is,
+    times_listed chain b,
+    times_append chain (extents_of (descriptors x.chained.manifest)) b,
+  );
+}
+
+used_there : (s : SpaceView) (b : ℕ) → 1 ≤ uses s b → is_used s b ≡ true
+used_there s b some = by (is_used s b) some
+  where
+    by : (t : Bool) → 1 ≤ cond t 1 0 → t ≡ true
+    by true le = refl
+    by false le = absurd (omega (arith, le))
+
+-- what is free in the space is free beside the contents
+pub free_beside : (s : SpaceView) (x : Contents) (others : List Extent) → IsSpaceOf s x others → AreFree (is_free s) x
+free_beside s x others is = record {
+  behind = λ b low. false_from_ne_true (is_free s b) (λ free.
+      let parts = and_parts (leb s.first b && ltb b 4294967295) (not (is_used s b)) free in
+      omega (arith, leb-true s.first b (and_parts (leb s.first b) (ltb b 4294967295) parts.0).0, low, is.first));
+  unnamed = λ b named. false_from_ne_true (is_free s b) (λ free.
+      let parts = and_parts (leb s.first b && ltb b 4294967295) (not (is_used s b)) free in
+      let used = used_there s b (omega (arith, is.used b, counted_some (named_blocks x) b (contained_among (named_blocks x) b named))) in
+      true≢false (sym used ∙ not-true (is_used s b) parts.1));
+}
