@@ -17,4 +17,5 @@ pub mod BelongLemmas
 pub mod LongLemmas
 pub mod OccupiedLemmas
 pub mod ComputedLemmas
+pub mod TurnLemmas
 pub mod WorkedLemmas
