@@ -2,8 +2,10 @@
 //! more. Each is the contract of a function that does nothing.
 
 ghost use Rattle.std.specs.Prelude.{◌≡◌, ◌≤◌, ℕ, List, [], ◌∷◌, true, false};
+ghost use Rattle.strat_model.specs.Answer.{accepts};
 ghost use Rattle.strat_model.specs.Request.{Put, Delete, Get, Clone, Scan, Info, OpenCursor, NextPairs, CloseCursor, Stat};
-ghost use Rattle.strat_model.specs.Run.{is_change, takes_memory, reaches_disk, fill_after, position_after, Position, Response, AnswersNoMemory};
+ghost use Rattle.strat_model.specs.Run.{is_change, takes_memory, reaches_disk, fill_after, position_after, Position, Response, AnswersNoCommand, AnswersNoMemory, AnswersFault};
+ghost use Rattle.strat_model.specs.Step.{step};
 ghost use Rattle.strat_model.specs.Table.{fresh};
 
 /// A put, a delete and a clone change a store.
@@ -30,6 +32,24 @@ pub fn changes_want_no_memory_below_a_full_journal()
     ensures { (mem : ℕ) (at after : Position) (body : List ℕ) (response : Response)
         (no : AnswersNoMemory mem at body response after)
         → is_change no.request ≡ true → mem ≤ at.fill }
+{}
+
+/// Nothing changes where a body is no command, or memory ran out. Memory runs out at what takes it, a fault is met by what
+/// reaches the disk, and both by what the table accepts alone.
+pub fn troubles_come_where_they_may()
+    ensures refused { (at after : Position) (body : List ℕ) (response : Response)
+        → AnswersNoCommand at body response after → after ≡ at }
+    ensures same { (mem : ℕ) (at after : Position) (body : List ℕ) (response : Response)
+        → AnswersNoMemory mem at body response after → after ≡ at }
+    ensures room { (mem : ℕ) (at after : Position) (body : List ℕ) (response : Response)
+        (no : AnswersNoMemory mem at body response after)
+        → (takes_memory no.request ≡ true)
+        × (accepts (step at.table no.request).answer.reply ≡ true) }
+    ensures device { (mem : ℕ) (at done : Position) (body : List ℕ) (response : Response)
+        (met : AnswersFault mem at body response done)
+        → (reaches_disk met.request ≡ true)
+        × (accepts (step at.table met.request).answer.reply ≡ true)
+        × (done ≡ position_after mem at met.request) }
 {}
 
 /// The disk may fail at a change and at what reads pairs.
