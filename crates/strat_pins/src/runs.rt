@@ -1,12 +1,12 @@
 //! Which commands change a store, take memory or reach the disk, and how many changes a journal holds after one
 //! more. Each is the contract of a function that does nothing.
 
-ghost use Rattle.std.specs.Prelude.{◌≡◌, ◌≤◌, ℕ, List, [], ◌∷◌, true, false};
+ghost use Rattle.std.specs.Prelude.{◌≡◌, ◌≤◌, ℕ, List, [], ◌∷◌, Some, None, true, false};
 ghost use Rattle.strat_model.specs.Answer.{accepts};
 ghost use Rattle.strat_model.specs.Request.{Put, Delete, Get, Clone, Scan, Info, OpenCursor, NextPairs, CloseCursor, Stat};
-ghost use Rattle.strat_model.specs.Run.{is_change, takes_memory, reaches_disk, fill_after, position_after, Position, Response, AnswersNoCommand, AnswersNoMemory, AnswersFault};
+ghost use Rattle.strat_model.specs.Run.{is_change, takes_memory, reaches_disk, fill_after, position_after, Position, Response, AnswersNoCommand, AnswersNoMemory, AnswersFault, Exchange, Interruption, Transcript, IsTranscript, bodies_of, responses_of, tables_of};
 ghost use Rattle.strat_model.specs.Step.{step};
-ghost use Rattle.strat_model.specs.Table.{fresh};
+ghost use Rattle.strat_model.specs.Table.{fresh, bare};
 
 /// A put, a delete and a clone change a store.
 pub fn three_commands_are_changes()
@@ -50,6 +50,26 @@ pub fn troubles_come_where_they_may()
         → (reaches_disk met.request ≡ true)
         × (accepts (step at.table met.request).answer.reply ≡ true)
         × (done ≡ position_after mem at met.request) }
+{}
+
+/// After the exchanges of a transcript come the body and the response of its interruption, which was met behind them all,
+/// and the table that this leaves if it was carried out.
+pub fn interruptions_come_last()
+    ensures bodies { (x : Exchange) (after : Position) (h : Interruption)
+        → bodies_of (record { exchanges = x ∷ []; after = after; interruption = Some h })
+        ≡ x.body ∷ h.body ∷ [] }
+    ensures responses { (x : Exchange) (after : Position) (h : Interruption)
+        → responses_of (record { exchanges = x ∷ []; after = after; interruption = Some h })
+        ≡ x.response ∷ h.response ∷ [] }
+    ensures tables { (x : Exchange) (after : Position) (h : Interruption)
+        → tables_of (record { exchanges = x ∷ []; after = after; interruption = Some h })
+        ≡ bare x.at.table ∷ bare after.table ∷ bare h.done.table ∷ [] }
+    ensures none { (x : Exchange) (after : Position)
+        → tables_of (record { exchanges = x ∷ []; after = after; interruption = None })
+        ≡ bare x.at.table ∷ bare after.table ∷ [] }
+    ensures met { (mem : ℕ) (at after : Position) (xs : List Exchange) (h : Interruption)
+        → IsTranscript mem at (record { exchanges = xs; after = after; interruption = Some h })
+        → AnswersFault mem after h.body h.response h.done }
 {}
 
 /// The disk may fail at a change and at what reads pairs.
