@@ -83,6 +83,17 @@ fn changes_are_copied(rt: HostRuntime) -> Result<(), Fail> {
 }
 
 #[test]
+fn the_largest_change_is_copied(rt: HostRuntime) -> Result<(), Fail> {
+    let largest = Change::Put {
+        version: 4294967295,
+        key: &[7; 255],
+        value: &[9; 1024],
+    };
+    assert!(rt; is_copied(rt.alloc(), &largest)?);
+    Ok(())
+}
+
+#[test]
 fn other_bytes_are_no_change(rt: HostRuntime) {
     for bytes in [
         b"".as_slice(),

@@ -49,6 +49,20 @@ fn a_sink_takes_pieces_and_fails_at_the_calls_named(rt: HostRuntime) -> Result<(
     Ok(())
 }
 
+/// Whether a sink takes all of such a piece at once, and holds it.
+fn takes(sink: &mut MemSink, piece: &[u8]) -> bool {
+    writes(sink, piece, Some(piece.len())) && sink.bytes() == piece
+}
+
+// The largest reply, with its length.
+#[test]
+fn a_sink_takes_the_largest_piece(rt: HostRuntime) -> Result<(), Fail> {
+    let piece = vec![in rt.alloc(); 7u8; 328460]?;
+    let mut sink = MemSink::new(rt.alloc(), &[], usize::MAX)?;
+    assert!(rt; takes(&mut sink, &piece));
+    Ok(())
+}
+
 /// A runtime whose output is closed, or takes nothing, and whose input fails.
 #[derive(Drop)]
 struct Broken {

@@ -196,6 +196,31 @@ fn a_child_has_a_map_of_its_own(rt: HostRuntime) -> Result<(), Fail> {
     Ok(())
 }
 
+/// Whether a table that opened no cursor takes a pair of such sizes, and gives it back.
+fn takes(table: &mut PlainTable, out: &mut PairBuf, key: &[u8], value: &[u8]) -> bool
+    requires { table.old.next_cursor ≤ 1 }
+{
+    let put = Command::Put {
+        version: 0,
+        key,
+        value,
+    };
+    let get = Command::Get { version: 0, key };
+    if !sizes_ok(&put) || !sizes_ok(&get) || table.step(&put, out) != Reply::Done {
+        return false;
+    }
+    let found = table.step(&get, out) == Reply::Found;
+    found && out.len() == 1 && out.key(0) == key && out.value(0) == value
+}
+
+#[test]
+fn a_table_takes_the_largest_pair(rt: HostRuntime) -> Result<(), Fail> {
+    let mut table = PlainTable::new(rt.alloc(), 1, 1)?;
+    let mut out = PairBuf::new(rt.alloc())?;
+    assert!(rt; takes(&mut table, &mut out, &[b'k'; 255], &[b'v'; 1024]));
+    Ok(())
+}
+
 #[test]
 fn a_scan_says_whether_more_follow(rt: HostRuntime) -> Result<(), Fail> {
     let more = Reply::Pairs { more: true };

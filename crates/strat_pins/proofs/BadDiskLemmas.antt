@@ -1,5 +1,5 @@
 -- Which block of a worked disk is bad.
-use Rattle.std.proofs.Common.{◌≡◌, ℕ, true, eqb, inl, inr, List, [], ◌∷◌, ◌++◌, length, Some, None, Ok, refl, sym, ap, ◌∙◌, subst, arith, true≢false, length-append}
+use Rattle.std.proofs.Common.{◌≡◌, ℕ, true, eqb, inl, inr, List, [], ◌∷◌, ◌++◌, length, Some, None, Ok, Err, refl, sym, ap, ◌∙◌, subst, arith, true≢false, length-append}
 use Rattle.std.specs.Prelude.{◌↔◌}
 use Rattle.std.proofs.lemmas.Bool.{eqb-true}
 use Rattle.strat_base.specs.Change.{change_in}
@@ -26,7 +26,7 @@ use Rattle.strat_recovery.specs.Disks.{published}
 use Rattle.strat_format.specs.Arrays.{blocks_of, entries_on}
 use Rattle.strat_recovery.specs.Opening.{recover, state_of}
 use Rattle.strat_recovery.proofs.BadLemmas.{contained_at, no_bad_block}
-use Rattle.strat_pins.specs.BadDisks.{chain_head, chain_array, uncounted, split_array, split_head, split_with, split_state}
+use Rattle.strat_pins.specs.BadDisks.{chain_head, chain_array, uncounted, refused_slot, split_array, split_head, split_with, split_state}
 
 unread_listed : (c : Image) (a : ArrayDesc) (b : ℕ) → IsUnread c a b → Among b (blocks_of a.extents)
 unread_listed c a b bad =
@@ -57,6 +57,21 @@ module _ (c : Image) (versions : ℕ) (a : ArrayDesc) (p q : ℕ) (two : blocks_
 alone : (x a : ArrayDesc) → Among a (x ∷ []) → a ≡ x
 alone x a (inl here) = here
 alone x a (inr none) = absurd none
+
+pub refused_recovers : recover refused_slot ≡ Err 1
+unfolding number be window over slot_of slot_in zeros
+refused_recovers = refl
+
+pub one_is_bad : (b : ℕ) → IsBad refused_slot 1 [] [] b ↔ (b ≡ 1)
+one_is_bad b = (to, from)
+  where
+    to : IsBad refused_slot 1 [] [] b → b ≡ 1
+    to (refused e) = let found = refused_recovers in cc
+    to (unread a named bad) = absurd (contained_at a [] named.0 named.1 named.2)
+    to (misplaced a named bad) = absurd (contained_at a [] named.0 named.1 named.2)
+
+    from : b ≡ 1 → IsBad refused_slot 1 [] [] b
+    from at = refused (refused_recovers ∙ ap Err (sym at))
 
 pub uncounted_opens : recover uncounted ≡ Ok (Some chain_head)
 unfolding number be window over slot_of slot_in zeros change_in all_pass read_number read_items read_extent read_array read_level read_manifest manifest_in manifest_bytes chain_from records link_bytes

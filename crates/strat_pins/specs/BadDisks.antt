@@ -12,7 +12,12 @@ use Rattle.strat_state.specs.State.{State}
 use Rattle.strat_state.specs.Worked.{array_of, first_level, chain}
 use Rattle.strat_recovery.specs.Disks.{chain_super, chain_manifest, published_by, published}
 use Rattle.strat_recovery.specs.Head.{Head}
+use Rattle.strat_pins.specs.Disks.{with_second_slot}
 use Rattle.strat_pins.specs.Formats.{from_block, odd_level}
+
+-- a disk whose newest slot, the second, has a region that there is not
+abbrev pub refused_slot : Image
+refused_slot = patch (with_second_slot 2) 4123 (2 ∷ [])
 
 -- what recovery finds after the chain was published
 abbrev pub chain_head : Head

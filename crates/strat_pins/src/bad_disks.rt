@@ -1,12 +1,18 @@
 //! Disks with one bad block: that block is bad and no other, and without the flaw none is. Each is the contract of a
 //! function that does nothing.
 
-ghost use Rattle.std.specs.Prelude.{◌≡◌, ◌↔◌, ℕ, [], ◌∷◌, Some, Ok};
+ghost use Rattle.std.specs.Prelude.{◌≡◌, ◌↔◌, ℕ, [], ◌∷◌, Some, Ok, Err};
 ghost use Rattle.strat_base.specs.Samples.{says};
 ghost use Rattle.strat_recovery.specs.Bad.{IsBad};
 ghost use Rattle.strat_recovery.specs.Disks.{published};
 ghost use Rattle.strat_recovery.specs.Opening.{recover};
-ghost use Rattle.strat_pins.specs.BadDisks.{chain_head, chain_array, uncounted, split_array, split_head, split_with};
+ghost use Rattle.strat_pins.specs.BadDisks.{chain_head, chain_array, uncounted, refused_slot, split_array, split_head, split_with};
+
+/// The block that recovery refuses is bad, and no other, though no array is named.
+pub fn blocks_that_are_refused_are_bad()
+    ensures found { recover refused_slot ≡ Err 1 }
+    ensures ok { (b : ℕ) → IsBad refused_slot 1 [] [] b ↔ (b ≡ 1) }
+{}
 
 /// A block that counts no entry is bad where its array is named, though recovery finds the store.
 pub fn blocks_that_are_none_are_bad()

@@ -4,12 +4,13 @@
 #![tactic(auto, unfolding(strat_base::specs::Numbers::be, strat_base::specs::Numbers::number, strat_crash::specs::Image::window, strat_crash::specs::Image::over, strat_format::specs::SuperBlock::slot_of, strat_format::specs::SuperBlock::slot_in, strat_format::specs::SuperBlock::zeros, strat_format::specs::Manifest::all_pass))]
 
 ghost use Rattle.std.specs.Prelude.{◌≡◌, [], ◌∷◌, Some, None, Ok, Err, true, false};
+ghost use Rattle.strat_base.specs.Change.{Put, Clone};
 ghost use Rattle.strat_base.specs.Samples.{says};
 ghost use Rattle.strat_crash.specs.Image.{patch};
 ghost use Rattle.strat_format.specs.SuperBlock.{newest_in};
 ghost use Rattle.strat_recovery.specs.Bad.{fits_behind};
 ghost use Rattle.strat_recovery.specs.Disks.{formatted, new_super, chain_super, chain_manifest};
-ghost use Rattle.strat_recovery.specs.Opening.{belongs};
+ghost use Rattle.strat_recovery.specs.Opening.{belongs, accepted_in};
 ghost use Rattle.strat_pins.specs.Disks.{array_at, having, in_block_eight, led_by, after_two_changes, with_second_slot, in_two_blocks};
 
 /// Two arrays may be the same in all but their numbers, blocks and versions, and share none of these.
@@ -81,6 +82,25 @@ pub fn the_chosen_slot_is_judged()
         ≡ Ok (Some (0, new_super)) }
     ensures shut { newest_in (patch formatted 0 (0xa6 ∷ [])) ≡ Ok None }
     ensures magic { newest_in (patch formatted 8 (0x32 ∷ [])) ≡ Ok None }
+{}
+
+/// A record that the table refuses in its turn is blamed on the block of its own gate.
+pub fn refused_records_are_named()
+    ensures ok { accepted_in 2 2 (None ∷ []) 0
+        (record { change = Clone 0; block = 2 } ∷ record { change = Put 1 [] []; block = 3 } ∷ [])
+        ≡ Ok (Clone 0 ∷ Put 1 [] [] ∷ []) }
+    ensures unknown { accepted_in 2 2 (None ∷ []) 0
+        (record { change = Put 1 [] []; block = 3 } ∷ record { change = Clone 0; block = 4 } ∷ [])
+        ≡ Err 3 }
+    ensures frozen { accepted_in 2 2 (None ∷ []) 0
+        (record { change = Clone 0; block = 2 } ∷ record { change = Put 0 [] []; block = 3 } ∷ [])
+        ≡ Err 3 }
+    ensures changes { accepted_in 2 2 (None ∷ []) 1
+        (record { change = Clone 0; block = 2 } ∷ record { change = Put 1 [] []; block = 3 } ∷ [])
+        ≡ Err 3 }
+    ensures versions { accepted_in 2 2 (None ∷ []) 0
+        (record { change = Clone 0; block = 2 } ∷ record { change = Clone 1; block = 3 } ∷ [])
+        ≡ Err 3 }
 {}
 
 /// Entries fit after earlier ones where they come after the last of them, their versions are there, and there

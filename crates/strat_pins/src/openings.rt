@@ -3,6 +3,7 @@
 
 ghost use Rattle.std.specs.Prelude.{◌≡◌, [], ◌∷◌, replicate, Some, None, true, false};
 ghost use Rattle.strat_base.specs.Change.{Put};
+ghost use Rattle.strat_format.specs.SuperBlock.{AreLimits};
 ghost use Rattle.strat_recovery.specs.Passed.{is_sized, PassesOpening};
 ghost use Rattle.strat_pins.specs.Openings.{filled_chain, chain_with, chained_array};
 
@@ -14,8 +15,18 @@ pub fn states_open_up_to_their_bounds()
     ensures changes { ¬ PassesOpening (record filled_chain { changes_max = 4 }) }
     ensures versions { ¬ PassesOpening (record filled_chain { versions_max = 3 }) }
     ensures next { ¬ PassesOpening (record filled_chain { next_array = 65538 }) }
+    ensures none { ¬ PassesOpening (record filled_chain { next_array = 0; levels = [] }) }
     ensures written { ¬ PassesOpening (record filled_chain { written = 134217729 }) }
     ensures journal { ¬ PassesOpening (record filled_chain { journal = Put 3 [] [] ∷ [] }) }
+{}
+
+/// Each limit of a store at its least and its greatest, and one past that.
+pub fn limits_are_met_exactly()
+    ensures least { AreLimits 4 1 1 }
+    ensures most { AreLimits 4096 16777216 16384 }
+    ensures mem { (¬ AreLimits 3 1 1) × (¬ AreLimits 4097 1 1) }
+    ensures changes { (¬ AreLimits 4 0 1) × (¬ AreLimits 4 16777217 1) }
+    ensures versions { (¬ AreLimits 4 1 0) × (¬ AreLimits 4 1 16385) }
 {}
 
 /// An array has a number from 1 on and below the next, a version, and an entry; its keys and values have lawful

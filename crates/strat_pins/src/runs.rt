@@ -1,10 +1,12 @@
 //! Which commands change a store, take memory or reach the disk, and how many changes a journal holds after one
 //! more. Each is the contract of a function that does nothing.
 
-ghost use Rattle.std.specs.Prelude.{◌≡◌, ◌≤◌, ℕ, List, [], ◌∷◌, true, false};
+ghost use Rattle.std.specs.Prelude.{◌≡◌, ◌≤◌, ℕ, List, [], ◌∷◌, Some, None, true, false};
+ghost use Rattle.strat_model.specs.Answer.{accepts};
 ghost use Rattle.strat_model.specs.Request.{Put, Delete, Get, Clone, Scan, Info, OpenCursor, NextPairs, CloseCursor, Stat};
-ghost use Rattle.strat_model.specs.Run.{is_change, takes_memory, reaches_disk, fill_after, position_after, Position, Response, AnswersNoMemory};
-ghost use Rattle.strat_model.specs.Table.{fresh};
+ghost use Rattle.strat_model.specs.Run.{is_change, takes_memory, reaches_disk, fill_after, position_after, Position, Response, AnswersNoCommand, AnswersNoMemory, AnswersFault, Exchange, Interruption, Transcript, IsTranscript, bodies_of, responses_of, tables_of};
+ghost use Rattle.strat_model.specs.Step.{step};
+ghost use Rattle.strat_model.specs.Table.{fresh, bare};
 
 /// A put, a delete and a clone change a store.
 pub fn three_commands_are_changes()
@@ -30,6 +32,44 @@ pub fn changes_want_no_memory_below_a_full_journal()
     ensures { (mem : ℕ) (at after : Position) (body : List ℕ) (response : Response)
         (no : AnswersNoMemory mem at body response after)
         → is_change no.request ≡ true → mem ≤ at.fill }
+{}
+
+/// Nothing changes where a body is no command, or memory ran out. Memory runs out at what takes it, a fault is met by what
+/// reaches the disk, and both by what the table accepts alone.
+pub fn troubles_come_where_they_may()
+    ensures refused { (at after : Position) (body : List ℕ) (response : Response)
+        → AnswersNoCommand at body response after → after ≡ at }
+    ensures same { (mem : ℕ) (at after : Position) (body : List ℕ) (response : Response)
+        → AnswersNoMemory mem at body response after → after ≡ at }
+    ensures room { (mem : ℕ) (at after : Position) (body : List ℕ) (response : Response)
+        (no : AnswersNoMemory mem at body response after)
+        → (takes_memory no.request ≡ true)
+        × (accepts (step at.table no.request).answer.reply ≡ true) }
+    ensures device { (mem : ℕ) (at done : Position) (body : List ℕ) (response : Response)
+        (met : AnswersFault mem at body response done)
+        → (reaches_disk met.request ≡ true)
+        × (accepts (step at.table met.request).answer.reply ≡ true)
+        × (done ≡ position_after mem at met.request) }
+{}
+
+/// After the exchanges of a transcript come the body and the response of its interruption, which was met behind them all,
+/// and the table that this leaves if it was carried out.
+pub fn interruptions_come_last()
+    ensures bodies { (x : Exchange) (after : Position) (h : Interruption)
+        → bodies_of (record { exchanges = x ∷ []; after = after; interruption = Some h })
+        ≡ x.body ∷ h.body ∷ [] }
+    ensures responses { (x : Exchange) (after : Position) (h : Interruption)
+        → responses_of (record { exchanges = x ∷ []; after = after; interruption = Some h })
+        ≡ x.response ∷ h.response ∷ [] }
+    ensures tables { (x : Exchange) (after : Position) (h : Interruption)
+        → tables_of (record { exchanges = x ∷ []; after = after; interruption = Some h })
+        ≡ bare x.at.table ∷ bare after.table ∷ bare h.done.table ∷ [] }
+    ensures none { (x : Exchange) (after : Position)
+        → tables_of (record { exchanges = x ∷ []; after = after; interruption = None })
+        ≡ bare x.at.table ∷ bare after.table ∷ [] }
+    ensures met { (mem : ℕ) (at after : Position) (xs : List Exchange) (h : Interruption)
+        → IsTranscript mem at (record { exchanges = xs; after = after; interruption = Some h })
+        → AnswersFault mem after h.body h.response h.done }
 {}
 
 /// The disk may fail at a change and at what reads pairs.

@@ -124,6 +124,10 @@ late_plan = record {
 abbrev pub lost_plan : Plan
 lost_plan = record { labels = in_no_part ∷ []; parts = [] }
 
+-- version 0 has the number of a part that is not there
+abbrev pub astray_plan : Plan
+astray_plan = record { labels = 5 ∷ []; parts = [] }
+
 -- one array for both: the child's two leads were enough for an array of its own
 abbrev pub joint_plan : Plan
 joint_plan = record {

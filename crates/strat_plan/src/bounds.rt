@@ -3,10 +3,10 @@
 
 #![tactic(auto, unfolding(strat_base::specs::Tree::climb))]
 
-ghost use Rattle.std.specs.Prelude.{ℕ, [], ◌∷◌, None};
+ghost use Rattle.std.specs.Prelude.{◌≡◌, ℕ, [], ◌∷◌, None};
 ghost use Rattle.strat_plan.specs.Groups.{group_versions, SplitsGroups};
-ghost use Rattle.strat_plan.specs.Plan.{IsSplit};
-ghost use Rattle.strat_plan.specs.Splits.{pair, wide_groups, third_groups, third_plan, half_groups, half_plan, joint_plan, sparse_plan, copied_plan, hung_plan, idle_plan, turned_plan, late_plan, lost_plan};
+ghost use Rattle.strat_plan.specs.Plan.{IsSplit, in_no_part};
+ghost use Rattle.strat_plan.specs.Splits.{pair, wide_groups, third_groups, third_plan, half_groups, half_plan, joint_plan, sparse_plan, copied_plan, hung_plan, idle_plan, turned_plan, late_plan, lost_plan, astray_plan};
 ghost use Rattle.strat_state.specs.Counted.{own_at, keys_at};
 
 /// An array may be a third live at a version, and no less.
@@ -49,6 +49,12 @@ pub fn the_least_is_that_of_all_versions()
 pub fn a_version_with_a_key_is_in_a_part()
     ensures { IsSplit (None ∷ [])
         (own_at ((0 ∷ []) ∷ [])) (keys_at (None ∷ []) ((0 ∷ []) ∷ [])) lost_plan → ⊥ }
+{}
+
+/// The number of a version is that of a part, or the greatest of four bytes.
+pub fn numbers_are_those_of_parts()
+    ensures none { in_no_part ≡ 4294967295 }
+    ensures passed { (own live : ℕ → ℕ) → IsSplit (None ∷ []) own live astray_plan → ⊥ }
 {}
 
 /// Two plans may split the same versions.

@@ -13,7 +13,7 @@ ghost use Rattle.strat_promotion.specs.Promoted.{promoted, PromotesGroups, fresh
 ghost use Rattle.strat_promotion.specs.Purge.{purged};
 ghost use Rattle.strat_state.specs.Counted.{own_at, keys_at};
 ghost use Rattle.strat_state.specs.State.{IsPaid};
-ghost use Rattle.strat_state.specs.Worked.{array_of, first_level};
+ghost use Rattle.strat_state.specs.Worked.{array_of, first_level, fan};
 
 /// A journal with a clone and a put at it becomes level 1, which has one array.
 pub fn a_journal_becomes_a_level()
@@ -32,6 +32,13 @@ pub fn a_full_journal_pays_for_its_level()
         ≡ 1 }
     ensures after { IsPaid (promoted first_writes
         (levels_of_groups first_writes 1 [] later_groups later_plan 1) 1 2) }
+{}
+
+/// Level 1 has room for the six leads of the fan's journal and levels in a store of three changes a region, so level 2 is no
+/// target there. In a store of two it is.
+pub fn a_level_with_just_room_is_no_lesser_one()
+    ensures met { IsLeastTarget (record fan { mem = 2 }) 2 }
+    ensures passed { IsLeastTarget (record fan { mem = 3 }) 2 → ⊥ }
 {}
 
 /// Copies are written too: an array of one entry, and one of three leads and a copy.

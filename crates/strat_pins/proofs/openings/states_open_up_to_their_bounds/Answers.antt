@@ -33,6 +33,7 @@ returns c = record {
   changes = λ p. let le : 5 ≤ 4 = p.few_changes in omega (arith, le);
   versions = λ p. let le : 4 ≤ 3 = p.few_versions in omega (arith, le);
   next = λ p. let le : 65538 ≤ 65537 = p.next_most in omega (arith, le);
+  none = λ p. let le : 1 ≤ 0 = p.next_least in omega (arith, le);
   written = λ p. let le : 134217729 ≤ 134217728 = p.written_most in omega (arith, le);
   journal = λ p. true≢false (sym p.sized);
 }
