@@ -14,7 +14,9 @@ pub mod PlanningLemmas
 pub mod EdgeLemmas
 pub mod FilledLemmas
 pub mod WrittenLemmas
+pub mod BudgetLemmas
 pub mod SliceLemmas
 pub mod MadeLemmas
 pub mod ReplacingLemmas
 pub mod StartLemmas
+pub mod OwnedLemmas
