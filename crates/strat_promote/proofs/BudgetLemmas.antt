@@ -1,5 +1,5 @@
 -- How many entries the steps of a slice take.
-use Rattle.std.proofs.Common.{◌≡◌, ◌<◌, ◌≤◌, ◌+◌, ◌*◌, ◌-◌, ◌^◌, ◌&&◌, not, ℕ, zero, suc, Bool, true, false, inl, inr, ◌⊎◌, List, [], ◌∷◌, ◌++◌, length, map, filter, Option, None, Some, IsSome, length-append, refl, sym, ap, ◌∙◌, subst, arith}
+use Rattle.std.proofs.Common.{◌≡◌, ◌<◌, ◌≤◌, ◌+◌, ◌*◌, ◌-◌, ◌^◌, ◌&&◌, not, ℕ, zero, suc, inl, inr, ◌⊎◌, List, [], ◌∷◌, ◌++◌, length, map, filter, Option, IsSome, length-append, refl, sym, ap, ◌∙◌, subst, arith}
 use Rattle.std.specs.List.{slice_get}
 use Rattle.std.proofs.Math.Nat.{min-eq_left}
 use Rattle.std.proofs.lemmas.Bool.{and_parts}
@@ -8,12 +8,11 @@ use Rattle.std.proofs.lemmas.List.Filters.{length-filter_both}
 use Rattle.strat_base.specs.Entries.{Entry, is_of}
 use Rattle.strat_crash.specs.Image.{Image}
 use Rattle.strat_merge.specs.Gathered.{TakesNext, CountsTaken}
-use Rattle.strat_merge.specs.MergerFields.{views_of}
-use Rattle.strat_merge.specs.Runs.{RunView, IsEntryRun, head_at, lefts}
+use Rattle.strat_merge.specs.Runs.{RunView, head_at, lefts}
 use Rattle.strat_plan.specs.Groups.{grouped_entries}
 use Rattle.strat_plan.proofs.ListLemmas.{filter_both, filter_le}
 use Rattle.strat_promotion.specs.Merging.{MergesTo, rest_of}
-use Rattle.strat_promote.specs.Budget.{TakesOneKey, IsNearLimit, count_of_key}
+use Rattle.strat_promote.specs.Budget.{TakesOneKey, IsNearLimit}
 use Rattle.strat_promote.specs.Counted.{AreRunsOf}
 use Rattle.strat_promote.specs.InputFields.{input_seen}
 use Rattle.strat_promote.specs.InputLaw.{input_law}
