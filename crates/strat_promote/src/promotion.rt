@@ -121,7 +121,8 @@ impl Promotion {
         requires room { 1 ≤ budget }
         ensures kept { IfOk result (λ p. MatchProgress p (IsOpen self.new
             × (entries_taken self.old + budget ≤ entries_taken self.new))
-            ((has_ended self.new ≡ true) × OwnsItsBlocks (writers_of self.new) (level_of self.new))) }
+            ((has_ended self.new ≡ true)
+            × OwnsItsBlocks (writers_of self.new) (level_of self.new))) }
         ensures ok { IfOk result (λ p. (f g : Image) (job : Job) → Exposes (D.view disk.old) f
             → Exposes (D.view disk.new) g → IsItsJob f self.old
             (inputs_given zero.now.list pool.now levels.now tree.now.parents) job
