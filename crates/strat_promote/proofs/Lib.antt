@@ -14,6 +14,7 @@ pub mod PlanningLemmas
 pub mod EdgeLemmas
 pub mod FilledLemmas
 pub mod WrittenLemmas
+pub mod BudgetLemmas
 pub mod SliceLemmas
 pub mod MadeLemmas
 pub mod ReplacingLemmas
@@ -21,3 +22,4 @@ pub mod StartLemmas
 pub mod BetweenLemmas
 pub mod StateLeadsLemmas
 pub mod StateInputsLemmas
+pub mod OwnedLemmas

@@ -1,5 +1,5 @@
 -- Steps of a promotion, one after the other.
-use Rattle.std.proofs.Common.{◌≡◌, ◌≤◌, ◌+◌, ◌++◌, ℕ, suc, List, [], ◌∷◌, Option, None, Some, unwrap_or, Result, Ok, Err, IfOk, length, refl, sym, ap, ◌∙◌, subst, arith}
+use Rattle.std.proofs.Common.{◌≡◌, ◌<◌, ◌≤◌, ◌+◌, ◌-◌, ◌*◌, ◌^◌, ◌⊎◌, inl, inr, ◌++◌, ℕ, suc, List, [], ◌∷◌, Option, None, Some, unwrap_or, Result, Ok, Err, IfOk, length, refl, sym, ap, ◌∙◌, subst, arith}
 use Rattle.strat_base.specs.Entries.{Entry}
 use Rattle.strat_base.specs.declared.descriptors.LevelDesc.{LevelDesc}
 use Rattle.strat_crash.specs.Blocks.{AgreeOn, TearsBlocks}
@@ -15,11 +15,12 @@ use Rattle.strat_array.proofs.TakesLemmas.{used_agree}
 use Rattle.strat_extent.specs.Blocks.{SpaceView, is_free}
 use Rattle.strat_plan.specs.Groups.{grouped_entries}
 use Rattle.strat_promotion.specs.Merging.{Merges}
+use Rattle.strat_promote.specs.Budget.{IsNearLimit, TakesOneKey}
 use Rattle.strat_promote.specs.Closing.{AreAllUsed, all_extents}
 use Rattle.strat_promote.specs.Job.{Job, IsBadInput, runs_in, input_count, arrays_to, blocks_listed}
 use Rattle.strat_promote.specs.Spaces.{TakesMore}
-use Rattle.strat_promote.specs.Stages.{IsSteady, IsUnderway, IsMade, stage_writers, blocks_due}
-use Rattle.strat_promote.specs.Steps.{Inputs, IsTaskIn, StepsOn}
+use Rattle.strat_promote.specs.Stages.{IsSteady, IsUnderway, IsMade, HasLeft, IsTakenUp, stage_writers, stage_consumed, blocks_due}
+use Rattle.strat_promote.specs.Steps.{Inputs, IsTaskIn, StepsOn, SlicesOn}
 use Rattle.strat_promote.specs.Turning.{stage_after, AreAllNew, WritesOn}
 use Rattle.strat_promote.specs.declared.counting.Counting.{Counting}
 use Rattle.strat_promote.specs.declared.input.Input.{Input}
@@ -29,6 +30,7 @@ use Rattle.strat_promote.specs.declared.stage.Stage.TheVariants as stage
 use Rattle.strat_promote.specs.declared.step.Step.{Step}
 use Rattle.strat_promote.specs.declared.step.Step.TheVariants as step
 use Rattle.strat_promote.specs.declared.step.Task.{Task}
+use Rattle.strat_promote.proofs.BudgetLemmas.{IsHeld, held_begun, near_next, key_more, key_same, none_taken, taken_most, entry_left, none_left_in}
 use Rattle.strat_promote.proofs.PushingLemmas.{still_told}
 use Rattle.strat_promote.proofs.SpacesLemmas.{takes_refl, takes_trans, torn_on}
 use Rattle.strat_promote.proofs.WrittenLemmas.{inputs_same, bad_input_same}
@@ -61,36 +63,41 @@ made_from f h g job target first made agree is = record {
   level = is.level;
 }
 
+-- a job has the same entries where the blocks that it reads keep their bytes
+pub count_same : (f g : Image) (job : Job) → AgreeOn (blocks_listed job.arrays) f g → input_count g job ≡ input_count f job
+count_same f g job agree = ap (λ (rs : List (List Entry)). length (grouped_entries rs)) (inputs_same f g job agree)
+
 -- what a job reads keeps its bytes, both ways
 pub agree_back : (blocks : List ℕ) (f g : Image) → AgreeOn blocks f g → AgreeOn blocks g f
 agree_back blocks f g agree = λ b here. let same = agree b here in record { byte = λ i from to. sym (same.byte i from to) }
 
 -- some steps were taken, and there is more to do
-pub record IsSlicing (task : Task) (inputs : Inputs) (start now : DiskView) (s t : SpaceView) (old new : Stage) (faults failed reads read : ℕ) : Type 0 where
+pub record IsSlicing (task : Task) (inputs : Inputs) (limit : ℕ) (start now : DiskView) (s t : SpaceView) (old new : Stage) (faults failed reads read : ℕ) : Type 0 where
   pub steady : IsSteady task.horizon new
   pub used : AreAllUsed t (stage_writers new)
   pub takes : TakesMore s t (all_extents (stage_writers old)) (all_extents (stage_writers new))
   pub torn : TearsBlocks (is_free s) start now
   pub calm : failed ≡ faults
   pub goes : (f g : Image) (job : Job) → Exposes start f → Exposes now g → IsTaskIn f task inputs job → AreUsed s (blocks_listed job.arrays) → IsUnderway f job task.first old
-      → IsUnderway g job task.first new
+      → IsUnderway g job task.first new × IsHeld f job limit (stage_consumed new)
   pub due : read + blocks_due (arrays_to inputs.levels task.target) new ≤ reads + blocks_due (arrays_to inputs.levels task.target) old
 
 -- no step was taken
-pub slicing_begun : (task : Task) (inputs : Inputs) (v : DiskView) (s : SpaceView) (stage : Stage) (faults reads : ℕ) → IsSteady task.horizon stage → AreAllUsed s (stage_writers stage)
-    → IsSlicing task inputs v v s s stage stage faults faults reads reads
-slicing_begun task inputs v s stage faults reads steady used = record {
+pub slicing_begun : (task : Task) (inputs : Inputs) (limit : ℕ) (v : DiskView) (s : SpaceView) (stage : Stage) (faults reads : ℕ) → stage_consumed stage < limit → IsSteady task.horizon stage → AreAllUsed s (stage_writers stage)
+    → IsSlicing task inputs limit v v s s stage stage faults faults reads reads
+slicing_begun task inputs limit v s stage faults reads below steady used = record {
   steady = steady;
   used = used;
   takes = takes_refl s (all_extents (stage_writers stage));
   torn = blocks_refl (is_free s) v;
   calm = refl;
-  goes = λ f g job told tells task' blocks underway. subst (λ (c : Image). IsUnderway c job task.first stage) (exposed_once v f g told tells) underway;
+  goes = λ f g job told tells task' blocks underway.
+      (subst (λ (c : Image). IsUnderway c job task.first stage) (exposed_once v f g told tells) underway, held_begun f job limit (stage_consumed stage) below);
   due = omega arith;
 }
 
-module _ (task : Task) (inputs : Inputs) (start mid now : DiskView) (s t u : SpaceView) (old stage new : Stage) (faults failed after reads read last : ℕ)
-    (slicing : IsSlicing task inputs start mid s t old stage faults failed reads read)
+module _ (task : Task) (inputs : Inputs) (limit : ℕ) (start mid now : DiskView) (s t u : SpaceView) (old stage new : Stage) (faults failed after reads read last : ℕ)
+    (slicing : IsSlicing task inputs limit start mid s t old stage faults failed reads read)
     (takes : TakesMore t u (all_extents (stage_writers stage)) (all_extents (stage_writers new))) (torn : TearsBlocks (is_free t) mid now) where
   pub slice_torn : TearsBlocks (is_free s) start now
   slice_torn = torn_on s t (all_extents (stage_writers old)) (all_extents (stage_writers stage)) start mid now slicing.takes slicing.torn torn
@@ -98,23 +105,53 @@ module _ (task : Task) (inputs : Inputs) (start mid now : DiskView) (s t u : Spa
   pub slice_takes : TakesMore s u (all_extents (stage_writers old)) (all_extents (stage_writers new))
   slice_takes = takes_trans s t u (all_extents (stage_writers old)) (all_extents (stage_writers stage)) (all_extents (stage_writers new)) slicing.takes takes
 
+  -- what is known after one more step
+  abbrev WentOn : Image → Image → Job → Step → Type 0
+  WentOn f g job step.More = IsUnderway g job task.first new × IsNearLimit f job limit (stage_consumed new)
+  WentOn f g job (step.Made level) = SlicesOn f g task job limit new (step.Made level)
+
   -- the blocks that a job reads are used still
   still_used : (blocks : List ℕ) → AreUsed s blocks → AreUsed t blocks
   still_used blocks used = λ b here. slicing.takes.kept b (used b here)
 
   -- where a step does something of a stage, all steps do it of the first
   pub slice_goes : (r : Step)
-      → ((f g : Image) (job : Job) → Exposes mid f → Exposes now g → IsTaskIn f task inputs job → AreUsed t (blocks_listed job.arrays) → IsUnderway f job task.first stage → StepsOn f g task job new r)
-      → (f g : Image) (job : Job) → Exposes start f → Exposes now g → IsTaskIn f task inputs job → AreUsed s (blocks_listed job.arrays) → IsUnderway f job task.first old → StepsOn f g task job new r
+      → ((f g : Image) (job : Job) → Exposes mid f → Exposes now g → IsTaskIn f task inputs job → AreUsed t (blocks_listed job.arrays) → IsUnderway f job task.first stage
+      → StepsOn f g task job (stage_consumed stage) new r)
+      → (f g : Image) (job : Job) → Exposes start f → Exposes now g → IsTaskIn f task inputs job → AreUsed s (blocks_listed job.arrays) → IsUnderway f job task.first old
+      → WentOn f g job r
   slice_goes r does f g job told tells is used underway =
       let between = still_told start mid f slicing.torn.time told in
       let agree = inputs_agree s (blocks_listed job.arrays) start mid f between.0 used slicing.torn told between.1 in
-      let done = does between.0 g job between.1 tells (task_stays f between.0 task inputs job agree is) (still_used (blocks_listed job.arrays) used) (slicing.goes f between.0 job told between.1 is used underway) in
-      back r between.0 agree done
+      let went = slicing.goes f between.0 job told between.1 is used underway in
+      let done = does between.0 g job between.1 tells (task_stays f between.0 task inputs job agree is) (still_used (blocks_listed job.arrays) used) went.0 in
+      back r between.0 agree went.1 done
     where
-      back : (p : Step) (h : Image) → AgreeOn (blocks_listed job.arrays) f h → StepsOn h g task job new p → StepsOn f g task job new p
-      back step.More h agree done = done
-      back (step.Made level) h agree done = made_from f h g job task.target task.first level agree done
+      back : (p : Step) (h : Image) → AgreeOn (blocks_listed job.arrays) f h → IsHeld f job limit (stage_consumed stage) → StepsOn h g task job (stage_consumed stage) new p → WentOn f g job p
+      back step.More h agree held done =
+          let same : input_count g job ≡ input_count f job = count_same f g job (inputs_agree s (blocks_listed job.arrays) start now f g used slice_torn told tells) in
+          let most = (taken_most g job task.first new done.0).0 in
+          (done.0, near_next f job limit (stage_consumed stage) (stage_consumed new) held (key_same f h job _ _ (inputs_same f h job agree) done.1) (omega (arith, most, same)))
+      back (step.Made level) h agree held done =
+          let same : input_count h job ≡ input_count f job = count_same f h job agree in
+          let all = done.1 in
+          let still = done.2 in (
+            made_from f h g job task.target task.first level agree done.0,
+            omega (arith, all, same),
+            near_next f job limit (stage_consumed stage) (stage_consumed new) held (none_taken f job _ _ (omega (arith, still))) (omega (arith, all, same)),
+          )
+
+  -- the same where the slice ends: an entry is left
+  pub slice_pauses : HasLeft new → 0 < stage_consumed new
+      → ((f g : Image) (job : Job) → Exposes mid f → Exposes now g → IsTaskIn f task inputs job → AreUsed t (blocks_listed job.arrays) → IsUnderway f job task.first stage
+      → StepsOn f g task job (stage_consumed stage) new step.More)
+      → (f g : Image) (job : Job) → Exposes start f → Exposes now g → IsTaskIn f task inputs job → AreUsed s (blocks_listed job.arrays) → IsUnderway f job task.first old
+      → SlicesOn f g task job limit new step.More
+  slice_pauses left some does f g job told tells is used underway =
+      let went = slice_goes step.More does f g job told tells is used underway in
+      let same : input_count g job ≡ input_count f job = count_same f g job (inputs_agree s (blocks_listed job.arrays) start now f g used slice_torn told tells) in
+      let lt = entry_left g job task.first new went.0 left some in
+      (went.0, omega (arith, lt, same), went.1)
 
   -- a block that is bad after some steps was bad before
   pub slice_blames : (b : ℕ)
@@ -124,14 +161,16 @@ module _ (task : Task) (inputs : Inputs) (start mid now : DiskView) (s t u : Spa
       let between = still_told start mid f slicing.torn.time told in
       let agree = inputs_agree s (blocks_listed job.arrays) start mid f between.0 used slicing.torn told between.1 in
       bad_input_same between.0 f job.arrays b (agree_back (blocks_listed job.arrays) f between.0 agree)
-      (blames between.0 job between.1 (task_stays f between.0 task inputs job agree is) (slicing.goes f between.0 job told between.1 is used underway))
+      (blames between.0 job between.1 (task_stays f between.0 task inputs job agree is) (slicing.goes f between.0 job told between.1 is used underway).0)
 
   -- one more step
   pub slicing_next : IsSteady task.horizon new → AreAllUsed u (stage_writers new) → after ≡ failed
-      → ((f g : Image) (job : Job) → Exposes mid f → Exposes now g → IsTaskIn f task inputs job → AreUsed t (blocks_listed job.arrays) → IsUnderway f job task.first stage → IsUnderway g job task.first new)
+      → (stage_consumed new < 2 ^ 64 - 1 → (stage_consumed new < limit) ⊎ IsTakenUp new)
+      → ((f g : Image) (job : Job) → Exposes mid f → Exposes now g → IsTaskIn f task inputs job → AreUsed t (blocks_listed job.arrays) → IsUnderway f job task.first stage
+      → StepsOn f g task job (stage_consumed stage) new step.More)
       → last + blocks_due (arrays_to inputs.levels task.target) new ≤ read + blocks_due (arrays_to inputs.levels task.target) stage
-      → IsSlicing task inputs start now s u old new faults after reads last
-  slicing_next steady used calm does due =
+      → IsSlicing task inputs limit start now s u old new faults after reads last
+  slicing_next steady used calm ahead does due =
       let before = slicing.due in
       record {
         steady = steady;
@@ -139,9 +178,17 @@ module _ (task : Task) (inputs : Inputs) (start mid now : DiskView) (s t u : Spa
         takes = slice_takes;
         torn = slice_torn;
         calm = calm ∙ slicing.calm;
-        goes = slice_goes step.More does;
+        goes = λ f g job told tells is blocks underway.
+            let went = slice_goes step.More does f g job told tells is blocks underway in
+            let same : input_count g job ≡ input_count f job = count_same f g job (inputs_agree s (blocks_listed job.arrays) start now f g blocks slice_torn told tells) in
+            (went.0, record { near = went.1; ahead = opens f g job went.0 same (ahead (let small = (taken_most g job task.first new went.0).1 in omega (arith, small))) });
         due = omega (arith, before, due);
       }
+    where
+      opens : (f g : Image) (job : Job) → IsUnderway g job task.first new → input_count g job ≡ input_count f job → (stage_consumed new < limit) ⊎ IsTakenUp new
+          → (stage_consumed new < limit) ⊎ (2 * input_count f job ≤ stage_consumed new)
+      opens f g job under same (inl lt) = inl lt
+      opens f g job under same (inr none) = inr (let all = none_left_in g job task.first new under none in omega (arith, all, same))
 
 -- arrays that are begun have no blocks
 pub new_used : (s : SpaceView) (writers : List ArrayProgress) → AreAllNew writers → AreAllUsed s writers
@@ -174,12 +221,24 @@ turned_takes s counting next old was is none turned new =
     let after : all_extents (stage_writers is) ≡ [] = ap (λ (x : Stage). all_extents (stage_writers x)) turned ∙ new_extents (stage_writers (stage_after counting next)) new in
     subst (λ (xs : List Extent). TakesMore s s xs (all_extents (stage_writers is))) (sym before) (subst (λ (ys : List Extent). TakesMore s s [] ys) (sym after) (takes_refl s []))
 
+-- what a step of the first pass does, said of the stage
+pub turned_on : (f g : Image) (task : Task) (job : Job) (counting new : Counting Input) (next : Option Stage) (old is : Stage) → f ≡ g → old ≡ stage.Counting counting → is ≡ stage_after new next
+    → IsUnderway f job task.first (stage_after new next) × TakesOneKey f job counting.merger.consumed (stage_consumed (stage_after new next))
+    → StepsOn f g task job (stage_consumed old) is step.More
+turned_on f g task job counting new next old is same before turned did =
+    let here = subst (λ (s : Stage). StepsOn f f task job counting.merger.consumed s step.More) (sym turned) did in
+    let there = subst (λ (s : Stage). StepsOn f f task job (stage_consumed s) is step.More) (sym before) here in
+    subst (λ (h : Image). StepsOn f h task job (stage_consumed old) is step.More) same there
+
 -- what a step of the second pass does, said of the stage
-pub writes_on : (f g : Image) (task : Task) (job : Job) (w : Writing Input) (before : ℕ) (r : Step) → AgreeOn (blocks_listed job.arrays) f g → before ≡ input_count f job → WritesOn f g task job w r
-    → StepsOn f g task job (stage.Writing w before) r
-writes_on f g task job w before step.More agree is writing =
-    (writing, is ∙ sym (ap (λ (rs : List (List Entry)). length (grouped_entries rs)) (inputs_same f g job agree)))
-writes_on f g task job w before (step.Made level) agree is made = made
+pub writes_on : (f g : Image) (task : Task) (job : Job) (was : ℕ) (w : Writing Input) (before : ℕ) (r : Step) → AgreeOn (blocks_listed job.arrays) f g → before ≡ input_count f job
+    → WritesOn f g task job was w r → StepsOn f g task job (before + was) (stage.Writing w before) r
+writes_on f g task job was w before step.More agree is writing =
+    ((writing.0, is ∙ sym (count_same f g job agree)), key_more f job before was w.merger.consumed writing.1)
+writes_on f g task job was w before (step.Made level) agree is made =
+    let all = made.1 in
+    let still = made.2 in
+    (made.0, omega (arith, is, all), omega (arith, still))
 
 -- what holds of a result that is Ok, where it gives something else
 pub if_ok : {T E : Type 0} {P Q : T → Type 0} (r : Result T E) → IfOk r P → ((x : T) → P x → Q x) → IfOk r Q

@@ -235,15 +235,21 @@ module _ {R : Type 0} (view : R → RunView) (law : (r : R) → IsEntryRun (view
         };
       }
 
+  -- where nothing is left, nothing is counted
+  pub written_stays : (f : Image) (job : Job) (first : ℕ) (w : Writing R) (merger : Merger R) → IsWriting view f job first w → merger.runs.items ≡ w.merger.runs.items
+      → CountsTaken (lefts f (views_of view w.merger)) (lefts f (views_of view merger)) (consumed_of w.merger) (consumed_of merger) → consumed_of merger ≡ consumed_of w.merger
+  written_stays f job first w merger writing same counts =
+      let few = writing.runs.few in
+      let taken = writing.runs.taken in
+      count_stays (lefts f (views_of view w.merger)) (lefts f (views_of view merger)) (consumed_of w.merger) (consumed_of merger) (ap (λ (rs : List R). lefts f (map view rs)) same) (omega (arith, few, taken)) counts
+
   -- where nothing is left all groups were written
   pub written_all : (f : Image) (job : Job) (first : ℕ) (w : Writing R) (merger : Merger R) → IsWriting view f job first w → NoneLeft (views_of view w.merger) → merger.runs.items ≡ w.merger.runs.items
       → CountsTaken (lefts f (views_of view w.merger)) (lefts f (views_of view merger)) (consumed_of w.merger) (consumed_of merger)
       → IsAllWritten view f job first (record { merger = merger; filling = w.filling })
   written_all f job first w merger writing none same counts =
       let ended = runs_ended view law f job writing.groups w.merger.runs.items (consumed_of w.merger) writing.runs none in
-      let few = writing.runs.few in
-      let taken = writing.runs.taken in
-      let stays = count_stays (lefts f (views_of view w.merger)) (lefts f (views_of view merger)) (consumed_of w.merger) (consumed_of merger) (ap (λ (rs : List R). lefts f (map view rs)) same) (omega (arith, few, taken)) counts in
+      let stays = written_stays f job first w merger writing same counts in
       let all : writing.all ≡ writing.groups =
       one_merge (runs_in f job) writing.all writing.groups (lefts f (views_of view w.merger)) writing.merged writing.runs.merged (none_left view law f w.merger.runs.items none) in
       record {

@@ -15,6 +15,8 @@ pub mod Opening
 pub mod Spaces
 pub mod Closing
 pub mod Filled
+pub mod Budget
+pub mod Owned
 pub mod Written
 pub mod Planning
 pub mod Passes

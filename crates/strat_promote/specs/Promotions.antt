@@ -1,5 +1,5 @@
 -- A promotion as its caller sees it.
-use Rattle.std.specs.Prelude.{◌≡◌, ◌≤◌, ℕ, Bool, true, false, not, is_some, List, ◌∷◌, length, map, drop, Option, None, Some}
+use Rattle.std.specs.Prelude.{◌≡◌, ◌<◌, ◌≤◌, ◌*◌, ℕ, Bool, true, false, not, is_some, List, ◌∷◌, length, map, drop, Option, None, Some}
 use Rattle.std.specs.List.{list_all, range_with_len, sum_by}
 use Rattle.strat_arena.specs.declared.pool.PoolEntry.{PoolEntry}
 use Rattle.strat_array.specs.Progress.{ArrayProgress}
@@ -11,8 +11,9 @@ use Rattle.strat_crash.specs.Image.{Image}
 use Rattle.strat_level.specs.Levels.{level_numbered, leads_if_any}
 use Rattle.strat_level.specs.Memtable.{ItemList}
 use Rattle.strat_level.specs.Target.{IsTarget}
+use Rattle.strat_promote.specs.Budget.{IsNearLimit}
 use Rattle.strat_promote.specs.Closing.{all_extents}
-use Rattle.strat_promote.specs.Job.{Job}
+use Rattle.strat_promote.specs.Job.{Job, input_count}
 use Rattle.strat_promote.specs.Stages.{IsSteady, IsUnderway, IsMade, stage_writers, stage_consumed, blocks_due}
 use Rattle.strat_promote.specs.Steps.{Inputs, IsReadySource, IsTaskIn}
 use Rattle.strat_promote.specs.declared.promotion.Progress.{Progress}
@@ -100,11 +101,18 @@ abbrev pub MatchProgress : Progress → Type 0 → Type 0 → Type 0
 MatchProgress progress.More more done = more
 MatchProgress progress.Done more done = done
 
--- after a slice there is more to do, or the level is made
-abbrev pub IsSliced : Image → Image → Job → Promotion → Progress → Type 0
-IsSliced f g job p progress.More = HasBegun g job p
-IsSliced f g job p progress.Done =
-    (has_ended p ≡ true) × IsMade f g job (target_of p) p.task.first (level_of p)
+-- after a slice an entry is left, or all were taken in both passes and the level is made; fewer were taken than a limit,
+-- and those of one key
+abbrev pub IsSliced : Image → Image → Job → ℕ → Promotion → Progress → Type 0
+IsSliced f g job limit p progress.More =
+    HasBegun g job p
+    × (entries_taken p < 2 * input_count f job)
+    × IsNearLimit f job limit (entries_taken p)
+IsSliced f g job limit p progress.Done =
+    (has_ended p ≡ true)
+    × IsMade f g job (target_of p) p.task.first (level_of p)
+    × (entries_taken p ≡ 2 * input_count f job)
+    × IsNearLimit f job limit (entries_taken p)
 
 -- how many entries the arrays of a level have, if there is one
 abbrev pub entries_if_any : Option LevelDesc → ℕ

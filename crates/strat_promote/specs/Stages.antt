@@ -1,5 +1,5 @@
 -- How far a promotion is.
-use Rattle.std.specs.Prelude.{◌≡◌, ◌<◌, ℕ, ◌+◌, ◌*◌, List, [], length, Option, None, Some}
+use Rattle.std.specs.Prelude.{◌≡◌, ◌<◌, ℕ, ◌+◌, ◌*◌, List, [], length, Option, None, Some, IsSome}
 use Rattle.std.specs.List.{slice_get}
 use Rattle.strat_array.specs.Progress.{ArrayProgress}
 use Rattle.strat_base.specs.Entries.{Entry}
@@ -8,7 +8,7 @@ use Rattle.strat_base.specs.declared.descriptors.LevelDesc.{LevelDesc}
 use Rattle.strat_crash.specs.Image.{Image}
 use Rattle.strat_format.specs.Arrays.{blocks_of, entries_on}
 use Rattle.strat_merge.specs.MergerFields.{views_of, consumed_of}
-use Rattle.strat_merge.specs.Runs.{blocks_left}
+use Rattle.strat_merge.specs.Runs.{head_at, blocks_left, NoneLeft}
 use Rattle.strat_plan.specs.Groups.{SplitsGroups, group_versions, array_of_groups}
 use Rattle.strat_plan.specs.Plan.{Plan, horizon_of}
 use Rattle.strat_promotion.specs.Merging.{Merges}
@@ -45,6 +45,18 @@ blocks_due arrays stage.Begun = 2 * length (blocks_listed arrays)
 blocks_due arrays (stage.Counting c) =
     length (blocks_left (views_of input_seen c.merger)) + length (blocks_listed arrays)
 blocks_due arrays (stage.Writing w before) = length (blocks_left (views_of input_seen w.merger))
+
+-- an entry is left to be taken in one of the passes
+abbrev pub HasLeft : Stage → Type 0
+HasLeft stage.Begun = Unit {0}
+HasLeft (stage.Counting c) = Unit {0}
+HasLeft (stage.Writing w before) = (i : ℕ) × IsSome (head_at (views_of input_seen w.merger) i)
+
+-- no entry is left to be taken in the second pass
+abbrev pub IsTakenUp : Stage → Type 0
+IsTakenUp stage.Begun = ⊥
+IsTakenUp (stage.Counting c) = ⊥
+IsTakenUp (stage.Writing w before) = NoneLeft (views_of input_seen w.merger)
 
 -- a stage is one of a job, in an image
 abbrev pub IsUnderway : Image → Job → ℕ → Stage → Type 0

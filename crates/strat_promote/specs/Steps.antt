@@ -1,14 +1,15 @@
 -- One step of a promotion.
-use Rattle.std.specs.Prelude.{◌≡◌, ◌≤◌, ◌^◌, nat_lt, List, Option, length, IsTrue}
+use Rattle.std.specs.Prelude.{◌≡◌, ◌<◌, ◌≤◌, ℕ, ◌*◌, ◌^◌, nat_lt, List, Option, length, IsTrue}
 use Rattle.std.specs.List.{list_all}
 use Rattle.strat_crash.specs.Image.{Image}
 use Rattle.strat_arena.specs.declared.pool.PoolEntry.{PoolEntry}
 use Rattle.strat_base.specs.Tree.{Parents}
 use Rattle.strat_base.specs.declared.descriptors.LevelDesc.{LevelDesc}
 use Rattle.strat_level.specs.Memtable.{ItemList, entries_held, ListStands}
-use Rattle.strat_promote.specs.Job.{Job, IsJobIn, AreReadable, arrays_to}
+use Rattle.strat_promote.specs.Budget.{TakesOneKey, IsNearLimit}
+use Rattle.strat_promote.specs.Job.{Job, IsJobIn, AreReadable, arrays_to, input_count}
 use Rattle.strat_promote.specs.Passes.{IsJobOver}
-use Rattle.strat_promote.specs.Stages.{IsUnderway, IsMade}
+use Rattle.strat_promote.specs.Stages.{IsUnderway, IsMade, stage_consumed}
 use Rattle.strat_promote.specs.declared.stage.Stage.{Stage}
 use Rattle.strat_promote.specs.declared.step.Task.{Task}
 use Rattle.strat_promote.specs.declared.step.Sources.{Sources}
@@ -50,7 +51,24 @@ pub record IsTaskIn (f : Image) (task : Task) (inputs : Inputs) (job : Job) : Ty
   pub horizon : job.horizon ≡ task.horizon
   pub purges : job.purges ≡ task.purges
 
--- after a step there is more to do, or the level is made
-abbrev pub StepsOn : Image → Image → Task → Job → Stage → Step → Type 0
-StepsOn f g task job stage step.More = IsUnderway g job task.first stage
-StepsOn f g task job stage (step.Made level) = IsMade f g job task.target task.first level
+-- after a step, before which so many entries were taken, there is more to do; or all were taken in both passes, and the
+-- level is made
+abbrev pub StepsOn : Image → Image → Task → Job → ℕ → Stage → Step → Type 0
+StepsOn f g task job before stage step.More =
+    IsUnderway g job task.first stage × TakesOneKey f job before (stage_consumed stage)
+StepsOn f g task job before stage (step.Made level) =
+    IsMade f g job task.target task.first level
+    × (stage_consumed stage ≡ 2 * input_count f job)
+    × (stage_consumed stage ≡ before)
+
+-- after the steps of a slice an entry is left, or all were taken in both passes and the level is made; fewer were taken
+-- than a limit, and those of one key
+abbrev pub SlicesOn : Image → Image → Task → Job → ℕ → Stage → Step → Type 0
+SlicesOn f g task job limit stage step.More =
+    IsUnderway g job task.first stage
+    × (stage_consumed stage < 2 * input_count f job)
+    × IsNearLimit f job limit (stage_consumed stage)
+SlicesOn f g task job limit stage (step.Made level) =
+    IsMade f g job task.target task.first level
+    × (stage_consumed stage ≡ 2 * input_count f job)
+    × IsNearLimit f job limit (stage_consumed stage)

@@ -2,9 +2,12 @@
 use Rattle.std.specs.Prelude.{◌≡◌, ℕ, List, [], Option, None, Some}
 use Rattle.std.specs.List.{slice_get}
 use Rattle.strat_array.specs.Progress.{ArrayProgress}
+use Rattle.strat_base.specs.declared.descriptors.LevelDesc.{LevelDesc}
 use Rattle.strat_crash.specs.Image.{Image}
+use Rattle.strat_merge.specs.MergerFields.{consumed_of}
+use Rattle.strat_promote.specs.Budget.{TakesOneKey}
 use Rattle.strat_promote.specs.InputFields.{input_seen}
-use Rattle.strat_promote.specs.Job.{Job}
+use Rattle.strat_promote.specs.Job.{Job, input_count}
 use Rattle.strat_promote.specs.Stages.{IsMade}
 use Rattle.strat_promote.specs.Written.{IsWriting}
 use Rattle.strat_promote.specs.declared.counting.Counting.{Counting}
@@ -25,12 +28,18 @@ stage_after counting (Some next) = next
 pub record AreAllNew (writers : List ArrayProgress) : Type 0 where
   pub each : (q : ℕ) (w : ArrayProgress) → slice_get writers q ≡ Some w → w.extents ≡ []
 
--- something holds, where there is more to do
-abbrev pub IsMoreOr : Step → Type 0 → Type 0
-IsMoreOr step.More P = P
-IsMoreOr (step.Made level) P = Unit {0}
+-- one thing holds where there is more to do, and another of the level where it is made
+abbrev pub MatchStep : Step → Type 0 → (Option LevelDesc → Type 0) → Type 0
+MatchStep step.More more made = more
+MatchStep (step.Made level) more made = made level
 
--- after a step of the second pass there is more to write, or the level is made
-abbrev pub WritesOn : Image → Image → Task → Job → Writing Input → Step → Type 0
-WritesOn f g task job writing step.More = IsWriting input_seen g job task.first writing
-WritesOn f g task job writing (step.Made level) = IsMade f g job task.target task.first level
+-- after a step of the second pass, before which so many entries were taken in it, there is more to write; or nothing was
+-- left, and the level is made
+abbrev pub WritesOn : Image → Image → Task → Job → ℕ → Writing Input → Step → Type 0
+WritesOn f g task job before writing step.More =
+    IsWriting input_seen g job task.first writing
+    × TakesOneKey f job before (consumed_of writing.merger)
+WritesOn f g task job before writing (step.Made level) =
+    IsMade f g job task.target task.first level
+    × (consumed_of writing.merger ≡ input_count f job)
+    × (consumed_of writing.merger ≡ before)

@@ -4,8 +4,9 @@ ghost use Rattle.std.specs.Prelude.{◌≡◌, ◌≤◌, ◌+◌, ℕ, List, le
 ghost use Rattle.strat_base.specs.declared.failures.Trouble.TheVariants.{Damaged, Device};
 ghost use Rattle.strat_crash.specs.Image.{Image};
 ghost use Rattle.strat_crash.specs.Moments.{Exposes};
-ghost use Rattle.strat_merge.specs.MergerFields.{runs_merged};
+ghost use Rattle.strat_merge.specs.MergerFields.{runs_merged, consumed_of};
 ghost use Rattle.strat_merge.specs.Reading.{ReadsRuns};
+ghost use Rattle.strat_promote.specs.Budget.{TakesOneKey};
 ghost use Rattle.strat_promote.specs.Counted.{IsCounter, IsCounting, IsCounted};
 ghost use Rattle.strat_promote.specs.Job.{Job, IsJobIn};
 
@@ -51,14 +52,15 @@ pub(crate) fn count_group<D: Disk, R: Run<D>>(
     requires kept { IsCounter R.view (length counting.old.counts.own) counting.old }
     requires fits { length counting.old.counts.own ≤ length tree.now.parents }
     ensures kept { OnOk result (IsCounter R.view (length counting.old.counts.own) counting.new) }
-    ensures ok { OnOk result ((f : Image) (job : Job) → Exposes (D.view disk.old) f
-        → IsJobIn tree.now.parents job → job.purges ≡ purges
+    ensures ok { IfOk result (λ more. IsTrue more → (f : Image) (job : Job)
+        → Exposes (D.view disk.old) f → IsJobIn tree.now.parents job → job.purges ≡ purges
         → job.horizon ≡ length counting.old.counts.own
-        → IsCounting R.view f job counting.old
-        → IsCounting R.view f job counting.new) }
+        → IsCounting R.view f job counting.old → IsCounting R.view f job counting.new
+        × TakesOneKey f job (consumed_of counting.old.merger) (consumed_of counting.new.merger)) }
     ensures none { IfOk result (λ more. more ≡ false → (f : Image) (job : Job)
         → Exposes (D.view disk.old) f → IsCounting R.view f job counting.old
-        → IsCounted R.view f job counting.new) }
+        → IsCounted R.view f job counting.new
+        × (consumed_of counting.new.merger ≡ consumed_of counting.old.merger)) }
     ensures reads { ReadsRuns R.view Device Damaged (D.view disk.old) (D.view disk.new)
         (D.faults disk.old) (D.faults disk.new) (D.reads disk.old) (D.reads disk.new)
         (runs_merged counting.old.merger) (runs_merged counting.new.merger) result }

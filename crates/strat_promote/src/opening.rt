@@ -43,6 +43,7 @@ pub(crate) fn begin_counting<D: Disk>(
         (entries_held pool.now zero.now)) }
     requires fits { AreReadable horizon (arrays_to levels.now target) × (target ≤ 22) }
     ensures kept { IfOk result (λ c. IsCounter input_seen horizon c) }
+    ensures len { IfOk result (λ c. consumed_of c.merger ≡ 0) }
     ensures ok { IfOk result (λ c. (f : Image) (job : Job) → Exposes (D.view disk.old) f
         → IsJobOver f (entries_held pool.now zero.now) (arrays_to levels.now target) job
         → IsCounting input_seen f job c) }
@@ -84,6 +85,7 @@ pub(crate) fn begin_writing<D: Disk>(
         × (length counting.old.counts.own ≤ length tree.now.parents) }
     ensures kept { IfOk result (λ w. IsWriterOf input_seen (length counting.old.counts.own) w) }
     ensures none { IfOk result (λ w. AreNew first w.filling.writers.items) }
+    ensures len { IfOk result (λ w. consumed_of w.merger ≡ 0) }
     ensures ok { IfOk result (λ w. (f : Image) (job : Job) → Exposes (D.view disk.old) f
         → IsJobOver f (entries_held pool.now zero.now) (arrays_to levels.now target) job
         → IsJobIn tree.now.parents job → job.horizon ≡ length counting.old.counts.own

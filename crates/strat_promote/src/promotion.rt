@@ -51,6 +51,8 @@ impl Promotion {
     ghost use Rattle.strat_promote.specs.Closing.{AreAllUsed};
     ghost use Rattle.strat_promote.specs.Job.{Job, IsBadInput, arrays_to, blocks_listed};
     ghost use Rattle.strat_promote.specs.Promotions.{IsBegun, IsOpen, IsFed, IsItsJob, HasBegun, IsSliced, MatchProgress, SamePromotion, inputs_given, writers_of, blocks_to_read, leads_listed, entries_taken, entries_if_any, extents_taken, has_ended, target_of, level_of};
+    ghost use Rattle.strat_promote.specs.Owned.{OwnsItsBlocks};
+    ghost use Rattle.strat_promote.specs.Passes.{ReadsOnce};
     ghost use Rattle.strat_promote.specs.Spaces.{TakesMore};
 
     /// The promotion of level 0 and the levels down to the first with room for all their leads, where level j has
@@ -119,12 +121,13 @@ impl Promotion {
         requires room { 1 ≤ budget }
         ensures kept { IfOk result (λ p. MatchProgress p (IsOpen self.new
             × (entries_taken self.old + budget ≤ entries_taken self.new))
-            (has_ended self.new ≡ true)) }
+            ((has_ended self.new ≡ true)
+            × OwnsItsBlocks (writers_of self.new) (level_of self.new))) }
         ensures ok { IfOk result (λ p. (f g : Image) (job : Job) → Exposes (D.view disk.old) f
             → Exposes (D.view disk.new) g → IsItsJob f self.old
             (inputs_given zero.now.list pool.now levels.now tree.now.parents) job
             → AreUsed space.old (blocks_listed job.arrays) → HasBegun f job self.old
-            → IsSliced f g job self.new p) }
+            → IsSliced f g job (entries_taken self.old + budget) self.new p) }
         ensures found { AreAllUsed space.new (writers_of self.new) }
         ensures room { TakesMore space.old space.new
             (extents_taken self.old) (extents_taken self.new) }
@@ -136,10 +139,9 @@ impl Promotion {
             (inputs_given zero.now.list pool.now levels.now tree.now.parents) job
             → AreUsed space.old (blocks_listed job.arrays) → HasBegun f job self.old
             → IsBadInput f job.arrays b }
-        ensures reads { OnOk result (D.reads disk.new
-            + blocks_to_read (arrays_to levels.now (target_of self.old)) self.new
-            ≤ D.reads disk.old
-            + blocks_to_read (arrays_to levels.now (target_of self.old)) self.old) }
+        ensures reads { ReadsOnce (D.reads disk.old) (D.reads disk.new)
+            (blocks_to_read (arrays_to levels.now (target_of self.old)) self.old)
+            (blocks_to_read (arrays_to levels.now (target_of self.old)) self.new) result }
     {
         let sources = Sources {
             zero: zero.view(),

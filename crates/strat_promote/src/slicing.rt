@@ -1,6 +1,6 @@
 //! Steps of a promotion, as many as a budget allows.
 
-ghost use Rattle.std.specs.Prelude.{◌≡◌, ◌<◌, ◌≤◌, ◌+◌, ◌-◌, ◌*◌, ◌^◌, ℕ, List, length, min, true, IfOk, OnOk, IsErrOf, IsSome, IsTrue};
+ghost use Rattle.std.specs.Prelude.{◌≡◌, ◌<◌, ◌≤◌, ◌+◌, ◌-◌, ◌*◌, ◌^◌, ℕ, List, length, min, true, false, ◌⊎◌, IfOk, OnOk, IsErrOf, IsSome, IsTrue};
 ghost use Rattle.strat_array.specs.Taking.{AreUsed};
 ghost use Rattle.strat_base.specs.declared.failures.Trouble.TheVariants.{Damaged, Device};
 ghost use Rattle.strat_crash.specs.Blocks.{TearsBlocks};
@@ -10,10 +10,12 @@ ghost use Rattle.strat_crash.specs.Moments.{Exposes};
 ghost use Rattle.strat_extent.specs.Blocks.{is_free};
 ghost use Rattle.strat_promote.specs.Closing.{AreAllUsed, all_extents};
 ghost use Rattle.strat_promote.specs.Job.{Job, IsBadInput, arrays_to, blocks_listed};
+ghost use Rattle.strat_promote.specs.Owned.{OwnsItsBlocks};
+ghost use Rattle.strat_promote.specs.Passes.{ReadsOnce};
 ghost use Rattle.strat_promote.specs.Spaces.{TakesMore};
-ghost use Rattle.strat_promote.specs.Stages.{IsSteady, IsUnderway, stage_writers, stage_consumed, blocks_due};
-ghost use Rattle.strat_promote.specs.Steps.{inputs_of, IsReadySource, IsTaskIn, StepsOn};
-ghost use Rattle.strat_promote.specs.Turning.{IsMoreOr};
+ghost use Rattle.strat_promote.specs.Stages.{IsSteady, IsUnderway, HasLeft, IsTakenUp, stage_writers, stage_consumed, blocks_due};
+ghost use Rattle.strat_promote.specs.Steps.{inputs_of, IsReadySource, IsTaskIn, SlicesOn};
+ghost use Rattle.strat_promote.specs.Turning.{MatchStep};
 
 use crate::stage::Stage;
 use crate::step::{Desk, Sources, Step, Task, take_step};
@@ -40,12 +42,17 @@ fn is_used_up(start: u64, budget: u64, stage: &Stage) -> bool
     requires { 1 ≤ budget }
     ensures ok { result ≡ true → (n : ℕ) → start ≡ min n (2 ^ 64 - 1)
         → n + budget ≤ stage_consumed stage.now }
+    ensures none { result ≡ false → (n : ℕ) → start ≡ min n (2 ^ 64 - 1)
+        → stage_consumed stage.now < 2 ^ 64 - 1 → stage_consumed stage.now < n + budget }
 {
     taken_in(stage).saturating_sub(start) >= budget
 }
 
 /// Whether an entry is left in either pass.
-fn has_left<D: Disk>(stage: &Stage) -> bool {
+fn has_left<D: Disk>(stage: &Stage) -> bool
+    ensures found { result ≡ true → HasLeft stage.now }
+    ensures none { result ≡ false → IsTakenUp stage.now }
+{
     match stage {
         Stage::Writing(writing, _) => writing.merger.has_left::<D>(),
         _ => true,
@@ -57,6 +64,10 @@ fn may_pause<D: Disk>(start: u64, budget: u64, stage: &Stage) -> bool
     requires { 1 ≤ budget }
     ensures ok { result ≡ true → (n : ℕ) → start ≡ min n (2 ^ 64 - 1)
         → n + budget ≤ stage_consumed stage.now }
+    ensures found { result ≡ true → HasLeft stage.now }
+    ensures none { result ≡ false → (n : ℕ) → start ≡ min n (2 ^ 64 - 1)
+        → stage_consumed stage.now < 2 ^ 64 - 1
+        → (stage_consumed stage.now < n + budget) ⊎ IsTakenUp stage.now }
 {
     is_used_up(start, budget, stage) && has_left::<D>(stage)
 }
@@ -75,13 +86,14 @@ pub(crate) fn take_steps<D: Disk>(
     requires fits { IsReadySource task.now (inputs_of sources.now) }
     requires found { AreAllUsed space.old (stage_writers stage.old) }
     requires room { 1 ≤ budget }
-    ensures kept { IfOk result (λ step. IsMoreOr step (IsSteady task.now.horizon stage.new
-        × (stage_consumed stage.old + budget ≤ stage_consumed stage.new))) }
+    ensures kept { IfOk result (λ step. MatchStep step (IsSteady task.now.horizon stage.new
+        × (stage_consumed stage.old + budget ≤ stage_consumed stage.new))
+        (λ level. OwnsItsBlocks (stage_writers stage.new) level)) }
     ensures ok { IfOk result (λ step. (f g : Image) (job : Job) → Exposes (D.view disk.old) f
         → Exposes (D.view disk.new) g → IsTaskIn f task.now (inputs_of sources.now) job
         → AreUsed space.old (blocks_listed job.arrays)
         → IsUnderway f job task.now.first stage.old
-        → StepsOn f g task.now job stage.new step) }
+        → SlicesOn f g task.now job (stage_consumed stage.old + budget) stage.new step) }
     ensures found { AreAllUsed space.new (stage_writers stage.new) }
     ensures room { TakesMore space.old space.new (all_extents (stage_writers stage.old))
         (all_extents (stage_writers stage.new)) }
@@ -91,10 +103,9 @@ pub(crate) fn take_steps<D: Disk>(
         → Exposes (D.view disk.old) f → IsTaskIn f task.now (inputs_of sources.now) job
         → AreUsed space.old (blocks_listed job.arrays)
         → IsUnderway f job task.now.first stage.old → IsBadInput f job.arrays b }
-    ensures reads { OnOk result (D.reads disk.new
-        + blocks_due (arrays_to sources.now.levels.now task.now.target) stage.new
-        ≤ D.reads disk.old
-        + blocks_due (arrays_to sources.now.levels.now task.now.target) stage.old) }
+    ensures reads { ReadsOnce (D.reads disk.old) (D.reads disk.new)
+        (blocks_due (arrays_to sources.now.levels.now task.now.target) stage.old)
+        (blocks_due (arrays_to sources.now.levels.now task.now.target) stage.new) result }
 {
     let start = taken_in(stage);
     for _ in 0..STEPS_MAX {

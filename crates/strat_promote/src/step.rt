@@ -1,7 +1,7 @@
 //! One step of a promotion.
 
 ghost use Rattle.std.specs.List.{list_all};
-ghost use Rattle.std.specs.Prelude.{◌≡◌, ◌<◌, ◌≤◌, ◌+◌, ◌*◌, ◌^◌, ℕ, List, [], length, nat_lt, unwrap_or, IfOk, OnOk, IsErrOf, IsTrue, MatchResult};
+ghost use Rattle.std.specs.Prelude.{◌≡◌, ◌<◌, ◌≤◌, ◌+◌, ◌*◌, ◌^◌, ℕ, List, [], length, nat_lt, unwrap_or, IfOk, OnOk, OnErr, IsErrOf, IsTrue, MatchResult};
 ghost use Rattle.strat_array.specs.Taking.{AreUsed};
 ghost use Rattle.strat_base.specs.declared.failures.Trouble.TheVariants.{Damaged, Device};
 ghost use Rattle.strat_crash.specs.Blocks.{TearsBlocks};
@@ -12,19 +12,21 @@ ghost use Rattle.strat_extent.specs.Blocks.{is_free};
 ghost use Rattle.strat_level.specs.Memtable.{entries_held, ListStands};
 ghost use Rattle.strat_array.specs.Pushed.{HasReason};
 ghost use Rattle.strat_crash.specs.Moments.{OnlyReads};
-ghost use Rattle.strat_merge.specs.MergerFields.{views_of};
+ghost use Rattle.strat_merge.specs.MergerFields.{views_of, consumed_of};
 ghost use Rattle.strat_merge.specs.Runs.{blocks_left};
+ghost use Rattle.strat_promote.specs.Budget.{TakesOneKey};
 ghost use Rattle.strat_promote.specs.Closing.{AreAllUsed, all_extents};
 ghost use Rattle.strat_promote.specs.Counted.{IsCounter, IsCounting};
 ghost use Rattle.strat_promote.specs.Filled.{IsFilling};
 ghost use Rattle.strat_promote.specs.Passes.{OpensInputs};
 ghost use Rattle.strat_promote.specs.Written.{IsWriterOf, IsWriting, IsAllWritten};
-ghost use Rattle.strat_promote.specs.Turning.{stage_after, AreAllNew, IsMoreOr, WritesOn};
+ghost use Rattle.strat_promote.specs.Turning.{stage_after, AreAllNew, MatchStep, WritesOn};
 ghost use Rattle.strat_promote.specs.InputFields.{input_seen};
 ghost use Rattle.strat_promote.specs.Job.{Job, IsBadInput, IsJobIn, AreReadable, arrays_to, blocks_listed};
-ghost use Rattle.strat_promote.specs.Passes.{IsJobOver};
+ghost use Rattle.strat_promote.specs.Owned.{OwnsItsBlocks};
+ghost use Rattle.strat_promote.specs.Passes.{IsJobOver, ReadsOnce};
 ghost use Rattle.strat_promote.specs.Spaces.{TakesMore};
-ghost use Rattle.strat_promote.specs.Stages.{IsSteady, IsUnderway, IsMade, stage_writers, blocks_due};
+ghost use Rattle.strat_promote.specs.Stages.{IsSteady, IsUnderway, IsMade, stage_writers, stage_consumed, blocks_due};
 ghost use Rattle.strat_promote.specs.Steps.{Inputs, inputs_of, IsReadySource, IsTaskIn, StepsOn};
 
 use crate::closing::{describe_all, seal_all};
@@ -88,6 +90,7 @@ fn begin<D: Disk>(
     ensures ok { IfOk result (λ stage. (f : Image) (job : Job) → Exposes (D.view disk.old) f
         → IsTaskIn f task.now (inputs_of sources.now) job → IsUnderway f job task.now.first stage) }
     ensures none { IfOk result (λ stage. stage_writers stage ≡ []) }
+    ensures len { IfOk result (λ stage. stage_consumed stage ≡ 0) }
     ensures found { OpensInputs Device Damaged (D.view disk.old) (D.view disk.new)
         (arrays_to sources.now.levels.now task.now.target) (D.faults disk.old)
         (D.faults disk.new) (D.reads disk.old) (D.reads disk.new) result }
@@ -122,7 +125,9 @@ fn count<D: Disk>(
     ensures kept { IfOk result (λ next. IsSteady task.now.horizon (stage_after counting.new next)) }
     ensures ok { IfOk result (λ next. (f : Image) (job : Job) → Exposes (D.view disk.old) f
         → IsTaskIn f task.now (inputs_of sources.now) job → IsCounting input_seen f job counting.old
-        → IsUnderway f job task.now.first (stage_after counting.new next)) }
+        → IsUnderway f job task.now.first (stage_after counting.new next)
+        × TakesOneKey f job (consumed_of counting.old.merger)
+        (stage_consumed (stage_after counting.new next))) }
     ensures none { IfOk result (λ next. AreAllNew (stage_writers (stage_after counting.new next))) }
     ensures same { OnlyReads (D.view disk.old) (D.view disk.new) }
     ensures cause { HasCause Device (D.faults disk.old) (D.faults disk.new) result }
@@ -132,6 +137,9 @@ fn count<D: Disk>(
     ensures reads { IfOk result (λ next. D.reads disk.new
         + blocks_due (arrays_to sources.now.levels.now task.now.target)
         (stage_after counting.new next)
+        ≤ D.reads disk.old + length (blocks_left (views_of input_seen counting.old.merger))
+        + length (blocks_listed (arrays_to sources.now.levels.now task.now.target))) }
+    ensures err { OnErr result (D.reads disk.new
         ≤ D.reads disk.old + length (blocks_left (views_of input_seen counting.old.merger))
         + length (blocks_listed (arrays_to sources.now.levels.now task.now.target))) }
 {
@@ -176,7 +184,8 @@ fn close<D: Disk>(
         → IsReadySource task.now inputs → IsTaskIn f task.now inputs job
         → IsAllWritten input_seen f job task.now.first writing.old
         → IsMade f g job task.now.target task.now.first made) }
-    ensures kept { writing.new.merger ≡ writing.old.merger }
+    ensures kept { (writing.new.merger ≡ writing.old.merger)
+        × IfOk result (λ made. OwnsItsBlocks writing.new.filling.writers.items made) }
     ensures found { AreAllUsed space.new writing.new.filling.writers.items }
     ensures room { TakesMore space.old space.new (all_extents writing.old.filling.writers.items)
         (all_extents writing.new.filling.writers.items) }
@@ -203,13 +212,14 @@ fn write<D: Disk>(
     requires kept { IsWriterOf input_seen task.now.horizon writing.old }
     requires fits { IsReadySource task.now (inputs_of sources.now) }
     requires found { AreAllUsed space.old writing.old.filling.writers.items }
-    ensures kept { IfOk result (λ step. IsMoreOr step
-        (IsWriterOf input_seen task.now.horizon writing.new)) }
+    ensures kept { IfOk result (λ step. MatchStep step
+        (IsWriterOf input_seen task.now.horizon writing.new)
+        (λ level. OwnsItsBlocks writing.new.filling.writers.items level)) }
     ensures ok { IfOk result (λ step. (f g : Image) (job : Job) → Exposes (D.view disk.old) f
         → Exposes (D.view disk.new) g → IsTaskIn f task.now (inputs_of sources.now) job
         → AreUsed space.old (blocks_listed job.arrays)
         → IsWriting input_seen f job task.now.first writing.old
-        → WritesOn f g task.now job writing.new step) }
+        → WritesOn f g task.now job (consumed_of writing.old.merger) writing.new step) }
     ensures found { AreAllUsed space.new writing.new.filling.writers.items }
     ensures room { TakesMore space.old space.new (all_extents writing.old.filling.writers.items)
         (all_extents writing.new.filling.writers.items) }
@@ -258,11 +268,12 @@ pub(crate) fn take_step<D: Disk>(
     requires kept { IsSteady task.now.horizon stage.old }
     requires fits { IsReadySource task.now (inputs_of sources.now) }
     requires found { AreAllUsed space.old (stage_writers stage.old) }
-    ensures kept { IfOk result (λ step. IsMoreOr step (IsSteady task.now.horizon stage.new)) }
+    ensures kept { IfOk result (λ step. MatchStep step (IsSteady task.now.horizon stage.new)
+        (λ level. OwnsItsBlocks (stage_writers stage.new) level)) }
     ensures ok { IfOk result (λ step. (f g : Image) (job : Job) → Exposes (D.view disk.old) f
         → Exposes (D.view disk.new) g → IsTaskIn f task.now (inputs_of sources.now) job
         → AreUsed space.old (blocks_listed job.arrays) → IsUnderway f job task.now.first stage.old
-        → StepsOn f g task.now job stage.new step) }
+        → StepsOn f g task.now job (stage_consumed stage.old) stage.new step) }
     ensures found { AreAllUsed space.new (stage_writers stage.new) }
     ensures room { TakesMore space.old space.new (all_extents (stage_writers stage.old))
         (all_extents (stage_writers stage.new)) }
@@ -271,10 +282,9 @@ pub(crate) fn take_step<D: Disk>(
     ensures damaged { (b : ℕ) → IsErrOf result (Damaged b) → (f : Image) (job : Job)
         → Exposes (D.view disk.old) f → IsTaskIn f task.now (inputs_of sources.now) job
         → IsUnderway f job task.now.first stage.old → IsBadInput f job.arrays b }
-    ensures reads { OnOk result (D.reads disk.new
-        + blocks_due (arrays_to sources.now.levels.now task.now.target) stage.new
-        ≤ D.reads disk.old
-        + blocks_due (arrays_to sources.now.levels.now task.now.target) stage.old) }
+    ensures reads { ReadsOnce (D.reads disk.old) (D.reads disk.new)
+        (blocks_due (arrays_to sources.now.levels.now task.now.target) stage.old)
+        (blocks_due (arrays_to sources.now.levels.now task.now.target) stage.new) result }
 {
     match stage {
         Stage::Begun => {

@@ -16,8 +16,9 @@ use Rattle.strat_promote.specs.Filled.{AreReadyFor, DealsOut}
 use Rattle.strat_promote.specs.Job.{blocks_listed}
 use Rattle.strat_promote.specs.Taken.{TakesKept}
 use Rattle.strat_promote.specs.Written.{IsAllWritten}
+use Rattle.strat_promote.proofs.BudgetLemmas.{one_key}
 use Rattle.strat_promote.proofs.PassLemmas.{under_more}
-use Rattle.strat_promote.proofs.WrittenLemmas.{written_more, written_all}
+use Rattle.strat_promote.proofs.WrittenLemmas.{written_more, written_all, written_stays}
 use Rattle.strat_promote.proofs.passing.write_group.Goals as goal
 
 pub take_group-requires-clause-fits : goal.take_group-requires-clause-fits
@@ -26,10 +27,12 @@ take_group-requires-clause-fits g c = under_more _ _ _ c.requires.fits c.require
 pub returns-then-not-branch-clause-none : goal.returns-then-not-branch-clause-none
 returns-then-not-branch-clause-none g c = λ _ f g' job first told tells writing.
     let none = c.in_ok-take_group.ensures.none c.if-not-branch.true in
-    let reads = c.take_group.ensures.reads in
-    subst (λ (h : Image). IsAllWritten g.R.Run.view h job first (record { merger = c.take_group.new.merger; filling = c.args.writing.now.filling }))
-    (exposed_once (g.D.Disk.view c.take_group.new.disk) f g' (reads.same.same ∙ told) tells)
-    (written_all g.R.Run.view g.met.R.Run.leaves_run f job first c.args.writing.now c.take_group.new.merger writing none.0 none.1 (c.in_ok-take_group.ensures.len f told))
+    let reads = c.take_group.ensures.reads in (
+      subst (λ (h : Image). IsAllWritten g.R.Run.view h job first (record { merger = c.take_group.new.merger; filling = c.args.writing.now.filling }))
+          (exposed_once (g.D.Disk.view c.take_group.new.disk) f g' (reads.same.same ∙ told) tells)
+          (written_all g.R.Run.view g.met.R.Run.leaves_run f job first c.args.writing.now c.take_group.new.merger writing none.0 none.1 (c.in_ok-take_group.ensures.len f told)),
+      written_stays g.R.Run.view g.met.R.Run.leaves_run f job first c.args.writing.now c.take_group.new.merger writing none.1 (c.in_ok-take_group.ensures.len f told),
+    )
 
 pub returns-in_err-deal_out-clause-same : goal.returns-in_err-deal_out-clause-same
 returns-in_err-deal_out-clause-same g c =
@@ -61,16 +64,18 @@ returns-clause-ok g c = λ _ f g' job first told tells within purges horizon use
     let under : are_under job.horizon old ≡ true = subst (λ (n : ℕ). are_under n old ≡ true) (sym horizon) c.requires.kept.under in
     let taken : TakesKept c.args.tree.now.parents job.purges job.horizon (lefts f old) (lefts f new) (entries_of c.take_group.new.arena.pairs c.take_group.new.group) =
     subst (λ (p : Bool). TakesKept c.args.tree.now.parents p job.horizon (lefts f old) (lefts f new) (entries_of c.take_group.new.arena.pairs c.take_group.new.group)) (sym purges)
-    (c.in_ok-take_group.ensures.ok c.if-not-branch.false f job.horizon told under) in
-    written_more g.R.Run.view g.met.R.Run.leaves_run f g' job first c.args.tree.now.parents c.take_group.new.arena.pairs c.take_group.new.group found.0
-    (g.D.Disk.view c.take_group.new.disk) (g.D.Disk.view c.deal_out.new.disk) c.args.writing.now (record { merger = c.take_group.new.merger; filling = c.deal_out.new.filling })
-    writing within horizon (used_agree c.args.space.now (blocks_listed job.arrays) f g' used (c.deal_out.ensures.same.0.content f g' between tells)) taken
-    (c.in_ok-take_group.ensures.len f told) reads.left.fewer (λ b is. reads.fewer f b told is) found.1.keyed c.deal_out.ensures.same.1
-    (λ parents split.
-    subst (λ (items : List Item). IsSplitFor c.args.tree.now.parents parents c.args.writing.now.filling.plan items
-    → DealsOut (g.D.Disk.view c.take_group.new.disk) (g.D.Disk.view c.deal_out.new.disk) parents c.args.writing.now.filling.plan c.take_group.new.arena.pairs items
-    c.args.writing.now.filling.writers.items c.deal_out.new.filling.writers.items) c.items.ensures.ok (c.in_ok-deal_out.ensures.ok parents) split)
-    between tells
+    (c.in_ok-take_group.ensures.ok c.if-not-branch.false f job.horizon told under) in (
+      written_more g.R.Run.view g.met.R.Run.leaves_run f g' job first c.args.tree.now.parents c.take_group.new.arena.pairs c.take_group.new.group found.0
+          (g.D.Disk.view c.take_group.new.disk) (g.D.Disk.view c.deal_out.new.disk) c.args.writing.now (record { merger = c.take_group.new.merger; filling = c.deal_out.new.filling })
+          writing within horizon (used_agree c.args.space.now (blocks_listed job.arrays) f g' used (c.deal_out.ensures.same.0.content f g' between tells)) taken
+          (c.in_ok-take_group.ensures.len f told) reads.left.fewer (λ b is. reads.fewer f b told is) found.1.keyed c.deal_out.ensures.same.1
+          (λ parents split.
+          subst (λ (items : List Item). IsSplitFor c.args.tree.now.parents parents c.args.writing.now.filling.plan items
+          → DealsOut (g.D.Disk.view c.take_group.new.disk) (g.D.Disk.view c.deal_out.new.disk) parents c.args.writing.now.filling.plan c.take_group.new.arena.pairs items
+          c.args.writing.now.filling.writers.items c.deal_out.new.filling.writers.items) c.items.ensures.ok (c.in_ok-deal_out.ensures.ok parents) split)
+          between tells,
+      one_key f job writing.groups old new _ _ taken.group writing.runs taken.taken (c.in_ok-take_group.ensures.len f told),
+    )
 
 pub returns-clause-same : goal.returns-clause-same
 returns-clause-same g c =

@@ -1,43 +1,46 @@
-use Rattle.std.proofs.Common.{subst}
+use Rattle.std.proofs.Common.{◌+◌, subst, arith}
 use Rattle.strat_array.proofs.SearchLemmas.{err_of}
-use Rattle.strat_promote.specs.Stages.{IsSteady}
-use Rattle.strat_promote.specs.Turning.{IsMoreOr}
+use Rattle.strat_promote.specs.Owned.{OwnsItsBlocks}
+use Rattle.strat_promote.specs.Stages.{IsSteady, stage_writers, stage_consumed}
+use Rattle.strat_promote.specs.Turning.{MatchStep}
 use Rattle.strat_promote.specs.Steps.{inputs_of, StepsOn}
 use Rattle.strat_promote.specs.declared.step.Step.{Step}
 use Rattle.strat_promote.specs.declared.step.Step.TheVariants as step
-use Rattle.strat_promote.proofs.SliceLemmas.{slice_torn, slice_goes, slice_blames, slicing_next}
+use Rattle.strat_promote.proofs.SliceLemmas.{slice_torn, slice_goes, slice_pauses, slice_blames, slicing_next}
 use Rattle.strat_promote.proofs.slicing.take_steps.Goals as goal
 
 pub returns-in_err-level-clause-same : goal.returns-in_err-level-clause-same
 returns-in_err-level-clause-same g c =
-    slice_torn c.args.task.now (inputs_of c.args.sources.now) (g.D.Disk.view c.args.disk.now) (g.D.Disk.view c.loop.disk) (g.D.Disk.view c.take_step.new.disk) c.args.space.now c.loop.space c.take_step.new.space c.args.stage.now c.loop.stage c.take_step.new.stage (g.D.Disk.faults c.args.disk.now) (g.D.Disk.faults c.loop.disk) (g.D.Disk.faults c.take_step.new.disk) (g.D.Disk.reads c.args.disk.now) (g.D.Disk.reads c.loop.disk) (g.D.Disk.reads c.take_step.new.disk) c.loop.invariant c.in_err-level.ensures.room c.in_err-level.ensures.same
+    slice_torn c.args.task.now (inputs_of c.args.sources.now) (stage_consumed c.args.stage.now + c.args.budget) (g.D.Disk.view c.args.disk.now) (g.D.Disk.view c.loop.disk) (g.D.Disk.view c.take_step.new.disk) c.args.space.now c.loop.space c.take_step.new.space c.args.stage.now c.loop.stage c.take_step.new.stage (g.D.Disk.faults c.args.disk.now) (g.D.Disk.faults c.loop.disk) (g.D.Disk.faults c.take_step.new.disk) (g.D.Disk.reads c.args.disk.now) (g.D.Disk.reads c.loop.disk) (g.D.Disk.reads c.take_step.new.disk) c.loop.invariant c.in_err-level.ensures.room c.in_err-level.ensures.same
 
 pub returns-in_err-level-clause-damaged : goal.returns-in_err-level-clause-damaged
 returns-in_err-level-clause-damaged g c =
-    λ b named. slice_blames c.args.task.now (inputs_of c.args.sources.now) (g.D.Disk.view c.args.disk.now) (g.D.Disk.view c.loop.disk) (g.D.Disk.view c.take_step.new.disk) c.args.space.now c.loop.space c.take_step.new.space c.args.stage.now c.loop.stage c.take_step.new.stage (g.D.Disk.faults c.args.disk.now) (g.D.Disk.faults c.loop.disk) (g.D.Disk.faults c.take_step.new.disk) (g.D.Disk.reads c.args.disk.now) (g.D.Disk.reads c.loop.disk) (g.D.Disk.reads c.take_step.new.disk) c.loop.invariant c.in_err-level.ensures.room c.in_err-level.ensures.same b
+    λ b named. slice_blames c.args.task.now (inputs_of c.args.sources.now) (stage_consumed c.args.stage.now + c.args.budget) (g.D.Disk.view c.args.disk.now) (g.D.Disk.view c.loop.disk) (g.D.Disk.view c.take_step.new.disk) c.args.space.now c.loop.space c.take_step.new.space c.args.stage.now c.loop.stage c.take_step.new.stage (g.D.Disk.faults c.args.disk.now) (g.D.Disk.faults c.loop.disk) (g.D.Disk.faults c.take_step.new.disk) (g.D.Disk.reads c.args.disk.now) (g.D.Disk.reads c.loop.disk) (g.D.Disk.reads c.take_step.new.disk) c.loop.invariant c.in_err-level.ensures.room c.in_err-level.ensures.same b
     (c.in_err-level.ensures.damaged b (err_of c.from_residual.result _ _ c.from_residual.ensures.1 named))
 
 pub returns-in-Made-clause-same : goal.returns-in-Made-clause-same
 returns-in-Made-clause-same g c =
-    slice_torn c.args.task.now (inputs_of c.args.sources.now) (g.D.Disk.view c.args.disk.now) (g.D.Disk.view c.loop.disk) (g.D.Disk.view c.take_step.new.disk) c.args.space.now c.loop.space c.take_step.new.space c.args.stage.now c.loop.stage c.take_step.new.stage (g.D.Disk.faults c.args.disk.now) (g.D.Disk.faults c.loop.disk) (g.D.Disk.faults c.take_step.new.disk) (g.D.Disk.reads c.args.disk.now) (g.D.Disk.reads c.loop.disk) (g.D.Disk.reads c.take_step.new.disk) c.loop.invariant c.in_ok-level.ensures.room c.in_ok-level.ensures.same
+    slice_torn c.args.task.now (inputs_of c.args.sources.now) (stage_consumed c.args.stage.now + c.args.budget) (g.D.Disk.view c.args.disk.now) (g.D.Disk.view c.loop.disk) (g.D.Disk.view c.take_step.new.disk) c.args.space.now c.loop.space c.take_step.new.space c.args.stage.now c.loop.stage c.take_step.new.stage (g.D.Disk.faults c.args.disk.now) (g.D.Disk.faults c.loop.disk) (g.D.Disk.faults c.take_step.new.disk) (g.D.Disk.reads c.args.disk.now) (g.D.Disk.reads c.loop.disk) (g.D.Disk.reads c.take_step.new.disk) c.loop.invariant c.in_ok-level.ensures.room c.in_ok-level.ensures.same
 
 pub returns-in-Made-clause-ok : goal.returns-in-Made-clause-ok
 returns-in-Made-clause-ok g c =
-    slice_goes c.args.task.now (inputs_of c.args.sources.now) (g.D.Disk.view c.args.disk.now) (g.D.Disk.view c.loop.disk) (g.D.Disk.view c.take_step.new.disk) c.args.space.now c.loop.space c.take_step.new.space c.args.stage.now c.loop.stage c.take_step.new.stage (g.D.Disk.faults c.args.disk.now) (g.D.Disk.faults c.loop.disk) (g.D.Disk.faults c.take_step.new.disk) (g.D.Disk.reads c.args.disk.now) (g.D.Disk.reads c.loop.disk) (g.D.Disk.reads c.take_step.new.disk) c.loop.invariant c.in_ok-level.ensures.room c.in_ok-level.ensures.same (step.Made c.in-Made.level)
-    (λ f g' job told tells is used underway. subst (λ (r : Step). StepsOn f g' c.args.task.now job c.take_step.new.stage r) c.in-Made.is (c.in_ok-level.ensures.ok f g' job told tells is used underway))
+    slice_goes c.args.task.now (inputs_of c.args.sources.now) (stage_consumed c.args.stage.now + c.args.budget) (g.D.Disk.view c.args.disk.now) (g.D.Disk.view c.loop.disk) (g.D.Disk.view c.take_step.new.disk) c.args.space.now c.loop.space c.take_step.new.space c.args.stage.now c.loop.stage c.take_step.new.stage (g.D.Disk.faults c.args.disk.now) (g.D.Disk.faults c.loop.disk) (g.D.Disk.faults c.take_step.new.disk) (g.D.Disk.reads c.args.disk.now) (g.D.Disk.reads c.loop.disk) (g.D.Disk.reads c.take_step.new.disk) c.loop.invariant c.in_ok-level.ensures.room c.in_ok-level.ensures.same (step.Made c.in-Made.level)
+    (λ f g' job told tells is used underway. subst (λ (r : Step). StepsOn f g' c.args.task.now job (stage_consumed c.loop.stage) c.take_step.new.stage r) c.in-Made.is (c.in_ok-level.ensures.ok f g' job told tells is used underway))
 
 pub returns-then-may_pause-clause-same : goal.returns-then-may_pause-clause-same
 returns-then-may_pause-clause-same g c =
-    slice_torn c.args.task.now (inputs_of c.args.sources.now) (g.D.Disk.view c.args.disk.now) (g.D.Disk.view c.loop.disk) (g.D.Disk.view c.take_step.new.disk) c.args.space.now c.loop.space c.take_step.new.space c.args.stage.now c.loop.stage c.take_step.new.stage (g.D.Disk.faults c.args.disk.now) (g.D.Disk.faults c.loop.disk) (g.D.Disk.faults c.take_step.new.disk) (g.D.Disk.reads c.args.disk.now) (g.D.Disk.reads c.loop.disk) (g.D.Disk.reads c.take_step.new.disk) c.loop.invariant c.in_ok-level.ensures.room c.in_ok-level.ensures.same
+    slice_torn c.args.task.now (inputs_of c.args.sources.now) (stage_consumed c.args.stage.now + c.args.budget) (g.D.Disk.view c.args.disk.now) (g.D.Disk.view c.loop.disk) (g.D.Disk.view c.take_step.new.disk) c.args.space.now c.loop.space c.take_step.new.space c.args.stage.now c.loop.stage c.take_step.new.stage (g.D.Disk.faults c.args.disk.now) (g.D.Disk.faults c.loop.disk) (g.D.Disk.faults c.take_step.new.disk) (g.D.Disk.reads c.args.disk.now) (g.D.Disk.reads c.loop.disk) (g.D.Disk.reads c.take_step.new.disk) c.loop.invariant c.in_ok-level.ensures.room c.in_ok-level.ensures.same
 
 pub returns-then-may_pause-clause-ok : goal.returns-then-may_pause-clause-ok
 returns-then-may_pause-clause-ok g c =
-    slice_goes c.args.task.now (inputs_of c.args.sources.now) (g.D.Disk.view c.args.disk.now) (g.D.Disk.view c.loop.disk) (g.D.Disk.view c.take_step.new.disk) c.args.space.now c.loop.space c.take_step.new.space c.args.stage.now c.loop.stage c.take_step.new.stage (g.D.Disk.faults c.args.disk.now) (g.D.Disk.faults c.loop.disk) (g.D.Disk.faults c.take_step.new.disk) (g.D.Disk.reads c.args.disk.now) (g.D.Disk.reads c.loop.disk) (g.D.Disk.reads c.take_step.new.disk) c.loop.invariant c.in_ok-level.ensures.room c.in_ok-level.ensures.same step.More
-    (λ f g' job told tells is used underway. subst (λ (r : Step). StepsOn f g' c.args.task.now job c.take_step.new.stage r) c.in-More.is (c.in_ok-level.ensures.ok f g' job told tells is used underway))
+    slice_pauses c.args.task.now (inputs_of c.args.sources.now) (stage_consumed c.args.stage.now + c.args.budget) (g.D.Disk.view c.args.disk.now) (g.D.Disk.view c.loop.disk) (g.D.Disk.view c.take_step.new.disk) c.args.space.now c.loop.space c.take_step.new.space c.args.stage.now c.loop.stage c.take_step.new.stage (g.D.Disk.faults c.args.disk.now) (g.D.Disk.faults c.loop.disk) (g.D.Disk.faults c.take_step.new.disk) (g.D.Disk.reads c.args.disk.now) (g.D.Disk.reads c.loop.disk) (g.D.Disk.reads c.take_step.new.disk) c.loop.invariant c.in_ok-level.ensures.room c.in_ok-level.ensures.same
+    (c.may_pause.ensures.found c.if-may_pause.true) (let more = c.may_pause.ensures.ok c.if-may_pause.true (stage_consumed c.args.stage.now) c.taken_in-start.ensures.ok in let one = c.requires.room in omega (arith, more, one))
+    (λ f g' job told tells is used underway. subst (λ (r : Step). StepsOn f g' c.args.task.now job (stage_consumed c.loop.stage) c.take_step.new.stage r) c.in-More.is (c.in_ok-level.ensures.ok f g' job told tells is used underway))
 
 pub loop-preserved : goal.loop-preserved
 loop-preserved g c =
-    slicing_next c.args.task.now (inputs_of c.args.sources.now) (g.D.Disk.view c.args.disk.now) (g.D.Disk.view c.loop.disk) (g.D.Disk.view c.take_step.new.disk) c.args.space.now c.loop.space c.take_step.new.space c.args.stage.now c.loop.stage c.take_step.new.stage (g.D.Disk.faults c.args.disk.now) (g.D.Disk.faults c.loop.disk) (g.D.Disk.faults c.take_step.new.disk) (g.D.Disk.reads c.args.disk.now) (g.D.Disk.reads c.loop.disk) (g.D.Disk.reads c.take_step.new.disk) c.loop.invariant c.in_ok-level.ensures.room c.in_ok-level.ensures.same
-    (subst (λ (r : Step). IsMoreOr r (IsSteady c.args.task.now.horizon c.take_step.new.stage)) c.in-More.is c.in_ok-level.ensures.kept) c.in_ok-level.ensures.found c.in_ok-level.ensures.cause.ok
-    (λ f g' job told tells is used underway. subst (λ (r : Step). StepsOn f g' c.args.task.now job c.take_step.new.stage r) c.in-More.is (c.in_ok-level.ensures.ok f g' job told tells is used underway))
-    c.in_ok-level.ensures.reads
+    slicing_next c.args.task.now (inputs_of c.args.sources.now) (stage_consumed c.args.stage.now + c.args.budget) (g.D.Disk.view c.args.disk.now) (g.D.Disk.view c.loop.disk) (g.D.Disk.view c.take_step.new.disk) c.args.space.now c.loop.space c.take_step.new.space c.args.stage.now c.loop.stage c.take_step.new.stage (g.D.Disk.faults c.args.disk.now) (g.D.Disk.faults c.loop.disk) (g.D.Disk.faults c.take_step.new.disk) (g.D.Disk.reads c.args.disk.now) (g.D.Disk.reads c.loop.disk) (g.D.Disk.reads c.take_step.new.disk) c.loop.invariant c.in_ok-level.ensures.room c.in_ok-level.ensures.same
+    (subst (λ (r : Step). MatchStep r (IsSteady c.args.task.now.horizon c.take_step.new.stage) (λ made. OwnsItsBlocks (stage_writers c.take_step.new.stage) made)) c.in-More.is c.in_ok-level.ensures.kept) c.in_ok-level.ensures.found c.in_ok-level.ensures.cause.ok
+    (c.may_pause.ensures.none c.if-may_pause.false (stage_consumed c.args.stage.now) c.taken_in-start.ensures.ok)
+    (λ f g' job told tells is used underway. subst (λ (r : Step). StepsOn f g' c.args.task.now job (stage_consumed c.loop.stage) c.take_step.new.stage r) c.in-More.is (c.in_ok-level.ensures.ok f g' job told tells is used underway))
+    c.in_ok-level.ensures.reads.rest

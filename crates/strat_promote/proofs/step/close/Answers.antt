@@ -1,10 +1,16 @@
-use Rattle.std.proofs.Common.{List, subst}
+use Rattle.std.proofs.Common.{List, refl, subst}
 use Rattle.strat_array.specs.Progress.{ArrayProgress}
 use Rattle.strat_promote.specs.Closing.{IsDescribed}
 use Rattle.strat_promote.specs.InputFields.{input_seen}
 use Rattle.strat_split.specs.PlanSeen.{plan_seen}
 use Rattle.strat_promote.proofs.MadeLemmas.{level_made}
+use Rattle.strat_promote.proofs.OwnedLemmas.{owned}
 use Rattle.strat_promote.proofs.step.close.Goals as goal
+
+pub returns-clause-kept : goal.returns-clause-kept
+returns-clause-kept g c =
+    let described = subst (λ (ws : List ArrayProgress). IsDescribed (plan_seen c.args.writing.now.filling.plan) c.args.task.now.target ws c.in_ok-made.made) c.deref.ensures.value c.in_ok-made.ensures.ok in
+    (refl, owned _ _ _ _ described)
 
 pub returns-clause-ok : goal.returns-clause-ok
 returns-clause-ok g c = λ f h inputs job told tells ready is written.

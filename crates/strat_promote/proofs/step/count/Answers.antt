@@ -1,5 +1,6 @@
-use Rattle.std.proofs.Common.{◌∙◌, sym}
+use Rattle.std.proofs.Common.{◌∙◌, sym, arith}
 use Rattle.strat_crash.proofs.MomentLemmas.{reads_trans}
+use Rattle.strat_promote.proofs.BudgetLemmas.{none_taken}
 use Rattle.strat_promote.proofs.StartLemmas.{new_empty}
 use Rattle.strat_promote.proofs.step.count.Goals as goal
 
@@ -12,9 +13,16 @@ returns-clause-same g c = reads_trans c.in_ok-more.ensures.reads.same c.begin_wr
 pub returns-clause-none : goal.returns-clause-none
 returns-clause-none g c = new_empty _ _ c.in_ok-writing.ensures.none
 
+pub returns-then-more-clause-ok : goal.returns-then-more-clause-ok
+returns-then-more-clause-ok g c = λ f job told task counting.
+    c.in_ok-more.ensures.ok c.if-more.true f job told task.tree task.purges (task.horizon ∙ sym c.requires.kept.len) counting
+
 pub returns-clause-ok : goal.returns-clause-ok
 returns-clause-ok g c = λ f job told task counting.
     let counted = c.in_ok-more.ensures.none c.if-more.false f job told counting in
     let still = c.in_ok-more.ensures.reads.same.same ∙ told in
     let horizon = task.horizon ∙ sym c.requires.kept.len ∙ sym c.in_ok-more.ensures.kept.len in
-    (c.in_ok-writing.ensures.ok f job still task.over task.tree horizon counted, c.consumed-before.ensures.ok ∙ counted.taken)
+    let before = c.consumed-before.ensures.ok in
+    let same = counted.1 in
+    let none = c.in_ok-writing.ensures.len in
+    ((c.in_ok-writing.ensures.ok f job still task.over task.tree horizon counted.0, before ∙ counted.0.taken), none_taken f job _ _ (omega (arith, before, same, none)))

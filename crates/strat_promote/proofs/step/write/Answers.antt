@@ -1,6 +1,9 @@
+use Rattle.std.proofs.Common.{sym, ap, ◌∙◌}
+use Rattle.strat_merge.specs.declared.merger.Merger.{Merger}
+use Rattle.strat_promote.specs.declared.input.Input.{Input}
 use Rattle.strat_promote.proofs.SpacesLemmas.{torn_on}
 use Rattle.strat_promote.proofs.PushingLemmas.{still_told}
-use Rattle.strat_promote.proofs.SliceLemmas.{inputs_agree, task_stays, made_from}
+use Rattle.strat_promote.proofs.SliceLemmas.{inputs_agree, task_stays, made_from, count_same}
 use Rattle.strat_promote.specs.Job.{blocks_listed}
 use Rattle.strat_promote.proofs.step.write.Goals as goal
 
@@ -12,9 +15,14 @@ pub returns-clause-same : goal.returns-clause-same
 returns-clause-same g c =
     torn_on _ _ _ _ _ _ _ c.in_ok-more.ensures.room c.in_ok-more.ensures.same c.in_ok-made.ensures.same
 
+pub returns-then-more-clause-ok : goal.returns-then-more-clause-ok
+returns-then-more-clause-ok g c = λ f g' job told tells task used writing.
+    c.in_ok-more.ensures.ok c.if-more.true f g' job c.args.task.now.first told tells task.tree task.purges (task.horizon ∙ sym c.requires.kept.filling.labels) used writing
+
 pub returns-clause-ok : goal.returns-clause-ok
 returns-clause-ok g c = λ f g' job told tells task used writing.
     let mid = still_told (g.D.Disk.view c.args.disk.now) (g.D.Disk.view c.write_group.new.disk) f c.in_ok-more.ensures.same.time told in
     let agree = inputs_agree c.args.space.now (blocks_listed job.arrays) (g.D.Disk.view c.args.disk.now) (g.D.Disk.view c.write_group.new.disk) f mid.0 used c.in_ok-more.ensures.same told mid.1 in
     let all = c.in_ok-more.ensures.none c.if-more.false f mid.0 job c.args.task.now.first told mid.1 writing in
-    made_from f mid.0 g' job _ _ _ agree (c.in_ok-made.ensures.ok mid.0 g' _ job mid.1 tells c.requires.fits (task_stays f mid.0 _ _ job agree task) all)
+    let counted = ap (λ (m : Merger Input). m.consumed) c.in_ok-made.ensures.kept.0 ∙ all.0.taken ∙ count_same f mid.0 job agree in
+    (made_from f mid.0 g' job _ _ _ agree (c.in_ok-made.ensures.ok mid.0 g' _ job mid.1 tells c.requires.fits (task_stays f mid.0 _ _ job agree task) all.0), counted, ap (λ (m : Merger Input). m.consumed) c.in_ok-made.ensures.kept.0 ∙ all.1)

@@ -1,16 +1,18 @@
-use Rattle.std.proofs.Common.{refl, sym, subst}
+use Rattle.std.proofs.Common.{◌+◌, refl, sym, subst}
 use Rattle.strat_level.specs.Memtable.{ItemList}
 use Rattle.strat_promote.specs.Promotions.{inputs_given}
-use Rattle.strat_promote.specs.Steps.{IsTaskIn, StepsOn}
+use Rattle.strat_promote.specs.Stages.{stage_consumed}
+use Rattle.strat_promote.specs.Steps.{IsTaskIn, SlicesOn}
 use Rattle.strat_promote.specs.declared.step.Step.{Step}
 use Rattle.strat_promote.proofs.promotion.Promotion.slice.Goals as goal
 
 pub returns-in-More-clause-ok : goal.returns-in-More-clause-ok
 returns-in-More-clause-ok g c = λ f g' job told tells its used begun.
     let task = subst (λ (l : ItemList). IsTaskIn f c.args.self.now.task (inputs_given l c.args.pool.now c.args.levels.now c.args.tree.now.parents) job) (sym c.view.ensures.ok) its in
-    subst (λ (r : Step). StepsOn f g' c.args.self.now.task job c.take_steps.new.stage r) c.in-More.is (c.in_ok-take_steps.ensures.ok f g' job told tells task used begun)
+    subst (λ (r : Step). SlicesOn f g' c.args.self.now.task job (stage_consumed c.args.self.now.stage + c.args.budget) c.take_steps.new.stage r) c.in-More.is (c.in_ok-take_steps.ensures.ok f g' job told tells task used begun)
 
 pub returns-in-Made-clause-ok : goal.returns-in-Made-clause-ok
 returns-in-Made-clause-ok g c = λ f g' job told tells its used begun.
     let task = subst (λ (l : ItemList). IsTaskIn f c.args.self.now.task (inputs_given l c.args.pool.now c.args.levels.now c.args.tree.now.parents) job) (sym c.view.ensures.ok) its in
-    (refl, subst (λ (r : Step). StepsOn f g' c.args.self.now.task job c.take_steps.new.stage r) c.in-Made.is (c.in_ok-take_steps.ensures.ok f g' job told tells task used begun))
+    let made = subst (λ (r : Step). SlicesOn f g' c.args.self.now.task job (stage_consumed c.args.self.now.stage + c.args.budget) c.take_steps.new.stage r) c.in-Made.is (c.in_ok-take_steps.ensures.ok f g' job told tells task used begun) in
+    (refl, made.0, made.1, made.2)
