@@ -4,7 +4,7 @@
 ghost use Rattle.std.specs.Prelude.{◌≡◌, ◌≤◌, ℕ, List, [], ◌∷◌, Some, None, true, false};
 ghost use Rattle.strat_model.specs.Answer.{accepts};
 ghost use Rattle.strat_model.specs.Request.{Put, Delete, Get, Clone, Scan, Info, OpenCursor, NextPairs, CloseCursor, Stat};
-ghost use Rattle.strat_model.specs.Run.{is_change, takes_memory, reaches_disk, fill_after, position_after, Position, Response, AnswersNoCommand, AnswersNoMemory, AnswersFault, Exchange, Interruption, Transcript, IsTranscript, bodies_of, responses_of, tables_of};
+ghost use Rattle.strat_model.specs.Run.{is_change, takes_memory, reaches_disk, fill_after, position_after, Position, Response, AnswersNoCommand, AnswersNoMemory, AnswersFault, Exchange, Interruption, IsTranscript, bodies_of, responses_of, tables_of};
 ghost use Rattle.strat_model.specs.Step.{step};
 ghost use Rattle.strat_model.specs.Table.{fresh, bare};
 
