@@ -91,7 +91,8 @@ fn begin<D: Disk>(
         → IsTaskIn f task.now (inputs_of sources.now) job → IsUnderway f job task.now.first stage) }
     ensures none { IfOk result (λ stage. stage_writers stage ≡ []) }
     ensures len { IfOk result (λ stage. stage_consumed stage ≡ 0) }
-    ensures end { IfOk result (λ stage. IsReadFrom (arrays_to sources.now.levels.now task.now.target) stage) }
+    ensures end { IfOk result (λ stage. IsReadFrom
+        (arrays_to sources.now.levels.now task.now.target) stage) }
     ensures found { OpensInputs Device Damaged (D.view disk.old) (D.view disk.new)
         (arrays_to sources.now.levels.now task.now.target) (D.faults disk.old)
         (D.faults disk.new) (D.reads disk.old) (D.reads disk.new) result }
@@ -139,7 +140,8 @@ fn count<D: Disk>(
         × ((f : Image) (job : Job)
         → Exposes (D.view disk.old) f → IsTaskIn f task.now (inputs_of sources.now) job
         → IsCounting input_seen f job counting.old → IsBadInput f job.arrays b) }
-    ensures found { IfOk result (λ next. AreReadFrom (arrays_to sources.now.levels.now task.now.target)
+    ensures found { IfOk result (λ next. AreReadFrom
+        (arrays_to sources.now.levels.now task.now.target)
         (views_of input_seen counting.old.merger) → IsReadFrom
         (arrays_to sources.now.levels.now task.now.target) (stage_after counting.new next)) }
     ensures reads { IfOk result (λ next. D.reads disk.new
