@@ -1,6 +1,7 @@
 -- Steps of a promotion, one after the other.
-use Rattle.std.proofs.Common.{◌≡◌, ◌<◌, ◌≤◌, ◌+◌, ◌-◌, ◌*◌, ◌^◌, ◌⊎◌, inl, inr, ◌++◌, ℕ, suc, List, [], ◌∷◌, Option, None, Some, unwrap_or, Result, Ok, Err, IfOk, length, refl, sym, ap, ◌∙◌, subst, arith}
+use Rattle.std.proofs.Common.{◌≡◌, ◌<◌, ◌≤◌, ◌+◌, ◌-◌, ◌*◌, ◌^◌, ◌⊎◌, inl, inr, ◌++◌, ℕ, suc, List, [], ◌∷◌, Option, None, Some, unwrap_or, Result, Ok, Err, OnOk, IfOk, length, refl, sym, ap, ◌∙◌, subst, arith}
 use Rattle.strat_base.specs.Entries.{Entry}
+use Rattle.strat_base.specs.declared.descriptors.ArrayDesc.{ArrayDesc}
 use Rattle.strat_base.specs.declared.descriptors.LevelDesc.{LevelDesc}
 use Rattle.strat_crash.specs.Blocks.{AgreeOn, TearsBlocks}
 use Rattle.strat_crash.proofs.BlockLemmas.{blocks_refl, exposed_once}
@@ -13,13 +14,16 @@ use Rattle.strat_array.specs.Taking.{AreUsed}
 use Rattle.strat_format.specs.Arrays.{blocks_of}
 use Rattle.strat_array.proofs.TakesLemmas.{used_agree}
 use Rattle.strat_extent.specs.Blocks.{SpaceView, is_free}
+use Rattle.strat_merge.specs.MergerFields.{views_of}
+use Rattle.strat_merge.specs.Runs.{ReadsLeft}
+use Rattle.strat_promote.specs.InputFields.{input_seen}
 use Rattle.strat_plan.specs.Groups.{grouped_entries}
 use Rattle.strat_promotion.specs.Merging.{Merges}
 use Rattle.strat_promote.specs.Budget.{IsNearLimit, TakesOneKey}
 use Rattle.strat_promote.specs.Closing.{AreAllUsed, all_extents}
 use Rattle.strat_promote.specs.Job.{Job, IsBadInput, runs_in, input_count, arrays_to, blocks_listed}
 use Rattle.strat_promote.specs.Spaces.{TakesMore}
-use Rattle.strat_promote.specs.Stages.{IsSteady, IsUnderway, IsMade, HasLeft, IsTakenUp, stage_writers, stage_consumed, blocks_due}
+use Rattle.strat_promote.specs.Stages.{IsSteady, IsUnderway, IsMade, IsReadFrom, ReadsOnce, HasLeft, IsTakenUp, stage_writers, stage_consumed, blocks_due}
 use Rattle.strat_promote.specs.Steps.{Inputs, IsTaskIn, StepsOn, SlicesOn}
 use Rattle.strat_promote.specs.Turning.{stage_after, AreAllNew, WritesOn}
 use Rattle.strat_promote.specs.declared.counting.Counting.{Counting}
@@ -81,6 +85,7 @@ pub record IsSlicing (task : Task) (inputs : Inputs) (limit : ℕ) (start now : 
   pub goes : (f g : Image) (job : Job) → Exposes start f → Exposes now g → IsTaskIn f task inputs job → AreUsed s (blocks_listed job.arrays) → IsUnderway f job task.first old
       → IsUnderway g job task.first new × IsHeld f job limit (stage_consumed new)
   pub due : read + blocks_due (arrays_to inputs.levels task.target) new ≤ reads + blocks_due (arrays_to inputs.levels task.target) old
+  pub among : IsReadFrom (arrays_to inputs.levels task.target) old → IsReadFrom (arrays_to inputs.levels task.target) new
 
 -- no step was taken
 pub slicing_begun : (task : Task) (inputs : Inputs) (limit : ℕ) (v : DiskView) (s : SpaceView) (stage : Stage) (faults reads : ℕ) → stage_consumed stage < limit → IsSteady task.horizon stage → AreAllUsed s (stage_writers stage)
@@ -94,6 +99,7 @@ slicing_begun task inputs limit v s stage faults reads below steady used = recor
   goes = λ f g job told tells task' blocks underway.
       (subst (λ (c : Image). IsUnderway c job task.first stage) (exposed_once v f g told tells) underway, held_begun f job limit (stage_consumed stage) below);
   due = omega arith;
+  among = λ from. from;
 }
 
 module _ (task : Task) (inputs : Inputs) (limit : ℕ) (start mid now : DiskView) (s t u : SpaceView) (old stage new : Stage) (faults failed after reads read last : ℕ)
@@ -169,8 +175,9 @@ module _ (task : Task) (inputs : Inputs) (limit : ℕ) (start mid now : DiskView
       → ((f g : Image) (job : Job) → Exposes mid f → Exposes now g → IsTaskIn f task inputs job → AreUsed t (blocks_listed job.arrays) → IsUnderway f job task.first stage
       → StepsOn f g task job (stage_consumed stage) new step.More)
       → last + blocks_due (arrays_to inputs.levels task.target) new ≤ read + blocks_due (arrays_to inputs.levels task.target) stage
+      → (IsReadFrom (arrays_to inputs.levels task.target) stage → IsReadFrom (arrays_to inputs.levels task.target) new)
       → IsSlicing task inputs limit start now s u old new faults after reads last
-  slicing_next steady used calm ahead does due =
+  slicing_next steady used calm ahead does due among =
       let before = slicing.due in
       record {
         steady = steady;
@@ -183,6 +190,7 @@ module _ (task : Task) (inputs : Inputs) (limit : ℕ) (start mid now : DiskView
             let same : input_count g job ≡ input_count f job = count_same f g job (inputs_agree s (blocks_listed job.arrays) start now f g blocks slice_torn told tells) in
             (went.0, record { near = went.1; ahead = opens f g job went.0 same (ahead (let small = (taken_most g job task.first new went.0).1 in omega (arith, small))) });
         due = omega (arith, before, due);
+        among = λ from. among (slicing.among from);
       }
     where
       opens : (f g : Image) (job : Job) → IsUnderway g job task.first new → input_count g job ≡ input_count f job → (stage_consumed new < limit) ⊎ IsTakenUp new
@@ -239,6 +247,19 @@ writes_on f g task job was w before (step.Made level) agree is made =
     let all = made.1 in
     let still = made.2 in
     (made.0, omega (arith, is, all), omega (arith, still))
+
+-- what holds where a result is Ok
+on_ok : {T E P : Type 0} (r : Result T E) → P → OnOk r P
+on_ok (Ok x) p = p
+on_ok (Err e) p = tt
+
+-- what the runs of the second pass read, said of the stage
+pub wrote_once : {T E : Type 0} (arrays : List ArrayDesc) (before now : ℕ) (old : Stage) (was w : Writing Input) (n : ℕ) (r : Result T E) → old ≡ stage.Writing was n
+    → ReadsLeft (views_of input_seen was.merger) (views_of input_seen w.merger) before now → ReadsOnce arrays before now old (stage.Writing w n) r
+wrote_once arrays before now old was w n r is left =
+    let most = left.most in
+    subst (λ (s : Stage). ReadsOnce arrays before now s (stage.Writing w n) r) (sym is)
+    (record { most = omega (arith, most); rest = on_ok r (omega (arith, most)); among = λ from. on_ok r (λ b here. from b (left.fewer b here)) })
 
 -- what holds of a result that is Ok, where it gives something else
 pub if_ok : {T E : Type 0} {P Q : T → Type 0} (r : Result T E) → IfOk r P → ((x : T) → P x → Q x) → IfOk r Q

@@ -1,5 +1,5 @@
 -- How a pass is begun over the runs of a job.
-use Rattle.std.specs.Prelude.{◌≡◌, ◌≤◌, ℕ, ◌+◌, ◌^◌, List, length, Result, OnOk, OnErr, IsErrOf}
+use Rattle.std.specs.Prelude.{◌≡◌, ◌≤◌, ℕ, ◌+◌, ◌^◌, List, length, Result, OnErr, IsErrOf, Contains}
 use Rattle.strat_base.specs.Entries.{Entry}
 use Rattle.strat_base.specs.declared.descriptors.ArrayDesc.{ArrayDesc}
 use Rattle.strat_crash.specs.Faults.{HasCause, ReadsAtMost}
@@ -18,17 +18,12 @@ pub record OpensInputs {T E : Type 0} (device : E) (damaged : ℕ → E) (disk a
   pub blamed : (b : ℕ) → IsErrOf result (damaged b) → IsBlamed disk arrays b
   pub err : OnErr result (ReadsAtMost (length (blocks_listed arrays)) reads read)
 
--- runs have still to read no more blocks of arrays than were not read
+-- runs have still to read blocks of arrays alone, and no more than were not read
 pub record LeavesBlocks (arrays : List ArrayDesc) (runs : List RunView) (reads read : ℕ)
     : Type 0 where
   pub later : reads ≤ read
   pub most : read + length (blocks_left runs) ≤ reads + length (blocks_listed arrays)
-
--- a count of reads rose by no more than was to be read, also where the call failed; where it succeeds no more is left than
--- was not read
-pub record ReadsOnce {T E : Type 0} (before now due left : ℕ) (result : Result T E) : Type 0 where
-  pub most : now ≤ before + due
-  pub rest : OnOk result (now + left ≤ before + due)
+  pub among : (b : ℕ) → Contains (blocks_left runs) b → Contains (blocks_listed arrays) b
 
 -- a job is over these entries of level 0 and these arrays, which have as few leads as a store's
 pub record IsJobOver (f : Image) (zero : List Entry) (arrays : List ArrayDesc) (job : Job)

@@ -1,5 +1,5 @@
 -- A promotion as its caller sees it.
-use Rattle.std.specs.Prelude.{◌≡◌, ◌<◌, ◌≤◌, ◌*◌, ℕ, Bool, true, false, not, is_some, List, ◌∷◌, length, map, drop, Option, None, Some}
+use Rattle.std.specs.Prelude.{◌≡◌, ◌<◌, ◌≤◌, ◌+◌, ◌*◌, ℕ, Bool, true, false, not, is_some, List, ◌∷◌, length, map, drop, Option, None, Some, Result, OnOk}
 use Rattle.std.specs.List.{list_all, range_with_len, sum_by}
 use Rattle.strat_arena.specs.declared.pool.PoolEntry.{PoolEntry}
 use Rattle.strat_array.specs.Progress.{ArrayProgress}
@@ -14,7 +14,7 @@ use Rattle.strat_level.specs.Target.{IsTarget}
 use Rattle.strat_promote.specs.Budget.{IsNearLimit}
 use Rattle.strat_promote.specs.Closing.{all_extents}
 use Rattle.strat_promote.specs.Job.{Job, input_count}
-use Rattle.strat_promote.specs.Stages.{IsSteady, IsUnderway, IsMade, stage_writers, stage_consumed, blocks_due}
+use Rattle.strat_promote.specs.Stages.{IsSteady, IsUnderway, IsMade, IsReadFrom, stage_writers, stage_consumed, blocks_due}
 use Rattle.strat_promote.specs.Steps.{Inputs, IsReadySource, IsTaskIn}
 use Rattle.strat_promote.specs.declared.promotion.Progress.{Progress}
 use Rattle.strat_promote.specs.declared.promotion.Progress.TheVariants as progress
@@ -79,6 +79,19 @@ HasBegun f job p = IsUnderway f job p.task.first p.stage
 -- how many blocks of arrays it has still to read, in both passes
 abbrev pub blocks_to_read : List ArrayDesc → Promotion → ℕ
 blocks_to_read arrays p = blocks_due arrays p.stage
+
+-- the blocks that it has still to read in its pass are blocks of some arrays: true before anything is read, and after each
+-- slice over the same arrays
+abbrev pub ReadsFrom : List ArrayDesc → Promotion → Type 0
+ReadsFrom arrays p = IsReadFrom arrays p.stage
+
+-- what a slice reads of arrays: no more than was to be read, also where it fails; where it succeeds no more is left than was
+-- not read, and blocks of the arrays alone if it was so before
+pub record ReadsItsBlocks {T E : Type 0} (arrays : List ArrayDesc) (before now : ℕ)
+    (old new : Promotion) (result : Result T E) : Type 0 where
+  pub most : now ≤ before + blocks_to_read arrays old
+  pub rest : OnOk result (now + blocks_to_read arrays new ≤ before + blocks_to_read arrays old)
+  pub among : ReadsFrom arrays old → OnOk result (ReadsFrom arrays new)
 
 -- it has the same to do
 pub record SamePromotion (old new : Promotion) : Type 0 where

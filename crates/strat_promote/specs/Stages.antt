@@ -1,5 +1,5 @@
 -- How far a promotion is.
-use Rattle.std.specs.Prelude.{◌≡◌, ◌<◌, ℕ, ◌+◌, ◌*◌, List, [], length, Option, None, Some, IsSome}
+use Rattle.std.specs.Prelude.{◌≡◌, ◌<◌, ℕ, ◌+◌, ◌*◌, List, [], length, Option, None, Some, IsSome, Contains, ◌≤◌, Result, OnOk}
 use Rattle.std.specs.List.{slice_get}
 use Rattle.strat_array.specs.Progress.{ArrayProgress}
 use Rattle.strat_base.specs.Entries.{Entry}
@@ -8,7 +8,7 @@ use Rattle.strat_base.specs.declared.descriptors.LevelDesc.{LevelDesc}
 use Rattle.strat_crash.specs.Image.{Image}
 use Rattle.strat_format.specs.Arrays.{blocks_of, entries_on}
 use Rattle.strat_merge.specs.MergerFields.{views_of, consumed_of}
-use Rattle.strat_merge.specs.Runs.{head_at, blocks_left, NoneLeft}
+use Rattle.strat_merge.specs.Runs.{RunView, head_at, blocks_left, NoneLeft}
 use Rattle.strat_plan.specs.Groups.{SplitsGroups, group_versions, array_of_groups}
 use Rattle.strat_plan.specs.Plan.{Plan, horizon_of}
 use Rattle.strat_promotion.specs.Merging.{Merges}
@@ -45,6 +45,25 @@ blocks_due arrays stage.Begun = 2 * length (blocks_listed arrays)
 blocks_due arrays (stage.Counting c) =
     length (blocks_left (views_of input_seen c.merger)) + length (blocks_listed arrays)
 blocks_due arrays (stage.Writing w before) = length (blocks_left (views_of input_seen w.merger))
+
+-- runs have only blocks of some arrays still to read
+abbrev pub AreReadFrom : List ArrayDesc → List RunView → Type 0
+AreReadFrom arrays runs =
+    (b : ℕ) → Contains (blocks_left runs) b → Contains (blocks_listed arrays) b
+
+-- the same of the runs of a stage
+abbrev pub IsReadFrom : List ArrayDesc → Stage → Type 0
+IsReadFrom arrays stage.Begun = Unit {0}
+IsReadFrom arrays (stage.Counting c) = AreReadFrom arrays (views_of input_seen c.merger)
+IsReadFrom arrays (stage.Writing w before) = AreReadFrom arrays (views_of input_seen w.merger)
+
+-- what steps read of arrays: a count of reads rose by no more than was to be read, also where they failed; where they
+-- succeeded no more is left than was not read, and blocks of the arrays alone if it was so before
+pub record ReadsOnce {T E : Type 0} (arrays : List ArrayDesc) (before now : ℕ)
+    (old new : Stage) (result : Result T E) : Type 0 where
+  pub most : now ≤ before + blocks_due arrays old
+  pub rest : OnOk result (now + blocks_due arrays new ≤ before + blocks_due arrays old)
+  pub among : IsReadFrom arrays old → OnOk result (IsReadFrom arrays new)
 
 -- an entry is left to be taken in one of the passes
 abbrev pub HasLeft : Stage → Type 0

@@ -1,7 +1,7 @@
 //! Promotions, slice by slice.
 
 ghost use Rattle.std.specs.List.{sum};
-ghost use Rattle.std.specs.Prelude.{◌≡◌, ◌<◌, ◌≤◌, ◌+◌, ◌*◌, ◌^◌, ℕ, List, [], length, true, IfOk, OnOk, IsErrOf, IsTrue};
+ghost use Rattle.std.specs.Prelude.{◌≡◌, ◌<◌, ◌≤◌, ◌+◌, ◌*◌, ◌^◌, ℕ, List, [], length, true, IfOk, OnOk, IsErrOf, IsTrue, Contains};
 ghost use Rattle.strat_array.specs.Taking.{AreUsed};
 ghost use Rattle.strat_base.specs.declared.failures.Trouble.TheVariants.{Damaged, Device};
 ghost use Rattle.strat_crash.specs.Blocks.{TearsBlocks};
@@ -50,9 +50,8 @@ impl Promotion {
     ghost use Rattle.strat_extent.specs.Change.{IsMarked, CanGive};
     ghost use Rattle.strat_promote.specs.Closing.{AreAllUsed};
     ghost use Rattle.strat_promote.specs.Job.{Job, IsBadInput, arrays_to, blocks_listed};
-    ghost use Rattle.strat_promote.specs.Promotions.{IsBegun, IsOpen, IsFed, IsItsJob, HasBegun, IsSliced, MatchProgress, SamePromotion, inputs_given, writers_of, blocks_to_read, leads_listed, entries_taken, entries_if_any, extents_taken, has_ended, target_of, level_of};
+    ghost use Rattle.strat_promote.specs.Promotions.{IsBegun, IsOpen, IsFed, IsItsJob, HasBegun, IsSliced, MatchProgress, SamePromotion, inputs_given, writers_of, ReadsFrom, ReadsItsBlocks, leads_listed, entries_taken, entries_if_any, extents_taken, has_ended, target_of, level_of};
     ghost use Rattle.strat_promote.specs.Owned.{OwnsItsBlocks};
-    ghost use Rattle.strat_promote.specs.Passes.{ReadsOnce};
     ghost use Rattle.strat_promote.specs.Spaces.{TakesMore};
 
     /// The promotion of level 0 and the levels down to the first with room for all their leads, where level j has
@@ -134,14 +133,16 @@ impl Promotion {
         ensures same { TearsBlocks (is_free space.old) (D.view disk.old) (D.view disk.new)
             × SamePromotion self.old self.new }
         ensures cause { HasCause Device (D.faults disk.old) (D.faults disk.new) result }
-        ensures damaged { (b : ℕ) → IsErrOf result (Damaged b) → (f : Image) (job : Job)
+        ensures damaged { (b : ℕ) → IsErrOf result (Damaged b)
+            → (ReadsFrom (arrays_to levels.now (target_of self.old)) self.old
+            → Contains (blocks_listed (arrays_to levels.now (target_of self.old))) b)
+            × ((f : Image) (job : Job)
             → Exposes (D.view disk.old) f → IsItsJob f self.old
             (inputs_given zero.now.list pool.now levels.now tree.now.parents) job
             → AreUsed space.old (blocks_listed job.arrays) → HasBegun f job self.old
-            → IsBadInput f job.arrays b }
-        ensures reads { ReadsOnce (D.reads disk.old) (D.reads disk.new)
-            (blocks_to_read (arrays_to levels.now (target_of self.old)) self.old)
-            (blocks_to_read (arrays_to levels.now (target_of self.old)) self.new) result }
+            → IsBadInput f job.arrays b) }
+        ensures reads { ReadsItsBlocks (arrays_to levels.now (target_of self.old))
+            (D.reads disk.old) (D.reads disk.new) self.old self.new result }
     {
         let sources = Sources {
             zero: zero.view(),

@@ -1,6 +1,6 @@
 //! Steps of a promotion, as many as a budget allows.
 
-ghost use Rattle.std.specs.Prelude.{◌≡◌, ◌<◌, ◌≤◌, ◌+◌, ◌-◌, ◌*◌, ◌^◌, ℕ, List, length, min, true, false, ◌⊎◌, IfOk, OnOk, IsErrOf, IsSome, IsTrue};
+ghost use Rattle.std.specs.Prelude.{◌≡◌, ◌<◌, ◌≤◌, ◌+◌, ◌-◌, ◌*◌, ◌^◌, ℕ, List, length, min, true, false, ◌⊎◌, IfOk, OnOk, IsErrOf, IsSome, IsTrue, Contains};
 ghost use Rattle.strat_array.specs.Taking.{AreUsed};
 ghost use Rattle.strat_base.specs.declared.failures.Trouble.TheVariants.{Damaged, Device};
 ghost use Rattle.strat_crash.specs.Blocks.{TearsBlocks};
@@ -11,9 +11,8 @@ ghost use Rattle.strat_extent.specs.Blocks.{is_free};
 ghost use Rattle.strat_promote.specs.Closing.{AreAllUsed, all_extents};
 ghost use Rattle.strat_promote.specs.Job.{Job, IsBadInput, arrays_to, blocks_listed};
 ghost use Rattle.strat_promote.specs.Owned.{OwnsItsBlocks};
-ghost use Rattle.strat_promote.specs.Passes.{ReadsOnce};
 ghost use Rattle.strat_promote.specs.Spaces.{TakesMore};
-ghost use Rattle.strat_promote.specs.Stages.{IsSteady, IsUnderway, HasLeft, IsTakenUp, stage_writers, stage_consumed, blocks_due};
+ghost use Rattle.strat_promote.specs.Stages.{IsSteady, IsUnderway, HasLeft, IsTakenUp, IsReadFrom, ReadsOnce, stage_writers, stage_consumed};
 ghost use Rattle.strat_promote.specs.Steps.{inputs_of, IsReadySource, IsTaskIn, SlicesOn};
 ghost use Rattle.strat_promote.specs.Turning.{MatchStep};
 
@@ -99,13 +98,15 @@ pub(crate) fn take_steps<D: Disk>(
         (all_extents (stage_writers stage.new)) }
     ensures same { TearsBlocks (is_free space.old) (D.view disk.old) (D.view disk.new) }
     ensures cause { HasCause Device (D.faults disk.old) (D.faults disk.new) result }
-    ensures damaged { (b : ℕ) → IsErrOf result (Damaged b) → (f : Image) (job : Job)
+    ensures damaged { (b : ℕ) → IsErrOf result (Damaged b)
+        → (IsReadFrom (arrays_to sources.now.levels.now task.now.target) stage.old
+        → Contains (blocks_listed (arrays_to sources.now.levels.now task.now.target)) b)
+        × ((f : Image) (job : Job)
         → Exposes (D.view disk.old) f → IsTaskIn f task.now (inputs_of sources.now) job
         → AreUsed space.old (blocks_listed job.arrays)
-        → IsUnderway f job task.now.first stage.old → IsBadInput f job.arrays b }
-    ensures reads { ReadsOnce (D.reads disk.old) (D.reads disk.new)
-        (blocks_due (arrays_to sources.now.levels.now task.now.target) stage.old)
-        (blocks_due (arrays_to sources.now.levels.now task.now.target) stage.new) result }
+        → IsUnderway f job task.now.first stage.old → IsBadInput f job.arrays b) }
+    ensures reads { ReadsOnce (arrays_to sources.now.levels.now task.now.target)
+        (D.reads disk.old) (D.reads disk.new) stage.old stage.new result }
 {
     let start = taken_in(stage);
     for _ in 0..STEPS_MAX {

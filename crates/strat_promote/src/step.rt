@@ -1,7 +1,7 @@
 //! One step of a promotion.
 
 ghost use Rattle.std.specs.List.{list_all};
-ghost use Rattle.std.specs.Prelude.{◌≡◌, ◌<◌, ◌≤◌, ◌+◌, ◌*◌, ◌^◌, ℕ, List, [], length, nat_lt, unwrap_or, IfOk, OnOk, OnErr, IsErrOf, IsTrue, MatchResult};
+ghost use Rattle.std.specs.Prelude.{◌≡◌, ◌<◌, ◌≤◌, ◌+◌, ◌*◌, ◌^◌, ℕ, List, [], length, nat_lt, unwrap_or, IfOk, OnOk, OnErr, IsErrOf, IsTrue, MatchResult, Contains};
 ghost use Rattle.strat_array.specs.Taking.{AreUsed};
 ghost use Rattle.strat_base.specs.declared.failures.Trouble.TheVariants.{Damaged, Device};
 ghost use Rattle.strat_crash.specs.Blocks.{TearsBlocks};
@@ -13,7 +13,7 @@ ghost use Rattle.strat_level.specs.Memtable.{entries_held, ListStands};
 ghost use Rattle.strat_array.specs.Pushed.{HasReason};
 ghost use Rattle.strat_crash.specs.Moments.{OnlyReads};
 ghost use Rattle.strat_merge.specs.MergerFields.{views_of, consumed_of};
-ghost use Rattle.strat_merge.specs.Runs.{blocks_left};
+ghost use Rattle.strat_merge.specs.Runs.{blocks_left, ReadsLeft};
 ghost use Rattle.strat_promote.specs.Budget.{TakesOneKey};
 ghost use Rattle.strat_promote.specs.Closing.{AreAllUsed, all_extents};
 ghost use Rattle.strat_promote.specs.Counted.{IsCounter, IsCounting};
@@ -24,9 +24,9 @@ ghost use Rattle.strat_promote.specs.Turning.{stage_after, AreAllNew, MatchStep,
 ghost use Rattle.strat_promote.specs.InputFields.{input_seen};
 ghost use Rattle.strat_promote.specs.Job.{Job, IsBadInput, IsJobIn, AreReadable, arrays_to, blocks_listed};
 ghost use Rattle.strat_promote.specs.Owned.{OwnsItsBlocks};
-ghost use Rattle.strat_promote.specs.Passes.{IsJobOver, ReadsOnce};
+ghost use Rattle.strat_promote.specs.Passes.{IsJobOver};
 ghost use Rattle.strat_promote.specs.Spaces.{TakesMore};
-ghost use Rattle.strat_promote.specs.Stages.{IsSteady, IsUnderway, IsMade, stage_writers, stage_consumed, blocks_due};
+ghost use Rattle.strat_promote.specs.Stages.{IsSteady, IsUnderway, IsMade, AreReadFrom, IsReadFrom, ReadsOnce, stage_writers, stage_consumed, blocks_due};
 ghost use Rattle.strat_promote.specs.Steps.{Inputs, inputs_of, IsReadySource, IsTaskIn, StepsOn};
 
 use crate::closing::{describe_all, seal_all};
@@ -91,6 +91,8 @@ fn begin<D: Disk>(
         → IsTaskIn f task.now (inputs_of sources.now) job → IsUnderway f job task.now.first stage) }
     ensures none { IfOk result (λ stage. stage_writers stage ≡ []) }
     ensures len { IfOk result (λ stage. stage_consumed stage ≡ 0) }
+    ensures end { IfOk result (λ stage. IsReadFrom
+        (arrays_to sources.now.levels.now task.now.target) stage) }
     ensures found { OpensInputs Device Damaged (D.view disk.old) (D.view disk.new)
         (arrays_to sources.now.levels.now task.now.target) (D.faults disk.old)
         (D.faults disk.new) (D.reads disk.old) (D.reads disk.new) result }
@@ -131,9 +133,17 @@ fn count<D: Disk>(
     ensures none { IfOk result (λ next. AreAllNew (stage_writers (stage_after counting.new next))) }
     ensures same { OnlyReads (D.view disk.old) (D.view disk.new) }
     ensures cause { HasCause Device (D.faults disk.old) (D.faults disk.new) result }
-    ensures damaged { (b : ℕ) → IsErrOf result (Damaged b) → (f : Image) (job : Job)
+    ensures damaged { (b : ℕ) → IsErrOf result (Damaged b)
+        → (AreReadFrom (arrays_to sources.now.levels.now task.now.target)
+        (views_of input_seen counting.old.merger)
+        → Contains (blocks_listed (arrays_to sources.now.levels.now task.now.target)) b)
+        × ((f : Image) (job : Job)
         → Exposes (D.view disk.old) f → IsTaskIn f task.now (inputs_of sources.now) job
-        → IsCounting input_seen f job counting.old → IsBadInput f job.arrays b }
+        → IsCounting input_seen f job counting.old → IsBadInput f job.arrays b) }
+    ensures found { IfOk result (λ next. AreReadFrom
+        (arrays_to sources.now.levels.now task.now.target)
+        (views_of input_seen counting.old.merger) → IsReadFrom
+        (arrays_to sources.now.levels.now task.now.target) (stage_after counting.new next)) }
     ensures reads { IfOk result (λ next. D.reads disk.new
         + blocks_due (arrays_to sources.now.levels.now task.now.target)
         (stage_after counting.new next)
@@ -225,11 +235,13 @@ fn write<D: Disk>(
         (all_extents writing.new.filling.writers.items) }
     ensures same { TearsBlocks (is_free space.old) (D.view disk.old) (D.view disk.new) }
     ensures cause { HasCause Device (D.faults disk.old) (D.faults disk.new) result }
-    ensures damaged { (b : ℕ) → IsErrOf result (Damaged b) → (f : Image) (job : Job)
+    ensures damaged { (b : ℕ) → IsErrOf result (Damaged b)
+        → Contains (blocks_left (views_of input_seen writing.old.merger)) b
+        × ((f : Image) (job : Job)
         → Exposes (D.view disk.old) f → IsTaskIn f task.now (inputs_of sources.now) job
-        → IsWriting input_seen f job task.now.first writing.old → IsBadInput f job.arrays b }
-    ensures reads { D.reads disk.new + length (blocks_left (views_of input_seen writing.new.merger))
-        ≤ D.reads disk.old + length (blocks_left (views_of input_seen writing.old.merger)) }
+        → IsWriting input_seen f job task.now.first writing.old → IsBadInput f job.arrays b) }
+    ensures reads { ReadsLeft (views_of input_seen writing.old.merger)
+        (views_of input_seen writing.new.merger) (D.reads disk.old) (D.reads disk.new) }
 {
     let more = write_group::<D, Input>(
         writing,
@@ -279,12 +291,14 @@ pub(crate) fn take_step<D: Disk>(
         (all_extents (stage_writers stage.new)) }
     ensures same { TearsBlocks (is_free space.old) (D.view disk.old) (D.view disk.new) }
     ensures cause { HasCause Device (D.faults disk.old) (D.faults disk.new) result }
-    ensures damaged { (b : ℕ) → IsErrOf result (Damaged b) → (f : Image) (job : Job)
+    ensures damaged { (b : ℕ) → IsErrOf result (Damaged b)
+        → (IsReadFrom (arrays_to sources.now.levels.now task.now.target) stage.old
+        → Contains (blocks_listed (arrays_to sources.now.levels.now task.now.target)) b)
+        × ((f : Image) (job : Job)
         → Exposes (D.view disk.old) f → IsTaskIn f task.now (inputs_of sources.now) job
-        → IsUnderway f job task.now.first stage.old → IsBadInput f job.arrays b }
-    ensures reads { ReadsOnce (D.reads disk.old) (D.reads disk.new)
-        (blocks_due (arrays_to sources.now.levels.now task.now.target) stage.old)
-        (blocks_due (arrays_to sources.now.levels.now task.now.target) stage.new) result }
+        → IsUnderway f job task.now.first stage.old → IsBadInput f job.arrays b) }
+    ensures reads { ReadsOnce (arrays_to sources.now.levels.now task.now.target)
+        (D.reads disk.old) (D.reads disk.new) stage.old stage.new result }
 {
     match stage {
         Stage::Begun => {

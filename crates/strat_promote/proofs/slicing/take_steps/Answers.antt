@@ -15,8 +15,11 @@ returns-in_err-level-clause-same g c =
 
 pub returns-in_err-level-clause-damaged : goal.returns-in_err-level-clause-damaged
 returns-in_err-level-clause-damaged g c =
-    λ b named. slice_blames c.args.task.now (inputs_of c.args.sources.now) (stage_consumed c.args.stage.now + c.args.budget) (g.D.Disk.view c.args.disk.now) (g.D.Disk.view c.loop.disk) (g.D.Disk.view c.take_step.new.disk) c.args.space.now c.loop.space c.take_step.new.space c.args.stage.now c.loop.stage c.take_step.new.stage (g.D.Disk.faults c.args.disk.now) (g.D.Disk.faults c.loop.disk) (g.D.Disk.faults c.take_step.new.disk) (g.D.Disk.reads c.args.disk.now) (g.D.Disk.reads c.loop.disk) (g.D.Disk.reads c.take_step.new.disk) c.loop.invariant c.in_err-level.ensures.room c.in_err-level.ensures.same b
-    (c.in_err-level.ensures.damaged b (err_of c.from_residual.result _ _ c.from_residual.ensures.1 named))
+    λ b named. (
+      λ from. (c.in_err-level.ensures.damaged b (err_of c.from_residual.result _ _ c.from_residual.ensures.1 named)).0 (c.loop.invariant.among from),
+      slice_blames c.args.task.now (inputs_of c.args.sources.now) (stage_consumed c.args.stage.now + c.args.budget) (g.D.Disk.view c.args.disk.now) (g.D.Disk.view c.loop.disk) (g.D.Disk.view c.take_step.new.disk) c.args.space.now c.loop.space c.take_step.new.space c.args.stage.now c.loop.stage c.take_step.new.stage (g.D.Disk.faults c.args.disk.now) (g.D.Disk.faults c.loop.disk) (g.D.Disk.faults c.take_step.new.disk) (g.D.Disk.reads c.args.disk.now) (g.D.Disk.reads c.loop.disk) (g.D.Disk.reads c.take_step.new.disk) c.loop.invariant c.in_err-level.ensures.room c.in_err-level.ensures.same b
+          ((c.in_err-level.ensures.damaged b (err_of c.from_residual.result _ _ c.from_residual.ensures.1 named)).1),
+    )
 
 pub returns-in-Made-clause-same : goal.returns-in-Made-clause-same
 returns-in-Made-clause-same g c =
@@ -43,4 +46,4 @@ loop-preserved g c =
     (subst (λ (r : Step). MatchStep r (IsSteady c.args.task.now.horizon c.take_step.new.stage) (λ made. OwnsItsBlocks (stage_writers c.take_step.new.stage) made)) c.in-More.is c.in_ok-level.ensures.kept) c.in_ok-level.ensures.found c.in_ok-level.ensures.cause.ok
     (c.may_pause.ensures.none c.if-may_pause.false (stage_consumed c.args.stage.now) c.taken_in-start.ensures.ok)
     (λ f g' job told tells is used underway. subst (λ (r : Step). StepsOn f g' c.args.task.now job (stage_consumed c.loop.stage) c.take_step.new.stage r) c.in-More.is (c.in_ok-level.ensures.ok f g' job told tells is used underway))
-    c.in_ok-level.ensures.reads.rest
+    c.in_ok-level.ensures.reads.rest c.in_ok-level.ensures.reads.among
