@@ -1,0 +1,3 @@
+pub mod ChainReadLemmas
+pub mod ChainSeenLemmas
+pub mod ChainWriteLemmas
