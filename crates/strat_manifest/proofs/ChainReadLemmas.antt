@@ -1,6 +1,5 @@
 -- A chain as it is followed, link by link.
-use Rattle.std.proofs.Common.{◌≡◌, ◌≢◌, ◌<◌, ◌+◌, ◌*◌, ℕ, zero, suc, Bool, true, false, cond, eqb, leb, ltb, not, ◌&&◌, ◌||◌, List, [], ◌∷◌, ◌++◌, length, Option, Some, Result, Ok, Err, refl, sym, ap, ◌∙◌, subst, arith, append_assoc, append-nil, length-append, take, drop}
-use Rattle.std.specs.Prelude.{flat_map}
+use Rattle.std.proofs.Common.{◌≡◌, ◌≢◌, ◌<◌, ◌+◌, ◌*◌, ℕ, zero, suc, Bool, true, false, cond, eqb, leb, ltb, not, ◌&&◌, ◌||◌, List, [], ◌∷◌, ◌++◌, length, Option, Some, Result, Ok, Err, refl, sym, ap, ◌∙◌, arith, append_assoc, append-nil, length-append, take, drop}
 use Rattle.std.specs.List.{list_any}
 use Rattle.std.specs.Result.{IsErrAnd}
 use Rattle.std.proofs.lemmas.Result.{err_from_is_err_and}
@@ -15,7 +14,7 @@ use Rattle.strat_crash.proofs.ImageLemmas.{window_split, length-window}
 use Rattle.strat_base.specs.declared.limits.TheConstants.{BLOCK}
 use Rattle.strat_crash.specs.Image.{Image, window}
 use Rattle.strat_format.specs.Chained.{link_at, may_follow, chain_from, chained_bytes}
-use Rattle.strat_format.specs.Damage.{Read, passed_or, put_first}
+use Rattle.strat_format.specs.Damage.{Read, put_first}
 use Rattle.strat_manifest.specs.Chains.{put_all, IsFollowed}
 
 -- a block is one of these
@@ -137,9 +136,10 @@ module _ (content : Option Image) (first n : ℕ) (blocks bytes : List ℕ) (blo
 pub link_told : (f : Image) (b next : ℕ) (block old new : List ℕ) → block ≡ window f (4096 * b) 4096 → Some next ≡ number_at 4 block 0 → new ≡ old ++ drop 4 block → (next ≡ link_at f b) × (new ≡ old ++ window f (4096 * b + 4) 4092)
 link_told f b next block old new is told more =
     let parts : block ≡ window f (4096 * b) 4 ++ window f (4096 * b + 4) 4092 = is ∙ window_split f (4096 * b) 4 4092 in
-    let long : length (window f (4096 * b) 4) ≡ 4 = length-window f (4096 * b) 4 in
-    ((number_at_some 4 block 0 next told).1 ∙ sym (number-take 4 block) ∙ ap (number 4) (ap (take 4) parts ∙ take_at (window f (4096 * b) 4) (window f (4096 * b + 4) 4092) 4 long),
-    more ∙ ap (λ (l : List ℕ). old ++ l) (ap (drop 4) parts ∙ ap (λ (n : ℕ). drop n (window f (4096 * b) 4 ++ window f (4096 * b + 4) 4092)) (sym long) ∙ drop-append_seam (window f (4096 * b) 4) (window f (4096 * b + 4) 4092)))
+    let long : length (window f (4096 * b) 4) ≡ 4 = length-window f (4096 * b) 4 in (
+      (number_at_some 4 block 0 next told).1 ∙ sym (number-take 4 block) ∙ ap (number 4) (ap (take 4) parts ∙ take_at (window f (4096 * b) 4) (window f (4096 * b + 4) 4092) 4 long),
+      more ∙ ap (λ (l : List ℕ). old ++ l) (ap (drop 4) parts ∙ ap (λ (n : ℕ). drop n (window f (4096 * b) 4 ++ window f (4096 * b + 4) 4092)) (sym long) ∙ drop-append_seam (window f (4096 * b) 4) (window f (4096 * b + 4) 4092)),
+    )
 
 pub follows_low : (blocks : List ℕ) (b : ℕ) → may_follow blocks b ≡ true → b < 4294967295
 follows_low blocks b may = ltb-true b 4294967295 (and_parts (leb 1 b) (ltb b 4294967295) (and_parts (leb 1 b && ltb b 4294967295) (not (one_of blocks b)) may).0).1

@@ -1,15 +1,15 @@
 -- Blocks that are marked in a space, and added to extents.
-use Rattle.std.proofs.Common.{◌≡◌, ◌<◌, ◌≤◌, ◌+◌, ◌-◌, ℕ, zero, suc, Result, Ok, Err, IfOk, MatchBool, Bool, true, false, cond, eqb, leb, ltb, not, ◌&&◌, ◌||◌, ◌↔◌, inl, inr, get_or, List, [], ◌∷◌, ◌++◌, length, take, refl, sym, ap, ◌∙◌, subst, arith, append_assoc, append-nil, true≢false}
+use Rattle.std.proofs.Common.{◌≡◌, ◌<◌, ◌+◌, ◌-◌, ℕ, zero, suc, Result, Ok, Err, IfOk, MatchBool, Bool, true, false, eqb, leb, ltb, not, ◌&&◌, ◌||◌, ◌↔◌, inl, inr, get_or, List, [], ◌∷◌, ◌++◌, length, take, refl, sym, ap, ◌∙◌, subst, arith, append_assoc, append-nil, true≢false}
 use Rattle.std.specs.List.{list_any, range_with_len}
-use Rattle.std.proofs.lemmas.Bool.{cases_order, eqb-true, eq-eqb, le-leb, lt-ltb, ltb-true, and_parts, and_from, false_from_ne_true, ne_eqb}
+use Rattle.std.proofs.lemmas.Bool.{cases_order, eqb-true, eq-eqb, le-leb, lt-ltb, ltb-true, and_from, false_from_ne_true, ne_eqb}
 use Rattle.std.proofs.lemmas.Grind.{flat_map-append}
 use Rattle.std.proofs.lemmas.List.{take_more, take_all}
 use Rattle.std.proofs.lemmas.List.Folds.{list_any-append}
 use Rattle.strat_base.specs.declared.descriptors.Extent.{Extent}
-use Rattle.strat_extent.specs.Blocks.{SpaceView, inside, times_in, is_used, is_free}
+use Rattle.strat_extent.specs.Blocks.{SpaceView, times_in, is_used, is_free}
 use Rattle.strat_extent.specs.Change.{IsMarked, SameBlocks, CanMark}
 use Rattle.strat_extent.proofs.BlockLemmas.{marked_or}
-use Rattle.strat_extent.proofs.CountLemmas.{inside_in, inside_below, inside_above, inside_le, inside_bounds}
+use Rattle.strat_extent.proofs.CountLemmas.{inside_in, inside_below, inside_above, inside_le}
 use Rattle.strat_format.specs.Arrays.{blocks_of}
 use Rattle.strat_format.specs.Chained.{may_follow}
 use Rattle.strat_manifest.specs.Chains.{AreSeen}

@@ -1,11 +1,11 @@
 -- A chain of blocks while it is read or written.
-use Rattle.std.specs.Prelude.{◌≡◌, ◌≤◌, ◌<◌, ℕ, ◌+◌, ◌-◌, ◌*◌, ◌==◌, List, [], ◌∷◌, ◌++◌, length, drop, Option, Some, IsSome, Ok, Err}
+use Rattle.std.specs.Prelude.{◌≡◌, ◌≤◌, ℕ, ◌+◌, ◌*◌, ◌==◌, List, [], ◌∷◌, ◌++◌, length, drop, Option, Some, IsSome, Ok, Err}
 use Rattle.std.specs.List.{AllByRecursion, list_any, range_with_len}
-use Rattle.strat_crash.specs.Image.{Image, window}
+use Rattle.strat_crash.specs.Image.{Image}
 use Rattle.strat_crash.specs.Moments.{DiskView, Exposes}
 use Rattle.strat_extent.specs.Blocks.{SpaceView, is_used}
 use Rattle.strat_format.specs.Chain.{HoldsChain, next_block}
-use Rattle.strat_format.specs.Chained.{chain_from, chained_bytes, link_at}
+use Rattle.strat_format.specs.Chained.{chain_from, chained_bytes}
 use Rattle.strat_format.specs.Damage.{Read}
 
 -- a space in which these blocks are used, and no other

@@ -1,6 +1,6 @@
 //! Bytes in a chain of blocks, as they are written.
 
-ghost use Rattle.std.specs.Prelude.{◌≡◌, ◌≤◌, ◌<◌, ◌+◌, ◌-◌, ◌*◌, ◌^◌, ℕ, Bool, true, take, length, IsSome, OnOk, OnErr, IfOk, IsErrOf};
+ghost use Rattle.std.specs.Prelude.{◌≡◌, ◌≤◌, ◌<◌, ◌+◌, ◌-◌, ◌*◌, ◌^◌, ℕ, Bool, true, take, drop, length, slice_index_or, IsSome, OnOk, OnErr, IfOk, IsErrOf};
 ghost use Rattle.strat_base.specs.declared.failures.Trouble.TheVariants.{NoMemory, Device, Damaged};
 ghost use Rattle.strat_base.specs.Numbers.{placed};
 ghost use Rattle.strat_crash.specs.Blocks.{TearsBlocks};
@@ -27,6 +27,15 @@ fn piece(bytes: &[u8]) -> &[u8]
     ensures len { length result.now ≤ 4092 }
 {
     &bytes[..PIECE.min(bytes.len())]
+}
+
+/// The bytes from an offset on.
+#[tactic(auto, using(crate::proofs::ChainWriteLemmas::all_behind))]
+fn behind(bytes: &[u8], at: usize) -> &[u8]
+    requires { at ≤ length bytes.now }
+    ensures ok { result.now ≡ drop at bytes.now }
+{
+    &bytes[at..]
 }
 
 /// Writes bytes at an offset.
@@ -95,11 +104,19 @@ fn write_run<D: Disk>(
     while left > 0 {
         left -= 1;
         let block = run.start + left;
-        let at = left as usize * PIECE;
-        write_link(disk, block, head, &bytes[at..], buffer)?;
+        let at = PIECE * left as usize;
+        write_link(disk, block, head, behind(bytes, at), buffer)?;
         head = block;
     }
     Ok(head)
+}
+
+/// An extent, counted from 0.
+fn extent_at(extents: &[Extent], i: usize) -> Extent
+    requires { i < length extents.now }
+    ensures ok { result ≡ slice_index_or extents.now i result }
+{
+    extents[i]
 }
 
 /// Writes bytes into a chain of the blocks of these extents, the last block first, and answers the first: one write a
@@ -124,13 +141,13 @@ fn write_extents<D: Disk>(
     ensures reads { D.reads disk.new ≡ D.reads disk.old }
 {
     let mut head = 0;
-    let mut at = blocks_for(bytes.len()) as usize * PIECE;
+    let mut at = PIECE * blocks_for(bytes.len()) as usize;
     let mut i = extents.len();
     while i > 0 {
         i -= 1;
-        let run = extents[i];
-        at -= run.len as usize * PIECE;
-        head = write_run(disk, run, head, &bytes[at..], buffer)?;
+        let run = extent_at(extents, i);
+        at -= PIECE * run.len as usize;
+        head = write_run(disk, run, head, behind(bytes, at), buffer)?;
     }
     Ok(head)
 }

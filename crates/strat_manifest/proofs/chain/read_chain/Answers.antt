@@ -1,6 +1,5 @@
-use Rattle.std.proofs.Common.{◌≡◌, ◌-◌, ℕ, List, [], Ok, Err, ap, sym, ◌∙◌, refl, subst}
+use Rattle.std.proofs.Common.{◌≡◌, ◌-◌, ℕ, [], Err, ap, sym, ◌∙◌, refl}
 use Rattle.strat_crash.specs.Image.{Image}
-use Rattle.strat_crash.specs.Moments.{Exposes}
 use Rattle.strat_crash.proofs.MomentLemmas.{reads_trans}
 use Rattle.strat_format.specs.Arrays.{blocks_of}
 use Rattle.strat_format.specs.Chain.{chain_length}

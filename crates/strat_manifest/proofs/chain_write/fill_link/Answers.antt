@@ -1,4 +1,4 @@
-use Rattle.std.proofs.Common.{◌≡◌, ◌∙◌, ℕ, replicate, ap, length}
+use Rattle.std.proofs.Common.{◌∙◌, ℕ, replicate, ap, length}
 use Rattle.strat_manifest.proofs.ChainWriteLemmas.{link_put, length_link}
 use Rattle.strat_manifest.proofs.chain_write.fill_link.Goals as goal
 

@@ -1,4 +1,3 @@
-use Rattle.std.proofs.Common.{◌∙◌}
 use Rattle.strat_crash.proofs.BlockLemmas.{write_tears}
 use Rattle.strat_manifest.proofs.chain_write.write_link.Goals as goal
 

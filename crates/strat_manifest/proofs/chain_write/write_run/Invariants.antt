@@ -1,4 +1,4 @@
-use Rattle.std.proofs.Common.{◌≡◌, ◌≤◌, ◌<◌, length}
+use Rattle.std.proofs.Common.{◌≡◌, ◌≤◌, length}
 use Rattle.strat_manifest.proofs.ChainWriteLemmas.{RunSoFar}
 use Rattle.strat_manifest.proofs.chain_write.write_run.Given as goal
 

@@ -1,4 +1,4 @@
-use Rattle.std.proofs.Common.{◌≡◌, ◌+◌, ◌-◌, ◌<◌, ◌≤◌, ℕ, List, Err, arith, ap, sym, ◌∙◌, subst}
+use Rattle.std.proofs.Common.{◌-◌, ℕ, List, Err, arith, ap, sym, ◌∙◌, subst}
 use Rattle.strat_crash.proofs.MomentLemmas.{reads_trans}
 use Rattle.strat_format.specs.Arrays.{blocks_of}
 use Rattle.strat_manifest.specs.Chains.{IsFollowed}
