@@ -1,0 +1,2 @@
+pub mod ManifestView
+pub mod Reading

@@ -1,0 +1,1 @@
+//! Tests of what a manifest with a spelling is.

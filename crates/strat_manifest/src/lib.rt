@@ -1,0 +1,10 @@
+//! The manifest: what a store keeps of itself beside its journal, its spelling in bytes, and its reading.
+#![tactic(auto)]
+
+mod lawful;
+mod manifest;
+mod parse;
+mod print;
+mod reader;
+
+pub use manifest::{LevelList, Manifest, ManifestFault, Parents};
