@@ -1,3 +1,4 @@
 pub mod ItemLemmas
 pub mod LawfulLemmas
 pub mod SpelledLemmas
+pub mod ParseLemmas

@@ -11,7 +11,7 @@ use Rattle.strat_base.proofs.NumberLemmas.{AreBytes-drop, be-number_1, be-number
 use Rattle.strat_base.proofs.EntryLemmas.{bytes_same}
 use Rattle.strat_format.specs.Manifest.{Parsed, next, read_number, read_items, read_list, read_extent, read_array, read_level, list_bytes, extent_bytes, array_bytes, level_bytes}
 use Rattle.strat_manifest.specs.Reading.{read_head, read_levels}
-use Rattle.strat_manifest.specs.declared.parse.Head.{Head}
+use Rattle.strat_manifest.specs.declared.parser.Head.{Head}
 
 -- what is read stands in front of what is left
 abbrev pub IsSpelled : {A : Type 0} → (List ℕ → Parsed A) → (A → List ℕ) → Type 0
@@ -23,11 +23,11 @@ bytes_behind front rest bytes is fits =
     let left : drop (length front) bytes ≡ rest = ap (drop (length front)) is ∙ drop_at front rest (length front) refl in
     subst AreBytes left (AreBytes-drop (length front) bytes fits)
 
-some_same : {X : Type 0} (x y : X) → Some x ≡ Some y → x ≡ y
+pub some_same : {X : Type 0} (x y : X) → Some x ≡ Some y → x ≡ y
 some_same x y e = cc
 
 -- what was read behind a value
-next_some : {A B : Type 0} (r : Parsed A) (behind : A → List ℕ → Parsed B) (y : B × List ℕ) → next r behind ≡ Some y
+pub next_some : {A B : Type 0} (r : Parsed A) (behind : A → List ℕ → Parsed B) (y : B × List ℕ) → next r behind ≡ Some y
     → (p : A × List ℕ) × (r ≡ Some p) × (behind p.0 p.1 ≡ Some y)
 next_some None behind y e = absurd (cc)
 next_some (Some p) behind y e = (p, refl, e)

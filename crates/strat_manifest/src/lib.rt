@@ -3,8 +3,9 @@
 
 mod lawful;
 mod manifest;
-mod parse;
-mod print;
+mod parser;
+mod printer;
 mod reader;
 
 pub use manifest::{LevelList, Manifest, ManifestFault, Parents};
+pub use parser::parse;

@@ -1,13 +1,16 @@
 //! Reading a manifest. Memory is taken for each item as it is read, and never for a count that stands in the bytes.
 
-ghost use Rattle.std.specs.Prelude.{◌≡◌, ◌∷◌, [], ◌++◌, OnOk, IfErr};
-ghost use Rattle.strat_format.specs.Manifest.{read_number, read_items, read_list, read_extent, read_array, read_level};
-ghost use Rattle.strat_manifest.specs.Reading.{Reads, read_head, read_levels};
+ghost use Rattle.std.specs.Prelude.{◌≡◌, ◌∷◌, [], ◌++◌, Some, None, OnOk, IfOk, IfErr};
+ghost use Rattle.strat_format.specs.Manifest.{read_number, read_items, read_list, read_extent, read_array, read_level, manifest_in, SpellsManifest};
+ghost use Rattle.strat_manifest.specs.ManifestView.{manifest_of};
+ghost use Rattle.strat_manifest.specs.Reading.{Reads, read_head, read_levels, read_behind};
 ghost use Rattle.strat_manifest.specs.declared.manifest.ManifestFault.TheVariants as fault;
 
-use crate::manifest::{LevelList, ManifestFault};
+use crate::lawful::is_lawful;
+use crate::manifest::{LevelList, Manifest, ManifestFault};
 use crate::reader::Reader;
 use std::alloc::Global;
+use strat_base::limits::VERSIONS_MAX;
 use strat_base::{ArrayDesc, Arrays, Extent, Extents, LevelDesc, Listing, Versions};
 
 /// Adds an item to a list.
@@ -142,6 +145,7 @@ fn take_levels(alloc: Global, n: u8, reader: &mut Reader<'_>) -> Result<LevelLis
 }
 
 /// The numbers in front of a manifest.
+#[derive(Clone, Copy)]
 struct Head {
     changes: u32,
     updates: u32,
@@ -167,4 +171,53 @@ fn take_head(reader: &mut Reader<'_>) -> Result<Head, ManifestFault>
         next_array,
         versions,
     })
+}
+
+/// As many descriptors of levels as a byte in front of them says.
+fn take_level_list(alloc: Global, reader: &mut Reader<'_>) -> Result<LevelList, ManifestFault>
+    ensures ok { Reads read_levels reader.old result reader.new }
+{
+    let count = reader.take_u8()?;
+    take_levels(alloc, count, reader)
+}
+
+/// The manifest whose parents and levels stand behind these numbers.
+#[tactic(auto, unfolding(crate::specs::Reading::read_behind))]
+fn take_behind(
+    alloc: Global,
+    head: Head,
+    reader: &mut Reader<'_>,
+) -> Result<Manifest, ManifestFault>
+    ensures ok { Reads (read_behind head) reader.old result reader.new }
+{
+    let parents = take_numbers(alloc, head.versions.saturating_sub(1), reader)?;
+    let levels = take_level_list(alloc, reader)?;
+    Ok(Manifest {
+        changes: head.changes,
+        updates: head.updates,
+        written: head.written,
+        next_array: head.next_array,
+        parents,
+        levels,
+    })
+}
+
+/// The manifest of which these bytes are the spelling. `Refused` where no manifest has this spelling, and
+/// `NoMemory` where memory ran out. O(bytes), and the memory taken is in proportion to the bytes that
+/// were read.
+pub fn parse(alloc: Global, bytes: &[u8]) -> Result<Manifest, ManifestFault>
+    ensures ok { IfOk result (λ m. manifest_in bytes.now ≡ Some (manifest_of m)) }
+    ensures kept { IfOk result (λ m. SpellsManifest bytes.now (manifest_of m)) }
+    ensures cause { IfErr result (λ e. e ≡ fault.Refused → manifest_in bytes.now ≡ None) }
+{
+    let mut reader = Reader::new(bytes);
+    let head = take_head(&mut reader)?;
+    if head.versions == 0 || head.versions > VERSIONS_MAX {
+        return Err(ManifestFault::Refused);
+    }
+    let manifest = take_behind(alloc, head, &mut reader)?;
+    if !reader.is_empty() || !is_lawful(&manifest) {
+        return Err(ManifestFault::Refused);
+    }
+    Ok(manifest)
 }

@@ -1,7 +1,7 @@
 use Rattle.std.proofs.Common.{◌≡◌, ◌-◌}
 use Rattle.strat_format.specs.Manifest.{read_number, read_items}
 use Rattle.strat_manifest.proofs.ItemLemmas.{continued}
-use Rattle.strat_manifest.proofs.parse.take_numbers.Given as goal
+use Rattle.strat_manifest.proofs.parser.take_numbers.Given as goal
 
 abbrev pub invariant-loop : goal.invariant-loop
 invariant-loop l =
