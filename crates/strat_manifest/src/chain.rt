@@ -188,7 +188,8 @@ impl Followed {
         requires fits { (first < 4294967295) × (length buffer.old ≡ 4096) }
         requires kept { AreSeen self.old.seen (blocks_of self.old.extents) }
         requires found { (blocks_of self.old.extents ≡ first ∷ []) × (self.old.bytes.items ≡ []) }
-        ensures ok { IfOk result (λ last. (last < 4294967295) × IsFollowed (D.view disk.old).content first links
+        ensures ok { IfOk result (λ last. (last < 4294967295)
+            × IsFollowed (D.view disk.old).content first links
             (blocks_of self.new.extents) self.new.bytes.items last 0) }
         ensures damaged { (b : ℕ) → IsErrOf result (Damaged b) → (f : Image)
             → Exposes (D.view disk.old) f → chain_from f [] first links ≡ Err b }
@@ -218,22 +219,23 @@ pub(crate) fn read_chain<D: Disk>(
     first: u32,
     size: u32,
 ) -> Result<(Vec<u8>, Extents), Trouble>
-    requires fits { (first < 4294967295) × (1 ≤ size) }
+    requires fits { first < 4294967295 }
     ensures ok { IfOk result (λ r. (f : Image) → Exposes (D.view disk.old) f
         → (chain_from f [] first (chain_length size - 1) ≡ Ok (blocks_of r.1))
         × (r.0.items ≡ chained_bytes f (blocks_of r.1))) }
-    ensures len { IfOk result (λ r. (length r.0.items ≡ 4092 * chain_length size)
-        × (length (blocks_of r.1) ≡ chain_length size)) }
+    ensures len { IfOk result (λ r. length r.0.items
+        ≡ 4092 * (chain_length size - 1 + 1)) }
     ensures damaged { (b : ℕ) → IsErrOf result (Damaged b) → (f : Image)
         → Exposes (D.view disk.old) f → chain_from f [] first (chain_length size - 1) ≡ Err b }
     ensures same { OnlyReads (D.view disk.old) (D.view disk.new) }
     ensures cause { HasCause Device (D.faults disk.old) (D.faults disk.new) result }
-    ensures reads { ReadsAtMost (chain_length size) (D.reads disk.old) (D.reads disk.new) }
+    ensures reads { ReadsAtMost (chain_length size - 1 + 1)
+        (D.reads disk.old) (D.reads disk.new) }
 {
     let mut buffer = block_room(alloc)?;
     let mut chain = Followed::new(alloc);
     chain.add(alloc, first)?;
-    let links = blocks_for(size as usize) - 1;
+    let links = blocks_for(size as usize).saturating_sub(1);
     let last = chain.follow_all(alloc, disk, first, links, &mut buffer)?;
     let next = read_link(disk, last, &mut buffer, &mut chain.bytes)?;
     if next != 0 {

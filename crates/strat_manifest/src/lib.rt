@@ -1,5 +1,15 @@
-//! The manifest of a store: its bytes in a chain of blocks.
+//! The manifest: what a store keeps of itself beside its journal, its spelling in bytes, and its place on the disk.
 #![tactic(auto)]
 
 mod chain;
 mod chain_write;
+mod lawful;
+mod manifest;
+mod parser;
+mod printer;
+mod reader;
+mod stored;
+
+pub use manifest::{LevelList, Manifest, ManifestFault, Parents};
+pub use parser::parse;
+pub use stored::read;
