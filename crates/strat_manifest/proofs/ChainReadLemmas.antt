@@ -1,5 +1,5 @@
 -- A chain as it is followed, link by link.
-use Rattle.std.proofs.Common.{◌≡◌, ◌≢◌, ◌<◌, ◌+◌, ◌*◌, ℕ, zero, suc, Bool, true, false, cond, eqb, leb, ltb, not, ◌&&◌, ◌||◌, List, [], ◌∷◌, ◌++◌, length, Option, Some, Result, Ok, Err, refl, sym, ap, ◌∙◌, arith, append_assoc, append-nil, length-append, take, drop}
+use Rattle.std.proofs.Common.{◌≡◌, ◌≢◌, ◌<◌, ◌+◌, ◌*◌, ℕ, zero, suc, Bool, true, false, cond, eqb, leb, ltb, not, ◌&&◌, ◌||◌, List, [], ◌∷◌, ◌++◌, length, Option, Some, Result, Ok, Err, refl, sym, ap, ◌∙◌, arith, append_assoc, append-nil, length-append, length-drop, ◌-◌, take, drop}
 use Rattle.std.specs.List.{list_any}
 use Rattle.std.specs.Result.{IsErrAnd}
 use Rattle.std.proofs.lemmas.Result.{err_from_is_err_and}
@@ -7,7 +7,7 @@ use Rattle.std.proofs.lemmas.Bool.{cond-true, cond-false, eq-eqb, ne_eqb, ltb-tr
 use Rattle.std.proofs.lemmas.Grind.{flat_map-append}
 use Rattle.std.proofs.lemmas.List.Folds.{list_any-append}
 use Rattle.std.proofs.Math.Seq.{drop-append_seam}
-use Rattle.std.proofs.lemmas.List.{take_at}
+use Rattle.std.proofs.lemmas.List.{take_at, take_all}
 use Rattle.strat_base.specs.Numbers.{number, number_at}
 use Rattle.strat_base.proofs.NumberLemmas.{number_at_some, number-take}
 use Rattle.strat_crash.proofs.ImageLemmas.{window_split, length-window}
@@ -133,12 +133,13 @@ module _ (content : Option Image) (first n : ℕ) (blocks bytes : List ℕ) (blo
   followed_on none last = λ f told. here f told 0 none ∙ unended f s.front block n (λ zero. last ((link f told).0 ∙ zero))
 
 -- a block as it was read: its link, and its bytes behind the others
-pub link_told : (f : Image) (b next : ℕ) (block old new : List ℕ) → block ≡ window f (4096 * b) 4096 → Some next ≡ number_at 4 block 0 → new ≡ old ++ drop 4 block → (next ≡ link_at f b) × (new ≡ old ++ window f (4096 * b + 4) 4092)
+pub link_told : (f : Image) (b next : ℕ) (block old new : List ℕ) → block ≡ window f (4096 * b) 4096 → Some next ≡ number_at 4 block 0 → new ≡ old ++ take (length block - 4) (drop 4 block) → (next ≡ link_at f b) × (new ≡ old ++ window f (4096 * b + 4) 4092)
 link_told f b next block old new is told more =
     let parts : block ≡ window f (4096 * b) 4 ++ window f (4096 * b + 4) 4092 = is ∙ window_split f (4096 * b) 4 4092 in
+    let all : take (length block - 4) (drop 4 block) ≡ drop 4 block = take_all (length block - 4) (drop 4 block) (let n = length-drop 4 block in omega (arith, n)) in
     let long : length (window f (4096 * b) 4) ≡ 4 = length-window f (4096 * b) 4 in (
       (number_at_some 4 block 0 next told).1 ∙ sym (number-take 4 block) ∙ ap (number 4) (ap (take 4) parts ∙ take_at (window f (4096 * b) 4) (window f (4096 * b + 4) 4092) 4 long),
-      more ∙ ap (λ (l : List ℕ). old ++ l) (ap (drop 4) parts ∙ ap (λ (n : ℕ). drop n (window f (4096 * b) 4 ++ window f (4096 * b + 4) 4092)) (sym long) ∙ drop-append_seam (window f (4096 * b) 4) (window f (4096 * b + 4) 4092)),
+      more ∙ ap (λ (l : List ℕ). old ++ l) (all ∙ ap (drop 4) parts ∙ ap (λ (n : ℕ). drop n (window f (4096 * b) 4 ++ window f (4096 * b + 4) 4092)) (sym long) ∙ drop-append_seam (window f (4096 * b) 4) (window f (4096 * b + 4) 4092)),
     )
 
 pub follows_low : (blocks : List ℕ) (b : ℕ) → may_follow blocks b ≡ true → b < 4294967295

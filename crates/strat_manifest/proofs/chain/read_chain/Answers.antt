@@ -23,21 +23,21 @@ link : (g : Over) (c : In_ok-next g) → ReadsLink (g.D.Disk.view c.args.disk.no
 link g c = λ f told. c.in_ok-next.ensures.ok f (c.follow_all.ensures.same.same ∙ told)
 
 -- how many links there are
-links : (g : Over) (c : In_ok-next g) (f : Image) → chain_from f [] c.args.first (chain_length c.args.size - 1) ≡ chain_from f [] c.args.first (c.blocks_for-links.result - 1)
-links g c f = ap (λ (n : ℕ). chain_from f [] c.args.first (n - 1)) (sym c.blocks_for-links.ensures)
+links : (g : Over) (c : In_ok-next g) (f : Image) → chain_from f [] c.args.first (chain_length c.args.size - 1) ≡ chain_from f [] c.args.first c.saturating_sub-links.result
+links g c f = ap (chain_from f [] c.args.first) (ap (λ (n : ℕ). n - 1) (sym c.blocks_for.ensures) ∙ sym c.saturating_sub-links.ensures)
 
 pub returns-then-next-ne0-clause-damaged : goal.returns-then-next-ne0-clause-damaged
 returns-then-next-ne0-clause-damaged g c = λ b torn f told.
     let w = (goal.at.returns-then-next-ne0-clause-damaged g c).In_ok-next in
     let same : c.in_ok-last.last ≡ b = cc in
     links g w f
-    ∙ followed_on (g.D.Disk.view c.args.disk.now).content c.args.first (c.blocks_for-links.result - 1) (blocks_of c.follow_all.new.self.extents) c.follow_all.new.self.bytes.items c.in_ok-last.last 0
+    ∙ followed_on (g.D.Disk.view c.args.disk.now).content c.args.first c.saturating_sub-links.result (blocks_of c.follow_all.new.self.extents) c.follow_all.new.self.bytes.items c.in_ok-last.last 0
     c.in_ok-next.next c.read_link.new.bytes.items c.in_ok-last.ensures.ok.1 (link g w) refl c.if-next-ne0.true f told
     ∙ ap (λ (k : ℕ). Err k) same
 
 pub returns-clause-ok : goal.returns-clause-ok
 returns-clause-ok g c = λ f told.
     let w = (goal.at.returns-clause-ok g c).In_ok-next in
-    let all = followed_all (g.D.Disk.view c.args.disk.now).content c.args.first (c.blocks_for-links.result - 1) (blocks_of c.follow_all.new.self.extents) c.follow_all.new.self.bytes.items c.in_ok-last.last 0
+    let all = followed_all (g.D.Disk.view c.args.disk.now).content c.args.first c.saturating_sub-links.result (blocks_of c.follow_all.new.self.extents) c.follow_all.new.self.bytes.items c.in_ok-last.last 0
     c.in_ok-next.next c.read_link.new.bytes.items c.in_ok-last.ensures.ok.1 (link g w) refl c.if-next-ne0.false f told in
     (links g w f ∙ all.0, all.1)
