@@ -2,12 +2,13 @@
 use Rattle.std.proofs.Common.{◌≡◌, ◌+◌, ◌*◌, ◌<◌, ◌≤◌, ℕ, zero, suc, List, [], ◌∷◌, ◌++◌, length, take, drop, get_or, refl, sym, ap, ◌∙◌, arith, add-one, append_assoc, append-nil, length-append}
 use Rattle.std.specs.List.{flat_map}
 use Rattle.std.proofs.lemmas.List.{take_all, get_or_default}
+use Rattle.std.proofs.lemmas.List.Folds.{length-flat_map-take}
 use Rattle.strat_base.specs.Numbers.{be}
 use Rattle.strat_base.specs.declared.descriptors.Extent.{Extent}
 use Rattle.strat_base.specs.declared.descriptors.ArrayDesc.{ArrayDesc}
 use Rattle.strat_base.specs.declared.descriptors.LevelDesc.{LevelDesc}
 use Rattle.strat_base.proofs.NumberLemmas.{length-be}
-use Rattle.strat_format.specs.Manifest.{Manifest, extent_bytes, array_bytes, level_bytes, manifest_bytes}
+use Rattle.strat_format.specs.Manifest.{Manifest, extent_bytes, array_bytes, level_bytes, manifest_bytes, list_bytes}
 
 module _ {X : Type 0} (f : X → List ℕ) where
   -- the spelling of one more item
@@ -61,3 +62,19 @@ manifest_size m =
       arith, length-append {A = ℕ}, length-be 4 m.changes, length-be 4 m.updates, length-be 8 m.written, length-be 8 m.next_array, length-be 4 (suc (length m.parents)), numbers_size m.parents,
       length-be 1 (length m.levels),
     )
+
+-- an array was added in three parts
+pub array_added : (a : ArrayDesc) (before one two now : List ℕ)
+    → one ≡ before ++ (be 8 a.id ++ (be 4 a.entries ++ (be 4 a.leads ++ be 4 a.least)))
+    → two ≡ one ++ list_bytes extent_bytes a.extents → now ≡ two ++ list_bytes (be 4) a.versions → now ≡ before ++ array_bytes a
+array_added a before one two now first second third = rw (third, second, first) (simp append_assoc)
+
+module _ {X : Type 0} (f : X → List ℕ) where
+  -- one more item is as long as its spelling, and all are no shorter than those up to it
+  pub size_next : (xs : List X) (i : ℕ) (x : X) → i < length xs → x ≡ get_or xs i x
+      → (length (flat_map f (take (i + 1) xs)) ≡ length (flat_map f (take i xs)) + length (f x)) × (length (flat_map f (take i xs)) + length (f x) ≤ length (flat_map f xs))
+  size_next xs i x more is =
+      let next = joined_next f xs i x more is in
+      let whole = length-flat_map-take f xs i x more in
+      (ap (λ (n : ℕ). length (flat_map f (take n xs))) (add-one i) ∙ ap length next ∙ length-append (flat_map f (take i xs)) (f x),
+        let e = ap (λ (y : X). length (f y)) is in omega (arith, e, whole))

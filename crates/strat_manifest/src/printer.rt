@@ -1,9 +1,9 @@
 //! The spelling of a manifest: its length, and its bytes in memory of just that length.
 
-ghost use Rattle.std.specs.Prelude.{◌≡◌, ◌+◌, ◌*◌, ◌≤◌, ◌<◌, ◌++◌, length, vec_len, vec_capacity, IfOk, IsTrue};
+ghost use Rattle.std.specs.Prelude.{◌≡◌, ◌+◌, ◌*◌, ◌^◌, ◌≤◌, ◌<◌, ◌++◌, length, vec_len, vec_capacity, IfOk, IsTrue};
 ghost use Rattle.std.specs.List.{flat_map};
 ghost use Rattle.strat_base.specs.Numbers.{be};
-ghost use Rattle.strat_format.specs.Manifest.{is_lawful_manifest, extent_bytes, array_bytes, level_bytes, manifest_bytes, SpellsManifest};
+ghost use Rattle.strat_format.specs.Manifest.{is_lawful_manifest, list_bytes, extent_bytes, array_bytes, level_bytes, manifest_bytes, SpellsManifest};
 ghost use Rattle.strat_manifest.specs.ManifestView.{manifest_of};
 
 use strat_base::{ArrayDesc, Extent, LevelDesc};
@@ -87,5 +87,73 @@ fn add_extents(out: &mut Vec<u8>, xs: &[Extent])
 {
     for x in xs {
         add_extent(out, x);
+    }
+}
+
+/// Adds numbers after their count.
+fn add_number_list(out: &mut Vec<u8>, xs: &[u32])
+    requires room { vec_len out.old + (4 + 4 * length xs.now) ≤ vec_capacity out.old }
+    requires fits { length xs.now < 2 ^ 32 }
+    ensures ok { out.new.items ≡ out.old.items ++ list_bytes (be 4) xs.now }
+    ensures len { vec_len out.new ≡ vec_len out.old + (4 + 4 * length xs.now) }
+    ensures room { vec_capacity out.old ≤ vec_capacity out.new }
+{
+    add_u32(out, xs.len() as u32);
+    add_numbers(out, xs);
+}
+
+/// Adds extents after their count.
+fn add_extent_list(out: &mut Vec<u8>, xs: &[Extent])
+    requires room { vec_len out.old + (4 + 8 * length xs.now) ≤ vec_capacity out.old }
+    requires fits { length xs.now < 2 ^ 32 }
+    ensures ok { out.new.items ≡ out.old.items ++ list_bytes extent_bytes xs.now }
+    ensures len { vec_len out.new ≡ vec_len out.old + (4 + 8 * length xs.now) }
+    ensures room { vec_capacity out.old ≤ vec_capacity out.new }
+{
+    add_u32(out, xs.len() as u32);
+    add_extents(out, xs);
+}
+
+/// Adds the four numbers in front of an array's lists.
+fn add_array_numbers(out: &mut Vec<u8>, a: &ArrayDesc)
+    requires room { vec_len out.old + 20 ≤ vec_capacity out.old }
+    ensures ok { out.new.items ≡ out.old.items ++ (be 8 a.now.id ++ (be 4 a.now.entries
+        ++ (be 4 a.now.leads ++ be 4 a.now.least))) }
+    ensures len { vec_len out.new ≡ vec_len out.old + 20 }
+    ensures room { vec_capacity out.old ≤ vec_capacity out.new }
+{
+    add_u64(out, a.id);
+    add_u32(out, a.entries);
+    add_u32(out, a.leads);
+    add_u32(out, a.least);
+}
+
+/// Adds the descriptor of an array.
+#[tactic(auto, using(crate::proofs::PrintLemmas::array_size, crate::proofs::PrintLemmas::array_added))]
+fn add_array(out: &mut Vec<u8>, a: &ArrayDesc)
+    requires room { vec_len out.old + length (array_bytes a.now) ≤ vec_capacity out.old }
+    requires fits { length (array_bytes a.now) < 2 ^ 32 }
+    ensures ok { out.new.items ≡ out.old.items ++ array_bytes a.now }
+    ensures len { vec_len out.new ≡ vec_len out.old + length (array_bytes a.now) }
+    ensures room { vec_capacity out.old ≤ vec_capacity out.new }
+{
+    add_array_numbers(out, a);
+    add_extent_list(out, a.extents.as_slice());
+    add_number_list(out, a.versions.as_slice());
+}
+
+/// Adds the descriptors of arrays.
+#[tactic(auto, using(crate::proofs::PrintLemmas::joined_on, crate::proofs::PrintLemmas::joined_all, crate::proofs::PrintLemmas::size_next))]
+fn add_arrays(out: &mut Vec<u8>, arrays: &[ArrayDesc])
+    requires room { vec_len out.old + length (flat_map array_bytes arrays.now)
+        ≤ vec_capacity out.old }
+    requires fits { length (flat_map array_bytes arrays.now) < 2 ^ 32 }
+    ensures ok { out.new.items ≡ out.old.items ++ flat_map array_bytes arrays.now }
+    ensures len { vec_len out.new
+        ≡ vec_len out.old + length (flat_map array_bytes arrays.now) }
+    ensures room { vec_capacity out.old ≤ vec_capacity out.new }
+{
+    for a in arrays {
+        add_array(out, a);
     }
 }
