@@ -1,5 +1,5 @@
 -- Lists that are spelled item by item, and lengths of spellings.
-use Rattle.std.proofs.Common.{◌≡◌, ◌+◌, ◌*◌, ◌<◌, ◌≤◌, ℕ, zero, suc, List, [], ◌∷◌, ◌++◌, length, take, drop, get_or, refl, sym, ap, ◌∙◌, arith, add-one, append_assoc, append-nil, length-append}
+use Rattle.std.proofs.Common.{true, ◌≡◌, ◌+◌, ◌*◌, ◌<◌, ◌≤◌, ℕ, zero, suc, List, [], ◌∷◌, ◌++◌, length, take, drop, get_or, refl, sym, ap, ◌∙◌, arith, add-one, append_assoc, append-nil, length-append}
 use Rattle.std.specs.List.{flat_map}
 use Rattle.std.proofs.lemmas.List.{take_all, get_or_default}
 use Rattle.std.proofs.lemmas.List.Folds.{length-flat_map-take}
@@ -8,7 +8,9 @@ use Rattle.strat_base.specs.declared.descriptors.Extent.{Extent}
 use Rattle.strat_base.specs.declared.descriptors.ArrayDesc.{ArrayDesc}
 use Rattle.strat_base.specs.declared.descriptors.LevelDesc.{LevelDesc}
 use Rattle.strat_base.proofs.NumberLemmas.{length-be}
-use Rattle.strat_format.specs.Manifest.{Manifest, extent_bytes, array_bytes, level_bytes, manifest_bytes, list_bytes}
+use Rattle.strat_format.proofs.ManifestLemmas.{pass_at}
+use Rattle.std.proofs.lemmas.Bool.{leb-true}
+use Rattle.strat_format.specs.Manifest.{Manifest, extent_bytes, array_bytes, level_bytes, manifest_bytes, list_bytes, is_lawful_manifest}
 
 module _ {X : Type 0} (f : X → List ℕ) where
   -- the spelling of one more item
@@ -70,11 +72,37 @@ pub array_added : (a : ArrayDesc) (before one two now : List ℕ)
 array_added a before one two now first second third = rw (third, second, first) (simp append_assoc)
 
 module _ {X : Type 0} (f : X → List ℕ) where
-  -- one more item is as long as its spelling, and all are no shorter than those up to it
-  pub size_next : (xs : List X) (i : ℕ) (x : X) → i < length xs → x ≡ get_or xs i x
-      → (length (flat_map f (take (i + 1) xs)) ≡ length (flat_map f (take i xs)) + length (f x)) × (length (flat_map f (take i xs)) + length (f x) ≤ length (flat_map f xs))
+  -- one more item is as long as its spelling
+  pub size_next : (xs : List X) (i : ℕ) (x : X) → i < length xs → x ≡ get_or xs i x → length (flat_map f (take (i + 1) xs)) ≡ length (flat_map f (take i xs)) + length (f x)
   size_next xs i x more is =
-      let next = joined_next f xs i x more is in
-      let whole = length-flat_map-take f xs i x more in
-      (ap (λ (n : ℕ). length (flat_map f (take n xs))) (add-one i) ∙ ap length next ∙ length-append (flat_map f (take i xs)) (f x),
-        let e = ap (λ (y : X). length (f y)) is in omega (arith, e, whole))
+      ap (λ (n : ℕ). length (flat_map f (take n xs))) (add-one i) ∙ ap length (joined_next f xs i x more is) ∙ length-append (flat_map f (take i xs)) (f x)
+
+  -- all items are no shorter than those up to one
+  pub size_within : (xs : List X) (i : ℕ) (x : X) → i < length xs → x ≡ get_or xs i x → length (flat_map f (take i xs)) + length (f x) ≤ length (flat_map f xs)
+  size_within xs i x more is = let whole = length-flat_map-take f xs i x more in let e = ap (λ (y : X). length (f y)) is in omega (arith, e, whole)
+
+-- the arrays of a level are shorter than it
+pub arrays_within : (l : LevelDesc) → length l.arrays ≤ length (flat_map array_bytes l.arrays)
+arrays_within l = counted l.arrays
+  where
+    counted : (xs : List ArrayDesc) → length xs ≤ length (flat_map array_bytes xs)
+    counted [] = omega arith
+    counted (x ∷ xs) = omega (arith, length-append (array_bytes x) (flat_map array_bytes xs), array_size x, counted xs)
+
+-- a level was added in four parts
+pub level_added : (l : LevelDesc) (before one two three now : List ℕ)
+    → one ≡ before ++ be 1 l.number → two ≡ one ++ be 4 l.horizon → three ≡ two ++ be 4 (length l.arrays) → now ≡ three ++ flat_map array_bytes l.arrays → now ≡ before ++ level_bytes l
+level_added l before one two three now first second third fourth = rw (fourth, third, second, first) (simp append_assoc)
+
+-- a manifest was added in five parts
+pub manifest_added : (m : Manifest) (before one two three four now : List ℕ)
+    → one ≡ before ++ (be 4 m.changes ++ (be 4 m.updates ++ (be 8 m.written ++ be 8 m.next_array)))
+    → two ≡ one ++ be 4 (length m.parents + 1) → three ≡ two ++ flat_map (be 4) m.parents → four ≡ three ++ be 1 (length m.levels) → now ≡ four ++ flat_map level_bytes m.levels
+    → now ≡ before ++ manifest_bytes m
+unfolding manifest_bytes
+manifest_added m before one two three four now first second third fourth fifth =
+    rw (fifth, fourth, third, second, first, add-one (length m.parents)) (simp append_assoc)
+
+-- a lawful manifest has at most 22 levels
+pub few_levels : (m : Manifest) → is_lawful_manifest m ≡ true → length m.levels ≤ 22
+few_levels m lawful = leb-true (length m.levels) 22 (pass_at _ 7 lawful)

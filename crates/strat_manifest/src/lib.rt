@@ -9,3 +9,4 @@ mod reader;
 
 pub use manifest::{LevelList, Manifest, ManifestFault, Parents};
 pub use parser::parse;
+pub use printer::print;
