@@ -50,8 +50,16 @@ extents_size (x ∷ xs) = omega (arith, length-append (extent_bytes x) (flat_map
 pub array_size : (a : ArrayDesc) → length (array_bytes a) ≡ 28 + (8 * length a.extents + 4 * length a.versions)
 array_size a =
     omega (
-      arith, length-append {A = ℕ}, length-be 8 a.id, length-be 4 a.entries, length-be 4 a.leads, length-be 4 a.least, length-be 4 (length a.extents), length-be 4 (length a.versions),
-      extents_size a.extents, numbers_size a.versions,
+      arith,
+      length-append {A = ℕ},
+      length-be 8 a.id,
+      length-be 4 a.entries,
+      length-be 4 a.leads,
+      length-be 4 a.least,
+      length-be 4 (length a.extents),
+      length-be 4 (length a.versions),
+      extents_size a.extents,
+      numbers_size a.versions,
     )
 
 pub level_size : (l : LevelDesc) → length (level_bytes l) ≡ 9 + length (flat_map array_bytes l.arrays)
@@ -61,7 +69,14 @@ pub manifest_size : (m : Manifest) → length (manifest_bytes m) ≡ 29 + (4 * l
 unfolding manifest_bytes
 manifest_size m =
     omega (
-      arith, length-append {A = ℕ}, length-be 4 m.changes, length-be 4 m.updates, length-be 8 m.written, length-be 8 m.next_array, length-be 4 (suc (length m.parents)), numbers_size m.parents,
+      arith,
+      length-append {A = ℕ},
+      length-be 4 m.changes,
+      length-be 4 m.updates,
+      length-be 8 m.written,
+      length-be 8 m.next_array,
+      length-be 4 (suc (length m.parents)),
+      numbers_size m.parents,
       length-be 1 (length m.levels),
     )
 
