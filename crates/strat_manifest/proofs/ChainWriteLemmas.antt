@@ -337,3 +337,13 @@ chain_made low xs bytes g some runs total held = record {
   named = rising_named low 4294967295 (blocks_of xs) some (omega arith) (rising_runs low 4294967295 xs runs);
   distinct = rising_distinct low 4294967295 (blocks_of xs) (rising_runs low 4294967295 xs runs);
 }
+
+rising_first : (low high : ℕ) (blocks : List ℕ) → AreRising low high blocks → 0 < length blocks → (low ≤ next_block blocks) × (next_block blocks < high)
+rising_first low high [] rising some = absurd (omega arith)
+rising_first low high (b ∷ blocks) rising some = (rising.0, rising.1)
+
+-- the first block of runs
+pub first_fits : (low first n : ℕ) (xs : List Extent) → AreRuns low xs (2 ^ 32) → total_len xs ≡ n → 1 ≤ n → first ≡ next_block (blocks_of xs) → (low ≤ first) × (first < 4294967295)
+first_fits low first n xs runs total some is =
+    subst (λ (b : ℕ). (low ≤ b) × (b < 4294967295)) (sym is)
+    (rising_first low 4294967295 (blocks_of xs) (rising_runs low 4294967295 xs runs) (let e = total_listed xs in omega (arith, e, total, some)))

@@ -5,3 +5,5 @@ pub mod ParseLemmas
 pub mod ChainReadLemmas
 pub mod ChainSeenLemmas
 pub mod ChainWriteLemmas
+pub mod PrintLemmas
+pub mod ChainStoredLemmas

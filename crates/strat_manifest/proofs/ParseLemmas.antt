@@ -3,7 +3,7 @@ use Rattle.std.proofs.Common.{◌≡◌, ◌+◌, ◌-◌, ◌<◌, ◌≤◌, �
 use Rattle.std.specs.List.{flat_map}
 use Rattle.std.specs.Option.{option_and_then}
 use Rattle.std.specs.Str.{bytes_eq}
-use Rattle.std.proofs.lemmas.Bool.{ltb-true, leb-true, and_parts}
+use Rattle.std.proofs.lemmas.Bool.{ltb-true, leb-true, and_parts, cases_Bool}
 use Rattle.std.proofs.lemmas.Bool.Decides.{nat_tests}
 use Rattle.std.proofs.lemmas.Option.{cond_some}
 use Rattle.strat_base.specs.Numbers.{be, number, AreBytes}
@@ -61,22 +61,22 @@ manifest_spelled bytes h b m rest fits is some tail =
     let behind = levels_spelled g levels i (bytes_behind (flat_map (be 4) parents) g b spelled.0 head.1) others.1 in
     let P : (Declared × List ℕ) → Type 0 = λ p. bytes ≡ manifest_bytes (manifest_of p.0) ++ p.1 in
     subst P (some_same _ _ others.2) (
-      head.0
-      ∙ ap (λ (n : ℕ). be 4 h.changes ++ (be 4 h.updates ++ (be 8 h.written ++ (be 8 h.next_array ++ (be 4 n ++ b))))) count
-      ∙ ap (λ (x : List ℕ). be 4 h.changes ++ (be 4 h.updates ++ (be 8 h.written ++ (be 8 h.next_array ++ (be 4 (suc (length parents)) ++ x)))))
-      (spelled.0 ∙ ap (λ (x : List ℕ). flat_map (be 4) parents ++ x) behind)
-      ∙ sym (
-        manifest_joined (
-          record {
-            changes = h.changes;
-            updates = h.updates;
-            written = h.written;
-            next_array = h.next_array;
-            parents = parents;
-            levels = levels;
-          }
-        ) i
-      )
+    head.0
+    ∙ ap (λ (n : ℕ). be 4 h.changes ++ (be 4 h.updates ++ (be 8 h.written ++ (be 8 h.next_array ++ (be 4 n ++ b))))) count
+    ∙ ap (λ (x : List ℕ). be 4 h.changes ++ (be 4 h.updates ++ (be 8 h.written ++ (be 8 h.next_array ++ (be 4 (suc (length parents)) ++ x)))))
+    (spelled.0 ∙ ap (λ (x : List ℕ). flat_map (be 4) parents ++ x) behind)
+    ∙ sym (
+    manifest_joined (
+    record {
+      changes = h.changes;
+      updates = h.updates;
+      written = h.written;
+      next_array = h.next_array;
+      parents = parents;
+      levels = levels;
+    }
+    ) i
+    )
     )
 
 -- the numbers in front of a manifest's spelling
@@ -134,7 +134,7 @@ module _ (bytes : List ℕ) where
           let parts = and_parts (is_lawful_manifest (manifest_of m)) (bytes_eq bytes (manifest_bytes (manifest_of m))) both.0 in
           (parts.0, bytes_same bytes (manifest_bytes (manifest_of m)) parts.1)
 
-      pub unlawful_refused : false ≡ is_lawful_manifest (manifest_of m) → manifest_in bytes ≡ None
+      unlawful_refused : false ≡ is_lawful_manifest (manifest_of m) → manifest_in bytes ≡ None
       unlawful_refused no' =
           elim (option_cases (manifest_in bytes)) [
             | inl none ↦ none
@@ -142,7 +142,7 @@ module _ (bytes : List ℕ) where
           ]
 
       module _ (fits : AreBytes bytes) (some_version : 1 ≤ h.versions) where
-        pub rest_refused : false ≡ (length rest == 0) → manifest_in bytes ≡ None
+        rest_refused : false ≡ (length rest == 0) → manifest_in bytes ≡ None
         rest_refused more =
             elim (option_cases (manifest_in bytes)) [
               | inl none ↦ none
@@ -154,16 +154,26 @@ module _ (bytes : List ℕ) where
                   absurd (omega (arith, length-append (manifest_bytes (manifest_of m)) rest))
             ]
 
-        pub all_spelled : true ≡ (length rest == 0) → true ≡ is_lawful_manifest (manifest_of m) → SpellsManifest bytes (manifest_of m)
-        all_spelled none lawful =
-            let over : rest ≡ [] = no_item rest (is_none (length rest) none) in
+        -- what is left, or a manifest that has no spelling, is refused
+        pub all_refused : false ≡ (length rest == 0 && is_lawful_manifest (manifest_of m)) → manifest_in bytes ≡ None
+        all_refused wrong =
+            elim (cases_Bool (length rest == 0)) [
+              | inl over ↦ let lawful : false ≡ is_lawful_manifest (manifest_of m) = rw over at wrong in unlawful_refused lawful
+              | inr more ↦ rest_refused (sym more)
+            ]
+
+        -- else it is spelled by the bytes
+        pub all_spelled : true ≡ (length rest == 0 && is_lawful_manifest (manifest_of m)) → SpellsManifest bytes (manifest_of m)
+        all_spelled right =
+            let parts = and_parts (length rest == 0) (is_lawful_manifest (manifest_of m)) (sym right) in
+            let over : rest ≡ [] = no_item rest (is_none (length rest) (sym parts.0)) in
             record {
-              lawful = sym lawful;
+              lawful = parts.1;
               text =
                   manifest_spelled bytes h b m rest fits head some_version tail
                   ∙ ap (λ (x : List ℕ). manifest_bytes (manifest_of m) ++ x) over
                   ∙ append-nil (manifest_bytes (manifest_of m));
             }
 
-        pub all_found : true ≡ (length rest == 0) → true ≡ is_lawful_manifest (manifest_of m) → manifest_in bytes ≡ Some (manifest_of m)
-        all_found none lawful = manifest_in-bytes (manifest_of m) bytes (all_spelled none lawful)
+        pub all_found : true ≡ (length rest == 0 && is_lawful_manifest (manifest_of m)) → manifest_in bytes ≡ Some (manifest_of m)
+        all_found right = manifest_in-bytes (manifest_of m) bytes (all_spelled right)

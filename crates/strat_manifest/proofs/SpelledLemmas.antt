@@ -132,9 +132,9 @@ array_spelled bytes a rest fits is =
     Some (record { id = id.value; entries = entries.value; leads = leads.value; least = least.value; extents = extents.value; versions = versions }, g)) (a, rest) extents.rest extents.fits extents.more in
     let P : (ArrayDesc × List ℕ) → Type 0 = λ p. bytes ≡ array_bytes p.0 ++ p.1 in
     subst P (some_same _ _ versions.more) (
-      array_joined id.value entries.value leads.value least.value extents.value versions.value versions.rest
-      (id.text ∙ ap (λ (x : List ℕ). be 8 id.value ++ x) (entries.text ∙ ap (λ (x : List ℕ). be 4 entries.value ++ x) (leads.text ∙ ap (λ (x : List ℕ). be 4 leads.value ++ x) (least.text
-      ∙ ap (λ (x : List ℕ). be 4 least.value ++ x) (extents.text ∙ ap (λ (x : List ℕ). list_bytes extent_bytes extents.value ++ x) versions.text)))))
+    array_joined id.value entries.value leads.value least.value extents.value versions.value versions.rest
+    (id.text ∙ ap (λ (x : List ℕ). be 8 id.value ++ x) (entries.text ∙ ap (λ (x : List ℕ). be 4 entries.value ++ x) (leads.text ∙ ap (λ (x : List ℕ). be 4 leads.value ++ x) (least.text
+    ∙ ap (λ (x : List ℕ). be 4 least.value ++ x) (extents.text ∙ ap (λ (x : List ℕ). list_bytes extent_bytes extents.value ++ x) versions.text)))))
     )
 
 pub level_spelled : IsSpelled read_level level_bytes
@@ -148,9 +148,9 @@ level_spelled bytes l rest fits is =
     Some (record { number = number.value; horizon = horizon.value; arrays = arrays }, d)) (l, rest) horizon.rest horizon.fits horizon.more in
     let P : (LevelDesc × List ℕ) → Type 0 = λ p. bytes ≡ level_bytes p.0 ++ p.1 in
     subst P (some_same _ _ arrays.more) (
-      number.text ∙ ap (λ (x : List ℕ). be 1 number.value ++ x) (horizon.text ∙ ap (λ (x : List ℕ). be 4 horizon.value ++ x) arrays.text
-      ∙ sym (append_assoc (be 4 horizon.value) (list_bytes array_bytes arrays.value) arrays.rest))
-      ∙ sym (append_assoc (be 1 number.value) (be 4 horizon.value ++ list_bytes array_bytes arrays.value) arrays.rest)
+    number.text ∙ ap (λ (x : List ℕ). be 1 number.value ++ x) (horizon.text ∙ ap (λ (x : List ℕ). be 4 horizon.value ++ x) arrays.text
+    ∙ sym (append_assoc (be 4 horizon.value) (list_bytes array_bytes arrays.value) arrays.rest))
+    ∙ sym (append_assoc (be 1 number.value) (be 4 horizon.value ++ list_bytes array_bytes arrays.value) arrays.rest)
     )
 
 pub head_spelled : (bytes : List ℕ) (h : Head) (rest : List ℕ) → AreBytes bytes → read_head bytes ≡ Some (h, rest)
@@ -168,11 +168,11 @@ head_spelled bytes h rest fits is =
     let versions = step {B = Head} (read_number 4) (be 4) number_spelled_4 (λ versions f.
     Some (record { changes = changes.value; updates = updates.value; written = written.value; next_array = next_array.value; versions = versions }, f)) (h, rest) next_array.rest next_array.fits next_array.more in
     let P : (Head × List ℕ) → Type 0 = λ p.
-        (bytes ≡ be 4 p.0.changes ++ (be 4 p.0.updates ++ (be 8 p.0.written ++ (be 8 p.0.next_array ++ (be 4 p.0.versions ++ p.1))))) × AreBytes p.1
+    (bytes ≡ be 4 p.0.changes ++ (be 4 p.0.updates ++ (be 8 p.0.written ++ (be 8 p.0.next_array ++ (be 4 p.0.versions ++ p.1))))) × AreBytes p.1
     in
     subst P (some_same _ _ versions.more) (
       changes.text ∙ ap (λ (x : List ℕ). be 4 changes.value ++ x) (updates.text ∙ ap (λ (x : List ℕ). be 4 updates.value ++ x) (written.text ∙ ap (λ (x : List ℕ). be 8 written.value ++ x) (next_array.text
-      ∙ ap (λ (x : List ℕ). be 8 next_array.value ++ x) versions.text))),
+          ∙ ap (λ (x : List ℕ). be 8 next_array.value ++ x) versions.text))),
       versions.fits,
     )
 

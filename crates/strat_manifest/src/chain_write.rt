@@ -168,6 +168,8 @@ pub(crate) fn write_chain<D: Disk>(
         → Exposes (D.view disk.new) g → IsChain g (blocks_of r.1) bytes.now) }
     ensures found { IfOk result (λ r. IsMarked space.old r.1 space.new
         × AreLowest r.1 space.new × (r.0 ≡ next_block (blocks_of r.1))) }
+    ensures len { IfOk result (λ r. total_len r.1 ≡ chain_length (length bytes.now)) }
+    ensures fits { IfOk result (λ r. (space.old.first ≤ r.0) × (r.0 < 4294967295)) }
     ensures images { TearsBlocks (is_free space.old) (D.view disk.old) (D.view disk.new) }
     ensures err { OnErr result (SameBlocks space.old space.new) }
     ensures same { IsErrOf result NoMemory → disk.new ≡ disk.old }

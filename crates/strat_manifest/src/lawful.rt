@@ -172,7 +172,9 @@ fn is_lawful_level(versions: u32, next_array: u64, level: &LevelDesc) -> bool
 fn each_level_is_lawful(versions: u32, next_array: u64, levels: &[LevelDesc]) -> bool
     ensures ok { result ≡ list_all (rules.is_lawful_level versions next_array) levels.now }
 {
-    levels.iter().all(|level| is_lawful_level(versions, next_array, level))
+    levels
+        .iter()
+        .all(|level| is_lawful_level(versions, next_array, level))
 }
 
 /// Whether each parent is older than its child, where the first child is version 1.

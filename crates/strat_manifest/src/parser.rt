@@ -1,7 +1,7 @@
 //! Reading a manifest. Memory is taken for each item as it is read, and never for a count that stands in the bytes.
 
-ghost use Rattle.std.specs.Prelude.{◌≡◌, ◌∷◌, [], ◌++◌, Some, None, OnOk, IfOk, IfErr};
-ghost use Rattle.strat_format.specs.Manifest.{read_number, read_items, read_list, read_extent, read_array, read_level, manifest_in, SpellsManifest};
+ghost use Rattle.std.specs.Prelude.{◌≡◌, ◌==◌, ◌&&◌, length, ◌∷◌, [], ◌++◌, Some, None, OnOk, IfOk, IfErr};
+ghost use Rattle.strat_format.specs.Manifest.{read_number, read_items, read_list, read_extent, read_array, read_level, is_lawful_manifest, manifest_in, SpellsManifest};
 ghost use Rattle.strat_manifest.specs.ManifestView.{manifest_of};
 ghost use Rattle.strat_manifest.specs.Reading.{Reads, read_head, read_levels, read_behind};
 ghost use Rattle.strat_manifest.specs.declared.manifest.ManifestFault.TheVariants as fault;
@@ -64,11 +64,7 @@ fn take_extent(reader: &mut Reader<'_>) -> Result<Extent, ManifestFault>
 
 /// So many extents.
 #[tactic(auto, using(crate::proofs::ItemLemmas::continued_none, crate::proofs::ItemLemmas::item_read, crate::proofs::ItemLemmas::item_missing, crate::proofs::ItemLemmas::items_read))]
-fn take_extents(
-    alloc: Global,
-    n: u32,
-    reader: &mut Reader<'_>,
-) -> Result<Extents, ManifestFault>
+fn take_extents(alloc: Global, n: u32, reader: &mut Reader<'_>) -> Result<Extents, ManifestFault>
     ensures ok { Reads (read_items read_extent n) reader.old result reader.new }
 {
     let mut extents = Extents::new(alloc);
@@ -202,6 +198,14 @@ fn take_behind(
     })
 }
 
+/// Whether a manifest has a spelling, and nothing is left behind it.
+fn is_all(reader: &Reader<'_>, manifest: &Manifest) -> bool
+    ensures ok { result
+        ≡ (length reader.now == 0 && is_lawful_manifest (manifest_of manifest.now)) }
+{
+    reader.is_empty() && is_lawful(manifest)
+}
+
 /// The manifest of which these bytes are the spelling. `Refused` where no manifest has this spelling, and
 /// `NoMemory` where memory ran out. O(bytes), and the memory taken is in proportion to the bytes that
 /// were read.
@@ -216,7 +220,7 @@ pub fn parse(alloc: Global, bytes: &[u8]) -> Result<Manifest, ManifestFault>
         return Err(ManifestFault::Refused);
     }
     let manifest = take_behind(alloc, head, &mut reader)?;
-    if !reader.is_empty() || !is_lawful(&manifest) {
+    if !is_all(&reader, &manifest) {
         return Err(ManifestFault::Refused);
     }
     Ok(manifest)

@@ -1,23 +1,29 @@
 //! The manifest on the disk, in a chain of blocks.
 
 ghost use Rattle.std.specs.List.{list_all};
-ghost use Rattle.std.specs.Prelude.{◌≡◌, ◌≤◌, ◌<◌, ◌+◌, ◌-◌, ◌==◌, ℕ, length, Some, None, Ok, Err, IfOk, IsErrOf, IsTrue};
-ghost use Rattle.strat_base.specs.declared.failures.Trouble.TheVariants.{Device, Damaged};
+ghost use Rattle.std.specs.Prelude.{◌≡◌, ◌≤◌, ◌<◌, ◌+◌, ◌-◌, ◌==◌, ℕ, length, Some, None, Ok, Err, IsSome, IfOk, OnErr, IsErrOf, IsTrue};
+ghost use Rattle.strat_base.specs.declared.failures.Trouble.TheVariants.{NoMemory, Device, Damaged};
+ghost use Rattle.strat_crash.specs.Blocks.{TearsBlocks};
 ghost use Rattle.strat_crash.specs.Faults.{HasCause, ReadsAtMost};
 ghost use Rattle.strat_crash.specs.Image.{Image};
 ghost use Rattle.strat_crash.specs.Moments.{Exposes, OnlyReads};
+ghost use Rattle.strat_extent.specs.Blocks.{total_len, is_free, used_count};
+ghost use Rattle.strat_extent.specs.Change.{IsMarked, SameBlocks, AreLowest};
 ghost use Rattle.strat_format.specs.Arrays.{blocks_of};
 ghost use Rattle.strat_format.specs.Chain.{chain_length};
 ghost use Rattle.strat_format.specs.Chained.{manifest_filled, manifest_at};
-ghost use Rattle.strat_format.specs.Manifest.{is_lawful_manifest};
+ghost use Rattle.strat_format.specs.Manifest.{is_lawful_manifest, manifest_bytes};
 ghost use Rattle.strat_manifest.specs.ManifestView.{manifest_of};
 
 use crate::chain::read_chain;
+use crate::chain_write::write_chain;
 use crate::manifest::{Manifest, ManifestFault};
 use crate::parser::parse;
+use crate::printer::print;
 use std::alloc::Global;
 use strat_base::{Extents, Trouble};
 use strat_disk::Disk;
+use strat_extent::Space;
 
 /// Whether all of these bytes are 0.
 fn are_zeros(bytes: &[u8]) -> bool
@@ -70,4 +76,36 @@ pub fn read<D: Disk>(
     let (bytes, blocks) = read_chain(alloc, disk, first, size)?;
     let manifest = parse_filled(alloc, &bytes, size as usize, first)?;
     Ok((manifest, blocks))
+}
+
+/// Writes a manifest into a chain of the lowest free blocks, and gives its first block, its length in bytes and its
+/// blocks: one write a block, and no sync. It prints in linear time and takes all memory before the first write. After an
+/// error the blocks that were taken are free again. Device: the disk counted a fault. Damaged never comes.
+pub fn write<D: Disk>(
+    alloc: Global,
+    disk: &mut D,
+    space: &mut Space,
+    m: &Manifest,
+) -> Result<(u32, u32, Extents), Trouble>
+    requires kept { IsTrue (is_lawful_manifest (manifest_of m.now)) }
+    requires len { length (manifest_bytes (manifest_of m.now)) ≤ 4290772992 }
+    requires fits { 1 ≤ space.old.first }
+    requires room { used_count space.old + 1048576 ≤ 4294967295 - space.old.first }
+    ensures ok { IfOk result (λ r. IsSome (D.view disk.old).content → (g : Image)
+        → Exposes (D.view disk.new) g → manifest_at g r.0 r.1
+        ≡ Ok (record { manifest = manifest_of m.now; blocks = blocks_of r.2 })) }
+    ensures found { IfOk result (λ r. IsMarked space.old r.2 space.new
+        × AreLowest r.2 space.new × (total_len r.2 ≡ chain_length r.1)) }
+    ensures len { IfOk result (λ r. r.1 ≡ length (manifest_bytes (manifest_of m.now))) }
+    ensures fits { IfOk result (λ r. (space.old.first ≤ r.0) × (r.0 < 4294967295) × (29 ≤ r.1)) }
+    ensures images { TearsBlocks (is_free space.old) (D.view disk.old) (D.view disk.new) }
+    ensures err { OnErr result (SameBlocks space.old space.new) }
+    ensures same { IsErrOf result NoMemory → disk.new ≡ disk.old }
+    ensures cause { HasCause Device (D.faults disk.old) (D.faults disk.new) result }
+    ensures damaged { (b : ℕ) → IsErrOf result (Damaged b) → ⊥ }
+    ensures reads { D.reads disk.new ≡ D.reads disk.old }
+{
+    let bytes = print(alloc, m)?;
+    let (first, blocks) = write_chain(alloc, disk, space, &bytes)?;
+    Ok((first, bytes.len() as u32, blocks))
 }

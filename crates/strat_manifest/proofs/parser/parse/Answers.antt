@@ -4,14 +4,13 @@ use Rattle.strat_format.specs.Manifest.{manifest_in, is_lawful_manifest}
 use Rattle.strat_manifest.specs.ManifestView.{manifest_of}
 use Rattle.strat_manifest.specs.Reading.{read_head}
 use Rattle.strat_manifest.specs.declared.manifest.ManifestFault.TheVariants as fault
-use Rattle.strat_manifest.proofs.ParseLemmas.{head_missing, versions_refused, behind_missing, unlawful_refused, rest_refused, all_spelled, all_found}
+use Rattle.strat_manifest.proofs.ParseLemmas.{head_missing, versions_refused, behind_missing, all_refused, all_spelled, all_found}
 use Rattle.strat_manifest.proofs.parser.parse.Goals as goal
-use Rattle.strat_manifest.proofs.parser.parse.Goals.{then-not-is_empty-via-then-not-is_empty, then-not-is_empty-via-else-not-is_empty+then-not-is_lawful}
 
 pub returns-in_err-head-clause-cause : goal.returns-in_err-head-clause-cause
 returns-in_err-head-clause-cause c =
     let none : c.in_err-head.field-0.0 ≡ fault.Refused → manifest_in c.args.bytes.now ≡ None =
-        λ refused. head_missing c.args.bytes.now (ap read_head (sym c.new-reader.ensures.ok) ∙ c.in_err-head.ensures.ok refused)
+    λ refused. head_missing c.args.bytes.now (ap read_head (sym c.new-reader.ensures.ok) ∙ c.in_err-head.ensures.ok refused)
     in
     search (rules, none)
 
@@ -24,29 +23,24 @@ pub returns-in_err-manifest-clause-cause : goal.returns-in_err-manifest-clause-c
 returns-in_err-manifest-clause-cause c =
     let head = ap read_head (sym c.new-reader.ensures.ok) ∙ c.in_ok-head.ensures.ok in
     let none : c.in_err-manifest.field-0.0 ≡ fault.Refused → manifest_in c.args.bytes.now ≡ None =
-        λ refused. behind_missing c.args.bytes.now c.in_ok-head.head c.take_head.new.reader head (c.in_err-manifest.ensures.ok refused)
+    λ refused. behind_missing c.args.bytes.now c.in_ok-head.head c.take_head.new.reader head (c.in_err-manifest.ensures.ok refused)
     in
     search (rules, none)
 
-pub returns-then-not-is_empty-clause-cause : goal.returns-then-not-is_empty-clause-cause
-returns-then-not-is_empty-clause-cause c = λ _.
+pub returns-then-not-is_all-clause-cause : goal.returns-then-not-is_all-clause-cause
+returns-then-not-is_all-clause-cause c = λ _.
     let head = ap read_head (sym c.new-reader.ensures.ok) ∙ c.in_ok-head.ensures.ok in
-    let fits : AreBytes c.args.bytes.now = λ i. let f = c.type_inv.bytes i in omega arith in
-    elim c.then-not-is_empty.branch [
-      | then-not-is_empty-via-then-not-is_empty w ↦
-          rest_refused c.args.bytes.now c.in_ok-head.head c.take_head.new.reader head c.in_ok-manifest.manifest c.take_behind.new.reader c.in_ok-manifest.ensures.ok fits (omega arith) w.if-not-is_empty.ensures.ok
-      | then-not-is_empty-via-else-not-is_empty+then-not-is_lawful w ↦
-          unlawful_refused c.args.bytes.now c.in_ok-head.head c.take_head.new.reader head c.in_ok-manifest.manifest c.take_behind.new.reader c.in_ok-manifest.ensures.ok w.if-not-is_lawful.ensures.ok
-    ]
+    all_refused c.args.bytes.now c.in_ok-head.head c.take_head.new.reader head c.in_ok-manifest.manifest c.take_behind.new.reader c.in_ok-manifest.ensures.ok
+    (λ i. let f = c.type_inv.bytes i in omega arith) (omega arith) c.if-not-is_all.ensures.ok
 
 pub returns-clause-ok : goal.returns-clause-ok
 returns-clause-ok c =
     let head = ap read_head (sym c.new-reader.ensures.ok) ∙ c.in_ok-head.ensures.ok in
-    let fits : AreBytes c.args.bytes.now = λ i. let f = c.type_inv.bytes i in omega arith in
-    all_found c.args.bytes.now c.in_ok-head.head c.take_head.new.reader head c.in_ok-manifest.manifest c.take_behind.new.reader c.in_ok-manifest.ensures.ok fits (omega arith) c.if-not-is_empty.ensures.ok c.if-not-is_lawful.ensures.ok
+    all_found c.args.bytes.now c.in_ok-head.head c.take_head.new.reader head c.in_ok-manifest.manifest c.take_behind.new.reader c.in_ok-manifest.ensures.ok
+    (λ i. let f = c.type_inv.bytes i in omega arith) (omega arith) c.if-not-is_all.ensures.ok
 
 pub returns-clause-kept : goal.returns-clause-kept
 returns-clause-kept c =
     let head = ap read_head (sym c.new-reader.ensures.ok) ∙ c.in_ok-head.ensures.ok in
-    let fits : AreBytes c.args.bytes.now = λ i. let f = c.type_inv.bytes i in omega arith in
-    all_spelled c.args.bytes.now c.in_ok-head.head c.take_head.new.reader head c.in_ok-manifest.manifest c.take_behind.new.reader c.in_ok-manifest.ensures.ok fits (omega arith) c.if-not-is_empty.ensures.ok c.if-not-is_lawful.ensures.ok
+    all_spelled c.args.bytes.now c.in_ok-head.head c.take_head.new.reader head c.in_ok-manifest.manifest c.take_behind.new.reader c.in_ok-manifest.ensures.ok
+    (λ i. let f = c.type_inv.bytes i in omega arith) (omega arith) c.if-not-is_all.ensures.ok
