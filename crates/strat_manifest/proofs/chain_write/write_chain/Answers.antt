@@ -1,10 +1,10 @@
-use Rattle.std.proofs.Common.{◌≡◌, ◌<◌, ◌^◌, ℕ, true, List, arith, sym, ◌∙◌, subst}
+use Rattle.std.proofs.Common.{◌≤◌, ap, ◌≡◌, ◌<◌, ◌^◌, ℕ, true, List, arith, sym, ◌∙◌, subst}
 use Rattle.strat_base.specs.declared.descriptors.Extent.{Extent}
 use Rattle.strat_extent.specs.Blocks.{AreRuns, times_in, is_free}
 use Rattle.strat_extent.proofs.RunLemmas.{runs_weaker}
 use Rattle.strat_format.specs.Arrays.{blocks_of}
-use Rattle.strat_format.specs.Chain.{HoldsChain}
-use Rattle.strat_manifest.proofs.ChainWriteLemmas.{taken_free, chain_made}
+use Rattle.strat_format.specs.Chain.{HoldsChain, next_block}
+use Rattle.strat_manifest.proofs.ChainWriteLemmas.{taken_free, chain_made, first_fits}
 use Rattle.strat_manifest.proofs.chain_write.write_chain.Given.{Over}
 use Rattle.strat_manifest.proofs.chain_write.write_chain.Goals as goal
 use Rattle.strat_manifest.proofs.chain_write.write_chain.Goals.{After-as_slice}
@@ -28,3 +28,9 @@ returns-in-Ok-clause-images g c = c.write_extents.ensures.images (is_free c.args
 
 pub returns-clause-images : goal.returns-clause-images
 returns-clause-images g c = c.write_extents.ensures.images (is_free c.args.space.now) (frees g (goal.at.returns-clause-images g c).After-as_slice)
+
+pub returns-in-Ok-clause-fits : goal.returns-in-Ok-clause-fits
+returns-in-Ok-clause-fits g c =
+    let some : 1 ≤ c.blocks_for.result = let n = c.blocks_for.ensures in let l = c.requires.len in omega (arith, n, l.0) in
+    let head = c.in-Ok.ensures.found ∙ ap (λ (l : List Extent). next_block (blocks_of l)) c.as_slice.ensures.ok in
+    first_fits c.args.space.now.first c.in-Ok.first c.blocks_for.result c.in_ok-taken.taken c.in_ok-taken.ensures.kept c.in_ok-taken.ensures.len some head
