@@ -1,0 +1,5 @@
+//! Tests of manifests.
+#![tactic(auto)]
+
+#[cfg(test)]
+mod manifests;
