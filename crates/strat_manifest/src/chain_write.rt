@@ -160,8 +160,8 @@ pub(crate) fn write_chain<D: Disk>(
     space: &mut Space,
     bytes: &[u8],
 ) -> Result<(u32, Extents), Trouble>
-    requires len { (1 ≤ length bytes.now) × (length bytes.now ≤ 4290772992) }
-    requires fits { 1 ≤ space.old.first }
+    requires fits { (1 ≤ length bytes.now) × (length bytes.now ≤ 4290772992)
+        × (1 ≤ space.old.first) }
     requires room { used_count space.old + chain_length (length bytes.now)
         ≤ 4294967295 - space.old.first }
     ensures ok { IfOk result (λ r. IsSome (D.view disk.old).content → (g : Image)

@@ -88,9 +88,9 @@ pub fn write<D: Disk>(
     m: &Manifest,
 ) -> Result<(u32, u32, Extents), Trouble>
     requires kept { IsTrue (is_lawful_manifest (manifest_of m.now)) }
-    requires len { length (manifest_bytes (manifest_of m.now)) ≤ 4290772992 }
-    requires fits { 1 ≤ space.old.first }
-    requires room { used_count space.old + 1048576 ≤ 4294967295 - space.old.first }
+    requires fits { (length (manifest_bytes (manifest_of m.now)) ≤ 4290772992)
+        × (1 ≤ space.old.first)
+        × (used_count space.old + 1048576 ≤ 4294967295 - space.old.first) }
     ensures ok { IfOk result (λ r. IsSome (D.view disk.old).content → (g : Image)
         → Exposes (D.view disk.new) g → manifest_at g r.0 r.1
         ≡ Ok (record { manifest = manifest_of m.now; blocks = blocks_of r.2 })) }

@@ -21,7 +21,7 @@ frees g c b some =
 pub returns-in-Ok-clause-ok : goal.returns-in-Ok-clause-ok
 returns-in-Ok-clause-ok g c = λ told f now.
     let held = subst (λ (l : List Extent). HoldsChain f (blocks_of l) c.args.bytes.now) c.as_slice.ensures.ok (c.in-Ok.ensures.ok told f now) in
-    chain_made c.args.space.now.first c.in_ok-taken.taken c.args.bytes.now f c.requires.fits c.in_ok-taken.ensures.kept (c.in_ok-taken.ensures.len ∙ c.blocks_for.ensures) held
+    chain_made c.args.space.now.first c.in_ok-taken.taken c.args.bytes.now f c.requires.fits.2 c.in_ok-taken.ensures.kept (c.in_ok-taken.ensures.len ∙ c.blocks_for.ensures) held
 
 pub returns-in-Ok-clause-images : goal.returns-in-Ok-clause-images
 returns-in-Ok-clause-images g c = c.write_extents.ensures.images (is_free c.args.space.now) (frees g (goal.at.returns-in-Ok-clause-images g c).After-as_slice)
@@ -31,6 +31,6 @@ returns-clause-images g c = c.write_extents.ensures.images (is_free c.args.space
 
 pub returns-in-Ok-clause-fits : goal.returns-in-Ok-clause-fits
 returns-in-Ok-clause-fits g c =
-    let some : 1 ≤ c.blocks_for.result = let n = c.blocks_for.ensures in let l = c.requires.len in omega (arith, n, l.0) in
+    let some : 1 ≤ c.blocks_for.result = let n = c.blocks_for.ensures in let l = c.requires.fits in omega (arith, n, l.0) in
     let head = c.in-Ok.ensures.found ∙ ap (λ (l : List Extent). next_block (blocks_of l)) c.as_slice.ensures.ok in
     first_fits c.args.space.now.first c.in-Ok.first c.blocks_for.result c.in_ok-taken.taken c.in_ok-taken.ensures.kept c.in_ok-taken.ensures.len some head

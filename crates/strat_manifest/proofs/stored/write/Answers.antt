@@ -5,11 +5,11 @@ use Rattle.strat_manifest.specs.ManifestView.{manifest_of}
 use Rattle.strat_manifest.proofs.ChainStoredLemmas.{some_bytes, chain_stored}
 use Rattle.strat_manifest.proofs.stored.write.Goals as goal
 
-pub write_chain-requires-clause-len : goal.write_chain-requires-clause-len
-write_chain-requires-clause-len g c =
+pub write_chain-requires-clause-fits : goal.write_chain-requires-clause-fits
+write_chain-requires-clause-fits g c =
     let long = ap length (c.deref.ensures.value ∙ c.in_ok-bytes.ensures.ok.text) in
     let some = some_bytes (manifest_of c.args.m.now) in
-    (omega (arith, long, some), omega (arith, long, c.requires.len))
+    (omega (arith, long, some), omega (arith, long, c.requires.fits.0), c.requires.fits.1)
 
 pub returns-clause-ok : goal.returns-clause-ok
 returns-clause-ok g c = λ told f now.
