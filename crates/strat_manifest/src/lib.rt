@@ -12,5 +12,5 @@ mod stored;
 
 pub use manifest::{LevelList, Manifest, ManifestFault, Parents};
 pub use parser::parse;
-pub use stored::{read, write};
 pub use printer::print;
+pub use stored::{read, write};

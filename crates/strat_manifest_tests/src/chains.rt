@@ -1,7 +1,6 @@
 //! Manifests in chains of blocks: written and read back, with wrong links, and with writes that fail.
 
 ghost use Rattle.std.specs.Prelude.{◌≡◌, ◌≤◌, ◌<◌, ◌+◌, ◌-◌, ◌*◌, length, IfOk, IsTrue};
-ghost use Rattle.strat_extent.specs.Blocks.{used_count};
 ghost use Rattle.strat_format.specs.Manifest.{is_lawful_manifest, manifest_bytes};
 ghost use Rattle.strat_manifest.specs.ManifestView.{manifest_of};
 
@@ -11,7 +10,7 @@ use std::test::Fail;
 use strat_base::{Extent, Extents, Trouble};
 use strat_disk::{Disk, FuseDisk, MemDisk};
 use strat_extent::Space;
-use strat_manifest::{Manifest, parse, print, read, write};
+use strat_manifest::{Manifest, parse, read, write};
 
 /// The bytes of a manifest before the number of its versions: no change, and 9 the next array.
 const FRONT: &[u8; 24] = b"\0\0\0\0\0\0\0\0\0\0\0\0\0\0\0\0\0\0\0\0\0\0\0\x09";
@@ -99,26 +98,25 @@ fn are_first(blocks: &Extents, count: usize) -> bool {
     true
 }
 
-/// Whether a manifest of these bytes is read from a block on, in the first blocks.
+/// Whether a manifest of so many bytes, versions beside the first and levels is read from block 7 on, in the first
+/// blocks.
 fn is_there<D: Disk>(
     alloc: Global,
     disk: &mut D,
-    bytes: &[u8],
+    size: u32,
+    versions: u16,
+    levels: u8,
     count: usize,
-) -> Result<bool, Trouble>
-    requires { length bytes.now ≤ 100000 }
-{
-    let (manifest, blocks) = read(alloc, disk, 7, bytes.len() as u32)?;
-    let printed = print(alloc, &manifest)?;
-    Ok(are_first(&blocks, count) && printed.as_slice() == bytes)
+) -> Result<bool, Trouble> {
+    let (manifest, blocks) = read(alloc, disk, 7, size)?;
+    let right = manifest.next_array == 9
+        && manifest.parents.len() == usize::from(versions)
+        && manifest.levels.len() == usize::from(levels);
+    Ok(right && are_first(&blocks, count))
 }
 
 /// A disk and a space with the manifest of such a spelling in so many blocks.
-fn with_manifest(
-    alloc: Global,
-    bytes: &[u8],
-    count: usize,
-) -> Result<(MemDisk, Space), Trouble>
+fn with_manifest(alloc: Global, bytes: &[u8], count: usize) -> Result<(MemDisk, Space), Trouble>
     requires { length bytes.now ≤ 100000 }
     ensures fits { IfOk result (λ r. r.1.first ≡ 7) }
 {
@@ -153,7 +151,14 @@ fn comes_back(
 ) -> Result<bool, Trouble> {
     let bytes = short_spelling(alloc, versions, levels)?;
     let (mut disk, _) = with_manifest(alloc, &bytes, count)?;
-    let there = is_there(alloc, &mut disk, &bytes, count)?;
+    let there = is_there(
+        alloc,
+        &mut disk,
+        bytes.len() as u32,
+        versions,
+        levels,
+        count,
+    )?;
     Ok(there && bytes.len() == size)
 }
 
@@ -237,7 +242,7 @@ fn stops(alloc: Global, calls: u64) -> Result<bool, Trouble> {
         Err(failed) => return Err(failed),
     };
     let mut disk = fuse.into_inner();
-    let there = is_there(alloc, &mut disk, &bytes, 3)?;
+    let there = is_there(alloc, &mut disk, 8429, 2100, 0, 3)?;
     Ok(there && (taken == 3) == (calls >= 3) && before.saturating_sub(space.free()) == taken)
 }
 
