@@ -1,0 +1,3 @@
+pub mod ManifestView
+pub mod Reading
+pub mod Chains

@@ -1,0 +1,7 @@
+//! Tests of manifests.
+#![tactic(auto)]
+
+#[cfg(test)]
+mod chains;
+#[cfg(test)]
+mod manifests;
