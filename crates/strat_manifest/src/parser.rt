@@ -1,7 +1,7 @@
 //! Reading a manifest. Memory is taken for each item as it is read, and never for a count that stands in the bytes.
 
 ghost use Rattle.std.specs.Prelude.{◌≡◌, ◌==◌, ◌&&◌, length, ◌∷◌, [], ◌++◌, Some, None, OnOk, IfOk, IfErr};
-ghost use Rattle.strat_format.specs.Manifest.{read_number, read_items, read_list, read_extent, read_array, read_level, is_lawful_manifest, manifest_in, SpellsManifest};
+ghost use Rattle.strat_format.specs.Manifest.{read_number, read_items, read_extent, read_array, read_level, is_lawful_manifest, manifest_in, SpellsManifest};
 ghost use Rattle.strat_manifest.specs.ManifestView.{manifest_of};
 ghost use Rattle.strat_manifest.specs.Reading.{Reads, read_head, read_levels, read_behind};
 ghost use Rattle.strat_manifest.specs.declared.manifest.ManifestFault.TheVariants as fault;
@@ -11,7 +11,7 @@ use crate::manifest::{LevelList, Manifest, ManifestFault};
 use crate::reader::Reader;
 use std::alloc::Global;
 use strat_base::limits::VERSIONS_MAX;
-use strat_base::{ArrayDesc, Arrays, Extent, Extents, LevelDesc, Listing, Versions};
+use strat_base::{ArrayDesc, Arrays, Extent, Extents, LevelDesc, Listing};
 
 /// Adds an item to a list.
 fn keep<T: Drop>(items: &mut Listing<T>, x: T) -> Result<(), ManifestFault>

@@ -1,8 +1,6 @@
 -- A manifest for tests.
-use Rattle.std.specs.Prelude.{List, [], ◌∷◌}
+use Rattle.std.specs.Prelude.{[], ◌∷◌}
 use Rattle.strat_base.specs.declared.descriptors.ArrayDesc.{ArrayDesc}
-use Rattle.strat_base.specs.declared.descriptors.Extent.{Extent}
-use Rattle.strat_base.specs.declared.descriptors.LevelDesc.{LevelDesc}
 use Rattle.strat_format.specs.Manifest.{Manifest}
 
 -- an array of two extents for versions 0 and 2
