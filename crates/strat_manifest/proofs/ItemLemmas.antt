@@ -1,5 +1,5 @@
 -- Lists of items that are read one by one.
-use Rattle.std.proofs.Common.{◌≡◌, ◌+◌, ◌-◌, ◌<◌, ◌≤◌, ℕ, zero, suc, List, [], ◌∷◌, ◌++◌, Option, Some, None, refl, sym, ap, ◌∙◌, arith, append_assoc, append-nil}
+use Rattle.std.proofs.Common.{◌≡◌, ◌+◌, ◌-◌, ◌<◌, ◌≤◌, ℕ, suc, List, [], ◌∷◌, ◌++◌, Some, None, refl, ap, arith, append_assoc, append-nil}
 use Rattle.strat_format.specs.Manifest.{Parsed, next, read_items}
 
 -- items that were read, and those that are read behind them

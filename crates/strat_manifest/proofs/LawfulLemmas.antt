@@ -1,5 +1,5 @@
 -- Tests of neighbours in a list, one after the other.
-use Rattle.std.proofs.Common.{◌≡◌, ◌+◌, ◌<◌, ◌≤◌, ℕ, zero, suc, Bool, true, false, ltb, leb, not, ◌==◌, ◌&&◌, List, [], ◌∷◌, length, drop, map, get_or, ◌^◌, add-one, drop-cons, refl, sym, ap, ◌∙◌, arith}
+use Rattle.std.proofs.Common.{◌≡◌, ◌+◌, ◌<◌, ◌≤◌, ℕ, suc, Bool, true, false, ltb, leb, ◌==◌, ◌&&◌, List, [], ◌∷◌, length, drop, map, get_or, ◌^◌, add-one, drop-cons, refl, sym, arith}
 use Rattle.std.specs.List.{list_all}
 use Rattle.std.proofs.lemmas.Bool.{lt-ltb, le-ltb, and_from}
 use Rattle.std.proofs.lemmas.List.{drop_all}

@@ -1,16 +1,16 @@
 -- A manifest and the parts that are read of it.
-use Rattle.std.proofs.Common.{◌≡◌, ◌+◌, ◌-◌, ◌<◌, ◌≤◌, ◌^◌, ◌⊎◌, inl, inr, ℕ, zero, suc, Bool, true, false, true≢false, cond, ◌==◌, ◌&&◌, List, [], ◌∷◌, ◌++◌, length, drop, Option, Some, None, refl, sym, ap, ◌∙◌, subst, arith, append_assoc, append-nil, length-append}
+use Rattle.std.proofs.Common.{◌≡◌, ◌-◌, ◌<◌, ◌≤◌, ◌^◌, ◌⊎◌, inl, inr, ℕ, suc, true, false, true≢false, cond, ◌==◌, ◌&&◌, List, [], ◌∷◌, ◌++◌, length, Some, None, refl, sym, ap, ◌∙◌, subst, arith, append_assoc, append-nil, length-append}
 use Rattle.std.specs.List.{flat_map}
 use Rattle.std.specs.Option.{option_and_then}
 use Rattle.std.specs.Str.{bytes_eq}
 use Rattle.std.proofs.lemmas.Bool.{ltb-true, leb-true, and_parts, cases_Bool}
 use Rattle.std.proofs.lemmas.Bool.Decides.{nat_tests}
 use Rattle.std.proofs.lemmas.Option.{cond_some}
-use Rattle.strat_base.specs.Numbers.{be, number, AreBytes}
+use Rattle.strat_base.specs.Numbers.{be, AreBytes}
 use Rattle.strat_base.specs.declared.descriptors.LevelDesc.{LevelDesc}
 use Rattle.strat_base.proofs.EntryLemmas.{bytes_same}
 use Rattle.strat_base.proofs.TreeLemmas.{option_cases}
-use Rattle.strat_format.specs.Manifest.{Manifest, versions_in, is_lawful_manifest, level_bytes, manifest_bytes, SpellsManifest, Parsed, next, read_number, read_items, read_level, read_manifest, manifest_in}
+use Rattle.strat_format.specs.Manifest.{Manifest, versions_in, is_lawful_manifest, level_bytes, manifest_bytes, SpellsManifest, Parsed, next, read_number, read_items, read_manifest, manifest_in}
 use Rattle.strat_format.proofs.ManifestLemmas.{read_number-be, pass_at, manifest_in-some, manifest_in-bytes}
 use Rattle.strat_manifest.specs.ManifestView.{manifest_of}
 use Rattle.strat_manifest.specs.Reading.{read_head, read_levels, read_behind}

@@ -1,5 +1,5 @@
 -- What is read from bytes is spelled by them.
-use Rattle.std.proofs.Common.{◌≡◌, ◌+◌, ◌-◌, ◌<◌, ◌≤◌, ◌⊎◌, inl, inr, ℕ, zero, suc, List, [], ◌∷◌, ◌++◌, length, drop, Option, Some, None, refl, sym, ap, ◌∙◌, subst, arith, append_assoc, append-nil, take-append-drop, length-drop, take, leb, true, false}
+use Rattle.std.proofs.Common.{◌≡◌, ◌≤◌, inl, inr, ℕ, zero, suc, List, [], ◌∷◌, ◌++◌, length, drop, Some, None, refl, sym, ap, ◌∙◌, subst, append_assoc, take-append-drop, take, leb, true, false}
 use Rattle.std.specs.List.{flat_map}
 use Rattle.std.proofs.lemmas.Bool.{cases_lt, lt-leb, le-leb}
 use Rattle.std.proofs.lemmas.List.{drop_at}
@@ -8,7 +8,6 @@ use Rattle.strat_base.specs.declared.descriptors.Extent.{Extent}
 use Rattle.strat_base.specs.declared.descriptors.ArrayDesc.{ArrayDesc}
 use Rattle.strat_base.specs.declared.descriptors.LevelDesc.{LevelDesc}
 use Rattle.strat_base.proofs.NumberLemmas.{AreBytes-drop, be-number_1, be-number_4, be-number_8}
-use Rattle.strat_base.proofs.EntryLemmas.{bytes_same}
 use Rattle.strat_format.specs.Manifest.{Parsed, next, read_number, read_items, read_list, read_extent, read_array, read_level, list_bytes, extent_bytes, array_bytes, level_bytes}
 use Rattle.strat_manifest.specs.Reading.{read_head, read_levels}
 use Rattle.strat_manifest.specs.declared.parser.Head.{Head}

@@ -1,7 +1,5 @@
-use Rattle.std.proofs.Common.{◌≡◌, ◌≤◌, inl, inr, ℕ, None, Some, length, true, false, rules, sym, ap, ◌∙◌, arith}
-use Rattle.strat_base.specs.Numbers.{AreBytes}
-use Rattle.strat_format.specs.Manifest.{manifest_in, is_lawful_manifest}
-use Rattle.strat_manifest.specs.ManifestView.{manifest_of}
+use Rattle.std.proofs.Common.{◌≡◌, inl, inr, None, rules, sym, ap, ◌∙◌, arith}
+use Rattle.strat_format.specs.Manifest.{manifest_in}
 use Rattle.strat_manifest.specs.Reading.{read_head}
 use Rattle.strat_manifest.specs.declared.manifest.ManifestFault.TheVariants as fault
 use Rattle.strat_manifest.proofs.ParseLemmas.{head_missing, versions_refused, behind_missing, all_refused, all_spelled, all_found}
