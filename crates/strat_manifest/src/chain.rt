@@ -84,20 +84,28 @@ fn push_block(extents: &mut Extents, block: u32) -> Result<(), NoMemory>
     }
 }
 
-/// Marks a block and answers true where it is free, else false. O(log holes), and the shorter side of the holes moves.
-fn mark_block(alloc: Global, seen: &mut Space, block: u32) -> Result<bool, NoMemory>
-    ensures found { IfOk result (λ marked. marked ≡ is_free seen.old block) }
-    ensures ok { IfOk result (λ marked. (blocks : List ℕ) → marked ≡ true
-        → AreSeen seen.old blocks → AreSeen seen.new (blocks ++ block ∷ [])) }
+/// The extent of one block, as a list.
+fn one_block(alloc: Global, block: u32) -> Result<Extents, NoMemory>
+    ensures ok { IfOk result (λ l. l ≡ record { start = block; len = 1 } ∷ []) }
 {
     let mut one = Extents::new(alloc);
     let run = Extent {
         start: block,
         len: 1,
     };
-    if let Err((failed, _)) = one.push(run) {
-        return Err(failed);
+    match one.push(run) {
+        Ok(()) => Ok(one),
+        Err((failed, _)) => Err(failed),
     }
+}
+
+/// Marks a block and answers true where it is free, else false. O(log holes), and the shorter side of the holes moves.
+fn mark_block(alloc: Global, seen: &mut Space, block: u32) -> Result<bool, NoMemory>
+    ensures found { IfOk result (λ marked. marked ≡ is_free seen.old block) }
+    ensures ok { IfOk result (λ marked. (blocks : List ℕ) → marked ≡ true
+        → AreSeen seen.old blocks → AreSeen seen.new (blocks ++ block ∷ [])) }
+{
+    let one = one_block(alloc, block)?;
     seen.mark(&one)
 }
 
