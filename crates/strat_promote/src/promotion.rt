@@ -98,7 +98,8 @@ impl Promotion {
     /// Goes on until at least `budget` entries were taken in this call and one is left, or until the level is made. What it
     /// takes at once are the entries of one key, so that a call takes fewer than `budget` and these. Level 0, the levels and
     /// the parents of the versions below the horizon are those that were given to `begin`. Each block of the arrays is read
-    /// once in each pass, and nothing is written but blocks that were free.
+    /// once in each pass, and nothing is written but blocks that were free. The level that is made has the blocks that it
+    /// took, and no others.
     ///
     /// `Device` comes only where the disk failed; `Damaged` names a block of an array that holds no entries, or none that
     /// come after those before it. After an error it is good for nothing but `abandon`. `NoMemory` also stands for a disk on
