@@ -19,3 +19,4 @@ pub mod StayLemmas
 pub mod TakenLemmas
 pub mod TakesLemmas
 pub mod WalkLemmas
+pub mod SpellingLemmas

@@ -1,9 +1,11 @@
 //! Laws of arrays that are being written. Each is the contract of a function that does nothing.
 
+ghost use Rattle.std.specs.List.{list_all};
 ghost use Rattle.std.specs.Prelude.{◌≡◌, ℕ, true, false, List, [], ◌∷◌, ◌++◌, IsTrue};
 ghost use Rattle.strat_array.specs.Progress.{ArrayProgress};
-ghost use Rattle.strat_array.specs.Pushed.{IsEndOf, IsPushed, with_entry};
+ghost use Rattle.strat_array.specs.Pushed.{AreMaximal, IsEndOf, IsPushed, with_entry};
 ghost use Rattle.strat_array.specs.Taking.{AreUsed, TakesBlock};
+ghost use Rattle.strat_array.specs.Within.{AreWithin};
 ghost use Rattle.strat_base.specs.declared.descriptors.Extent.{Extent};
 ghost use Rattle.strat_base.specs.Entries.{Entry as TheEntry, is_ascending};
 ghost use Rattle.strat_crash.specs.Blocks.{AgreeOn, KeepsTaken};
@@ -11,6 +13,7 @@ ghost use Rattle.strat_crash.specs.Image.{Image};
 ghost use Rattle.strat_extent.specs.Blocks.{SpaceView, is_used, is_free};
 ghost use Rattle.strat_extent.specs.Change.{CanGive};
 ghost use Rattle.strat_format.specs.Arrays.{blocks_of, entries_on};
+ghost use Rattle.strat_format.specs.Manifest.{is_lawful_extent, are_apart};
 
 /// Entries stay pushed while the content stays in the blocks that were written, and a new writer has none.
 pub fn entries_stay_pushed()
@@ -62,4 +65,12 @@ pub fn used_blocks_keep_their_bytes()
         → KeepsTaken (is_free s) f g → AgreeOn blocks f g }
     ensures same { (blocks : List ℕ) (f g : Image) → AgreeOn blocks f g
         → entries_on g blocks ≡ entries_on f blocks }
+{}
+
+/// The extents of an array that was written have a spelling in a manifest: none is empty, each ends at a block number,
+/// and none begins where the one before it ends.
+pub fn written_extents_have_a_spelling()
+    ensures ok { (xs : List Extent) → AreMaximal xs → AreWithin xs
+        → IsTrue (list_all is_lawful_extent xs) }
+    ensures same { (xs : List Extent) → AreMaximal xs → IsTrue (are_apart xs) }
 {}

@@ -53,6 +53,25 @@ split_batch (c ∷ cs) bytes end len some e size =
     (e ∙ ap (λ (x : List ℕ). 0xa7 ∷ x) (sym (append_assoc (change_bytes c ++ records_bytes cs) (0 ∷ []) (drop (len + 1) bytes))))
     (omega (arith, size, length-append (change_bytes c ++ records_bytes cs) (0 ∷ [])))
 
+-- a list at the front without a batch is a batch without a list, in any region
+as_batch : (list : List Change) (bytes : List ℕ) (mem active other count end : ℕ) → Keeps list [] bytes mem active count 0 end end → count ≤ 16 → other ≤ 1 → Keeps [] list bytes mem other 0 count 0 end
+as_batch list bytes mem active other count end keeps short low = record {
+  text = keeps.text;
+  closed = keeps.closed;
+  list_end = refl;
+  batch_end = omega (arith, keeps.list_end);
+  list_count = refl;
+  batch_count = keeps.list_count;
+  list_fits = refl;
+  batch_fits = keeps.list_fits;
+  few = omega (arith, keeps.few);
+  batch_few = short;
+  mem_least = keeps.mem_least;
+  mem_most = keeps.mem_most;
+  active_most = low;
+  room = keeps.room;
+}
+
 module _ (list batch : List Change) (bytes : List ℕ) (mem active count staged end len : ℕ) (keeps : Keeps list batch bytes mem active count staged end len) where
   pub list_kept : changes_in count bytes ≡ list
   list_kept =
@@ -192,6 +211,17 @@ module _ (list batch : List Change) (bytes : List ℕ) (mem active count staged 
     active_most = keeps.active_most;
     room = keeps.room;
   }
+
+  -- the batch is moved to the front, for any region
+  pub batch_text : take (len - end) (drop end bytes) ≡ records_bytes batch
+  batch_text = ap (take (len - end)) behind_list ∙ take_at (records_bytes batch) (drop len bytes) (len - end) (omega (arith, keeps.batch_end))
+
+  pub batch_moved : (new : List ℕ) (other : ℕ) → other ≤ 1 → new ≡ placed bytes 0 (take (len - end) (drop end bytes) ++ 0 ∷ []) → Keeps [] batch new mem other 0 staged 0 (len - end)
+  batch_moved new other low put =
+      let text : List ℕ = take (len - end) (drop end bytes) in
+      let size : length text ≡ len - end = omega (arith, ap length batch_text, keeps.batch_end) in
+      let front : Keeps batch [] new mem active staged 0 (length text) (length text) = list_restored batch text new staged batch_text keeps.batch_fits keeps.batch_count (omega (arith, keeps.few)) put in
+      subst (λ (n : ℕ). Keeps [] batch new mem other 0 staged 0 n) size (as_batch batch new mem active other staged (length text) front keeps.batch_few low)
 
 -- a journal of the same changes is the same journal
 pub same_log : (mem active : ℕ) (stale : Bool) (list list' batch batch' : List Change) → list ≡ list' → batch ≡ batch'

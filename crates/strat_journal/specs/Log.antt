@@ -34,6 +34,10 @@ with_list list log = record log { list = list }
 abbrev pub empty_log : ℕ → ℕ → Log
 empty_log mem active = record { mem = mem; active = active; stale = false; list = []; batch = [] }
 
+-- the journal goes on in the other region: nothing is in the list, and the batch is as it was
+abbrev pub region_begun : Log → Log
+region_begun log = record log { active = other_region log.active; stale = false; list = [] }
+
 -- a change and those of the records after it
 abbrev pub change_then : (List ℕ → List Change) → List ℕ → Option Change → List Change
 change_then later bytes None = []
@@ -74,6 +78,10 @@ pub record Stands (v : DiskView) (log : Log) : Type 0 where
   pub given : (c : Image) → Images v c → journal_changes c log.mem log.active ≡ Ok log.list
   pub shut : (c : Image) → Images v c → length log.list < log.mem
       → c (region_at log.mem (other_region log.active)) ≢ open_flag
+
+-- no crash leaves an open first gate in this region
+abbrev pub IsRegionShut : DiskView → ℕ → ℕ → Type 0
+IsRegionShut v mem region = (c : Image) → Images v c → c (region_at mem region) ≢ open_flag
 
 -- an image gives the list, or the list with the whole batch after it
 abbrev pub GivesAllOrNone : Log → Image → Type 0

@@ -3,15 +3,16 @@
 ghost use Rattle.std.specs.Prelude.{◌≡◌, ◌≤◌, ◌<◌, ℕ, ◌+◌, ◌-◌, [], ◌∷◌, ◌++◌, length, map, Some, IsTrue, IfOk, OnOk, OnErr};
 ghost use Rattle.strat_base.specs.Change.{is_lawful};
 ghost use Rattle.strat_base.specs.ChangeView.{change_of};
-ghost use Rattle.strat_crash.specs.Faults.{CountsFaults};
+ghost use Rattle.strat_crash.specs.Faults.{CountsFaults, ReadsAtMost};
 ghost use Rattle.strat_crash.specs.Image.{Image};
 ghost use Rattle.strat_format.specs.Layout as places;
 ghost use Rattle.strat_format.specs.Layout.{IsRegion};
-ghost use Rattle.strat_crash.specs.Moments.{Exposes, Since, Passes, TearsOnly};
+ghost use Rattle.strat_crash.specs.Moments.{Exposes, Since, Passes, TearsOnly, IsDurable};
 ghost use Rattle.strat_journal.specs.RegionReader.{AreRecords};
-ghost use Rattle.strat_journal.specs.Log.{Stands, GivesAllOrNone, HoldsBatch, batch_joined, with_list, empty_log};
+ghost use Rattle.strat_journal.specs.Log.{Stands, GivesAllOrNone, HoldsBatch, batch_joined, region_begun, with_list, empty_log, IsRegionShut};
 
-use crate::text::{behind_gate, put_record, put_records};
+use crate::closing::close_region;
+use crate::text::{behind_gate, move_to_front, put_record, put_records};
 use std::alloc::Global;
 use std::marker::Model;
 use strat_base::{Change, Failed, NoMemory, OwnedChange};
@@ -180,6 +181,43 @@ impl Journal {
         let gate = region_at(self.mem, self.active) + self.end as u64;
         gate_commit(disk, gate, behind_gate(&self.bytes, self.end, self.len))?;
         self.join();
+        Ok(())
+    }
+
+    /// The journal goes on in the other region, with the batch at its front: one copy of the batch's bytes.
+    pub(crate) fn begin_region(&mut self)
+        ensures ok { self.new ≡ region_begun self.old }
+    {
+        move_to_front(&mut self.bytes, self.end, self.len);
+        self.len -= self.end;
+        self.end = 0;
+        self.count = 0;
+        self.active = 1 - self.active;
+        self.stale = false;
+    }
+
+    /// The other region becomes active, with nothing in the list, and the region that was active is closed
+    /// where its first gate reads open: at most one read, one write and one sync, and one copy of the batch,
+    /// which stays. What the list had should be in a manifest by then, and the other region closed. After an
+    /// error the journal is as it was, and nothing but another recovery is of use.
+    pub fn turn<D: Disk>(&mut self, disk: &mut D) -> Result<(), Failed>
+        ensures ok { OnOk result (self.new ≡ region_begun self.old) }
+        ensures err { OnErr result (self.new ≡ self.old) }
+        ensures kept { OnOk result ((f : Image) → Exposes (D.view disk.old) f
+            → IsDurable (D.view disk.old)
+            → IsRegionShut (D.view disk.old) self.old.mem (places.other_region self.old.active)
+            → Stands (D.view disk.new) self.new) }
+        ensures durable { OnOk result ((f : Image) → Exposes (D.view disk.old) f
+            → IsDurable (D.view disk.old)
+            → IsRegionShut (D.view disk.new) self.old.mem self.old.active) }
+        ensures images { TearsOnly (D.view disk.old) (D.view disk.new)
+            (places.region_at self.old.mem self.old.active) 1 }
+        ensures time { Passes (D.view disk.old) (D.view disk.new) }
+        ensures cause { CountsFaults (D.faults disk.old) (D.faults disk.new) result }
+        ensures reads { ReadsAtMost 1 (D.reads disk.old) (D.reads disk.new) }
+    {
+        close_region(disk, self.mem, self.active)?;
+        self.begin_region();
         Ok(())
     }
 }

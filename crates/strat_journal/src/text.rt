@@ -40,6 +40,25 @@ pub(crate) fn put_records(into: &mut [u8], records: &[u8])
     into[records.len()] = 0;
 }
 
+/// Copies a part of the buffer over its front.
+fn copy_to_front(bytes: &mut [u8], from: usize, to: usize)
+    requires fits { (from ≤ to) × (to ≤ length bytes.old) }
+    ensures ok { bytes.new ≡ placed bytes.old 0 (take (to - from) (drop from bytes.old)) }
+{
+    bytes.copy_within(from..to, 0);
+}
+
+/// Moves a part of the buffer to its front, and writes a closed gate after it.
+#[tactic(auto, using(crate::proofs::TextLemmas::part_then_gate))]
+pub(crate) fn move_to_front(bytes: &mut [u8], from: usize, to: usize)
+    requires fits { (from ≤ to) × (to < length bytes.old) }
+    ensures ok { bytes.new
+        ≡ placed bytes.old 0 (take (to - from) (drop from bytes.old) ++ 0 ∷ []) }
+{
+    copy_to_front(bytes, from, to);
+    bytes[to - from] = 0;
+}
+
 /// The batch's records after the first one's gate, and the closed gate after them.
 pub(crate) fn behind_gate(bytes: &[u8], end: usize, len: usize) -> &[u8]
     requires fits { (end ≤ len) × (len < length bytes.now) }

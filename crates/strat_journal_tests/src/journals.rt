@@ -346,6 +346,41 @@ fn a_stale_region_is_closed(rt: HostRuntime) -> Result<(), Fail> {
     Ok(())
 }
 
+/// Appends one change, puts two in the batch, turns, and appends these.
+fn append_and_turn(journal: &mut Journal, disk: &mut MemDisk) -> Result<(), Failed>
+    requires { journal.old.batch ≡ [] }
+{
+    append_puts(journal, disk, 1)?;
+    if journal.room() < 2 {
+        return Err(Failed);
+    }
+    add_puts(journal, 2);
+    journal.turn(disk)?;
+    if journal.room() != 4 {
+        return Err(Failed);
+    }
+    journal.append(disk)
+}
+
+/// Whether a journal of the first region goes on in the second, by four calls, three and four.
+fn goes_on(alloc: Global, disk: &mut MemDisk) -> bool {
+    let Some(mut journal) = open(alloc, disk, 4, 0, 0) else {
+        return false;
+    };
+    append_and_turn(&mut journal, disk).is_ok()
+        && disk.calls() == 2 + 4 + 3 + 4
+        && counts(&journal, 2, 2, false)
+}
+
+#[test]
+fn a_journal_goes_on_in_the_other_region(rt: HostRuntime) -> Result<(), Fail> {
+    let mut disk = MemDisk::new(rt.alloc(), &[])?;
+    assert!(rt; goes_on(rt.alloc(), &mut disk));
+    assert!(rt; reads_two(rt.alloc(), &mut disk));
+    assert!(rt; disk.bytes().len() > 16384 && disk.bytes()[8192] == 0);
+    Ok(())
+}
+
 #[test]
 fn regions_lie_one_behind_the_other(rt: HostRuntime) {
     assert!(rt; region_at(4, 1) == 16384 && region_first(4, 1) == 4);

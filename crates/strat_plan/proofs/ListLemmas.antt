@@ -125,7 +125,7 @@ distinct_cons v vs none h =
 pub distinct_tail : (v : ℕ) (vs : List ℕ) → is_distinct (v ∷ vs) ≡ true → is_distinct vs ≡ true
 distinct_tail v vs h = (and_parts (not (is_tagged vs v)) (is_distinct vs) h).1
 
-distinct_append : (xs ys : List ℕ) → is_distinct xs ≡ true → is_distinct ys ≡ true → ((v : ℕ) → Among v xs → Among v ys → ⊥) → is_distinct (xs ++ ys) ≡ true
+pub distinct_append : (xs ys : List ℕ) → is_distinct xs ≡ true → is_distinct ys ≡ true → ((v : ℕ) → Among v xs → Among v ys → ⊥) → is_distinct (xs ++ ys) ≡ true
 distinct_append [] ys one two apart = two
 distinct_append (x ∷ xs) ys one two apart =
     distinct_cons x (xs ++ ys)

@@ -18,3 +18,6 @@ pub mod SliceLemmas
 pub mod MadeLemmas
 pub mod ReplacingLemmas
 pub mod StartLemmas
+pub mod BetweenLemmas
+pub mod StateLeadsLemmas
+pub mod StateInputsLemmas

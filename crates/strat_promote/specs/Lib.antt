@@ -23,3 +23,5 @@ pub mod Steps
 pub mod Turning
 pub mod Promotions
 pub mod Replacing
+pub mod Between
+pub mod StateInputs

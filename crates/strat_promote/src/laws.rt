@@ -7,8 +7,10 @@ ghost use Rattle.strat_base.specs.Change.{Change};
 ghost use Rattle.strat_base.specs.Entries.{Entry, is_ascending, lead_entries};
 ghost use Rattle.strat_base.specs.declared.descriptors.ArrayDesc.{ArrayDesc};
 ghost use Rattle.strat_base.specs.declared.descriptors.LevelDesc.{LevelDesc};
-ghost use Rattle.strat_crash.specs.Blocks.{AgreeOn};
+ghost use Rattle.strat_crash.specs.Blocks.{AgreeOn, TearsBlocks};
 ghost use Rattle.strat_crash.specs.Image.{Image};
+ghost use Rattle.strat_crash.specs.Moments.{Exposes};
+ghost use Rattle.strat_extent.specs.Blocks.{SpaceView, is_free};
 ghost use Rattle.strat_format.specs.Arrays.{all_some, blocks_of, entries_on};
 ghost use Rattle.strat_plan.specs.Groups.{group_versions};
 ghost use Rattle.strat_promotion.specs.Merging.{runs_taken};
@@ -21,10 +23,16 @@ ghost use Rattle.strat_state.specs.Level.{Level};
 ghost use Rattle.strat_state.specs.Setting.{set_all};
 ghost use Rattle.strat_state.specs.Sound.{IsSound};
 ghost use Rattle.strat_state.specs.State.{State, versions_of, journal_updates};
-ghost use Rattle.strat_promote.specs.Job.{Job, runs_in, arrays_to};
+ghost use Rattle.strat_promote.specs.Between.{KeepsItsBlocks, HasUsedBlocks};
+ghost use Rattle.strat_promote.specs.Job.{Job, runs_in, arrays_to, blocks_listed};
 ghost use Rattle.strat_promote.specs.Leads.{leads_in, misfit_in};
+ghost use Rattle.strat_promote.specs.Promotions.{HasBegun, IsItsJob};
 ghost use Rattle.strat_promote.specs.Replacing.{IsJobOf, LeavesTheSame};
 ghost use Rattle.strat_promote.specs.Stages.{IsMade};
+ghost use Rattle.strat_promote.specs.Steps.{Inputs};
+ghost use Rattle.strat_promote.specs.declared.promotion.Promotion.{Promotion};
+
+use strat_disk::Disk;
 
 /// Where an array's blocks hold entries that ascend, its leads are those among them, and none of its blocks is bad.
 pub fn leads_are_those_among_the_entries()
@@ -81,4 +89,29 @@ pub fn a_made_level_says_the_same()
         → LeavesTheSame g made s
         (λ fresh written next_array.
         grown_by (promoted (sealed_at s sealed) (fresh ++ kept) written next_array) rest) }
+{}
+
+/// Between two slices a promotion goes on with its job wherever the blocks of the job's arrays and those that it has
+/// taken keep their bytes. The job, and the level that was made of it, depend on the blocks of the arrays alone.
+pub fn a_promotion_goes_on_where_its_blocks_stay()
+    ensures begun { (f g : Image) (job : Job) (p : Promotion) → KeepsItsBlocks f g job p
+        → HasBegun f job p → HasBegun g job p }
+    ensures job { (f g : Image) (job : Job) (p : Promotion) (inputs : Inputs)
+        → AgreeOn (blocks_listed job.arrays) f g → IsItsJob f p inputs job
+        → IsItsJob g p inputs job }
+    ensures made { (f h g : Image) (job : Job) (j first : ℕ) (made : Option LevelDesc)
+        → AgreeOn (blocks_listed job.arrays) f h → IsMade h g job j first made
+        → IsMade f g job j first made }
+{}
+
+/// So between two slices free blocks may change: the job's blocks and those taken are used.
+pub fn a_promotion_goes_on_while_free_blocks_change<D: Disk>()
+    ensures begun { (old new : D) (space : SpaceView) (f g : Image) (job : Job) (p : Promotion)
+        → TearsBlocks (is_free space) (D.view old) (D.view new) → Exposes (D.view old) f
+        → Exposes (D.view new) g → HasUsedBlocks space job p
+        → HasBegun f job p → HasBegun g job p }
+    ensures job { (old new : D) (space : SpaceView) (f g : Image) (job : Job) (p : Promotion)
+        (inputs : Inputs) → TearsBlocks (is_free space) (D.view old) (D.view new)
+        → Exposes (D.view old) f → Exposes (D.view new) g → HasUsedBlocks space job p
+        → IsItsJob f p inputs job → IsItsJob g p inputs job }
 {}

@@ -18,6 +18,7 @@ pub mod promotion;
 mod pushing;
 mod slicing;
 mod stage;
+pub mod state_laws;
 mod step;
 mod tag;
 mod taking;

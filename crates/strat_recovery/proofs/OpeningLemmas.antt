@@ -42,14 +42,14 @@ each_some f x xs zs e =
     let rest = map_some (λ ys. head.0 ∷ ys) (all_some f xs) zs head.2 in
     (head.0, rest.0, head.1, rest.1, rest.2)
 
-length-all_some : {A B : Type 0} (f : A → Option B) (xs : List A) (ys : List B) → all_some f xs ≡ Some ys → length ys ≡ length xs
+pub length-all_some : {A B : Type 0} (f : A → Option B) (xs : List A) (ys : List B) → all_some f xs ≡ Some ys → length ys ≡ length xs
 length-all_some f [] ys e = let none : [] ≡ ys = cc in ap length (sym none)
 length-all_some f (x ∷ xs) ys e =
     let parts = each_some f x xs ys e in
     ap length (sym parts.4) ∙ ap suc (length-all_some f xs parts.1 parts.3)
 
 -- the parents of a lawful manifest are those of a tree
-older_tree : (v : ℕ) (ps : List ℕ) → are_older v ps ≡ is_tree_from v (map (λ p. Some p) ps)
+pub older_tree : (v : ℕ) (ps : List ℕ) → are_older v ps ≡ is_tree_from v (map (λ p. Some p) ps)
 older_tree v [] = refl
 older_tree v (p ∷ ps) = ap (λ (b : Bool). ltb p v && b) (older_tree (suc v) ps)
 

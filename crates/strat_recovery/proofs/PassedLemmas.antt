@@ -71,14 +71,14 @@ entries_sized c (b ∷ blocks) entries e =
     ]))
 
 -- what is made of each item has what the item has
-kept_in_order : {A B X : Type 0} (f : A → Option B) (g : A → X) (h : B → X) → ((a : A) (b : B) → f a ≡ Some b → h b ≡ g a)
+pub kept_in_order : {A B X : Type 0} (f : A → Option B) (g : A → X) (h : B → X) → ((a : A) (b : B) → f a ≡ Some b → h b ≡ g a)
     → (ds : List A) (bs : List B) → all_some f ds ≡ Some bs → map h bs ≡ map g ds
 kept_in_order f g h same [] bs e = let none : [] ≡ bs = cc in ap (map h) (sym none)
 kept_in_order f g h same (a ∷ ds) bs e =
     let parts = each_some f a ds bs e in
     ap (map h) (sym parts.4) ∙ (λ i. same a parts.0 parts.2 i ∷ kept_in_order f g h same ds parts.1 parts.3 i)
 
-abbrev array_tests : ℕ → ArrayDesc → List Bool
+abbrev pub array_tests : ℕ → ArrayDesc → List Bool
 array_tests next a =
     leb 1 a.id ∷ ltb a.id next ∷ leb 1 a.entries ∷ ltb a.entries (2 ^ 32) ∷ leb a.leads a.entries ∷ leb a.least a.entries
     ∷ is_counted a.extents ∷ list_all is_lawful_extent a.extents ∷ are_apart a.extents
@@ -310,7 +310,7 @@ limits_of (Some x) slot e = by_range (in_range x.1) refl e
         subst (λ (y : ℕ × Super). AreLimits y.1.mem y.1.changes_max y.1.versions_max) same (limits_from x.1 is)
     by_range false is e = absurd (cc)
 
-abbrev belonging_tests : Super → Chained → List Bool
+abbrev pub belonging_tests : Super → Chained → List Bool
 belonging_tests sb found =
     has_own_blocks sb found.blocks found.manifest ∷ has_own_ids found.manifest ∷ list_all has_own_versions found.manifest.levels
     ∷ leb (versions_in found.manifest) sb.versions_max ∷ leb found.manifest.changes sb.changes_max

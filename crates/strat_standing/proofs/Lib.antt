@@ -10,4 +10,12 @@ pub mod AppendLemmas
 pub mod TableLemmas
 pub mod PromotedLemmas
 pub mod PublishLemmas
+pub mod DescribedLemmas
+pub mod PartLemmas
+pub mod NextLemmas
+pub mod BelongLemmas
+pub mod LongLemmas
+pub mod OccupiedLemmas
+pub mod ComputedLemmas
+pub mod TurnLemmas
 pub mod WorkedLemmas

@@ -9,7 +9,7 @@ use Rattle.strat_base.specs.Change.{change_in}
 use Rattle.strat_crash.specs.Image.{window, over}
 use Rattle.strat_format.specs.Arrays.{entries_on}
 use Rattle.strat_format.specs.Block.{block_in, block_bytes, entries_in}
-use Rattle.strat_format.specs.Chain.{link_bytes}
+use Rattle.strat_format.specs.Chain.{link_bytes, HoldsChain}
 use Rattle.strat_format.specs.Chained.{chain_from}
 use Rattle.strat_format.specs.Manifest.{all_pass, read_number, read_items, read_extent, read_array, read_level, read_manifest, manifest_in, manifest_bytes}
 use Rattle.strat_format.specs.Records.{records}
@@ -25,8 +25,9 @@ use Rattle.strat_recovery.specs.Opening.{reads_as}
 use Rattle.strat_state.proofs.BreachLemmas.{sound_from_none}
 use Rattle.strat_standing.specs.Contents.{contents_state}
 use Rattle.strat_standing.specs.Standing.{LiesIn, ReadsAs, ShowsTable, AreFree, ContentsStand}
+use Rattle.strat_standing.specs.Next.{MayBeNext, HasManifest, IsPromotion}
 use Rattle.strat_standing.specs.Publication.{Succeeds, IsPrepared}
-use Rattle.strat_standing.specs.Worked.{resting, new_contents, chain_logged, chain_next, prepared_disk, at_generation, free_but, miscounted}
+use Rattle.strat_standing.specs.Worked.{resting, new_contents, chain_logged, chain_next, chain_made, prepared_disk, at_generation, free_but, miscounted}
 use Rattle.strat_standing.proofs.ListLemmas.{contained_among}
 
 formatted_reads : ReadsAs formatted new_contents
@@ -170,6 +171,55 @@ free_after = record {
     | inr (inl seven) ↦ ap (free_but 7 8) seven
     | inr (inr none) ↦ absurd none
   ];
+}
+
+-- the next contents, as they are computed
+pub next_computed : MayBeNext prepared_disk prepared_disk chain_logged chain_next chain_made [] []
+next_computed = record {
+  reads = prepared_reads;
+  logged = omega arith;
+  next = record {
+    slot = refl;
+    generation = refl;
+    region = refl;
+    promoted = record { mem = refl; changes_max = refl; versions_max = refl; parents = refl; updates = refl; changes = refl; journal = refl };
+    written = refl;
+    next_array = refl;
+    levels_were = refl;
+    levels_are = refl;
+  };
+  arrays = next_lies.arrays;
+  was_sound = logged_sound;
+  is_sound = next_sound;
+  fresh = record {
+    numbered = refl;
+    ordered = refl;
+    each = (record { tagged = omega arith; rising = refl; counted = omega arith; lawful = refl; apart = refl }, tt);
+  };
+}
+
+pub next_promoted : IsPromotion prepared_disk chain_logged chain_next chain_made []
+next_promoted = record {
+  fresh = chain_next.levels;
+  lies = prepared_reads.lies;
+  read = next_lies.arrays;
+  levels = refl;
+  sound = next_sound;
+  says = next_says;
+}
+
+pub next_written : HasManifest prepared_disk chain_next
+unfolding be window over zeros manifest_bytes link_bytes HoldsChain
+next_written = record {
+  others = [];
+  blocks = refl;
+  size = refl;
+  chain = record {
+    holds = (refl, refl);
+    count = refl;
+    named = ((omega arith, omega arith), tt);
+    distinct = λ i j d before within. absurd (omega (arith, before, within));
+  };
 }
 
 -- the state that the disk with a wrong count reads as

@@ -1,12 +1,15 @@
 -- A disk just before a publication, written out, for a journal of four changes: a chain of clones with a
 -- key at its second version.
-use Rattle.std.specs.Prelude.{◌≡◌, ℕ, ◌+◌, nat_le, not, ◌==◌, ◌||◌, ◌&&◌, Bool, [], ◌∷◌, ◌++◌, map, Some}
+use Rattle.std.specs.Prelude.{◌≡◌, ℕ, ◌+◌, nat_le, not, ◌==◌, ◌||◌, ◌&&◌, Bool, List, [], ◌∷◌, ◌++◌, map, Option, Some, option_map}
+use Rattle.std.specs.List.{slice_get}
 use Rattle.strat_base.specs.Change.{Put, Clone}
 use Rattle.strat_base.specs.Numbers.{be}
 use Rattle.strat_base.specs.declared.descriptors.ArrayDesc.{ArrayDesc}
+use Rattle.strat_base.specs.declared.descriptors.Extent.{Extent}
 use Rattle.strat_base.specs.declared.descriptors.LevelDesc.{LevelDesc}
 use Rattle.strat_crash.specs.Image.{Image, patch}
 use Rattle.strat_crash.specs.Moments.{DiskView}
+use Rattle.strat_extent.specs.Blocks.{SpaceView}
 use Rattle.strat_format.specs.Manifest.{manifest_bytes, new_manifest}
 use Rattle.strat_format.specs.Records.{records_bytes}
 use Rattle.strat_recovery.specs.Disks.{formatted, new_super, chain_manifest, chain_super, array_block, published_by}
@@ -47,6 +50,33 @@ chain_next = record {
 abbrev pub at_generation : ℕ → Contents → Contents
 at_generation generation x = record x { sb = record (x.sb) { generation = generation } }
 
+-- the level that was made of the journal
+abbrev pub chain_made : Option LevelDesc
+chain_made = slice_get chain_manifest.levels 0
+
+-- a level with its arrays changed
+abbrev pub with_each_array : (ArrayDesc → ArrayDesc) → LevelDesc → LevelDesc
+with_each_array change level = record level { arrays = map change level.arrays }
+
+-- the level that was made, with its arrays changed
+abbrev pub made_with : (ArrayDesc → ArrayDesc) → Option LevelDesc
+made_with change = option_map (with_each_array change) chain_made
+
+-- an array with other versions, or in other extents
+abbrev pub with_versions : List ℕ → ArrayDesc → ArrayDesc
+with_versions versions a = record a { versions = versions }
+
+abbrev pub with_extents : List Extent → ArrayDesc → ArrayDesc
+with_extents extents a = record a { extents = extents }
+
+-- a space in which the blocks behind the journal are used up to one, but for these
+abbrev pub used_to : ℕ → List Extent → SpaceView
+used_to end holes = record { first = 6; end = end; holes = holes }
+
+-- n blocks from one on
+abbrev pub blocks_from : ℕ → ℕ → Extent
+blocks_from start len = record { start = start; len = len }
+
 -- a disk with the one, and all of the other but the superblock: its array in block 7 and its manifest
 -- in block 8
 abbrev pub prepared_disk : Image
@@ -62,12 +92,8 @@ free_but first second b = nat_le 6 b && not ((b == first) || (b == second))
 abbrev pub with_one_more : ArrayDesc → ArrayDesc
 with_one_more a = record a { entries = a.entries + 1 }
 
--- the descriptor of a level whose arrays count so
-abbrev pub level_with_more : LevelDesc → LevelDesc
-level_with_more level = record level { arrays = map with_one_more level.arrays }
-
 -- the published disk with descriptors that count one entry more than their arrays have
 abbrev pub miscounted : Image
 miscounted =
     published_by chain_super
-    (record chain_manifest { levels = map level_with_more chain_manifest.levels })
+    (record chain_manifest { levels = map (with_each_array with_one_more) chain_manifest.levels })

@@ -4,6 +4,8 @@
 
 pub mod appending;
 pub mod free_blocks;
+pub mod next;
+pub mod occupied;
 pub mod opening;
 pub mod promotion;
 pub mod publication;

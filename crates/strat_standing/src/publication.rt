@@ -8,7 +8,9 @@ ghost use Rattle.strat_crash.specs.Trail.{Trail};
 ghost use Rattle.strat_format.specs.Layout.{region_at, open_flag};
 ghost use Rattle.strat_format.specs.SuperBlock.{Super, IsLawful, newest_in};
 ghost use Rattle.strat_gate.specs.Laying.{LaysOver, OldOrNew};
+ghost use Rattle.strat_journal.specs.Log.{Log, region_begun, IsRegionShut};
 ghost use Rattle.strat_recovery.specs.StateTable.{table_of};
+ghost use Rattle.strat_standing.specs.Appending.{IsLogOf};
 ghost use Rattle.strat_standing.specs.Contents.{Contents, contents_state};
 ghost use Rattle.strat_standing.specs.Publication.{Succeeds, IsPrepared, LaysSuper, HasLaid};
 ghost use Rattle.strat_standing.specs.Standing.{LiesIn, ReadsAs, ShowsTable, AreFree, LeavesContent, ContentsStand};
@@ -85,4 +87,25 @@ pub fn published_contents_stand<D: Viewed>()
         → Passes (D.view lay) (D.view end) → LeavesContent (D.view lay) → LeavesContent (D.view end)
         → ((c : Image) → Images (D.view end) c → c (region_at x.sb.mem x.sb.region) ≢ open_flag)
         → ContentsStand (D.view end) y }
+{}
+
+/// So it is where a journal turns at the end, which is that of the old contents: it then is that of the new ones. The
+/// turn may fail, but for the new contents to stand.
+pub fn a_turn_ends_a_publication<D: Viewed>()
+    ensures trail { (old mid lay end : D) (x y : Contents) (log : Log) (free : ℕ → Bool)
+        → ContentsStand (D.view old) x → AreFree free x
+        → TearsBlocks free (D.view old) (D.view mid) → IsPrepared (D.view mid) x y
+        → LaysSuper (D.view mid) (D.view lay) y.slot y.sb
+        → HasLaid (D.view mid) (D.view lay) y.slot y.sb → IsLogOf x log
+        → TearsOnly (D.view lay) (D.view end) (region_at log.mem log.active) 1
+        → Passes (D.view lay) (D.view end)
+        → Trail ShowsTable (D.view end) (D.view old).moment (table_of (contents_state x) ∷ []) 0 }
+    ensures stands { (mid lay end : D) (x y : Contents) (log : Log) → IsPrepared (D.view mid) x y
+        → LaysSuper (D.view mid) (D.view lay) y.slot y.sb
+        → HasLaid (D.view mid) (D.view lay) y.slot y.sb → IsLogOf x log
+        → TearsOnly (D.view lay) (D.view end) (region_at log.mem log.active) 1
+        → Passes (D.view lay) (D.view end) → LeavesContent (D.view lay) → LeavesContent (D.view end)
+        → IsRegionShut (D.view end) log.mem log.active → ContentsStand (D.view end) y }
+    ensures log { (x y : Contents) (log : Log) → Succeeds x y → IsLogOf x log
+        → IsLogOf y (region_begun log) }
 {}

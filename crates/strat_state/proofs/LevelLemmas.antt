@@ -167,7 +167,7 @@ distinct_apart (x ∷ xs) ys v h (inl here) b =
     true≢false (sym (among_tagged (xs ++ ys) x (among_right xs ys x (subst (λ (w : ℕ). Among w ys) here b))) ∙ not-true (is_tagged (xs ++ ys) x) parts.0)
 distinct_apart (x ∷ xs) ys v h (inr there) b = distinct_apart xs ys v (and_parts (not (is_tagged (xs ++ ys) x)) (is_distinct (xs ++ ys)) h).1 there b
 
-distinct_behind : (xs ys : List ℕ) → is_distinct (xs ++ ys) ≡ true → is_distinct ys ≡ true
+pub distinct_behind : (xs ys : List ℕ) → is_distinct (xs ++ ys) ≡ true → is_distinct ys ≡ true
 distinct_behind [] ys h = h
 distinct_behind (x ∷ xs) ys h = distinct_behind xs ys (and_parts (not (is_tagged (xs ++ ys) x)) (is_distinct (xs ++ ys)) h).1
 

@@ -1,0 +1,220 @@
+-- A promotion that was begun over what holds a state.
+use Rattle.std.proofs.Common.{◌≡◌, ◌<◌, ◌≤◌, ◌+◌, ℕ, zero, suc, Bool, cond, eqb, List, [], ◌∷◌, ◌++◌, length, map, filter, flat_map, length-append, take, Option, Some, refl, sym, ap, ◌∙◌, subst, arith}
+use Rattle.std.specs.List.{sum_by}
+use Rattle.std.proofs.lemmas.Bool.{eq-eqb, ne_eqb}
+use Rattle.std.proofs.lemmas.List.{length-map}
+use Rattle.std.proofs.lemmas.List.Sums.{sum_by-cons, sum_by-take-le}
+use Rattle.strat_arena.specs.Items.{entry_of_item}
+use Rattle.strat_arena.specs.PoolView.{arena_at}
+use Rattle.strat_base.specs.Change.{Change}
+use Rattle.strat_base.specs.Entries.{Entry}
+use Rattle.strat_base.specs.declared.descriptors.LevelDesc.{LevelDesc}
+use Rattle.strat_crash.specs.Blocks.{AgreeOn}
+use Rattle.strat_crash.specs.Image.{Image}
+use Rattle.strat_extent.specs.Blocks.{SpaceView}
+use Rattle.strat_format.specs.Arrays.{all_some}
+use Rattle.strat_level.specs.Levels.{level_numbered, leads_if_any}
+use Rattle.strat_level.specs.Memtable.{ItemList}
+use Rattle.strat_level.specs.Target.{leads_down_to}
+use Rattle.strat_plan.specs.Groups.{grouped_entries}
+use Rattle.strat_promotion.specs.Merging.{runs_taken}
+use Rattle.strat_promotion.specs.Paid.{leads_at, IsLeastTarget}
+use Rattle.strat_promotion.specs.Promoted.{levels_to, levels_behind, promoted, Takeable, fresh_of_groups}
+use Rattle.strat_promotion.specs.Sealed.{sealed_at, grown_by}
+use Rattle.strat_promotion.proofs.CutLemmas.{takeable}
+use Rattle.strat_promotion.proofs.PaidLemmas.{count, paid_after}
+use Rattle.strat_promotion.proofs.PromotedLemmas.{groups_replace}
+use Rattle.strat_promotion.proofs.SealedLemmas.{before_sound}
+use Rattle.strat_promotion.proofs.TargetLemmas.{leads_add_up}
+use Rattle.strat_recovery.specs.Opened.{level_on}
+use Rattle.strat_state.specs.Level.{TaggedArray, Level, level_leads, own_leads}
+use Rattle.strat_state.specs.Reading.{level_zero}
+use Rattle.strat_state.specs.Setting.{set_all}
+use Rattle.strat_state.specs.Sound.{IsSound}
+use Rattle.strat_state.specs.State.{State, journal_updates, IsPaid}
+use Rattle.strat_state.proofs.SoundLemmas.{sound_tree}
+use Rattle.strat_promote.specs.Closing.{AreAllUsed}
+use Rattle.strat_promote.specs.Job.{Job, blocks_listed, arrays_to}
+use Rattle.strat_promote.specs.Promotions.{IsBegun, IsOpen, HasBegun, IsItsJob, leads_listed, target_of, writers_of, SamePromotion}
+use Rattle.strat_promote.specs.Replacing.{IsJobOf, LeavesTheSame}
+use Rattle.strat_promote.specs.Stages.{IsSteady, IsUnderway, IsMade, stage_writers}
+use Rattle.strat_promote.specs.StateInputs.{HoldsState, IsBegunOver, LeavesPaid, purges_marks, job_of_state}
+use Rattle.strat_promote.specs.Steps.{Inputs}
+use Rattle.strat_promote.specs.declared.promotion.Promotion.{Promotion}
+use Rattle.strat_promote.specs.declared.stage.Stage.{Stage}
+use Rattle.strat_promote.specs.declared.step.Task.{Task}
+use Rattle.strat_promote.proofs.OpeningLemmas.{level_here}
+use Rattle.strat_promote.proofs.ReplacingLemmas.{runs_same, arrays_there, made_promotes, made_read, made_leaves, made_leaves_later}
+use Rattle.strat_promote.proofs.SliceLemmas.{made_from}
+use Rattle.strat_promote.proofs.StateLeadsLemmas.{there, AreCounted, latest_len, sums_to, taken_on, behind_none, leads_none, leads_found, entries_told}
+
+module _ (f : Image) (s : State) (inputs : Inputs) (sound : IsSound s) (holds : HoldsState f s inputs) where
+  counted : AreCounted 0 inputs.levels
+  counted i desc at = let e = holds.numbered (i + 1) desc (level_here inputs.levels i ∙ at) in omega (arith, e)
+
+  -- the leads at a number are those of the level in its place
+  leads_match : (n : ℕ) → 1 ≤ n → leads_if_any (level_numbered inputs.levels n) ≡ leads_at s n
+  leads_match zero some = absurd (omega (arith, some))
+  leads_match (suc i) some =
+      let found = leads_found f s 0 inputs.levels s.levels i counted holds.levels sound.described in
+      let place : 0 + i + 1 ≡ suc i = omega arith in
+      let next : i + 1 ≡ suc i = omega arith in
+      let at = ap (λ (n : ℕ). sum_by count (filter (λ level. eqb level.number n) s.levels)) place in
+      let here = ap leads_if_any (level_here inputs.levels i) in
+      let there' = ap (λ (n : ℕ). leads_if_any (level_numbered inputs.levels n)) next in
+      let none = ap {B = ℕ} (λ (b : Bool). cond b (length (level_zero s)) 0) (ne_eqb (suc i) 0 (λ e. omega (arith, e))) in
+      omega (arith, found, at, here, there', none)
+
+  zero_len : length inputs.zero.items ≡ length (level_zero s)
+  zero_len =
+      sym (length-map inputs.zero.items (entry_of_item (arena_at inputs.pool inputs.zero.arena).pairs))
+      ∙ ap (λ (es : List Entry). length es) holds.zero ∙ sym (latest_len (journal_updates s))
+
+  leads_zero : leads_at s 0 ≡ length inputs.zero.items
+  leads_zero =
+      let none = leads_none f s 0 0 inputs.levels s.levels (omega arith) counted holds.levels in
+      let own = ap {B = ℕ} (λ (b : Bool). cond b (length (level_zero s)) 0) (eq-eqb 0 0 refl) in
+      omega (arith, none, own, zero_len)
+
+  -- the leads down to a number
+  pub leads_down : (j : ℕ) → j ≤ 22 → leads_down_to (leads_listed inputs.zero inputs.levels) j ≡ length (level_zero s) + sum_by (λ level. length (level_leads level)) (levels_to j s.levels)
+  leads_down j le =
+      sums_to (length inputs.zero.items) (λ n. leads_if_any (level_numbered inputs.levels n)) (leads_at s) 22 j le leads_zero leads_match ∙ leads_add_up s sound j
+
+  module _ (j : ℕ) where
+    taken_here : all_some (level_on f) (there (take j inputs.levels)) ≡ Some (levels_to j s.levels)
+    taken_here =
+        let place : 0 + j ≡ j = omega arith in
+        taken_on f 0 inputs.levels s.levels j counted holds.levels ∙ ap (λ (n : ℕ). Some (levels_to n s.levels)) place
+
+    pub job_of : Takeable s j (levels_to j s.levels) (levels_behind j s.levels) → IsJobOf f s (levels_to j s.levels) (levels_behind j s.levels) (job_of_state s inputs.levels j)
+    job_of takes = record {
+      parents = refl;
+      horizon = refl;
+      purges = refl;
+      runs = runs_same f s (levels_to j s.levels) (levels_behind j s.levels) (there (take j inputs.levels)) (job_of_state s inputs.levels j) sound takes.levels_are taken_here refl (arrays_there (take j inputs.levels));
+    }
+
+-- a promotion that was begun has read nothing
+module _ (zero : ItemList) (levels : List (Option LevelDesc)) (mem versions id : ℕ) (p : Promotion) (begun : IsBegun zero levels mem versions id p) where
+  pub begun_open : IsOpen p
+  begun_open = record {
+    more = begun.more;
+    steady = subst (λ (st : Stage). IsSteady p.task.horizon st) (sym begun.stage) tt;
+  }
+
+  pub begun_nothing : (f : Image) (job : Job) → HasBegun f job p
+  begun_nothing f job = subst (λ (st : Stage). IsUnderway f job p.task.first st) (sym begun.stage) tt
+
+  pub begun_used : (space : SpaceView) → AreAllUsed space (writers_of p)
+  begun_used space = subst (λ (st : Stage). AreAllUsed space (stage_writers st)) (sym begun.stage) (λ q w there. absurd (cc))
+
+-- the leads of runs, run by run
+arrays_runs : (arrays : List TaggedArray) (behind : List (List Entry)) → length (grouped_entries (map own_leads arrays ++ behind)) ≡ length (flat_map own_leads arrays) + length (grouped_entries behind)
+arrays_runs [] behind = omega arith
+arrays_runs (a ∷ arrays) behind =
+    let rest = arrays_runs arrays behind in
+    let left = length-append (own_leads a) (grouped_entries (map own_leads arrays ++ behind)) in
+    let right = length-append (own_leads a) (flat_map own_leads arrays) in
+    omega (arith, rest, left, right)
+
+levels_runs : (taken : List Level) → length (grouped_entries (flat_map (λ level. map own_leads level.arrays) taken)) ≡ sum_by (λ level. length (level_leads level)) taken
+levels_runs [] = refl
+levels_runs (level ∷ taken) =
+    let one = arrays_runs level.arrays (flat_map (λ (l : Level). map own_leads l.arrays) taken) in
+    let rest = levels_runs taken in
+    let whole = sum_by-cons (λ (l : Level). length (level_leads l)) level taken in
+    omega (arith, one, rest, whole)
+
+runs_size : (s : State) (taken : List Level) → length (grouped_entries (runs_taken s taken)) ≡ length (level_zero s) + sum_by (λ level. length (level_leads level)) taken
+runs_size s taken =
+    let first = latest_len (journal_updates s) in
+    let rest = levels_runs taken in
+    let both = length-append (set_all (journal_updates s)) (grouped_entries (flat_map (λ level. map own_leads level.arrays) taken)) in
+    omega (arith, first, rest, both)
+
+module _ (f : Image) (s : State) (inputs : Inputs) (p : Promotion) (sound : IsSound s) (over : IsBegunOver f s inputs p) where
+  pub begun_takes : Takeable s (target_of p) (levels_to (target_of p) s.levels) (levels_behind (target_of p) s.levels)
+  begun_takes =
+      let target = over.begun.target in
+      let total = leads_down f s inputs sound over.holds (target_of p) over.begun.fits in
+      let fits = target.fits in
+      takeable s sound (target_of p) target.deep over.begun.fits (omega (arith, total, fits))
+
+  pub begun_least : (target_of p ≡ 1 → s.mem ≤ length s.journal) → IsLeastTarget s (target_of p)
+  begun_least full = record {
+    full = full;
+    crowded = λ i low lt.
+        let most = over.begun.fits in
+        let total = leads_down f s inputs sound over.holds i (omega (arith, lt, most)) in
+        let first = over.begun.target.first i low lt in
+        omega (arith, total, first);
+  }
+
+  pub begun_purges : purges_marks p ≡ eqb (length (levels_behind (target_of p) s.levels)) 0
+  begun_purges =
+      let place : 0 + target_of p ≡ target_of p = omega arith in
+      over.begun.purges ∙ behind_none f 0 inputs.levels s.levels (target_of p) (counted f s inputs sound over.holds) over.holds.levels
+      ∙ ap (λ (n : ℕ). eqb (length (levels_behind n s.levels)) 0) place
+
+  pub begun_job : IsJobOf f s (levels_to (target_of p) s.levels) (levels_behind (target_of p) s.levels) (job_of_state s inputs.levels (target_of p))
+  begun_job = job_of f s inputs sound over.holds (target_of p) begun_takes
+
+  -- what it is to do is the job of the state
+  pub begun_its_job : IsItsJob f p inputs (job_of_state s inputs.levels (target_of p))
+  begun_its_job =
+      let total = leads_down f s inputs sound over.holds (target_of p) over.begun.fits in
+      let some = sum_by-take-le (λ (n : ℕ). n) (leads_listed inputs.zero inputs.levels) (target_of p + 1) in
+      let all = over.few in
+      let runs = ap (λ (rs : List (List Entry)). length (grouped_entries rs)) begun_job.runs in
+      let size = runs_size s (levels_to (target_of p) s.levels) in
+      record {
+        over = record { zero_is = sym over.holds.zero; arrays_are = refl; few = omega (arith, total, some, all, runs, size) };
+        tree = record { rooted = sound_tree s sound; same = over.holds.parents };
+        horizon = sym over.begun.horizon;
+        purges = sym begun_purges;
+      }
+
+  module _ (h g : Image) (q : Promotion) (first : ℕ) (made : Option LevelDesc) (same : SamePromotion p q) (agree : AgreeOn (blocks_listed (arrays_to inputs.levels (target_of p))) f h)
+      (m : IsMade h g (job_of_state s inputs.levels (target_of p)) (target_of q) first made) where
+    abbrev kept : List Level
+    kept = levels_behind (target_of p) s.levels
+
+    abbrev taken : List Level
+    taken = levels_to (target_of p) s.levels
+
+    abbrev job : Job
+    job = job_of_state s inputs.levels (target_of p)
+
+    from_start : IsMade f g job (target_of p) first made
+    from_start = made_from f h g job (target_of p) first made agree (subst (λ (t : Task). IsMade h g job t.target first made) same.task m)
+
+    pub begun_leaves : LeavesTheSame g made s (λ fresh written next_array. promoted s (fresh ++ kept) written next_array)
+    begun_leaves = made_leaves f g s (target_of p) first taken kept job made from_start begun_job sound begun_takes
+
+    pub begun_paid : IsPaid s → 0 < s.mem → s.updates ≤ s.changes → (target_of p ≡ 1 → s.mem ≤ length s.journal)
+        → LeavesPaid g made s (λ fresh written next_array. promoted s (fresh ++ kept) written next_array)
+    begun_paid paid some honest full =
+        let start = from_start in
+        let promotes = made_promotes f g s (target_of p) first taken kept job made start begun_job begun_takes in
+        let fresh = fresh_of_groups s (target_of p) kept start.groups start.plan first in
+        let read = made_read f g s (target_of p) first taken kept job made start begun_job sound in
+        record {
+          fresh = fresh;
+          read = read;
+          paid = λ next_array.
+              subst (λ (n : ℕ). IsPaid (promoted s (fresh ++ kept) (s.written + n) next_array)) (entries_told g made fresh read)
+              (paid_after s sound some honest paid (target_of p) taken kept fresh (grouped_entries start.groups)
+              (groups_replace s sound (target_of p) taken kept start.groups _ _ start.plan first promotes) (begun_least full) next_array);
+        }
+
+-- and where changes came since
+module _ (f h g : Image) (s : State) (before rest : List Change) (inputs : Inputs) (p q : Promotion) (first : ℕ) (made : Option LevelDesc) (sound : IsSound s) (parts : s.journal ≡ before ++ rest)
+    (over : IsBegunOver f (sealed_at s before) inputs p) (same : SamePromotion p q) (agree : AgreeOn (blocks_listed (arrays_to inputs.levels (target_of p))) f h)
+    (m : IsMade h g (job_of_state (sealed_at s before) inputs.levels (target_of p)) (target_of q) first made) where
+  pub begun_leaves_later : LeavesTheSame g made s (λ fresh written next_array. grown_by (promoted (sealed_at s before) (fresh ++ levels_behind (target_of p) s.levels) written next_array) rest)
+  begun_leaves_later =
+      let old : IsSound (sealed_at s before) = before_sound s sound before rest parts in
+      let start = from_start f (sealed_at s before) inputs p old over h g q first made same agree m in
+      made_leaves_later f g s before rest (target_of p) first (levels_to (target_of p) s.levels) (levels_behind (target_of p) s.levels) (job_of_state (sealed_at s before) inputs.levels (target_of p)) made start
+      (begun_job f (sealed_at s before) inputs p old over) sound parts (begun_takes f (sealed_at s before) inputs p old over)

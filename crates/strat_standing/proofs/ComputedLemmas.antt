@@ -1,0 +1,63 @@
+-- The next contents, from what a promotion leaves to what a publication asks.
+use Rattle.std.proofs.Common.{◌≡◌, ◌<◌, ◌^◌, ◌-◌, List, length, Option, Some, sym, ap, ◌∙◌, subst, arith}
+use Rattle.std.specs.Option.{option_to_list}
+use Rattle.strat_base.specs.declared.descriptors.Extent.{Extent}
+use Rattle.strat_base.specs.declared.descriptors.LevelDesc.{LevelDesc}
+use Rattle.strat_crash.specs.Image.{Image}
+use Rattle.strat_crash.specs.Moments.{DiskView, OnlyReads, IsDurable}
+use Rattle.strat_extent.specs.Blocks.{SpaceView}
+use Rattle.strat_format.specs.Arrays.{all_some}
+use Rattle.strat_format.specs.Manifest.{manifest_bytes}
+use Rattle.strat_promotion.specs.Promoted.{SaysTheSame, promoted}
+use Rattle.strat_recovery.specs.Opened.{level_on}
+use Rattle.strat_state.specs.Sound.{IsSound}
+use Rattle.strat_standing.specs.Contents.{Contents, contents_state}
+use Rattle.strat_standing.specs.Next.{arrays_made, AreNewArrays, IsNextOf, MayBeNext, HasManifest, IsPromotion}
+use Rattle.strat_standing.specs.Occupied.{IsSpaceOf}
+use Rattle.strat_standing.specs.Publication.{Succeeds, IsPrepared}
+use Rattle.strat_standing.specs.Standing.{LiesIn, ReadsAs, LeavesContent, ContentsStand}
+use Rattle.strat_standing.proofs.BelongLemmas.{next_belongs}
+use Rattle.strat_standing.proofs.LongLemmas.{next_succeeds}
+use Rattle.strat_standing.proofs.NextLemmas.{next_spelled}
+use Rattle.strat_standing.proofs.OccupiedLemmas.{own_blocks}
+use Rattle.strat_standing.proofs.PromotedLemmas.{promoted_state, levels_replaced, lies_written}
+use Rattle.strat_standing.proofs.PublishLemmas.{synced_prepares}
+
+module _ (f g : Image) (old new : Contents) (made : Option LevelDesc) (taken kept : List LevelDesc) where
+  -- what a promotion leaves may be the next contents
+  pub promotion_next : ReadsAs f old → 0 < length old.journal → IsSound (contents_state old) → IsNextOf old new made taken kept → AreNewArrays old.chained.manifest.next_array (arrays_made made)
+      → IsPromotion g old new made taken → MayBeNext f g old new made taken kept × SaysTheSame (contents_state old) (contents_state new)
+  promotion_next reads logged sound next fresh p =
+      let state : promoted (contents_state old) new.levels new.chained.manifest.written new.chained.manifest.next_array ≡ contents_state new = sym (promoted_state old new sound next.promoted) in (
+        record {
+          reads = reads;
+          logged = logged;
+          next = next;
+          arrays = ap (all_some (level_on g)) next.levels_are ∙ levels_replaced g old taken kept (option_to_list made) p.fresh p.lies next.levels_were p.read ∙ ap (λ (ls : List _). Some ls) (sym p.levels);
+          was_sound = sound;
+          is_sound = subst IsSound state p.sound;
+          fresh = fresh;
+        },
+        subst (SaysTheSame (contents_state old)) state p.says,
+      )
+
+  module _ (m : MayBeNext f g old new made taken kept) (s : SpaceView) (others : List Extent) (space : IsSpaceOf s new others) (c : Image) (has : HasManifest c new) where
+    -- they may take the place of the old ones
+    pub computed_succeed : SaysTheSame (contents_state old) (contents_state new) → Succeeds old new
+    computed_succeed says =
+        let below : new.sb.manifest < 2 ^ 32 - 1 = has.chain.named.0.1 in
+        next_succeeds f g old new made taken kept m has.size has.others has.blocks (own_blocks s new others space) (omega (arith, below)) says
+
+    -- and lie where they were written
+    pub computed_lie : all_some (level_on c) new.chained.manifest.levels ≡ Some new.levels → LiesIn c new
+    computed_lie arrays =
+        lies_written c new has.others (manifest_bytes new.chained.manifest) (next_spelled f g old new made taken kept m) has.chain has.blocks has.size
+        (next_belongs f g old new made taken kept m (own_blocks s new others space)) arrays
+
+-- so a sync prepares them
+pub computed_prepared : (v w : DiskView) (old new : Contents) (made : Option LevelDesc) (taken kept : List LevelDesc) (s : SpaceView) (others : List Extent) (stands : ContentsStand v old) (f : Image)
+    → MayBeNext f stands.content old new made taken kept → SaysTheSame (contents_state old) (contents_state new) → IsSpaceOf s new others → HasManifest stands.content new
+    → OnlyReads v w → IsDurable w → LeavesContent w → IsPrepared w old new
+computed_prepared v w old new made taken kept s others stands f m says space has reads durable leaves =
+    let c : Image = stands.content in
+    synced_prepares v w old new stands (computed_succeed f c old new made taken kept m s others space c has says) (computed_lie f c old new made taken kept m s others space c has m.arrays) reads durable leaves

@@ -1,0 +1,5 @@
+use Rattle.strat_standing.proofs.NextLemmas.{next_spelled}
+use Rattle.strat_standing.proofs.next.the_next_manifest_has_a_spelling.Goals as goal
+
+pub returns : goal.returns
+returns c = record { ok = next_spelled }
