@@ -3,6 +3,7 @@
 
 mod formatting;
 mod manifest;
+mod memory;
 mod opening;
 mod store;
 mod versions;
