@@ -4,6 +4,7 @@
 mod formatting;
 mod manifest;
 mod memory;
+pub mod memory_laws;
 mod opening;
 mod store;
 mod versions;

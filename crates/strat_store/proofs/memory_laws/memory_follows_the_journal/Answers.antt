@@ -1,0 +1,8 @@
+use Rattle.strat_store.proofs.MemoryLawLemmas.{memory_follows, room_for}
+use Rattle.strat_store.proofs.memory_laws.memory_follows_the_journal.Goals as goal
+
+pub returns : goal.returns
+returns c = record {
+  ok = λ h m change of. memory_follows h m of change;
+  room = λ h m change of free. room_for h m of change free;
+}
