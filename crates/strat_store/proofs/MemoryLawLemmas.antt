@@ -1,5 +1,5 @@
 -- What a store has in memory, beside the head and the table that it is of.
-use Rattle.std.proofs.Common.{◌≡◌, ◌<◌, ◌≤◌, ◌+◌, ◌-◌, ℕ, Bool, true, false, if◌then◌else◌, eqb, ltb, not, List, [], ◌∷◌, ◌++◌, length, Option, Some, None, refl, sym, ap, ◌∙◌, subst, arith, length-append, append-nil}
+use Rattle.std.proofs.Common.{◌≡◌, ◌<◌, ◌+◌, ℕ, Bool, true, false, if◌then◌else◌, eqb, ltb, not, List, [], ◌∷◌, ◌++◌, length, Some, None, refl, sym, ap, ◌∙◌, subst, arith, length-append, append-nil}
 use Rattle.std.specs.Prelude.{filter_map}
 use Rattle.strat_base.specs.Change.{Change}
 use Rattle.strat_base.specs.Change as change
@@ -8,15 +8,14 @@ use Rattle.strat_base.specs.Tree.{Parents, is_known, parent_of, depth, has_child
 use Rattle.strat_base.proofs.ListFacts.{fold-push, filter_map-append}
 use Rattle.strat_crash.specs.Image.{Image}
 use Rattle.strat_format.specs.Arrays.{all_some}
-use Rattle.strat_model.specs.Answer.{Answer, plain, refusal, accepts}
+use Rattle.strat_model.specs.Answer.{Answer, plain, accepts}
 use Rattle.strat_model.specs.Pairs.{Pairs, set, unset, value_of}
 use Rattle.strat_model.specs.Plain.{update_refusal, clone_refusal}
-use Rattle.strat_model.specs.Request.{Put, Delete, Get, Clone, Info, Stat}
-use Rattle.strat_model.specs.Step.{Outcome, refuses, replies_with, step, update, clone, found, has_row, is_frozen, pairs_at}
+use Rattle.strat_model.specs.Request.{Get, Info, Stat}
+use Rattle.strat_model.specs.Step.{Outcome, refuses, replies_with, step, update, found, has_row, is_frozen, pairs_at}
 use Rattle.strat_model.specs.Table.{Table, parents_of}
 use Rattle.strat_model.specs.declared.replies.Refusal.{Refusal}
 use Rattle.strat_model.specs.declared.replies.Refusal.TheVariants as why
-use Rattle.strat_model.specs.declared.replies.Reply.{Reply}
 use Rattle.strat_model.specs.declared.replies.Reply.TheVariants as reply
 use Rattle.strat_recovery.specs.Head.{Head, head_versions, head_updates, head_changes}
 use Rattle.strat_recovery.specs.Opened.{level_on, parents_in}

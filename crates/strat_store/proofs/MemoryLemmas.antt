@@ -1,7 +1,7 @@
 -- What a store has in memory, as its calls change and read it.
-use Rattle.std.proofs.Common.{◌≡◌, ◌<◌, ◌≤◌, ℕ, zero, suc, ◌+◌, true, ltb, leb, List, [], ◌∷◌, length, map, take, Some, None, refl, sym, ap, ◌∙◌, get_or, arith}
+use Rattle.std.proofs.Common.{◌≡◌, ◌<◌, ℕ, zero, suc, ◌+◌, true, ltb, leb, List, [], ◌∷◌, length, map, take, Some, None, sym, ap, ◌∙◌, get_or, arith}
 use Rattle.std.specs.Prelude.{slice_index_or}
-use Rattle.std.specs.List.{list_all, find, slice_get}
+use Rattle.std.specs.List.{list_all, slice_get}
 use Rattle.std.proofs.lemmas.Bool.{and_parts, leb-true, ltb-true}
 use Rattle.std.proofs.lemmas.List.{length-map, length-take-le}
 use Rattle.std.proofs.lemmas.Option.{slice_get-get_or}
@@ -12,10 +12,10 @@ use Rattle.strat_base.specs.declared.limits.TheConstants.{KEY_MAX, VALUE_MAX}
 use Rattle.strat_base.specs.Entries.{Entry, is_of}
 use Rattle.strat_base.specs.EntryBytes.{is_markable, fits_fields}
 use Rattle.strat_base.specs.PairBuf.{IsPair}
-use Rattle.strat_base.specs.Sizes.{is_key, is_value}
+use Rattle.strat_base.specs.Sizes.{is_key}
 use Rattle.strat_base.specs.Tree.{Parents}
 use Rattle.strat_base.proofs.EntryLemmas.{bytes_same}
-use Rattle.strat_base.proofs.ListFacts.{Among, all_at, find_some, get_among}
+use Rattle.strat_base.proofs.ListFacts.{all_at, find_some, get_among}
 use Rattle.strat_format.specs.Manifest.{are_older}
 use Rattle.strat_level.specs.Memtable.{ItemList, entries_held}
 use Rattle.strat_state.specs.Reading.{live_of}

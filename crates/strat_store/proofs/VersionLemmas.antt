@@ -1,5 +1,5 @@
 -- What commands do to a table that is kept as a tree and entries.
-use Rattle.std.proofs.Common.{◌≡◌, ◌≢◌, ◌<◌, ◌≤◌, ◌^◌, ℕ, ◌+◌, Bool, true, false, if◌then◌else◌, eqb, leb, ltb, not, ◌&&◌, inl, inr, List, [], ◌∷◌, length, Option, Some, None, refl, sym, ap, ◌∙◌, subst, get_or, true≢false, Bor}
+use Rattle.std.proofs.Common.{◌≡◌, ◌≢◌, ◌<◌, ◌≤◌, ◌^◌, ℕ, ◌+◌, Bool, true, false, if◌then◌else◌, eqb, ltb, not, ◌&&◌, inl, inr, List, [], length, Option, Some, None, refl, sym, ap, ◌∙◌, subst, true≢false, Bor}
 use Rattle.std.specs.Prelude.{slice_index_or}
 use Rattle.std.specs.Option.{option_and_then, option_copied, IfSome}
 use Rattle.std.specs.List.{list_all, find, slice_get}
@@ -9,7 +9,7 @@ use Rattle.strat_base.specs.Entries.{Entry, is_of, is_ascending}
 use Rattle.strat_base.specs.EntryBytes.{is_markable, fits_fields}
 use Rattle.strat_base.specs.Sizes.{is_key, is_value}
 use Rattle.strat_base.specs.Tree.{Parents, is_known, has_child, parent_of, depth, with_child}
-use Rattle.strat_base.proofs.ListFacts.{Among, all_at, all_from, get_among}
+use Rattle.strat_base.proofs.ListFacts.{all_at, all_from, get_among}
 use Rattle.strat_state.specs.Live.{live, deciding}
 use Rattle.strat_state.specs.Setting.{set_entry}
 use Rattle.strat_state.proofs.LevelLemmas.{ascending_single}

@@ -1,5 +1,5 @@
 -- The fields of a store's memory.
-use Rattle.std.specs.Prelude.{◌≡◌, ◌≢◌, ◌≤◌, ◌+◌, [], List, Option, Some, None, option_map}
+use Rattle.std.specs.Prelude.{◌≡◌, ◌≢◌, ◌≤◌, [], List, Option, Some, None, option_map}
 use Rattle.strat_arena.specs.PoolView.{shares_at, count_shared}
 use Rattle.strat_arena.specs.declared.pool.PoolEntry.{PoolEntry}
 use Rattle.strat_level.specs.Memtable.{Memtable, entries_held, MemtableStands}
