@@ -1,5 +1,5 @@
 -- What a store has in memory, beside the head and the table that it is of.
-use Rattle.std.proofs.Common.{◌≡◌, ◌<◌, ◌+◌, ℕ, Bool, true, false, if◌then◌else◌, eqb, ltb, not, List, [], ◌∷◌, ◌++◌, length, Some, None, refl, sym, ap, ◌∙◌, subst, arith, length-append, append-nil}
+use Rattle.std.proofs.Common.{◌≡◌, ◌<◌, ◌≤◌, ◌+◌, ℕ, Bool, true, false, if◌then◌else◌, eqb, ltb, not, List, [], ◌∷◌, ◌++◌, length, Some, None, refl, sym, ap, ◌∙◌, subst, arith, length-append, append-nil}
 use Rattle.std.specs.Prelude.{filter_map}
 use Rattle.strat_base.specs.Change.{Change}
 use Rattle.strat_base.specs.Change as change
@@ -33,6 +33,8 @@ use Rattle.strat_state.specs.State.{State, versions_of, sources, journal_updates
 use Rattle.strat_state.proofs.SoundLemmas.{sound_tree}
 use Rattle.strat_state.proofs.UpdateLemmas.{all_lives}
 use Rattle.strat_store.specs.Memory.{Memory, refusal_of_update, refusal_of_clone, refusal_of_change, memory_after, HasRoomFor, reply_to, info_told, stat_told, emptied, fresh_memory, IsMemoryOf}
+use Rattle.strat_promotion.proofs.PaidLemmas.{updates_few}
+use Rattle.strat_store.proofs.MemoryLemmas.{left_few}
 use Rattle.strat_store.proofs.VersionLemmas.{three_none, three_pass, three_refuse}
 
 -- memory is that of a state
@@ -218,6 +220,11 @@ module _ (h : Head) (m : Memory) (of : IsMemoryOf h m) where
   room_for (change.Put v key value) free = omega (arith, of.room, free)
   room_for (change.Delete v key) free = omega (arith, of.room, free)
   room_for (change.Clone v) free = tt
+
+  pub entries_few : length m.entries ≤ length h.journal
+  entries_few =
+      let same : length m.entries ≡ length (set_all (filter_map update_of h.journal)) = ap (λ (es : List Entry). length es) of.entries in
+      omega (arith, same, left_few (filter_map update_of h.journal), updates_few h.journal)
 
 -- after a publication
 pub memory_emptied : (h new : Head) (m : Memory) → IsMemoryOf h m → new.journal ≡ [] → new.sb.changes_max ≡ h.sb.changes_max → new.sb.versions_max ≡ h.sb.versions_max

@@ -1,8 +1,11 @@
 -- What a store has in memory, as its calls change and read it.
-use Rattle.std.proofs.Common.{◌≡◌, ◌<◌, ℕ, zero, suc, ◌+◌, true, ltb, leb, List, [], ◌∷◌, length, map, take, Some, None, sym, ap, ◌∙◌, get_or, arith}
-use Rattle.std.specs.Prelude.{slice_index_or}
+use Rattle.std.proofs.Common.{◌≡◌, ◌<◌, ◌≤◌, ℕ, zero, suc, ◌+◌, true, ltb, leb, inl, inr, List, [], ◌∷◌, length, map, take, Some, None, sym, ap, ◌∙◌, get_or, arith, length-append}
+use Rattle.std.specs.Ordering.{match_ordering}
+use Rattle.std.specs.declared.cmp.Ordering.{Ordering}
+use Rattle.std.specs.declared.cmp.Ordering.TheVariants.{Less, Equal, Greater}
+use Rattle.std.specs.Prelude.{slice_index_or, fold}
 use Rattle.std.specs.List.{list_all, slice_get}
-use Rattle.std.proofs.lemmas.Bool.{and_parts, leb-true, ltb-true}
+use Rattle.std.proofs.lemmas.Bool.{and_parts, leb-true, ltb-true, lt-ltb}
 use Rattle.std.proofs.lemmas.List.{length-map, length-take-le}
 use Rattle.std.proofs.lemmas.Option.{slice_get-get_or}
 use Rattle.strat_arena.specs.Items.{entry_of_item}
@@ -13,12 +16,16 @@ use Rattle.strat_base.specs.Entries.{Entry, is_of}
 use Rattle.strat_base.specs.EntryBytes.{is_markable, fits_fields}
 use Rattle.strat_base.specs.PairBuf.{IsPair}
 use Rattle.strat_base.specs.Sizes.{is_key}
-use Rattle.strat_base.specs.Tree.{Parents}
+use Rattle.strat_base.specs.Order.{entry_cmp}
+use Rattle.strat_base.specs.Tree.{Parents, is_known, with_child}
 use Rattle.strat_base.proofs.EntryLemmas.{bytes_same}
-use Rattle.strat_base.proofs.ListFacts.{all_at, find_some, get_among}
+use Rattle.strat_base.proofs.ListFacts.{all_at, all_from, find_some, get_among}
 use Rattle.strat_format.specs.Manifest.{are_older}
 use Rattle.strat_level.specs.Memtable.{ItemList, entries_held}
+use Rattle.strat_recovery.specs.TableOver.{are_known}
 use Rattle.strat_state.specs.Reading.{live_of}
+use Rattle.strat_state.specs.Setting.{set_entry, set_all}
+use Rattle.strat_state.proofs.SettingLemmas.{set_among}
 
 -- a parent is older than its version
 pub older_at : (v i d : ℕ) (ps : List ℕ) → are_older v ps ≡ true → i < length ps → get_or ps i d < v + i
@@ -38,6 +45,47 @@ parent_made i ps tree older within is =
 -- there are as many entries as items
 pub held_within : (pool : List PoolEntry) (list : ItemList) (i : ℕ) → i < length list.items → i < length (entries_held pool list)
 held_within pool list i within = omega (arith, within, length-map list.items (entry_of_item (arena_at pool list.arena).pairs))
+
+pub items_counted : (pool : List PoolEntry) (list : ItemList) → length list.items ≡ length (entries_held pool list)
+items_counted pool list = sym (length-map list.items (entry_of_item (arena_at pool list.arena).pairs))
+
+-- the versions of entries are there, where there are none
+pub known_none : (parents : Parents) (entries : List Entry) → entries ≡ [] → are_known parents entries ≡ true
+known_none parents entries none = ap (are_known parents) none
+
+-- after an update at a version that is there
+pub known_set : (parents : Parents) (e : Entry) (old new : List Entry) → new ≡ set_entry e old → is_known parents e.version ≡ true → are_known parents old ≡ true → are_known parents new ≡ true
+known_set parents e old new is here known =
+    ap (are_known parents) is
+    ∙ all_from (λ d. is_known parents d.version) (set_entry e old) (λ d among. elim (set_among e old d among) [
+      | inl same ↦ ap (λ (x : Entry). is_known parents x.version) same ∙ here
+      | inr older ↦ all_at (λ x. is_known parents x.version) d old known older
+    ])
+
+-- and after a clone
+pub known_grown : (parents grown : Parents) (v : ℕ) (entries : List Entry) → are_known parents entries ≡ true → grown ≡ with_child parents v → are_known grown entries ≡ true
+known_grown parents grown v entries known is =
+    all_from (λ d. is_known grown d.version) entries (λ d among.
+    let lt : d.version < length parents = ltb-true d.version (length parents) (all_at (λ x. is_known parents x.version) d entries known among) in
+    let more : length grown ≡ length (with_child parents v) = ap (λ (ps : Parents). length ps) is in
+    lt-ltb d.version (length grown) (omega (arith, lt, more, length-append parents (Some v ∷ []))))
+
+-- no more entries are left than were set
+set_few : (e : Entry) (entries : List Entry) → length (set_entry e entries) ≤ length entries + 1
+set_few e [] = omega arith
+set_few e (d ∷ entries) = go (set_few e entries) (entry_cmp e.key e.version d.key d.version)
+  where
+    go : length (set_entry e entries) ≤ length entries + 1 → (o : Ordering) → length (match_ordering o (e ∷ d ∷ entries) (e ∷ entries) (d ∷ set_entry e entries)) ≤ length (d ∷ entries) + 1
+    go rest Less = omega arith
+    go rest Equal = omega arith
+    go rest Greater = omega (arith, rest)
+
+onto_few : (entries updates : List Entry) → length (fold (λ es e. set_entry e es) entries updates) ≤ length entries + length updates
+onto_few entries [] = omega arith
+onto_few entries (e ∷ updates) = let rest = onto_few (set_entry e entries) updates in omega (arith, rest, set_few e entries)
+
+pub left_few : (updates : List Entry) → length (set_all updates) ≤ length updates
+left_few updates = let few = onto_few [] updates in omega (arith, few)
 
 -- the key that was asked for and the value that was found are a pair
 pub pair_found : (parents : Parents) (entries : List Entry) (v : ℕ) (key value : List ℕ) (i : ℕ) (d : Entry) → list_all fits_fields entries ≡ true → i < length entries

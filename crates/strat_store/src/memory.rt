@@ -11,6 +11,7 @@ ghost use Rattle.strat_base.specs.Tree.{is_known, with_child, IsTree};
 ghost use Rattle.strat_base.specs.declared.limits.TheConstants.{PAIRS_MAX, VERSIONS_MAX};
 ghost use Rattle.strat_format.specs.Manifest.{are_older};
 ghost use Rattle.strat_level.specs.Memtable.{entries_held, ListStands};
+ghost use Rattle.strat_recovery.specs.TableOver.{are_known};
 ghost use Rattle.strat_state.specs.Reading.{live_of};
 ghost use Rattle.strat_store.specs.Memory.{refusal_of_update, refusal_of_clone, refusal_of_change, with_update, memory_after, HasRoomFor, reply_to, info_told, stat_told, emptied, fresh_memory};
 
@@ -92,10 +93,11 @@ impl Memory {
 
     /// Takes the versions and the counts of a manifest into new memory, where `parents` are those of
     /// the versions from 1 on. O(versions log versions_max).
+    #[tactic(auto, using(crate::proofs::MemoryLemmas::known_none))]
     pub fn load(&mut self, parents: &[u32], updates: u32, changes: u32)
         requires fits { IsTrue (are_older 1 parents.now) }
         requires room { 1 + length parents.now ≤ self.old.versions_max }
-        requires none { self.old.parents ≡ None ∷ [] }
+        requires none { (self.old.parents ≡ None ∷ []) × (self.old.entries ≡ []) }
         requires kept { (updates ≤ changes) × (changes ≤ self.old.changes_max) }
         ensures ok { self.new ≡ record self.old {
           parents = None ∷ map (λ p. Some p) parents.now;
@@ -155,6 +157,7 @@ impl Memory {
     }
 
     /// Sets an entry in level 0.
+    #[tactic(auto, using(crate::proofs::MemoryLemmas::known_set))]
     fn set(&mut self, version: Version, key: &[u8], val: Val<'_>)
         requires none { refusal_of_update self.old version ≡ None }
         requires room { 1 ≤ self.old.spare }
@@ -175,6 +178,7 @@ impl Memory {
     }
 
     /// Makes a version, a child of another.
+    #[tactic(auto, using(crate::proofs::MemoryLemmas::known_grown))]
     fn add_child(&mut self, version: Version) -> Version
         requires none { refusal_of_clone self.old version ≡ None }
         ensures ok { self.new ≡ record self.old {
@@ -261,10 +265,13 @@ impl Memory {
         }
     }
 
-    /// Level 0, the pool that has its keys and values, and the versions. O(1).
+    /// Level 0, the pool that has its keys and values, and the versions, as a promotion takes them. O(1).
+    #[tactic(auto, using(crate::proofs::MemoryLemmas::items_counted))]
     pub fn parts(&self) -> (&Zero, &ArenaPool, &Tree)
         ensures ok { entries_held result.1.now result.0.now.list ≡ self.now.entries }
         ensures kept { ListStands result.1.now result.0.now.list }
+        ensures len { length result.0.now.list.items ≡ length self.now.entries }
+        ensures fits { IsTrue (are_known self.now.parents self.now.entries) }
         ensures found { (result.2.now.parents ≡ self.now.parents) × IsTree result.2.now.parents }
     {
         let _ = self.tree.count();

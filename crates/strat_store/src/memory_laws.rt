@@ -1,7 +1,7 @@
 //! Laws of what a store has in memory: it answers as the table that its head means, and follows the
 //! head from change to change. Each is the contract of a function that does nothing.
 
-ghost use Rattle.std.specs.Prelude.{◌≡◌, ◌<◌, ℕ, List, [], ◌∷◌, ◌++◌, length, Some, None, IsTrue, false};
+ghost use Rattle.std.specs.Prelude.{◌≡◌, ◌<◌, ◌≤◌, ℕ, List, [], ◌∷◌, ◌++◌, length, Some, None, IsTrue, false};
 ghost use Rattle.strat_base.specs.Change.{Change};
 ghost use Rattle.strat_base.specs.Tree.{is_known};
 ghost use Rattle.strat_crash.specs.Image.{Image};
@@ -58,12 +58,14 @@ pub fn memory_finds_what_level_zero_says()
 {}
 
 /// Memory after a change is that of the head with the change in its journal, and has room for what the
-/// change sets as long as the journal has room for it.
+/// change sets as long as the journal has room for it. Level 0 has no more entries than the journal changes.
 pub fn memory_follows_the_journal()
     ensures ok { (h : Head) (m : Memory) (change : Change) → IsMemoryOf h m
         → IsMemoryOf (record h { journal = h.journal ++ change ∷ [] }) (memory_after m change) }
     ensures room { (h : Head) (m : Memory) (change : Change) → IsMemoryOf h m
         → length h.journal < h.sb.mem → HasRoomFor m change }
+    ensures len { (h : Head) (m : Memory) → IsMemoryOf h m
+        → length m.entries ≤ length h.journal }
 {}
 
 /// Memory with an empty level 0 is that of a head with the same limits, versions and counts, and no
