@@ -1,6 +1,6 @@
 -- What a store has in memory, beside the head and the table that it is of.
-use Rattle.std.proofs.Common.{◌≡◌, ◌<◌, ◌≤◌, ◌+◌, ℕ, Bool, true, false, if◌then◌else◌, eqb, ltb, not, List, [], ◌∷◌, ◌++◌, length, Some, None, refl, sym, ap, ◌∙◌, subst, arith, length-append, append-nil}
-use Rattle.std.specs.Prelude.{filter_map}
+use Rattle.std.proofs.Common.{◌≡◌, ◌<◌, ◌≤◌, ◌+◌, ℕ, Bool, true, false, if◌then◌else◌, eqb, ltb, not, ◌&&◌, List, [], ◌∷◌, ◌++◌, length, Some, None, refl, sym, ap, ◌∙◌, subst, arith, length-append, append-nil}
+use Rattle.std.specs.Prelude.{filter_map, is_some}
 use Rattle.strat_base.specs.Change.{Change}
 use Rattle.strat_base.specs.Change as change
 use Rattle.strat_base.specs.Entries.{Entry}
@@ -28,7 +28,7 @@ use Rattle.strat_recovery.proofs.StateTableLemmas.{accepts_same}
 use Rattle.strat_state.specs.Maps.{map_over}
 use Rattle.strat_state.specs.Reading.{live_of, level_zero}
 use Rattle.strat_state.specs.Setting.{set_entry, set_all}
-use Rattle.strat_state.specs.Sound.{accepts_change, IsSound}
+use Rattle.strat_state.specs.Sound.{is_accepted, accepts_change, IsSound}
 use Rattle.strat_state.specs.State.{State, versions_of, sources, journal_updates, updates_of, changes_of, tree_after, update_of}
 use Rattle.strat_state.proofs.SoundLemmas.{sound_tree}
 use Rattle.strat_state.proofs.UpdateLemmas.{all_lives}
@@ -36,6 +36,19 @@ use Rattle.strat_store.specs.Memory.{Memory, refusal_of_update, refusal_of_clone
 use Rattle.strat_promotion.proofs.PaidLemmas.{updates_few}
 use Rattle.strat_store.proofs.MemoryLemmas.{left_few}
 use Rattle.strat_store.proofs.VersionLemmas.{three_none, three_pass, three_refuse}
+
+-- of three tests that refuse in turn none does where all pass
+three_pass_all : (k f l : Bool) (a b c : Refusal) → (k && not f && not l) ≡ not (is_some (if not k then Some a else if f then Some b else if l then Some c else None))
+three_pass_all false f l a b c = refl
+three_pass_all true true l a b c = refl
+three_pass_all true false true a b c = refl
+three_pass_all true false false a b c = refl
+
+pub accepted_same : (m : Memory) (c : Change) → is_accepted m.changes_max m.versions_max m.parents m.changes c ≡ not (is_some (refusal_of_change m c))
+accepted_same m (change.Put v key value) = three_pass_all (is_known m.parents v) (has_child m.parents v) (eqb m.changes m.changes_max) why.UnknownVersion why.Frozen why.ChangeLimit
+accepted_same m (change.Delete v key) = three_pass_all (is_known m.parents v) (has_child m.parents v) (eqb m.changes m.changes_max) why.UnknownVersion why.Frozen why.ChangeLimit
+accepted_same m (change.Clone v) =
+    three_pass_all (is_known m.parents v) (eqb (length m.parents) m.versions_max) (eqb m.changes m.changes_max) why.UnknownVersion why.VersionLimit why.ChangeLimit
 
 -- memory is that of a state
 record Mirrors (s : State) (m : Memory) : Type 0 where

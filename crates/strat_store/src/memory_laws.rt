@@ -1,7 +1,7 @@
 //! Laws of what a store has in memory: it answers as the table that its head means, and follows the
 //! head from change to change. Each is the contract of a function that does nothing.
 
-ghost use Rattle.std.specs.Prelude.{◌≡◌, ◌<◌, ◌≤◌, ℕ, List, [], ◌∷◌, ◌++◌, length, Some, None, IsTrue, false};
+ghost use Rattle.std.specs.Prelude.{◌≡◌, ◌<◌, ◌≤◌, ℕ, List, [], ◌∷◌, ◌++◌, length, Some, None, IsTrue, false, is_some, not};
 ghost use Rattle.strat_base.specs.Change.{Change};
 ghost use Rattle.strat_base.specs.Tree.{is_known};
 ghost use Rattle.strat_crash.specs.Image.{Image};
@@ -15,7 +15,7 @@ ghost use Rattle.strat_recovery.specs.Opened.{parents_in};
 ghost use Rattle.strat_recovery.specs.Opening.{state_of};
 ghost use Rattle.strat_recovery.specs.StateTable.{table_of, request_for};
 ghost use Rattle.strat_state.specs.Reading.{live_of, level_zero};
-ghost use Rattle.strat_state.specs.Sound.{accepts_change, IsSound};
+ghost use Rattle.strat_state.specs.Sound.{is_accepted, accepts_change, IsSound};
 ghost use Rattle.strat_state.specs.State.{State};
 ghost use Rattle.strat_store.specs.Memory.{Memory, refusal_of_change, memory_after, HasRoomFor, reply_to, info_told, stat_told, emptied, fresh_memory, IsMemoryOf};
 
@@ -31,6 +31,13 @@ pub fn memory_answers_changes_as_the_table()
     ensures found { (f : Image) (h : Head) (s : State) (m : Memory) (change : Change)
         → state_of f h ≡ Some s → IsMemoryOf h m → refusal_of_change m change ≡ None
         → IsTrue (accepts_change s change) }
+{}
+
+/// Memory refuses just the changes that its limits, versions and counts do not accept.
+pub fn memory_refuses_what_is_not_accepted()
+    ensures ok { (m : Memory) (change : Change)
+        → is_accepted m.changes_max m.versions_max m.parents m.changes change
+        ≡ not (is_some (refusal_of_change m change)) }
 {}
 
 /// Memory tells of versions and of the whole store what the table answers, and knows the versions that
