@@ -1,5 +1,5 @@
 -- What commands do to a table that is kept as a tree and entries.
-use Rattle.std.proofs.Common.{◌≡◌, ◌≢◌, ◌<◌, ◌≤◌, ◌^◌, ℕ, ◌+◌, Bool, true, false, if◌then◌else◌, eqb, leb, ltb, not, ◌&&◌, inl, inr, List, [], ◌∷◌, length, Option, Some, None, refl, sym, ap, ◌∙◌, subst, get_or, true≢false, Bor}
+use Rattle.std.proofs.Common.{◌≡◌, ◌≢◌, ◌<◌, ◌≤◌, ◌^◌, ℕ, ◌+◌, Bool, true, false, if◌then◌else◌, eqb, ltb, not, ◌&&◌, inl, inr, List, [], length, Option, Some, None, refl, sym, ap, ◌∙◌, subst, true≢false, Bor}
 use Rattle.std.specs.Prelude.{slice_index_or}
 use Rattle.std.specs.Option.{option_and_then, option_copied, IfSome}
 use Rattle.std.specs.List.{list_all, find, slice_get}
@@ -9,7 +9,7 @@ use Rattle.strat_base.specs.Entries.{Entry, is_of, is_ascending}
 use Rattle.strat_base.specs.EntryBytes.{is_markable, fits_fields}
 use Rattle.strat_base.specs.Sizes.{is_key, is_value}
 use Rattle.strat_base.specs.Tree.{Parents, is_known, has_child, parent_of, depth, with_child}
-use Rattle.strat_base.proofs.ListFacts.{Among, all_at, all_from, get_among}
+use Rattle.strat_base.proofs.ListFacts.{all_at, all_from, get_among}
 use Rattle.strat_state.specs.Live.{live, deciding}
 use Rattle.strat_state.specs.Setting.{set_entry}
 use Rattle.strat_state.proofs.LevelLemmas.{ascending_single}
@@ -32,14 +32,14 @@ apart : (n m : ℕ) → eqb n m ≡ false → n ≢ m
 apart n m e same = true≢false (sym (eq-eqb n m same) ∙ e)
 
 -- of three tests that refuse in turn none does
-three_none : (k f l : Bool) (a b c : Refusal) → (if not k then Some a else if f then Some b else if l then Some c else None) ≡ None → (k ≡ true) × (f ≡ false) × (l ≡ false)
+pub three_none : (k f l : Bool) (a b c : Refusal) → (if not k then Some a else if f then Some b else if l then Some c else None) ≡ None → (k ≡ true) × (f ≡ false) × (l ≡ false)
 three_none false f l a b c e = absurd (cc)
 three_none true true l a b c e = absurd (cc)
 three_none true false true a b c e = absurd (cc)
 three_none true false false a b c e = (refl, refl, refl)
 
 -- then what they guard is made
-three_pass : (k f l : Bool) (t : Table) (a b c : Refusal) (made : Outcome) → k ≡ true → f ≡ false → l ≡ false
+pub three_pass : (k f l : Bool) (t : Table) (a b c : Refusal) (made : Outcome) → k ≡ true → f ≡ false → l ≡ false
     → (if not k then refuses t a else if f then refuses t b else if l then refuses t c else made) ≡ made
 three_pass false f l t a b c made known free room = absurd (true≢false (sym known))
 three_pass true true l t a b c made known free room = absurd (true≢false free)
@@ -47,7 +47,7 @@ three_pass true false true t a b c made known free room = absurd (true≢false r
 three_pass true false false t a b c made known free room = refl
 
 -- and the first that does refuses
-three_refuse : (k f l : Bool) (t : Table) (a b c r : Refusal) (made : Outcome) → (if not k then Some a else if f then Some b else if l then Some c else None) ≡ Some r
+pub three_refuse : (k f l : Bool) (t : Table) (a b c r : Refusal) (made : Outcome) → (if not k then Some a else if f then Some b else if l then Some c else None) ≡ Some r
     → (if not k then refuses t a else if f then refuses t b else if l then refuses t c else made) ≡ refuses t r
 three_refuse false f l t a b c r made e = let same : a ≡ r = cc in ap (refuses t) same
 three_refuse true true l t a b c r made e = let same : b ≡ r = cc in ap (refuses t) same

@@ -3,3 +3,8 @@ pub mod Format
 pub mod Opened
 pub mod Store
 pub mod VersionFields
+pub mod Memory
+pub mod MemoryFields
+pub mod Looking
+pub mod Held
+pub mod Applying

@@ -3,6 +3,8 @@
 
 mod formatting;
 mod manifest;
+mod memory;
+pub mod memory_laws;
 mod opening;
 mod store;
 mod versions;

@@ -1,0 +1,53 @@
+-- What a look-up finds in the levels of a store, through a cache of blocks.
+use Rattle.std.specs.Prelude.{◌≡◌, ◌<◌, ℕ, List, ◌⊎◌, Contains, flat_map, slice_get, Option, Some, None, IsTrue}
+use Rattle.std.specs.List.{filter_map}
+use Rattle.strat_array.specs.Kept.{Blocks, IsBlockRead}
+use Rattle.strat_array.specs.Within.{AreWithin, IsNoBlock}
+use Rattle.strat_base.specs.Entries.{Entry, is_ascending}
+use Rattle.strat_base.specs.declared.descriptors.ArrayDesc.{ArrayDesc}
+use Rattle.strat_base.specs.declared.descriptors.LevelDesc.{LevelDesc}
+use Rattle.strat_crash.specs.Image.{Image}
+use Rattle.strat_crash.specs.Moments.{DiskView, OnlyReads}
+use Rattle.strat_format.specs.Arrays.{blocks_of, block_on, entries_on}
+
+-- the levels that are there, the shallowest first
+abbrev pub levels_there : List (Option LevelDesc) → List LevelDesc
+levels_there levels = filter_map (λ level. level) levels
+
+-- the arrays of these levels, the shallowest level first
+abbrev pub arrays_there : List (Option LevelDesc) → List ArrayDesc
+arrays_there levels = flat_map (λ level. level.arrays) (levels_there levels)
+
+-- each of these arrays may be read
+pub record MayBeFound (arrays : List ArrayDesc) : Type 0 where
+  pub each : (a : ArrayDesc) → Contains arrays a → AreWithin a.extents
+
+-- in an image each of these arrays has entries, in order
+pub record AreInOrder (f : Image) (arrays : List ArrayDesc) : Type 0 where
+  pub each : (a : ArrayDesc) → Contains arrays a
+      → (entries : List Entry) × (entries_on f (blocks_of a.extents) ≡ Some entries)
+      × IsTrue (is_ascending entries)
+
+-- each block in a cache is of an array that is numbered below the next one, and where it is of one of
+-- these arrays it is as an image has it
+pub record AreCachedFrom (f : Image) (next_array : ℕ) (arrays : List ArrayDesc) (c : Blocks)
+    : Type 0 where
+  pub old : (k : ℕ × ℕ) (x : List Entry) → Contains c.entries (k, x) → k.0 < next_array
+  pub same : (a : ArrayDesc) (index block : ℕ) (x : List Entry) → Contains arrays a
+      → Contains c.entries ((a.id, index), x) → slice_get (blocks_of a.extents) index ≡ Some block
+      → block_on f block ≡ Some x
+
+-- a call that looked at blocks of these arrays left the disk as it was, and added to the cache only
+-- such blocks as they stand on the disk
+pub record LooksThrough (old new : DiskView) (arrays : List ArrayDesc) (c d : Blocks) : Type 0 where
+  pub disk : OnlyReads old new
+  pub cap : d.cap ≡ c.cap
+  pub cached : (k : ℕ × ℕ) (x : List Entry) → Contains d.entries (k, x)
+      → Contains c.entries (k, x) ⊎ ((a : ArrayDesc) × Contains arrays a
+      × IsBlockRead old.content a.id (blocks_of a.extents) k x)
+
+-- a block of one of these arrays is no block of entries where a content is exposed
+pub record NamesNoBlock (content : Option Image) (arrays : List ArrayDesc) (b : ℕ) : Type 0 where
+  pub array : ArrayDesc
+  pub one : Contains arrays array
+  pub none : IsNoBlock content (blocks_of array.extents) b

@@ -1,0 +1,107 @@
+-- What a store has in memory of its versions and of level 0, and what changes do to it.
+use Rattle.std.specs.Prelude.{◌≡◌, ◌≤◌, ℕ, ◌+◌, ◌-◌, ◌==◌, not, if◌then◌else◌, List, [], ◌∷◌, length, filter_map, Option, Some, None}
+use Rattle.strat_base.specs.Change.{Change, Put, Delete, Clone}
+use Rattle.strat_base.specs.Entries.{Entry}
+use Rattle.strat_base.specs.Tree.{Parents, is_known, parent_of, depth, has_child, with_child}
+use Rattle.strat_model.specs.declared.replies.Refusal.{Refusal}
+use Rattle.strat_model.specs.declared.replies.Refusal.TheVariants as why
+use Rattle.strat_model.specs.declared.replies.Reply.{Reply}
+use Rattle.strat_model.specs.declared.replies.Reply.TheVariants as reply
+use Rattle.strat_recovery.specs.Head.{Head, head_versions, head_updates, head_changes}
+use Rattle.strat_state.specs.Setting.{set_entry, set_all}
+use Rattle.strat_state.specs.State.{update_of}
+
+-- the limits of a store, its versions, what it accepted, the entries of level 0 in their order, for how
+-- many more updates level 0 has room, and for how many the next level 0 has, where one stands ready
+pub record Memory : Type 0 where
+  pub changes_max : ℕ
+  pub versions_max : ℕ
+  pub parents : Parents
+  pub updates : ℕ
+  pub changes : ℕ
+  pub entries : List Entry
+  pub spare : ℕ
+  pub ready : Option ℕ
+
+-- why an update at a version is refused, if it is
+abbrev pub refusal_of_update : Memory → ℕ → Option Refusal
+refusal_of_update m v =
+    if not (is_known m.parents v) then Some why.UnknownVersion else
+    if has_child m.parents v then Some why.Frozen else
+    if m.changes == m.changes_max then Some why.ChangeLimit else None
+
+-- why a clone of a version is refused, if it is
+abbrev pub refusal_of_clone : Memory → ℕ → Option Refusal
+refusal_of_clone m v =
+    if not (is_known m.parents v) then Some why.UnknownVersion else
+    if length m.parents == m.versions_max then Some why.VersionLimit else
+    if m.changes == m.changes_max then Some why.ChangeLimit else None
+
+-- why a change is refused, if it is
+abbrev pub refusal_of_change : Memory → Change → Option Refusal
+refusal_of_change m (Put version key value) = refusal_of_update m version
+refusal_of_change m (Delete version key) = refusal_of_update m version
+refusal_of_change m (Clone version) = refusal_of_clone m version
+
+-- memory after an update that is accepted
+abbrev pub with_update : Memory → Entry → Memory
+with_update m e = record m {
+  updates = m.updates + 1;
+  changes = m.changes + 1;
+  entries = set_entry e m.entries;
+  spare = m.spare - 1;
+}
+
+-- memory after a change that is accepted
+abbrev pub memory_after : Memory → Change → Memory
+memory_after m (Put version key value) =
+    with_update m (record { key = key; version = version; value = Some value })
+memory_after m (Delete version key) =
+    with_update m (record { key = key; version = version; value = None })
+memory_after m (Clone version) =
+    record m { parents = with_child m.parents version; changes = m.changes + 1 }
+
+-- level 0 has room for what a change sets; a clone sets nothing
+abbrev pub HasRoomFor : Memory → Change → Type 0
+HasRoomFor m (Put version key value) = 1 ≤ m.spare
+HasRoomFor m (Delete version key) = 1 ≤ m.spare
+HasRoomFor m (Clone version) = Unit {0}
+
+-- what is told of a change that is accepted
+abbrev pub reply_to : Memory → Change → Reply
+reply_to m (Clone version) = reply.Made (length m.parents)
+reply_to m change = reply.Done
+
+-- what is told of a version, and of the whole store, which has no cursors
+abbrev pub info_told : Memory → ℕ → Reply
+info_told m v = reply.Info (parent_of m.parents v) (depth m.parents v) (has_child m.parents v)
+
+abbrev pub stat_told : Memory → Reply
+stat_told m = reply.Stat (length m.parents) m.updates m.changes 0
+
+-- memory with a level 0 that has no entries yet, and room for so many updates
+abbrev pub emptied : ℕ → Memory → Memory
+emptied mem m = record m { entries = []; spare = mem; ready = None }
+
+-- memory of a new store
+abbrev pub fresh_memory : ℕ → ℕ → ℕ → Memory
+fresh_memory mem changes_max versions_max = record {
+  changes_max = changes_max;
+  versions_max = versions_max;
+  parents = None ∷ [];
+  updates = 0;
+  changes = 0;
+  entries = [];
+  spare = mem;
+  ready = None;
+}
+
+-- memory is that of a head, and level 0 has room for as many updates more as the journal has for changes
+pub record IsMemoryOf (h : Head) (m : Memory) : Type 0 where
+  pub changes_max : m.changes_max ≡ h.sb.changes_max
+  pub versions_max : m.versions_max ≡ h.sb.versions_max
+  pub parents : m.parents ≡ head_versions h
+  pub updates : m.updates ≡ head_updates h
+  pub changes : m.changes ≡ head_changes h
+  pub entries : m.entries ≡ set_all (filter_map update_of h.journal)
+  pub room : h.sb.mem ≤ m.spare + length h.journal

@@ -1,0 +1,314 @@
+//! What an open store has in memory beside its levels and its journal: the tree of its versions, its
+//! counts, and level 0 with what the latest updates say.
+
+ghost use Rattle.std.specs.Prelude.{◌≡◌, ◌<◌, ◌≤◌, ℕ, ◌+◌, [], ◌∷◌, length, map, Some, None, IfOk, OnOk, OnErr, IsTrue, is_some};
+ghost use Rattle.strat_array.specs.Told.{TellsFound};
+ghost use Rattle.strat_base.specs.Change.{is_lawful};
+ghost use Rattle.strat_base.specs.ChangeView.{change_of};
+ghost use Rattle.strat_base.specs.EntryBytes.{fits_fields};
+ghost use Rattle.strat_base.specs.EntryView.{val_of};
+ghost use Rattle.strat_base.specs.Tree.{is_known, with_child, IsTree};
+ghost use Rattle.strat_base.specs.declared.limits.TheConstants.{PAIRS_MAX, VERSIONS_MAX};
+ghost use Rattle.strat_format.specs.Manifest.{are_older};
+ghost use Rattle.strat_level.specs.Memtable.{entries_held, ListStands};
+ghost use Rattle.strat_recovery.specs.TableOver.{are_known};
+ghost use Rattle.strat_state.specs.Reading.{live_of};
+ghost use Rattle.strat_store.specs.Memory.{refusal_of_update, refusal_of_clone, refusal_of_change, with_update, memory_after, HasRoomFor, reply_to, info_told, stat_told, emptied, fresh_memory};
+
+use std::alloc::Global;
+use std::marker::Model;
+use std::mem;
+use strat_arena::ArenaPool;
+use strat_array::Seen;
+use strat_base::{Change, NoMemory, PairBuf, Val, Version};
+use strat_level::Zero;
+use strat_model::{Refusal, Reply};
+use strat_tree::Tree;
+
+/// What a store has in memory of its versions and of level 0. Beside level 0 the next one may stand
+/// ready, which takes its place when level 0 has gone into the levels.
+#[derive(Drop)]
+pub struct Memory {
+    changes_max: u32,
+    versions_max: u32,
+    updates: u32,
+    changes: u32,
+    tree: Tree,
+    pool: ArenaPool,
+    zero: Zero,
+    next: Option<Zero>,
+}
+
+impl Model for Memory {
+    ghost use Rattle.strat_store.specs.Memory.{Memory as TheMemory};
+
+    ghost Value = { TheMemory };
+
+    ghost use Rattle.strat_store.specs.MemoryFields.{memory_held, IsInMemory};
+
+    ghost view = { memory_held };
+
+    ghost invariant = { IsInMemory };
+}
+
+/// Makes a version of each of these, a child of it.
+fn grow(tree: &mut Tree, parents: &[u32])
+    requires fits { IsTrue (are_older 1 parents.now) }
+    requires room { 1 + length parents.now ≤ tree.old.versions_max }
+    requires none { tree.old.parents ≡ None ∷ [] }
+    ensures ok { tree.new ≡ record tree.old { parents = None ∷ map (λ p. Some p) parents.now } }
+{
+    for p in parents {
+        tree.add_child(*p);
+    }
+}
+
+impl Memory {
+    /// Memory of a new store. It takes 1.3 KB for each of `mem` updates and 70 bytes for each version
+    /// that there may be; the only error is want of memory. Of the other calls `prepare` alone takes any.
+    pub fn new(
+        alloc: Global,
+        mem: u32,
+        changes_max: u32,
+        versions_max: u32,
+    ) -> Result<Memory, NoMemory>
+        requires fits { (4 ≤ mem) × (mem ≤ 4096) }
+        requires room { (1 ≤ versions_max) × (versions_max ≤ VERSIONS_MAX) }
+        ensures ok { IfOk result (λ m. m ≡ fresh_memory mem changes_max versions_max) }
+    {
+        let tree = Tree::new(alloc, versions_max)?;
+        let mut pool = ArenaPool::new(alloc);
+        let zero = Zero::new(alloc, &mut pool, mem)?;
+        Ok(Memory {
+            changes_max,
+            versions_max,
+            updates: 0,
+            changes: 0,
+            tree,
+            pool,
+            zero,
+            next: None,
+        })
+    }
+
+    /// Takes the versions and the counts of a manifest into new memory, where `parents` are those of
+    /// the versions from 1 on. O(versions log versions_max).
+    #[tactic(auto, using(crate::proofs::MemoryLemmas::known_none))]
+    pub fn load(&mut self, parents: &[u32], updates: u32, changes: u32)
+        requires fits { IsTrue (are_older 1 parents.now) }
+        requires room { 1 + length parents.now ≤ self.old.versions_max }
+        requires none { (self.old.parents ≡ None ∷ []) × (self.old.entries ≡ []) }
+        requires kept { (updates ≤ changes) × (changes ≤ self.old.changes_max) }
+        ensures ok { self.new ≡ record self.old {
+          parents = None ∷ map (λ p. Some p) parents.now;
+          updates = updates;
+          changes = changes;
+        } }
+    {
+        grow(&mut self.tree, parents);
+        self.updates = updates;
+        self.changes = changes;
+    }
+
+    /// Whether there is such a version. O(1).
+    pub fn has(&self, version: Version) -> bool
+        ensures ok { result ≡ is_known self.now.parents version }
+    {
+        version < self.tree.count()
+    }
+
+    fn update_refusal(&self, version: Version) -> Option<Refusal>
+        ensures ok { result ≡ refusal_of_update self.now version }
+    {
+        if !self.has(version) {
+            Some(Refusal::UnknownVersion)
+        } else if self.tree.has_child(version) {
+            Some(Refusal::Frozen)
+        } else if self.changes == self.changes_max {
+            Some(Refusal::ChangeLimit)
+        } else {
+            None
+        }
+    }
+
+    fn clone_refusal(&self, version: Version) -> Option<Refusal>
+        ensures ok { result ≡ refusal_of_clone self.now version }
+    {
+        if !self.has(version) {
+            Some(Refusal::UnknownVersion)
+        } else if self.tree.count() == self.versions_max {
+            Some(Refusal::VersionLimit)
+        } else if self.changes == self.changes_max {
+            Some(Refusal::ChangeLimit)
+        } else {
+            None
+        }
+    }
+
+    /// Why a change is refused, if it is. O(1).
+    pub fn refusal(&self, change: &Change<'_>) -> Option<Refusal>
+        ensures ok { result ≡ refusal_of_change self.now (change_of change.now) }
+    {
+        match *change {
+            Change::Put { version, .. } => self.update_refusal(version),
+            Change::Delete { version, .. } => self.update_refusal(version),
+            Change::Clone { version } => self.clone_refusal(version),
+        }
+    }
+
+    /// Sets an entry in level 0.
+    #[tactic(auto, using(crate::proofs::MemoryLemmas::known_set))]
+    fn set(&mut self, version: Version, key: &[u8], val: Val<'_>)
+        requires none { refusal_of_update self.old version ≡ None }
+        requires room { 1 ≤ self.old.spare }
+        requires fits { IsTrue (fits_fields (record {
+          key = key.now;
+          version = version;
+          value = val_of val;
+        })) }
+        ensures ok { self.new ≡ with_update self.old (record {
+          key = key.now;
+          version = version;
+          value = val_of val.entry;
+        }) }
+    {
+        self.updates += 1;
+        self.changes += 1;
+        self.zero.put(&mut self.pool, version, key, val);
+    }
+
+    /// Makes a version, a child of another.
+    #[tactic(auto, using(crate::proofs::MemoryLemmas::known_grown))]
+    fn add_child(&mut self, version: Version) -> Version
+        requires none { refusal_of_clone self.old version ≡ None }
+        ensures ok { self.new ≡ record self.old {
+          parents = with_child self.old.parents version;
+          changes = self.old.changes + 1;
+        } }
+        ensures found { result ≡ length self.old.parents }
+    {
+        // A tree says with its count that it has room.
+        let _ = self.tree.count();
+        self.changes += 1;
+        self.tree.add_child(version)
+    }
+
+    /// Carries out a change that is not refused, and answers what is told of it. It takes no memory.
+    /// An update costs one insertion into level 0, a clone O(log versions_max).
+    pub fn take(&mut self, change: &Change<'_>) -> Reply
+        requires none { refusal_of_change self.old (change_of change.now) ≡ None }
+        requires fits { IsTrue (is_lawful (change_of change.now)) }
+        requires room { HasRoomFor self.old (change_of change.now) }
+        ensures ok { self.new ≡ memory_after self.old (change_of change.now) }
+        ensures found { result ≡ reply_to self.old (change_of change.now) }
+    {
+        match *change {
+            Change::Put {
+                version,
+                key,
+                value,
+            } => {
+                self.set(version, key, Val::Put(value));
+                Reply::Done
+            }
+            Change::Delete { version, key } => {
+                self.set(version, key, Val::Gone);
+                Reply::Done
+            }
+            Change::Clone { version } => Reply::Made {
+                version: self.add_child(version),
+            },
+        }
+    }
+
+    /// What is told of a version that is there. O(1).
+    pub fn info(&self, version: Version) -> Reply
+        requires found { IsTrue (is_known self.now.parents version) }
+        ensures ok { result ≡ info_told self.now version }
+    {
+        Reply::Info {
+            parent: self.tree.parent(version),
+            depth: self.tree.depth(version),
+            frozen: self.tree.has_child(version),
+        }
+    }
+
+    /// How many versions there are, and how many updates and changes were accepted. O(1).
+    pub fn stat(&self) -> Reply
+        ensures ok { result ≡ stat_told self.now }
+    {
+        Reply::Stat {
+            versions: self.tree.count(),
+            updates: self.updates,
+            changes: self.changes,
+            cursors: 0,
+        }
+    }
+
+    /// What level 0 says of a key at a version. The pair of a value is added to `out`. O(log items)
+    /// comparisons of keys, and a walk over the items of the key at versions up to this one.
+    pub fn find(&self, key: &[u8], version: Version, out: &mut PairBuf) -> Seen
+        requires found { version < length self.now.parents }
+        requires room { length out.old < PAIRS_MAX }
+        ensures ok { TellsFound (live_of self.now.parents self.now.entries version key.now)
+            key.now out.old out.new result }
+    {
+        let Some(place) = self.zero.find(&self.pool, &self.tree, key, version) else {
+            return Seen::None;
+        };
+        match self.zero.value(&self.pool, place) {
+            None => Seen::Gone,
+            Some(value) => {
+                out.push(key, value);
+                Seen::Put
+            }
+        }
+    }
+
+    /// Level 0, the pool that has its keys and values, and the versions, as a promotion takes them. O(1).
+    #[tactic(auto, using(crate::proofs::MemoryLemmas::items_counted))]
+    pub fn parts(&self) -> (&Zero, &ArenaPool, &Tree)
+        ensures ok { entries_held result.1.now result.0.now.list ≡ self.now.entries }
+        ensures kept { ListStands result.1.now result.0.now.list }
+        ensures len { length result.0.now.list.items ≡ length self.now.entries }
+        ensures fits { IsTrue (are_known self.now.parents self.now.entries) }
+        ensures found { (result.2.now.parents ≡ self.now.parents) × IsTree result.2.now.parents }
+    {
+        let _ = self.tree.count();
+        (&self.zero, &self.pool, &self.tree)
+    }
+
+    /// Gives the next level 0 back, if one stands ready.
+    fn forget_next(&mut self)
+        ensures ok { self.new ≡ record self.old { ready = None } }
+    {
+        if let Some(next) = self.next.take() {
+            next.release(&mut self.pool);
+        }
+    }
+
+    /// Makes the next level 0, with room for `mem` updates of the largest pairs, 1.3 KB for each. It
+    /// takes the place of one that stands ready already. The only error is want of memory; then none
+    /// stands ready.
+    pub fn prepare(&mut self, alloc: Global, mem: u32) -> Result<(), NoMemory>
+        requires fits { (4 ≤ mem) × (mem ≤ 4096) }
+        ensures ok { OnOk result (self.new ≡ record self.old { ready = Some mem }) }
+        ensures err { OnErr result (self.new ≡ record self.old { ready = None }) }
+    {
+        self.forget_next();
+        let next = Zero::new(alloc, &mut self.pool, mem)?;
+        self.next = Some(next);
+        Ok(())
+    }
+
+    /// Puts the next level 0, which stands ready, in the place of level 0, whose memory is given back.
+    /// It takes no memory and cannot fail.
+    pub fn restart(&mut self)
+        requires found { IsTrue (is_some self.old.ready) }
+        ensures ok { (mem : ℕ) → self.old.ready ≡ Some mem → self.new ≡ emptied mem self.old }
+    {
+        if let Some(next) = self.next.take() {
+            mem::replace(&mut self.zero, next).release(&mut self.pool);
+        }
+    }
+}
