@@ -4,6 +4,8 @@ pub mod ChangeLemmas
 pub mod FollowLemmas
 pub mod FormatLemmas
 pub mod HeadSameLemmas
+pub mod LookLawLemmas
+pub mod LookLemmas
 pub mod NewBlockLemmas
 pub mod OpenedLemmas
 pub mod ReplayLemmas

@@ -2,6 +2,8 @@
 #![tactic(auto)]
 
 mod formatting;
+mod looking;
+pub mod looking_laws;
 mod manifest;
 mod opening;
 mod store;
