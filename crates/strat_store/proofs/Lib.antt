@@ -1,5 +1,6 @@
 pub mod AppliedLemmas
 pub mod AttachLemmas
+pub mod BelongingLemmas
 pub mod ChangeLemmas
 pub mod FollowLemmas
 pub mod FormatLemmas
@@ -8,6 +9,7 @@ pub mod LookLawLemmas
 pub mod LookLemmas
 pub mod NewBlockLemmas
 pub mod OpenedLemmas
+pub mod OwnLemmas
 pub mod ReplayLemmas
 pub mod ShutLemmas
 pub mod StaleLemmas

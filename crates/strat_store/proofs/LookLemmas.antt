@@ -29,7 +29,7 @@ use Rattle.strat_state.specs.Level.{is_distinct}
 use Rattle.strat_state.specs.LookUp.{looked_up, first_live}
 use Rattle.strat_state.specs.Reading.{live_of}
 use Rattle.strat_base.specs.Tree.{below}
-use Rattle.strat_store.specs.Looking.{levels_there, arrays_there, AreInOrder, AreCachedFrom, LooksThrough, NamesNoBlock, HaveOwnIds, MayBeAsked, array_at, said_by, decides, reads_of, reads_in}
+use Rattle.strat_store.specs.Looking.{levels_there, arrays_there, AreInOrder, AreCachedFrom, LooksThrough, NamesNoBlock, HaveOwnIds, MayBeAsked, asked_of_level, array_says, decides, reads_of_array, reads_in}
 
 -- the number of an array among others names it
 id_among : (arrays : List ArrayDesc) (b : ArrayDesc) → Among b arrays → Among b.id (map (λ a. a.id) arrays)
@@ -125,7 +125,7 @@ numbered_there levels (suc i) level e =
     let next : i + 1 ≡ suc i = omega arith in
     at_there levels i level (sym (level_next levels i) ∙ ap (λ (n : ℕ). level_numbered levels n) next ∙ e)
 
-pub asked_there : (parents : Parents) (levels : List (Option LevelDesc)) (number v : ℕ) (a : ArrayDesc) → array_at parents levels number v ≡ Some a → Contains (arrays_there levels) a
+pub asked_there : (parents : Parents) (levels : List (Option LevelDesc)) (number v : ℕ) (a : ArrayDesc) → asked_of_level parents levels number v ≡ Some a → Contains (arrays_there levels) a
 asked_there parents levels number v a e =
     let found = next_some (λ level. desc_for parents level v) (level_numbered levels number) a e in
     let among = find_some (is_for (below parents v found.0.horizon)) found.0.arrays a found.2 in
@@ -134,7 +134,7 @@ asked_there parents levels number v a e =
 -- what an array says, as it was found in the lists of its blocks
 pub tell_one : (content : Option Image) (f : Image) (a : ArrayDesc) (c : Blocks) (parents : Parents) (key : List ℕ) (v : ℕ) (old new : TheirPairs) (told : Seen) → content ≡ Some f → MayBeAsked f c a
     → ((lists : List (List Entry)) → ArrayStands content a.id (blocks_of a.extents) c None lists → IsTrue (is_ascending (all_in lists)) → TellsFound (live_of parents (all_in lists) v key) key old new told)
-    → TellsFound (said_by f parents v key (Some a)) key old new told
+    → TellsFound (array_says f parents v key (Some a)) key old new told
 tell_one content f a c parents key v old new told exposed may answers =
     let made = array_stands content f a.id (blocks_of a.extents) c may.entries exposed may.read may.cached in
     subst (λ (es : List Entry). TellsFound (live_of parents es v key) key old new told) (made.2 ∙ sym (ap (λ (o : Option (List Entry)). unwrap_or o []) may.read))
@@ -142,11 +142,11 @@ tell_one content f a c parents key v old new told exposed may answers =
 
 -- what is looked up in levels: what the first of them says, or else what the others do
 said_first : (f : Image) (parents : Parents) (v : ℕ) (key : List ℕ) (level : Option LevelDesc) (levels : List (Option LevelDesc))
-    → looked_up (on_disk f) parents [] (levels_there (level ∷ levels)) v key ≡ option_or (said_by f parents v key (option_and_then (λ l. desc_for parents l v) level)) (looked_up (on_disk f) parents [] (levels_there levels) v key)
+    → looked_up (on_disk f) parents [] (levels_there (level ∷ levels)) v key ≡ option_or (array_says f parents v key (option_and_then (λ l. desc_for parents l v) level)) (looked_up (on_disk f) parents [] (levels_there levels) v key)
 said_first f parents v key None levels = refl
 said_first f parents v key (Some level) levels =
     elim (desc_for parents level v) as (λ (o : Option ArrayDesc). first_live parents (cons_option (option_map (λ a. unwrap_or (entries_on f (blocks_of a.extents)) []) o) (filter_map (λ (l : LevelDesc). option_map (λ a. unwrap_or (entries_on f (blocks_of a.extents)) []) (desc_for parents l v)) (levels_there levels))) v key
-    ≡ option_or (said_by f parents v key o) (looked_up (on_disk f) parents [] (levels_there levels) v key)) [
+    ≡ option_or (array_says f parents v key o) (looked_up (on_disk f) parents [] (levels_there levels) v key)) [
       | None ↦ refl
       | Some a ↦ refl
     ]
@@ -178,7 +178,7 @@ passing_begins view levels parents key v c = record { looks = through_refl view 
 
 module _ (old mid : DiskView) (levels : List (Option LevelDesc)) (parents : Parents) (key : List ℕ) (v above : ℕ) (c d : Blocks) where
   abbrev asks : Option ArrayDesc
-  asks = array_at parents levels (above + 1) v
+  asks = asked_of_level parents levels (above + 1) v
 
   -- an array that is asked after others
   pub may_be_asked : Passing old mid levels parents key v above c d → (f : Image) (next : ℕ) → old.content ≡ Some f → AreInOrder f (arrays_there levels) → HaveOwnIds (arrays_there levels) → AreCachedFrom f next (arrays_there levels) c
@@ -193,15 +193,15 @@ module _ (old mid : DiskView) (levels : List (Option LevelDesc)) (parents : Pare
         cached = λ index block x there at. still_same old.content f (arrays_there levels) c d exposed own passing.looks.cached cached.same a index block x of there at;
       }
 
-  left_first : (f : Image) → above < length levels → looked_up (on_disk f) parents [] (levels_there (drop above levels)) v key ≡ option_or (said_by f parents v key asks) (looked_up (on_disk f) parents [] (levels_there (drop (above + 1) levels)) v key)
+  left_first : (f : Image) → above < length levels → looked_up (on_disk f) parents [] (levels_there (drop above levels)) v key ≡ option_or (array_says f parents v key asks) (looked_up (on_disk f) parents [] (levels_there (drop (above + 1) levels)) v key)
   left_first f within =
       ap (λ (ls : List (Option LevelDesc)). looked_up (on_disk f) parents [] (levels_there ls) v key) (drop_more levels above None within)
       ∙ said_first f parents v key (get_or levels above None) (drop (above + 1) levels)
-      ∙ ap (λ (o : Option LevelDesc). option_or (said_by f parents v key (option_and_then (λ l. desc_for parents l v) o)) (looked_up (on_disk f) parents [] (levels_there (drop (above + 1) levels)) v key)) (sym (level_next levels above))
+      ∙ ap (λ (o : Option LevelDesc). option_or (array_says f parents v key (option_and_then (λ l. desc_for parents l v) o)) (looked_up (on_disk f) parents [] (levels_there (drop (above + 1) levels)) v key)) (sym (level_next levels above))
 
   module _ (new : DiskView) (e : Blocks) (before after : TheirPairs) (told : Seen) where
     abbrev Asked : Type 0
-    Asked = (f : Image) → mid.content ≡ Some f → ((a : ArrayDesc) → asks ≡ Some a → MayBeAsked f d a) → TellsFound (said_by f parents v key asks) key before after told
+    Asked = (f : Image) → mid.content ≡ Some f → ((a : ArrayDesc) → asks ≡ Some a → MayBeAsked f d a) → TellsFound (array_says f parents v key asks) key before after told
 
     pub passes_on : above < length levels → Passing old mid levels parents key v above c d → LooksThrough mid new (arrays_there levels) d e → Asked → decides told ≡ false → Passing old new levels parents key v (above + 1) c e
     passes_on within passing looks answers none = record {
@@ -222,10 +222,10 @@ module _ (old mid : DiskView) (levels : List (Option LevelDesc)) (parents : Pare
 
 -- how many reads are left
 pub reads_left : (n : ℕ) (parents : Parents) (v above : ℕ) (levels : List (Option LevelDesc)) → above < length levels
-    → reads_in n parents v (drop above levels) ≡ reads_of n (array_at parents levels (above + 1) v) + reads_in n parents v (drop (above + 1) levels)
+    → reads_in n parents v (drop above levels) ≡ reads_of_array n (asked_of_level parents levels (above + 1) v) + reads_in n parents v (drop (above + 1) levels)
 reads_left n parents v above levels within =
     ap (reads_in n parents v) (drop_more levels above None within)
-    ∙ ap (λ (o : Option LevelDesc). reads_of n (option_and_then (λ l. desc_for parents l v) o) + reads_in n parents v (drop (above + 1) levels)) (sym (level_next levels above))
+    ∙ ap (λ (o : Option LevelDesc). reads_of_array n (option_and_then (λ l. desc_for parents l v) o) + reads_in n parents v (drop (above + 1) levels)) (sym (level_next levels above))
 
 -- a block that a list of arrays names, where one of them does
 pub names_one : (content : Option Image) (arrays : List ArrayDesc) (a : ArrayDesc) (b : ℕ) → Contains arrays a → IsNoBlock content (blocks_of a.extents) b → NamesNoBlock content arrays b

@@ -63,14 +63,14 @@ abbrev pub HaveOwnIds : List ArrayDesc → Type 0
 HaveOwnIds arrays = IsTrue (is_distinct (map (λ a. a.id) arrays))
 
 -- the array that is asked at a version in the level of a number
-abbrev pub array_at : Parents → List (Option LevelDesc) → ℕ → ℕ → Option ArrayDesc
-array_at parents levels number v =
+abbrev pub asked_of_level : Parents → List (Option LevelDesc) → ℕ → ℕ → Option ArrayDesc
+asked_of_level parents levels number v =
     option_and_then (λ level. desc_for parents level v) (level_numbered levels number)
 
 -- what an array says of a key at a version, by its blocks in an image
-abbrev pub said_by : Image → Parents → ℕ → List ℕ → Option ArrayDesc → Option Entry
-said_by f parents v key None = None
-said_by f parents v key (Some a) =
+abbrev pub array_says : Image → Parents → ℕ → List ℕ → Option ArrayDesc → Option Entry
+array_says f parents v key None = None
+array_says f parents v key (Some a) =
     live_of parents (unwrap_or (entries_on f (blocks_of a.extents)) []) v key
 
 -- in an image an array has entries, in order, and its blocks in a cache are as the image has them
@@ -88,12 +88,12 @@ decides seen.Gone = true
 decides seen.Put = true
 
 -- how many blocks a look-up reads of an array at most, which has fewer than 2^n; of none it reads none
-abbrev pub reads_of : ℕ → Option ArrayDesc → ℕ
-reads_of n None = 0
-reads_of n (Some a) = n + 1 + length (blocks_of a.extents)
+abbrev pub reads_of_array : ℕ → Option ArrayDesc → ℕ
+reads_of_array n None = 0
+reads_of_array n (Some a) = n + 1 + length (blocks_of a.extents)
 
 -- how many blocks a look-up at a version reads in levels at most, of each array fewer than 2^n
 abbrev pub reads_in : ℕ → Parents → ℕ → List (Option LevelDesc) → ℕ
 reads_in n parents v [] = 0
 reads_in n parents v (level ∷ levels) =
-    reads_of n (option_and_then (λ l. desc_for parents l v) level) + reads_in n parents v levels
+    reads_of_array n (option_and_then (λ l. desc_for parents l v) level) + reads_in n parents v levels

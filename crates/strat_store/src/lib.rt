@@ -1,6 +1,7 @@
 //! The store: making one on a disk, recovering it, and carrying out commands.
 #![tactic(auto)]
 
+mod belonging;
 mod formatting;
 mod looking;
 pub mod looking_laws;

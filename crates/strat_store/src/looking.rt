@@ -11,7 +11,7 @@ ghost use Rattle.strat_crash.specs.Moments.{Exposes};
 ghost use Rattle.strat_format.specs.Arrays.{blocks_of};
 ghost use Rattle.strat_recovery.specs.Asked.{on_disk};
 ghost use Rattle.strat_state.specs.LookUp.{looked_up};
-ghost use Rattle.strat_store.specs.Looking.{levels_there, arrays_there, MayBeFound, AreInOrder, AreCachedFrom, LooksThrough, NamesNoBlock, HaveOwnIds, MayBeAsked, array_at, said_by, decides, reads_of, reads_in};
+ghost use Rattle.strat_store.specs.Looking.{levels_there, arrays_there, MayBeFound, AreInOrder, AreCachedFrom, LooksThrough, NamesNoBlock, HaveOwnIds, MayBeAsked, asked_of_level, array_says, decides, reads_of_array, reads_in};
 
 use strat_array::{Cache, Scratch, Seen, find};
 use strat_base::limits::LEVELS;
@@ -47,10 +47,10 @@ fn ask_level<D: Disk>(
     requires kept { v < length tree.now.parents }
     requires room { length out.old < PAIRS_MAX }
     ensures found { IfOk result (λ seen. (f : Image) → Exposes (D.view disk.old) f
-        → ((a : ArrayDesc) → array_at tree.now.parents levels.now number v ≡ Some a
+        → ((a : ArrayDesc) → asked_of_level tree.now.parents levels.now number v ≡ Some a
         → MayBeAsked f cache.old a)
-        → TellsFound (said_by f tree.now.parents v key.now
-        (array_at tree.now.parents levels.now number v)) key.now out.old out.new seen) }
+        → TellsFound (array_says f tree.now.parents v key.now
+        (asked_of_level tree.now.parents levels.now number v)) key.now out.old out.new seen) }
     ensures err { OnErr result (out.new ≡ out.old) }
     ensures len { IfOk result (λ seen. AddsPair out.old out.new seen) }
     ensures same { LooksThrough (D.view disk.old) (D.view disk.new)
@@ -60,7 +60,7 @@ fn ask_level<D: Disk>(
     ensures cause { HasCause Device (D.faults disk.old) (D.faults disk.new) result }
     ensures reads { (n : ℕ) → ((a : ArrayDesc) → Contains (arrays_there levels.now) a
         → length (blocks_of a.extents) < 2 ^ n)
-        → ReadsAtMost (reads_of n (array_at tree.now.parents levels.now number v))
+        → ReadsAtMost (reads_of_array n (asked_of_level tree.now.parents levels.now number v))
         (D.reads disk.old) (D.reads disk.new) }
 {
     match levels.array_for(tree, number, v) {

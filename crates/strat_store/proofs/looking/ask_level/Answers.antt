@@ -3,7 +3,7 @@ use Rattle.strat_array.proofs.SearchLemmas.{if_ok_then}
 use Rattle.strat_array.specs.Told.{TellsFound}
 use Rattle.strat_base.specs.declared.descriptors.ArrayDesc.{ArrayDesc}
 use Rattle.strat_crash.specs.Faults.{ReadsAtMost}
-use Rattle.strat_store.specs.Looking.{arrays_there, array_at, said_by, reads_of}
+use Rattle.strat_store.specs.Looking.{arrays_there, asked_of_level, array_says, reads_of_array}
 use Rattle.strat_store.proofs.LookLemmas.{asked_there, tell_one, through_one, names_one}
 use Rattle.strat_store.proofs.looking.ask_level.Goals as goal
 
@@ -14,9 +14,9 @@ find-requires-clause-fits g c =
 
 pub returns-in-Some-clause-found : goal.returns-in-Some-clause-found
 returns-in-Some-clause-found g c =
-    let is : array_at c.args.tree.now.parents c.args.levels.now c.args.number c.args.v ≡ Some c.in-Some.desc.now = sym (rw c.in-Some.is at c.array_for.ensures.ok) in
+    let is : asked_of_level c.args.tree.now.parents c.args.levels.now c.args.number c.args.v ≡ Some c.in-Some.desc.now = sym (rw c.in-Some.is at c.array_for.ensures.ok) in
     if_ok_then c.find.result c.find.ensures.found (λ told answers f exposed may.
-    subst (λ (o : Option ArrayDesc). TellsFound (said_by f c.args.tree.now.parents c.args.v c.args.key.now o) c.args.key.now c.args.out.now c.find.new.out told) (sym is)
+    subst (λ (o : Option ArrayDesc). TellsFound (array_says f c.args.tree.now.parents c.args.v c.args.key.now o) c.args.key.now c.args.out.now c.find.new.out told) (sym is)
     (tell_one _ f c.in-Some.desc.now c.args.cache.now c.args.tree.now.parents c.args.key.now c.args.v c.args.out.now c.find.new.out told exposed (may c.in-Some.desc.now is) answers))
 
 pub returns-in-Some-clause-same : goal.returns-in-Some-clause-same
@@ -33,6 +33,6 @@ returns-in-Some-clause-damaged g c = λ b torn.
 
 pub returns-in-Some-clause-reads : goal.returns-in-Some-clause-reads
 returns-in-Some-clause-reads g c = λ n each.
-    let is : array_at c.args.tree.now.parents c.args.levels.now c.args.number c.args.v ≡ Some c.in-Some.desc.now = sym (rw c.in-Some.is at c.array_for.ensures.ok) in
-    subst (λ (o : Option ArrayDesc). ReadsAtMost (reads_of n o) (g.D.Disk.reads c.args.disk.now) (g.D.Disk.reads c.find.new.disk)) (sym is)
+    let is : asked_of_level c.args.tree.now.parents c.args.levels.now c.args.number c.args.v ≡ Some c.in-Some.desc.now = sym (rw c.in-Some.is at c.array_for.ensures.ok) in
+    subst (λ (o : Option ArrayDesc). ReadsAtMost (reads_of_array n o) (g.D.Disk.reads c.args.disk.now) (g.D.Disk.reads c.find.new.disk)) (sym is)
     (c.find.ensures.reads n (each c.in-Some.desc.now (asked_there c.args.tree.now.parents c.args.levels.now c.args.number c.args.v c.in-Some.desc.now is)))
