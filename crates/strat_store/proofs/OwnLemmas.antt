@@ -2,9 +2,9 @@
 use Rattle.std.proofs.Common.{◌≡◌, ◌<◌, ◌≤◌, ◌+◌, ◌^◌, ℕ, Bool, true, false, cond, leb, ltb, eqb, not, ◌&&◌, ◌↔◌, drop, get_or, length, Contains, List, [], ◌∷◌, ◌++◌, inl, inr, IsTrue, refl, sym, ap, ◌∙◌, subst, arith, true≢false, zero, suc}
 use Rattle.std.proofs.lemmas.Bool.{and_parts, and_from, cases_Bool, leb-true, ltb-true, eqb-true, eq-eqb, ltb-false, not-true, false_from_ne_true}
 use Rattle.std.proofs.lemmas.Grind.{flat_map-append}
-use Rattle.std.proofs.lemmas.List.{drop_more}
-use Rattle.std.proofs.lemmas.List.Concat.{flat_map-cons}
+use Rattle.std.proofs.lemmas.List.{drop_more, drop_all}
 use Rattle.std.proofs.lemmas.List.Sums.{sum_by-cons}
+use Rattle.std.specs.Bool.{MatchBool}
 use Rattle.std.specs.List.{count_by, flat_map, list_all, list_any}
 use Rattle.strat_base.proofs.ListFacts.{Among, all_at, any_from}
 use Rattle.strat_base.specs.declared.descriptors.ArrayDesc.{ArrayDesc}
@@ -63,25 +63,25 @@ marking_step old mid new xs left all m more = record {
 pub marking_ends : (old now : SpaceView) (all : List Extent) → Marking old now [] all → UsesMore old all now
 marking_ends old now all m = m.marked now (record { first = refl; used = λ b. omega arith })
 
-module _ (arrays : List ArrayDesc) (i : ℕ) (d : ArrayDesc) (within : i < length arrays) (old mid : SpaceView) (all : List Extent) where
-  array_first : extents_of (drop i arrays) ≡ (get_or arrays i d).extents ++ extents_of (drop (i + 1) arrays)
-  array_first = ap extents_of (drop_more arrays i d within) ∙ flat_map-cons (λ (a : ArrayDesc). a.extents) (get_or arrays i d) (drop (i + 1) arrays)
+module _ (arrays : List ArrayDesc) (i : ℕ) (x : ArrayDesc) (within : i < length arrays) (same : x ≡ get_or arrays i x) (old mid : SpaceView) (all : List Extent) where
+  array_first : extents_of (drop i arrays) ≡ x.extents ++ extents_of (drop (i + 1) arrays)
+  array_first = ap extents_of (drop_more arrays i x within) ∙ ap (λ (a : ArrayDesc). a.extents ++ extents_of (drop (i + 1) arrays)) (sym same)
 
-  pub array_marked : (new : SpaceView) → Marking old mid (extents_of (drop i arrays)) all → UsesMore mid (get_or arrays i d).extents new → Marking old new (extents_of (drop (i + 1) arrays)) all
-  array_marked new m more = marking_step old mid new (get_or arrays i d).extents (extents_of (drop (i + 1) arrays)) all (subst (λ (xs : List Extent). Marking old mid xs all) array_first m) more
+  pub array_marked : (new : SpaceView) → Marking old mid (extents_of (drop i arrays)) all → IsMarked mid x.extents new → Marking old new (extents_of (drop (i + 1) arrays)) all
+  array_marked new m more = marking_step old mid new x.extents (extents_of (drop (i + 1) arrays)) all (subst (λ (xs : List Extent). Marking old mid xs all) array_first m) (marked_more mid new x.extents more)
 
-  pub array_fails : Marking old mid (extents_of (drop i arrays)) all → (CanMark mid (get_or arrays i d).extents → ⊥) → CanMark old all → ⊥
-  array_fails m none can = none (can_front mid (get_or arrays i d).extents (extents_of (drop (i + 1) arrays)) (subst (CanMark mid) array_first (m.can can)))
+  pub array_fails : Marking old mid (extents_of (drop i arrays)) all → (CanMark mid x.extents → ⊥) → CanMark old all → ⊥
+  array_fails m none can = none (can_front mid x.extents (extents_of (drop (i + 1) arrays)) (subst (CanMark mid) array_first (m.can can)))
 
-module _ (levels : List LevelDesc) (i : ℕ) (d : LevelDesc) (within : i < length levels) (old mid : SpaceView) (all : List Extent) where
+module _ (levels : List LevelDesc) (i : ℕ) (x : LevelDesc) (within : i < length levels) (same : x ≡ get_or levels i x) (old mid : SpaceView) (all : List Extent) where
   abbrev mine : List Extent
-  mine = extents_of (get_or levels i d).arrays
+  mine = extents_of x.arrays
 
   level_first : extents_of (arrays_in (drop i levels)) ≡ mine ++ extents_of (arrays_in (drop (i + 1) levels))
   level_first =
-      ap (λ (ls : List LevelDesc). extents_of (arrays_in ls)) (drop_more levels i d within)
-      ∙ ap extents_of (flat_map-cons (λ (l : LevelDesc). l.arrays) (get_or levels i d) (drop (i + 1) levels))
-      ∙ flat_map-append (λ (a : ArrayDesc). a.extents) (get_or levels i d).arrays (arrays_in (drop (i + 1) levels))
+      ap (λ (ls : List LevelDesc). extents_of (arrays_in ls)) (drop_more levels i x within)
+      ∙ ap (λ (l : LevelDesc). extents_of (l.arrays ++ arrays_in (drop (i + 1) levels))) (sym same)
+      ∙ flat_map-append (λ (a : ArrayDesc). a.extents) x.arrays (arrays_in (drop (i + 1) levels))
 
   pub level_marked : (new : SpaceView) → Marking old mid (extents_of (arrays_in (drop i levels))) all → UsesMore mid mine new → Marking old new (extents_of (arrays_in (drop (i + 1) levels))) all
   level_marked new m more = marking_step old mid new mine (extents_of (arrays_in (drop (i + 1) levels))) all (subst (λ (xs : List Extent). Marking old mid xs all) level_first m) more
@@ -89,15 +89,30 @@ module _ (levels : List LevelDesc) (i : ℕ) (d : LevelDesc) (within : i < lengt
   pub level_fails : Marking old mid (extents_of (arrays_in (drop i levels))) all → (CanMark mid mine → ⊥) → CanMark old all → ⊥
   level_fails m none can = none (can_front mid mine (extents_of (arrays_in (drop (i + 1) levels))) (subst (CanMark mid) level_first (m.can can)))
 
+-- nothing is left at the end
+pub arrays_end : (arrays : List ArrayDesc) (i : ℕ) (old now : SpaceView) → length arrays ≤ i → Marking old now (extents_of (drop i arrays)) (extents_of arrays) → UsesMore old (extents_of arrays) now
+arrays_end arrays i old now past m = marking_ends old now (extents_of arrays) (subst (λ (rs : List ArrayDesc). Marking old now (extents_of rs) (extents_of arrays)) (drop_all i arrays past) m)
+
+pub levels_end : (levels : List LevelDesc) (i : ℕ) (old now : SpaceView) → length levels ≤ i → Marking old now (extents_of (arrays_in (drop i levels))) (extents_of (arrays_in levels)) → UsesMore old (extents_of (arrays_in levels)) now
+levels_end levels i old now past m = marking_ends old now (extents_of (arrays_in levels)) (subst (λ (ls : List LevelDesc). Marking old now (extents_of (arrays_in ls)) (extents_of (arrays_in levels))) (drop_all i levels past) m)
+
+-- a mark that was refused cannot be made
+pub refused : (marked : Bool) (P : Type 0) → marked ≡ false → (P → marked ≡ true) → P → ⊥
+refused marked P no' if_so p = true≢false (sym (if_so p) ∙ no')
+
 -- a chain and what is marked after it
 pub chain_fails : (s : SpaceView) (chain rest : List Extent) → (CanMark s chain → ⊥) → CanMark s (chain ++ rest) → ⊥
 chain_fails s chain rest none can = none (can_front s chain rest can)
 
-pub rest_fails : (s t : SpaceView) (chain rest : List Extent) → IsMarked s chain t → (CanMark t rest → ⊥) → CanMark s (chain ++ rest) → ⊥
+rest_fails : (s t : SpaceView) (chain rest : List Extent) → IsMarked s chain t → (CanMark t rest → ⊥) → CanMark s (chain ++ rest) → ⊥
 rest_fails s t chain rest marked none can = none (can_back s t chain rest can (marked_more s t chain marked))
 
-pub all_marked : (s t u : SpaceView) (chain rest : List Extent) → IsMarked s chain t → UsesMore t rest u → UsesMore s (chain ++ rest) u
+all_marked : (s t u : SpaceView) (chain rest : List Extent) → IsMarked s chain t → UsesMore t rest u → UsesMore s (chain ++ rest) u
 all_marked s t u chain rest marked more = uses_both s t u chain rest (marked_more s t chain marked) more
+
+pub marks_both : (marked : Bool) (s t u : SpaceView) (chain rest : List Extent) → IsMarked s chain t → MatchBool marked (UsesMore t rest u) (CanMark t rest → ⊥) → MatchBool marked (UsesMore s (chain ++ rest) u) (CanMark s (chain ++ rest) → ⊥)
+marks_both true s t u chain rest marked more = all_marked s t u chain rest marked more
+marks_both false s t u chain rest marked none = rest_fails s t chain rest marked none
 
 -- a number stands in a list where it is counted
 abbrev counted : List ℕ → ℕ → ℕ

@@ -147,7 +147,8 @@ fn mark_all(space: &mut Space, chain: &Extents, levels: &[LevelDesc]) -> Result<
     if !space.mark(chain)? {
         return Ok(false);
     }
-    mark_levels(space, levels)
+    let marked = mark_levels(space, levels)?;
+    Ok(marked)
 }
 
 /// The space in which just the blocks of a manifest's chain and of its arrays are used, or `None` where one of them
