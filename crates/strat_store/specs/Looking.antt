@@ -96,4 +96,5 @@ reads_of_array n (Some a) = n + 1 + length (blocks_of a.extents)
 abbrev pub reads_in : ℕ → Parents → ℕ → List (Option LevelDesc) → ℕ
 reads_in n parents v [] = 0
 reads_in n parents v (level ∷ levels) =
-    reads_of_array n (option_and_then (λ l. desc_for parents l v) level) + reads_in n parents v levels
+    reads_of_array n (option_and_then (λ l. desc_for parents l v) level)
+    + reads_in n parents v levels

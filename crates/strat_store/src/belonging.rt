@@ -1,7 +1,7 @@
 //! Tests of a manifest against its superblock: whether a store may have it.
 
-ghost use Rattle.std.specs.List.{list_all, sum_by};
-ghost use Rattle.std.specs.Prelude.{◌≡◌, ◌≤◌, ◌+◌, ◌-◌, ◌*◌, ◌^◌, ◌&&◌, ◌++◌, [], nat_le, min, false, MatchBool, IfOk, IfSome, IfNone, IsTrue};
+ghost use Rattle.std.specs.List.{flat_map, list_all, sum_by};
+ghost use Rattle.std.specs.Prelude.{◌≡◌, ◌≤◌, ◌+◌, ◌-◌, ◌*◌, ◌^◌, ◌&&◌, ◌++◌, [], nat_le, nat_lt, min, false, MatchBool, IfOk, IfSome, IfNone, IsTrue};
 ghost use Rattle.strat_extent.specs.Change.{CanMark};
 ghost use Rattle.strat_format.specs.Arrays.{blocks_of};
 ghost use Rattle.strat_format.specs.Layout as places;
@@ -13,7 +13,7 @@ ghost use Rattle.strat_standing.specs.Occupied.{IsSpaceOf, UsesMore, arrays_in, 
 ghost use Rattle.strat_store.specs.Held.{UsesJust};
 
 use std::alloc::Global;
-use strat_base::{ArrayDesc, Extent, Extents, LevelDesc, NoMemory};
+use strat_base::{ArrayDesc, Extent, Extents, LevelDesc, NoMemory, Version};
 use strat_extent::Space;
 use strat_format::first_free;
 
@@ -108,6 +108,32 @@ pub(crate) fn has_few_publications(
 {
     let changes = changes as u64;
     generation <= changes + 1 && next_array <= 16384 * changes + 1 && written <= 33554432 * changes
+}
+
+/// Whether each version of a tag is below a horizon.
+fn are_below(versions: &[Version], horizon: Version) -> bool
+    ensures ok { result ≡ list_all (λ v. nat_lt v horizon) versions.now }
+{
+    for version in versions {
+        if *version >= horizon {
+            return false;
+        }
+    }
+    true
+}
+
+/// Whether each version in a tag of a level is below its horizon. O(lengths of all tags).
+pub(crate) fn has_low_tags(level: &LevelDesc) -> bool
+    ensures ok { result ≡ list_all (λ v. nat_lt v level.now.horizon)
+        (flat_map (λ a. a.versions) level.now.arrays) }
+{
+    let arrays = level.arrays.as_slice();
+    for array in arrays {
+        if !are_below(array.versions.as_slice(), level.horizon) {
+            return false;
+        }
+    }
+    true
 }
 
 /// Makes the blocks of arrays used, as long as none of them is used or stands twice, and says whether that is so.
