@@ -1,5 +1,5 @@
 -- A walk to the entry that decides a key at a version.
-use Rattle.std.proofs.Common.{◌≡◌, ◌+◌, ℕ, get_or, List, [], ◌∷◌, ◌++◌, Option, Some, None, IfSome, IsTrue, refl, sym, ap, ◌∙◌, subst}
+use Rattle.std.proofs.Common.{◌≡◌, ◌+◌, ℕ, get_or, List, [], ◌∷◌, ◌++◌, length, Option, Some, None, IfSome, IsTrue, refl, sym, ap, ◌∙◌, subst, length-append}
 use Rattle.std.specs.List.{list_all, find, slice_get}
 use Rattle.std.proofs.lemmas.Bool.{and_parts}
 use Rattle.strat_base.specs.Tree.{Parents, is_ancestor}
@@ -9,7 +9,7 @@ use Rattle.strat_crash.specs.Moments.{DiskView}
 use Rattle.strat_array.specs.declared.place.Place.{Place}
 use Rattle.strat_array.specs.declared.seen.Seen.{Seen}
 use Rattle.strat_array.specs.declared.seen.Seen.TheVariants as seen
-use Rattle.strat_array.specs.Told.{TheirPairs, TellsFound, Judges}
+use Rattle.strat_array.specs.Told.{TheirPairs, TellsFound, AddsPair, Judges}
 use Rattle.strat_array.specs.Kept.{Kept, Blocks, Looks, ArrayStands}
 use Rattle.strat_array.specs.Left.{is_from}
 use Rattle.strat_array.specs.Steps.{left_from, Settles, HoldsPlace}
@@ -81,3 +81,9 @@ module _ (old mid now : DiskView) (array : ℕ) (blocks : List ℕ) (c d e : Blo
         let found = found_here (is_seen_at parents key v) key (left_from lists first) (left_from lists next) entry (there lists stands up from) judged.0 in
         let of : entry.key ≡ key = is_of_key key entry (and_parts (is_of key entry) (is_ancestor parents entry.version v) judged.0).0 in
         (entry, judged.1.0, found, judged.1.1, judged.1.2 ∙ ap (λ (k : List ℕ). pairs ++ (k, judged.1.0) ∷ []) of)
+
+-- an entry that decides a key adds a pair where it has a value
+pub judged_adds : (parents : Parents) (key : List ℕ) (v : ℕ) (e : Entry) (old new : TheirPairs) (told : Seen) → Judges parents key v e old new (Some told) → AddsPair old new told
+judged_adds parents key v e old new seen.None judged = judged.1
+judged_adds parents key v e old new seen.Gone judged = judged.1.1
+judged_adds parents key v e old new seen.Put judged = ap (λ (l : TheirPairs). length l) judged.1.2 ∙ length-append {A = List ℕ × List ℕ} old ((e.key, judged.1.0) ∷ [])

@@ -1,5 +1,5 @@
 -- What is found of a key at a version, and how it is told.
-use Rattle.std.specs.Prelude.{◌≡◌, ℕ, true, false, List, [], ◌∷◌, ◌++◌, Option, Some, None}
+use Rattle.std.specs.Prelude.{◌≡◌, ℕ, ◌+◌, true, false, List, [], ◌∷◌, ◌++◌, length, Option, Some, None}
 use Rattle.strat_base.specs.Entries.{Entry, is_of}
 use Rattle.strat_base.specs.Tree.{Parents}
 use Rattle.strat_array.specs.Walk.{is_seen_at}
@@ -34,3 +34,9 @@ Judges parents key v e old new (Some seen.Gone) =
     (is_seen_at parents key v e ≡ true) × Tells e old new seen.Gone
 Judges parents key v e old new (Some seen.Put) =
     (is_seen_at parents key v e ≡ true) × Tells e old new seen.Put
+
+-- an answer added a pair where it found a value, and else none
+abbrev pub AddsPair : TheirPairs → TheirPairs → Seen → Type 0
+AddsPair old new seen.Put = length new ≡ length old + 1
+AddsPair old new seen.Gone = new ≡ old
+AddsPair old new seen.None = new ≡ old

@@ -11,7 +11,7 @@ ghost use Rattle.strat_base.specs.declared.limits.TheConstants.{PAIRS_MAX};
 ghost use Rattle.strat_crash.specs.Faults.{HasCause, ReadsAtMost};
 ghost use Rattle.strat_format.specs.Arrays.{blocks_of};
 ghost use Rattle.strat_state.specs.Reading.{live_of};
-ghost use Rattle.strat_array.specs.Told.{TellsFound, Judges, Tells};
+ghost use Rattle.strat_array.specs.Told.{TellsFound, AddsPair, Judges, Tells};
 ghost use Rattle.strat_array.specs.Kept.{Looks, ArrayStands};
 ghost use Rattle.strat_array.specs.Left.{all_in, is_from};
 ghost use Rattle.strat_array.specs.Steps.{blocks_ahead, left_from};
@@ -91,6 +91,7 @@ fn live_from<D: Disk>(
         → TellsFound (find (is_seen_at tree.now.parents key.now v) (left_from lists place))
         key.now out.old out.new seen) }
     ensures err { OnErr result (out.new ≡ out.old) }
+    ensures len { IfOk result (λ seen. AddsPair out.old out.new seen) }
     ensures same { Looks (D.view disk.old) (D.view disk.new)
         desc.now.id (blocks_of desc.now.extents) cache.old cache.new scratch.old scratch.new }
     ensures damaged { (b : ℕ) → IsErrOf result (Damaged b)
@@ -137,6 +138,7 @@ pub fn find<D: Disk>(
         → TellsFound (live_of tree.now.parents (all_in lists) v key.now)
         key.now out.old out.new seen) }
     ensures err { OnErr result (out.new ≡ out.old) }
+    ensures len { IfOk result (λ seen. AddsPair out.old out.new seen) }
     ensures same { Looks (D.view disk.old) (D.view disk.new)
         desc.now.id (blocks_of desc.now.extents) cache.old cache.new None scratch.new }
     ensures damaged { (b : ℕ) → IsErrOf result (Damaged b)

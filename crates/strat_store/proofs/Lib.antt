@@ -1,13 +1,17 @@
 pub mod AppliedLemmas
 pub mod AttachLemmas
+pub mod BelongingLemmas
 pub mod ChangeLemmas
 pub mod FollowLemmas
 pub mod FormatLemmas
 pub mod HeadSameLemmas
 pub mod MemoryLawLemmas
 pub mod MemoryLemmas
+pub mod LookLawLemmas
+pub mod LookLemmas
 pub mod NewBlockLemmas
 pub mod OpenedLemmas
+pub mod OwnLemmas
 pub mod ReplayLemmas
 pub mod ShutLemmas
 pub mod StaleLemmas

@@ -1,14 +1,20 @@
 -- What a look-up finds in the levels of a store, through a cache of blocks.
-use Rattle.std.specs.Prelude.{◌≡◌, ◌<◌, ℕ, List, ◌⊎◌, Contains, flat_map, slice_get, Option, Some, None, IsTrue}
+use Rattle.std.specs.Prelude.{◌≡◌, ◌<◌, ℕ, ◌+◌, Bool, true, false, List, [], ◌∷◌, length, ◌⊎◌, Contains, flat_map, map, slice_get, Option, Some, None, unwrap_or, option_and_then, IsTrue}
 use Rattle.std.specs.List.{filter_map}
 use Rattle.strat_array.specs.Kept.{Blocks, IsBlockRead}
 use Rattle.strat_array.specs.Within.{AreWithin, IsNoBlock}
+use Rattle.strat_array.specs.declared.seen.Seen.{Seen}
+use Rattle.strat_array.specs.declared.seen.Seen.TheVariants as seen
 use Rattle.strat_base.specs.Entries.{Entry, is_ascending}
+use Rattle.strat_base.specs.Tree.{Parents}
 use Rattle.strat_base.specs.declared.descriptors.ArrayDesc.{ArrayDesc}
 use Rattle.strat_base.specs.declared.descriptors.LevelDesc.{LevelDesc}
 use Rattle.strat_crash.specs.Image.{Image}
 use Rattle.strat_crash.specs.Moments.{DiskView, OnlyReads}
 use Rattle.strat_format.specs.Arrays.{blocks_of, block_on, entries_on}
+use Rattle.strat_level.specs.Levels.{desc_for, level_numbered}
+use Rattle.strat_state.specs.Level.{is_distinct}
+use Rattle.strat_state.specs.Reading.{live_of}
 
 -- the levels that are there, the shallowest first
 abbrev pub levels_there : List (Option LevelDesc) → List LevelDesc
@@ -51,3 +57,44 @@ pub record NamesNoBlock (content : Option Image) (arrays : List ArrayDesc) (b : 
   pub array : ArrayDesc
   pub one : Contains arrays array
   pub none : IsNoBlock content (blocks_of array.extents) b
+
+-- no two of these arrays have one number
+abbrev pub HaveOwnIds : List ArrayDesc → Type 0
+HaveOwnIds arrays = IsTrue (is_distinct (map (λ a. a.id) arrays))
+
+-- the array that is asked at a version in the level of a number
+abbrev pub asked_of_level : Parents → List (Option LevelDesc) → ℕ → ℕ → Option ArrayDesc
+asked_of_level parents levels number v =
+    option_and_then (λ level. desc_for parents level v) (level_numbered levels number)
+
+-- what an array says of a key at a version, by its blocks in an image
+abbrev pub array_says : Image → Parents → ℕ → List ℕ → Option ArrayDesc → Option Entry
+array_says f parents v key None = None
+array_says f parents v key (Some a) =
+    live_of parents (unwrap_or (entries_on f (blocks_of a.extents)) []) v key
+
+-- in an image an array has entries, in order, and its blocks in a cache are as the image has them
+pub record MayBeAsked (f : Image) (c : Blocks) (a : ArrayDesc) : Type 0 where
+  pub entries : List Entry
+  pub read : entries_on f (blocks_of a.extents) ≡ Some entries
+  pub ordered : IsTrue (is_ascending entries)
+  pub cached : (index block : ℕ) (x : List Entry) → Contains c.entries ((a.id, index), x)
+      → slice_get (blocks_of a.extents) index ≡ Some block → block_on f block ≡ Some x
+
+-- an answer ends a look-up: it says something
+abbrev pub decides : Seen → Bool
+decides seen.None = false
+decides seen.Gone = true
+decides seen.Put = true
+
+-- how many blocks a look-up reads of an array at most, which has fewer than 2^n; of none it reads none
+abbrev pub reads_of_array : ℕ → Option ArrayDesc → ℕ
+reads_of_array n None = 0
+reads_of_array n (Some a) = n + 1 + length (blocks_of a.extents)
+
+-- how many blocks a look-up at a version reads in levels at most, of each array fewer than 2^n
+abbrev pub reads_in : ℕ → Parents → ℕ → List (Option LevelDesc) → ℕ
+reads_in n parents v [] = 0
+reads_in n parents v (level ∷ levels) =
+    reads_of_array n (option_and_then (λ l. desc_for parents l v) level)
+    + reads_in n parents v levels

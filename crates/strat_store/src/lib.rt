@@ -1,7 +1,10 @@
 //! The store: making one on a disk, recovering it, and carrying out commands.
 #![tactic(auto)]
 
+mod belonging;
 mod formatting;
+mod looking;
+pub mod looking_laws;
 mod manifest;
 mod memory;
 pub mod memory_laws;

@@ -2,12 +2,12 @@ use Rattle.std.proofs.Common.{◌+◌, length, refl, ap, subst, ◌∙◌, arith
 use Rattle.std.specs.List.{find}
 use Rattle.strat_base.specs.EntryView.{entry_of}
 use Rattle.strat_format.specs.Arrays.{blocks_of}
-use Rattle.strat_array.specs.Told.{TheirPairs, TellsFound}
+use Rattle.strat_array.specs.Told.{TheirPairs, TellsFound, AddsPair}
 use Rattle.strat_array.specs.declared.place.Place.{Place}
 use Rattle.strat_array.specs.Steps.{blocks_ahead, left_from}
 use Rattle.strat_array.specs.Walk.{is_seen_at}
 use Rattle.strat_array.proofs.KeptLemmas.{looks_trans}
-use Rattle.strat_array.proofs.FindLemmas.{walks_on, walk_answers, walk_ends}
+use Rattle.strat_array.proofs.FindLemmas.{walks_on, walk_answers, walk_ends, judged_adds}
 use Rattle.strat_array.proofs.SearchLemmas.{no_block_same, err_of}
 use Rattle.strat_array.proofs.lookup.live_from.Goals as goal
 
@@ -48,3 +48,8 @@ returns-clause-found g c = λ lists stands up from.
 
 pub returns-clause-same : goal.returns-clause-same
 returns-clause-same g c = looks_trans _ _ _ _ _ _ _ _ _ _ _ c.loop-at.invariant.0.looks c.settle.ensures.same
+
+pub returns-in-Some-judge-clause-len : goal.returns-in-Some-judge-clause-len
+returns-in-Some-judge-clause-len g c =
+    subst (λ (p : TheirPairs). AddsPair p c.judge.new.out c.in-Some-judge.seen) c.loop-at.invariant.1
+    (judged_adds c.args.tree.now.parents c.args.key.now c.args.v (entry_of c.entry-entry.result) c.loop-at.out c.judge.new.out c.in-Some-judge.seen c.in-Some-judge.ensures.ok)
