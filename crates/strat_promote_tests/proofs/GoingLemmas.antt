@@ -1,25 +1,22 @@
 -- A promotion begins and goes on.
-use Rattle.std.proofs.Common.{◌≡◌, ◌≤◌, ◌+◌, ◌^◌, ℕ, true, ltb, List, [], length, refl, sym, ap, ◌∙◌, subst, arith}
+use Rattle.std.proofs.Common.{◌≡◌, ◌≤◌, ◌^◌, ℕ, true, ltb, [], sym, ap, ◌∙◌, subst, arith}
 use Rattle.std.specs.List.{list_all, slice_get}
 use Rattle.std.proofs.lemmas.List.Folds.{list_all-map}
 use Rattle.strat_arena.specs.Items.{entry_of_item}
 use Rattle.strat_arena.specs.PoolView.{arena_at}
-use Rattle.strat_array.specs.Progress.{ArrayProgress}
 use Rattle.strat_base.specs.Entries.{Entry}
 use Rattle.strat_extent.specs.Blocks.{SpaceView, times_in, uses}
 use Rattle.strat_extent.specs.Change.{CanGive}
 use Rattle.strat_level.specs.Memtable.{entries_held}
 use Rattle.strat_promote.specs.Closing.{AreAllUsed, all_extents}
 use Rattle.strat_promote.specs.Job.{arrays_to, AreReadable}
-use Rattle.strat_promote.specs.Promotions.{IsBegun, IsOpen, IsFed, SamePromotion, MatchProgress, writers_of, extents_taken, entries_taken, has_ended}
+use Rattle.strat_promote.specs.Promotions.{IsBegun, IsOpen, SamePromotion, MatchProgress, writers_of, extents_taken, entries_taken, has_ended}
 use Rattle.strat_promote.specs.Spaces.{TakesMore}
 use Rattle.strat_promote.specs.Stages.{IsSteady, stage_writers}
 use Rattle.strat_promote.specs.Steps.{Inputs, IsReadySource}
 use Rattle.strat_promote.specs.declared.promotion.Progress.{Progress}
 use Rattle.strat_promote.specs.declared.promotion.Progress.TheVariants as progress
 use Rattle.strat_promote.specs.declared.promotion.Promotion.{Promotion}
-use Rattle.strat_promote.specs.declared.stage.Stage.{Stage}
-use Rattle.strat_promote.specs.declared.stage.Stage.TheVariants as stage
 use Rattle.strat_promote.specs.declared.step.Task.{Task}
 use Rattle.strat_promote_tests.specs.Going.{AreReadyInputs, IsGoing}
 use Rattle.strat_promote_tests.proofs.ReadyLemmas.{levels_readable}

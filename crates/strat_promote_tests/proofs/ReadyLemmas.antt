@@ -1,8 +1,8 @@
 -- What is plain may be read.
-use Rattle.std.proofs.Common.{◌≡◌, ◌≤◌, ◌<◌, ◌+◌, ◌*◌, ◌-◌, ◌^◌, ℕ, zero, suc, Bool, true, leb, ltb, ◌&&◌, List, [], ◌∷◌, ◌++◌, length, map, get_or, Option, None, Some, inl, inr, refl, sym, ap, ◌∙◌, subst, arith}
+use Rattle.std.proofs.Common.{◌≡◌, ◌≤◌, ◌<◌, ◌+◌, ◌*◌, ◌^◌, ℕ, zero, suc, Bool, true, leb, ltb, ◌&&◌, List, [], ◌∷◌, length, map, get_or, Option, None, Some, inl, inr, refl, ap, ◌∙◌, subst, arith}
 use Rattle.std.specs.List.{list_all, range_with_len, sum, sum_by, Contains}
 use Rattle.std.proofs.lemmas.Bool.{and_parts, and_from, leb-true, ltb-true}
-use Rattle.std.proofs.lemmas.List.Folds.{list_all-append, list_all-map}
+use Rattle.std.proofs.lemmas.List.Folds.{list_all-append}
 use Rattle.std.proofs.lemmas.List.Sums.{sum_by-cons}
 use Rattle.strat_array.specs.Within.{AreWithin}
 use Rattle.strat_base.specs.Entries.{is_tagged}
@@ -12,8 +12,7 @@ use Rattle.strat_base.specs.declared.descriptors.LevelDesc.{LevelDesc}
 use Rattle.strat_base.proofs.ListFacts.{Among, all_at, among_range, range_among}
 use Rattle.strat_extent.specs.Blocks.{total_len}
 use Rattle.strat_extent.proofs.BlockLemmas.{total_listed}
-use Rattle.strat_format.specs.Arrays.{blocks_of}
-use Rattle.strat_level.specs.Levels.{level_numbered, leads_if_any, desc_leads}
+use Rattle.strat_level.specs.Levels.{level_numbered, leads_if_any}
 use Rattle.strat_level.specs.Memtable.{ItemList}
 use Rattle.strat_promote.specs.Job.{arrays_to, AreReadable}
 use Rattle.strat_promote.specs.Opening.{arrays_if_any}

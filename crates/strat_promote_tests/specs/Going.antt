@@ -1,5 +1,5 @@
 -- Promotions that are under way, and what may be given to them.
-use Rattle.std.specs.Prelude.{◌≡◌, ◌≤◌, ℕ, nat_le, nat_lt, ◌&&◌, Bool, List, length, Option, IsTrue}
+use Rattle.std.specs.Prelude.{◌≤◌, ℕ, nat_le, nat_lt, ◌&&◌, Bool, List, length, Option, IsTrue}
 use Rattle.std.specs.List.{list_all, range_with_len}
 use Rattle.strat_arena.specs.declared.items.Item.{Item}
 use Rattle.strat_base.specs.declared.descriptors.ArrayDesc.{ArrayDesc}
@@ -7,7 +7,7 @@ use Rattle.strat_base.specs.declared.descriptors.Extent.{Extent}
 use Rattle.strat_base.specs.declared.descriptors.LevelDesc.{LevelDesc}
 use Rattle.strat_extent.specs.Blocks.{SpaceView}
 use Rattle.strat_extent.specs.Change.{CanGive}
-use Rattle.strat_level.specs.Levels.{level_numbered, leads_if_any}
+use Rattle.strat_level.specs.Levels.{level_numbered}
 use Rattle.strat_level.specs.Memtable.{ListStands}
 use Rattle.strat_promote.specs.Closing.{AreAllUsed}
 use Rattle.strat_promote.specs.Opening.{arrays_if_any}
