@@ -1,0 +1,157 @@
+//! Promotions, slice by slice.
+
+ghost use Rattle.std.specs.Prelude.{◌≡◌, ◌≤◌, ◌^◌, true, IfOk, OnOk, IsTrue};
+ghost use Rattle.strat_extent.specs.Change.{CanGive};
+ghost use Rattle.strat_promote.specs.Promotions.{MatchProgress, extents_taken, has_ended, inputs_given};
+ghost use Rattle.strat_promote_tests.specs.Going.{AreReadyInputs, IsGoing};
+
+use crate::ready::is_ready;
+use crate::scene::Scene;
+use std::alloc::Global;
+use strat_base::{LevelDesc, NoMemory, Trouble, Version};
+use strat_disk::Disk;
+use strat_extent::Space;
+use strat_level::Levels;
+use strat_promote::promotion::{Progress, Promotion};
+
+/// A budget that no promotion uses up.
+pub(crate) const WHOLE: u64 = 1 << 63;
+
+/// What a promotion made: the number of its level, the level, the entries of its arrays, the entries that it took, and
+/// its slices.
+#[derive(Drop)]
+pub(crate) struct Made {
+    pub(crate) target: usize,
+    pub(crate) level: Option<LevelDesc>,
+    pub(crate) written: u64,
+    pub(crate) consumed: u64,
+    pub(crate) slices: u64,
+}
+
+/// Begins a promotion over the versions below a number.
+#[tactic(auto, using(crate::proofs::ReadyLemmas::leads_bounded, crate::proofs::GoingLemmas::begins))]
+pub(crate) fn begun(
+    alloc: Global,
+    scene: &Scene,
+    levels: &Levels,
+    space: &Space,
+    horizon: Version,
+    mem: u32,
+    next_array: u64,
+) -> Result<Promotion, NoMemory>
+    requires fits { AreReadyInputs horizon
+        (inputs_given scene.now.zero.list scene.now.pool levels.now scene.now.tree.parents) }
+    requires room { (4 ≤ mem) × (mem ≤ 4096) × (next_array ≤ 2 ^ 63) }
+    ensures kept { IfOk result (λ p. IsGoing
+        (inputs_given scene.now.zero.list scene.now.pool levels.now scene.now.tree.parents)
+        space.now p) }
+{
+    let promotion = Promotion::begin(
+        alloc,
+        &scene.zero,
+        levels,
+        &scene.tree,
+        horizon,
+        mem,
+        next_array,
+    )?;
+    Ok(promotion)
+}
+
+/// Takes a slice.
+#[tactic(auto, using(crate::proofs::GoingLemmas::still_owned, crate::proofs::GoingLemmas::goes_on_if_more))]
+pub(crate) fn slice_once<D: Disk>(
+    promotion: &mut Promotion,
+    scene: &Scene,
+    levels: &Levels,
+    space: &mut Space,
+    disk: &mut D,
+    budget: u64,
+) -> Result<Progress, Trouble>
+    requires kept { IsGoing
+        (inputs_given scene.now.zero.list scene.now.pool levels.now scene.now.tree.parents)
+        space.old promotion.old }
+    requires room { 1 ≤ budget }
+    ensures kept { IfOk result (λ p. MatchProgress p (IsGoing
+        (inputs_given scene.now.zero.list scene.now.pool levels.now scene.now.tree.parents)
+        space.new promotion.new) (has_ended promotion.new ≡ true)) }
+    ensures found { CanGive space.new (extents_taken promotion.new) }
+{
+    let step = promotion.slice(
+        &scene.zero,
+        levels,
+        &scene.pool,
+        &scene.tree,
+        space,
+        disk,
+        budget,
+    )?;
+    Ok(step)
+}
+
+/// Takes slices until the level is made, and tells how many.
+pub(crate) fn slice_all<D: Disk>(
+    promotion: &mut Promotion,
+    scene: &Scene,
+    levels: &Levels,
+    space: &mut Space,
+    disk: &mut D,
+    budget: u64,
+) -> Result<u64, Trouble>
+    requires kept { IsGoing
+        (inputs_given scene.now.zero.list scene.now.pool levels.now scene.now.tree.parents)
+        space.old promotion.old }
+    requires room { 1 ≤ budget }
+    ensures ok { OnOk result (has_ended promotion.new ≡ true) }
+    ensures found { CanGive space.new (extents_taken promotion.new) }
+{
+    for n in 1..100_000 {
+        match slice_once(promotion, scene, levels, space, disk, budget)? {
+            Progress::Done => return Ok(n),
+            Progress::More => {}
+        }
+    }
+    Err(Trouble::NoMemory)
+}
+
+/// What a promotion that has ended made.
+fn made_of(promotion: Promotion, slices: u64) -> Made
+    requires { has_ended promotion ≡ true }
+{
+    let consumed = promotion.consumed();
+    let (target, level, written) = promotion.finish();
+    Made {
+        target,
+        level,
+        written,
+        consumed,
+        slices,
+    }
+}
+
+/// Promotes over all versions, slice by slice. Where it fails the blocks that it took are given back.
+pub(crate) fn promote<D: Disk>(
+    alloc: Global,
+    scene: &Scene,
+    levels: &Levels,
+    mem: u32,
+    next_array: u64,
+    space: &mut Space,
+    disk: &mut D,
+    budget: u64,
+) -> Result<Made, Trouble>
+    requires { (next_array ≤ 2 ^ 63) × (1 ≤ budget) }
+{
+    let horizon = scene.tree.count();
+    if mem < 4 || mem > 4096 || !is_ready(scene, levels, horizon) {
+        return Err(Trouble::NoMemory);
+    }
+    let mut promotion = begun(alloc, scene, levels, space, horizon, mem, next_array)?;
+    match slice_all(&mut promotion, scene, levels, space, disk, budget) {
+        Ok(slices) => Ok(made_of(promotion, slices)),
+        Err(trouble) => {
+            promotion.abandon(space);
+            Err(trouble)
+        }
+    }
+}
