@@ -5,6 +5,7 @@ pub mod ChangeLemmas
 pub mod FollowLemmas
 pub mod FormatLemmas
 pub mod HeadSameLemmas
+pub mod IdLemmas
 pub mod LookLawLemmas
 pub mod LookLemmas
 pub mod NewBlockLemmas

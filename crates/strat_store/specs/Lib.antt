@@ -7,3 +7,4 @@ pub mod Memory
 pub mod Looking
 pub mod Held
 pub mod Applying
+pub mod Belonging
