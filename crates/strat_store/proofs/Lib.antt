@@ -17,5 +17,6 @@ pub mod StaleLemmas
 pub mod StandLemmas
 pub mod StepLemmas
 pub mod StoreLemmas
+pub mod TagLemmas
 pub mod VersionLemmas
 pub mod OtherLemmas
