@@ -7,6 +7,7 @@ pub mod FormatLemmas
 pub mod HeadSameLemmas
 pub mod MemoryLawLemmas
 pub mod MemoryLemmas
+pub mod IdLemmas
 pub mod LookLawLemmas
 pub mod LookLemmas
 pub mod NewBlockLemmas
@@ -18,5 +19,6 @@ pub mod StaleLemmas
 pub mod StandLemmas
 pub mod StepLemmas
 pub mod StoreLemmas
+pub mod TagLemmas
 pub mod VersionLemmas
 pub mod OtherLemmas

@@ -27,7 +27,7 @@ use Rattle.strat_standing.proofs.OccupiedLemmas.{named_times, marked_more, marke
 use Rattle.strat_standing.specs.Contents.{Contents, named_blocks}
 use Rattle.strat_standing.specs.Occupied.{IsSpaceOf, UsesMore, arrays_in, extents_of, times_named}
 use Rattle.strat_state.specs.Level.{is_distinct}
-use Rattle.strat_store.specs.Held.{UsesJust}
+use Rattle.strat_store.specs.Belonging.{UsesJust}
 
 -- what can be marked together can be marked in two parts, and the second part after the first
 can_front : (s : SpaceView) (xs ys : List Extent) → CanMark s (xs ++ ys) → CanMark s xs
@@ -115,16 +115,16 @@ marks_both true s t u chain rest marked more = all_marked s t u chain rest marke
 marks_both false s t u chain rest marked none = rest_fails s t chain rest marked none
 
 -- a number stands in a list where it is counted
-abbrev counted : List ℕ → ℕ → ℕ
+abbrev pub counted : List ℕ → ℕ → ℕ
 counted xs b = count_by (λ other. eqb other b) xs
 
-counted_cons : (x : ℕ) (xs : List ℕ) (b : ℕ) → counted (x ∷ xs) b ≡ cond (eqb x b) 1 0 + counted xs b
+pub counted_cons : (x : ℕ) (xs : List ℕ) (b : ℕ) → counted (x ∷ xs) b ≡ cond (eqb x b) 1 0 + counted xs b
 counted_cons x xs b = sum_by-cons (λ (a : ℕ). cond (eqb a b) 1 0) x xs
 
 eqb_itself : (b : ℕ) → eqb b b ≡ true
 eqb_itself b = eq-eqb b b refl
 
-counted_among : (xs : List ℕ) (b : ℕ) → 0 < counted xs b → Among b xs
+pub counted_among : (xs : List ℕ) (b : ℕ) → 0 < counted xs b → Among b xs
 counted_among [] b some = absurd (omega (arith, some))
 counted_among (x ∷ xs) b some =
     elim (cases_Bool (eqb x b)) [
@@ -132,13 +132,13 @@ counted_among (x ∷ xs) b some =
       | inr other ↦ inr (counted_among xs b (omega (arith, some, counted_cons x xs b, ap (λ (t : Bool). cond {A = ℕ} t 1 0) other)))
     ]
 
-among_counted : (xs : List ℕ) (b : ℕ) → Among b xs → 0 < counted xs b
+pub among_counted : (xs : List ℕ) (b : ℕ) → Among b xs → 0 < counted xs b
 among_counted [] b there = absurd there
 among_counted (x ∷ xs) b (inl here) = omega (arith, counted_cons x xs b, ap (λ (t : Bool). cond {A = ℕ} t 1 0) (ap (λ (a : ℕ). eqb a b) (sym here) ∙ eqb_itself b))
 among_counted (x ∷ xs) b (inr there) = omega (arith, counted_cons x xs b, among_counted xs b there)
 
 -- a number that stands in none is not counted, and in distinct numbers each is counted once at most
-once_counted : (xs : List ℕ) (b : ℕ) → is_distinct xs ≡ true → counted xs b ≤ 1
+pub once_counted : (xs : List ℕ) (b : ℕ) → is_distinct xs ≡ true → counted xs b ≤ 1
 once_counted [] b own = omega arith
 once_counted (x ∷ xs) b own =
     let parts = and_parts (not (is_tagged xs x)) (is_distinct xs) own in

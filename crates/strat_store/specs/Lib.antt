@@ -6,5 +6,4 @@ pub mod VersionFields
 pub mod Memory
 pub mod MemoryFields
 pub mod Looking
-pub mod Held
-pub mod Applying
+pub mod Belonging

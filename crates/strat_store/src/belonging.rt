@@ -1,7 +1,9 @@
 //! Tests of a manifest against its superblock: whether a store may have it.
 
+ghost use Rattle.std.specs.BTreeSet.{contains};
 ghost use Rattle.std.specs.List.{flat_map, list_all, sum_by};
-ghost use Rattle.std.specs.Prelude.{◌≡◌, ◌≤◌, ◌+◌, ◌-◌, ◌*◌, ◌^◌, ◌&&◌, ◌++◌, [], nat_le, nat_lt, min, false, MatchBool, IfOk, IfSome, IfNone, IsTrue};
+ghost use Rattle.std.specs.Ordering.{nat_cmp};
+ghost use Rattle.std.specs.Prelude.{◌≡◌, ℕ, List, map, ◌≤◌, ◌+◌, ◌-◌, ◌*◌, ◌^◌, ◌&&◌, ◌++◌, [], nat_le, nat_lt, min, false, MatchBool, IfOk, IfSome, IfNone, IsTrue};
 ghost use Rattle.strat_extent.specs.Change.{CanMark};
 ghost use Rattle.strat_format.specs.Arrays.{blocks_of};
 ghost use Rattle.strat_format.specs.Layout as places;
@@ -10,9 +12,11 @@ ghost use Rattle.strat_format.specs.SuperBlock.{Super};
 ghost use Rattle.strat_recovery.specs.Opening.{has_own_blocks, is_filled};
 ghost use Rattle.strat_standing.specs.Contents.{Contents, named_blocks};
 ghost use Rattle.strat_standing.specs.Occupied.{IsSpaceOf, UsesMore, arrays_in, extents_of};
-ghost use Rattle.strat_store.specs.Held.{UsesJust};
+ghost use Rattle.strat_state.specs.Level.{is_distinct};
+ghost use Rattle.strat_store.specs.Belonging.{UsesJust, are_new};
 
 use std::alloc::Global;
+use std::collections::BTreeSet;
 use strat_base::{ArrayDesc, Extent, Extents, LevelDesc, NoMemory, Version};
 use strat_extent::Space;
 use strat_format::first_free;
@@ -201,4 +205,49 @@ pub(crate) fn own_blocks(
         return Ok(None);
     }
     Ok(Some(space))
+}
+
+/// Adds the numbers of arrays to a set, as long as none of them is in it, and says whether that is so.
+fn add_ids(seen: &mut BTreeSet<u64>, arrays: &[ArrayDesc]) -> Result<bool, NoMemory>
+    ensures ok { IfOk result (λ apart. (rest : List ℕ) → MatchBool apart
+        (are_new (contains nat_cmp seen.new) rest
+        ≡ are_new (contains nat_cmp seen.old) (map (λ a. a.id) arrays.now ++ rest))
+        (are_new (contains nat_cmp seen.old) (map (λ a. a.id) arrays.now ++ rest) ≡ false)) }
+{
+    for array in arrays {
+        let Ok(added) = seen.insert(array.id) else {
+            return Err(NoMemory);
+        };
+        if !added {
+            return Ok(false);
+        }
+    }
+    Ok(true)
+}
+
+/// The same of the arrays of levels.
+fn add_all_ids(seen: &mut BTreeSet<u64>, levels: &[LevelDesc]) -> Result<bool, NoMemory>
+    ensures ok { IfOk result (λ apart. (rest : List ℕ) → MatchBool apart
+        (are_new (contains nat_cmp seen.new) rest
+        ≡ are_new (contains nat_cmp seen.old) (map (λ a. a.id) (arrays_in levels.now) ++ rest))
+        (are_new (contains nat_cmp seen.old) (map (λ a. a.id) (arrays_in levels.now) ++ rest)
+        ≡ false)) }
+{
+    for level in levels {
+        if !add_ids(seen, level.arrays.as_slice())? {
+            return Ok(false);
+        }
+    }
+    Ok(true)
+}
+
+/// Whether no two arrays of levels have one number. O(arrays log arrays), and memory for each of them while it runs.
+/// The only error is want of memory.
+pub(crate) fn own_ids(alloc: Global, levels: &[LevelDesc]) -> Result<bool, NoMemory>
+    ensures ok { IfOk result (λ own. own
+        ≡ is_distinct (map (λ a. a.id) (arrays_in levels.now))) }
+{
+    let mut seen = BTreeSet::new(alloc);
+    let own = add_all_ids(&mut seen, levels)?;
+    Ok(own)
 }

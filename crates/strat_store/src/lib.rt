@@ -2,6 +2,7 @@
 #![tactic(auto)]
 
 mod belonging;
+pub mod belonging_laws;
 mod formatting;
 mod looking;
 pub mod looking_laws;
