@@ -1,12 +1,9 @@
 -- A sound state answers from its levels, whose arrays are in order.
-use Rattle.std.proofs.Common.{◌≡◌, ◌<◌, ℕ, true, inl, inr, List, [], ◌∷◌, length, Option, Some, refl, sym, ap, ◌∙◌, subst}
+use Rattle.std.proofs.Common.{◌≡◌, inl, inr, List, [], ◌∷◌, Option, Some, refl, ap, ◌∙◌, subst}
 use Rattle.std.specs.List.{list_all}
-use Rattle.std.specs.Option.{option_map, option_and_then, option_or}
-use Rattle.std.proofs.lemmas.Bool.{and_parts}
 use Rattle.strat_base.proofs.ListFacts.{Among, all_at, among_flat}
 use Rattle.strat_standing.proofs.ListLemmas.{contained_among}
-use Rattle.strat_base.specs.Entries.{Entry, is_ascending}
-use Rattle.strat_base.specs.declared.descriptors.ArrayDesc.{ArrayDesc}
+use Rattle.strat_base.specs.Entries.{is_ascending}
 use Rattle.strat_base.specs.declared.descriptors.LevelDesc.{LevelDesc}
 use Rattle.strat_crash.specs.Image.{Image}
 use Rattle.strat_format.specs.Arrays.{all_some, blocks_of, entries_on}

@@ -1,8 +1,8 @@
 -- A look-up goes through the levels, and asks an array in each.
-use Rattle.std.proofs.Common.{◌≡◌, ◌<◌, ◌≤◌, ◌+◌, ◌-◌, ℕ, zero, suc, Bool, true, false, cond, leb, get_or, drop, inl, inr, ◌⊎◌, List, [], ◌∷◌, length, Contains, map, Option, Some, None, IsTrue, refl, sym, ap, ◌∙◌, subst, arith, true≢false}
+use Rattle.std.proofs.Common.{◌≡◌, ◌<◌, ◌+◌, ◌-◌, ℕ, zero, suc, true, false, cond, leb, get_or, drop, inl, inr, ◌⊎◌, List, [], ◌∷◌, length, Contains, map, Option, Some, None, IsTrue, refl, sym, ap, ◌∙◌, subst, arith, true≢false}
 use Rattle.std.proofs.lemmas.Bool.{and_parts, not-true, le-leb}
 use Rattle.std.proofs.lemmas.List.{drop_more}
-use Rattle.std.specs.List.{find, filter_map, flat_map, cons_option, slice_get}
+use Rattle.std.specs.List.{filter_map, cons_option, slice_get}
 use Rattle.std.specs.Option.{option_and_then, option_map, option_or, unwrap_or}
 use Rattle.strat_array.specs.Kept.{Kept, Blocks, IsBlockRead, Looks, ArrayStands}
 use Rattle.strat_array.specs.Left.{all_in}

@@ -1,11 +1,11 @@
 -- Blocks that are marked one after the other, and when each has one use alone.
-use Rattle.std.proofs.Common.{◌≡◌, ◌<◌, ◌≤◌, ◌+◌, ◌^◌, ℕ, Bool, true, false, cond, leb, ltb, eqb, not, ◌&&◌, ◌↔◌, drop, get_or, length, Contains, List, [], ◌∷◌, ◌++◌, inl, inr, IsTrue, refl, sym, ap, ◌∙◌, subst, arith, true≢false, zero, suc}
-use Rattle.std.proofs.lemmas.Bool.{and_parts, and_from, cases_Bool, leb-true, ltb-true, eqb-true, eq-eqb, ltb-false, not-true, false_from_ne_true}
+use Rattle.std.proofs.Common.{◌≡◌, ◌<◌, ◌≤◌, ◌+◌, ◌^◌, ℕ, Bool, true, false, cond, leb, ltb, eqb, not, drop, get_or, length, List, [], ◌∷◌, ◌++◌, inl, inr, refl, sym, ap, ◌∙◌, subst, arith, true≢false, zero, suc}
+use Rattle.std.proofs.lemmas.Bool.{and_parts, cases_Bool, leb-true, ltb-true, eqb-true, eq-eqb, ltb-false, not-true, false_from_ne_true}
 use Rattle.std.proofs.lemmas.Grind.{flat_map-append}
 use Rattle.std.proofs.lemmas.List.{drop_more, drop_all}
 use Rattle.std.proofs.lemmas.List.Sums.{sum_by-cons}
 use Rattle.std.specs.Bool.{MatchBool}
-use Rattle.std.specs.List.{count_by, flat_map, list_all, list_any}
+use Rattle.std.specs.List.{count_by, list_all}
 use Rattle.strat_base.proofs.ListFacts.{Among, all_at, any_from}
 use Rattle.strat_base.specs.declared.descriptors.ArrayDesc.{ArrayDesc}
 use Rattle.strat_base.specs.declared.descriptors.Extent.{Extent}
@@ -14,18 +14,17 @@ use Rattle.strat_base.specs.Entries.{is_tagged}
 use Rattle.strat_extent.proofs.BlockLemmas.{times_listed}
 use Rattle.strat_extent.proofs.ChangeLemmas.{free_bounds, is_free_of, uses_used, used_uses, uses_unused, unused_uses}
 use Rattle.strat_extent.proofs.CountLemmas.{inside_bounds, times_append}
-use Rattle.strat_extent.specs.Blocks.{SpaceView, inside, times_in, is_used, is_free, uses}
+use Rattle.strat_extent.specs.Blocks.{SpaceView, inside, times_in, is_used, uses}
 use Rattle.strat_extent.specs.Change.{IsMarked, CanMark}
 use Rattle.strat_format.specs.Arrays.{blocks_of}
 use Rattle.strat_format.specs.Layout.{first_free}
 use Rattle.strat_format.specs.Manifest.{Manifest, is_lawful_extent}
 use Rattle.strat_format.specs.SuperBlock.{Super}
-use Rattle.strat_recovery.specs.Head.{descriptors}
 use Rattle.strat_recovery.specs.Opening.{has_own_blocks}
 use Rattle.strat_standing.proofs.ListLemmas.{among_contained, contained_among}
 use Rattle.strat_standing.proofs.OccupiedLemmas.{named_times, marked_more, marked_space, uses_both}
 use Rattle.strat_standing.specs.Contents.{Contents, named_blocks}
-use Rattle.strat_standing.specs.Occupied.{IsSpaceOf, UsesMore, arrays_in, extents_of, times_named}
+use Rattle.strat_standing.specs.Occupied.{IsSpaceOf, UsesMore, arrays_in, extents_of}
 use Rattle.strat_state.specs.Level.{is_distinct}
 use Rattle.strat_store.specs.Belonging.{UsesJust}
 

@@ -1,4 +1,4 @@
-use Rattle.std.proofs.Common.{◌≡◌, ℕ, List, map, drop, ◌++◌}
+use Rattle.std.proofs.Common.{◌≡◌, ℕ, List, drop, ◌++◌}
 use Rattle.std.specs.BTreeSet.{contains}
 use Rattle.std.specs.Ordering.{nat_cmp}
 use Rattle.strat_store.specs.Belonging.{are_new}

@@ -1,4 +1,4 @@
-use Rattle.std.proofs.Common.{arith, ap, subst, sym}
+use Rattle.std.proofs.Common.{arith, subst}
 use Rattle.strat_extent.specs.Change.{CanMark}
 use Rattle.strat_standing.specs.Occupied.{arrays_in, extents_of, UsesMore}
 use Rattle.strat_store.proofs.OwnLemmas.{level_marked, level_fails, levels_end}

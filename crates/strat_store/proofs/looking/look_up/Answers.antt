@@ -1,4 +1,4 @@
-use Rattle.std.proofs.Common.{◌≡◌, ◌<◌, ◌+◌, ◌≤◌, false, [], length, sym, ◌∙◌, subst, arith}
+use Rattle.std.proofs.Common.{◌≡◌, ◌<◌, false, [], length, sym, ◌∙◌, subst, arith}
 use Rattle.strat_array.specs.Told.{TheirPairs, TellsFound, AddsPair}
 use Rattle.strat_recovery.specs.Asked.{on_disk}
 use Rattle.strat_state.specs.LookUp.{looked_up}
