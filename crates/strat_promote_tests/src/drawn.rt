@@ -24,7 +24,7 @@ const KEYS: [&[u8]; 6] = [b"a", b"ab", b"abc", b"b", b"ba", b"c"];
 const VALUES: [&[u8]; 2] = [b"", b"second"];
 
 /// How many versions there are when a batch is promoted.
-const VERSIONS: [Version; 2] = [3, 6];
+const VERSIONS: [Version; 2] = [15, 30];
 
 /// A number that is drawn by multiplications.
 fn mixed(seed: u32, batch: usize, key: u32, version: Version) -> u32 {
@@ -37,10 +37,28 @@ fn mixed(seed: u32, batch: usize, key: u32, version: Version) -> u32 {
         .wrapping_mul(668_265_263)
 }
 
-/// What a batch has of a key at a version: in one of three cases nothing, and a mark in one of four others.
+/// The parent of a version, which is drawn, or version 0 of that itself.
+fn parent(seed: u32, version: Version) -> Version {
+    if version == 0 {
+        0
+    } else {
+        (mixed(seed, 0, 9, version) >> 8) % version
+    }
+}
+
+/// Whether a version has a child by the time that batch 0 is promoted.
+fn has_early_child(seed: u32, version: Version) -> bool {
+    (1..VERSIONS[0]).any(|child| parent(seed, child) == version)
+}
+
+/// What a batch has of a key at a version: in one of three cases nothing, and a mark in one of four others. Batch 1 has
+/// nothing at a version that had a child before, since such a version takes no changes.
 fn drawn(seed: u32, batch: usize, key: u32, version: Version) -> Option<Entry<'static>> {
     let number = mixed(seed, batch, key, version);
     if version >= VERSIONS[batch % 2] || (number >> 15) % 3 == 0 {
+        return None;
+    }
+    if batch != 0 && has_early_child(seed, version) {
         return None;
     }
     let name = KEYS[key as usize % 6];
@@ -58,7 +76,7 @@ fn push_key(
     batch: usize,
     key: u32,
 ) -> Result<(), NoMemory> {
-    for version in 0..6 {
+    for version in 0..VERSIONS[1] {
         if let Some(entry) = drawn(seed, batch, key, version) {
             entries.push(entry)?;
         }
@@ -75,31 +93,19 @@ fn drawn_batch(alloc: Global, seed: u32, batch: usize) -> Result<Vec<Entry<'stat
     Ok(entries)
 }
 
-/// The parent of a version, which is drawn, or version 0 of that itself.
-fn parent(seed: u32, version: Version) -> Version {
-    if version == 0 {
-        0
-    } else {
-        (mixed(seed, 0, 9, version) >> 8) % version
+/// The parents of the versions from 1 on that there are when a batch is promoted.
+fn parents(alloc: Global, seed: u32, batch: usize) -> Result<Vec<Version>, NoMemory> {
+    let mut parents = Vec::new(alloc);
+    for version in 1..VERSIONS[batch % 2] {
+        parents.push(parent(seed, version))?;
     }
+    Ok(parents)
 }
 
-/// The parents of the versions from 1 to 5.
-fn parents(seed: u32) -> [Version; 5] {
-    [
-        parent(seed, 1),
-        parent(seed, 2),
-        parent(seed, 3),
-        parent(seed, 4),
-        parent(seed, 5),
-    ]
-}
-
-/// How many versions have a parent when a batch is promoted.
-fn known_parents(batch: usize) -> usize
-    ensures { result ≤ 5 }
-{
-    if batch == 0 { 2 } else { 5 }
+/// The tree of all versions.
+fn whole_tree(alloc: Global, seed: u32) -> Result<Tree, NoMemory> {
+    let parents = parents(alloc, seed, 1)?;
+    grown(alloc, &parents)
 }
 
 /// Promotes a batch.
@@ -114,24 +120,15 @@ fn promote_batch(
     requires { (1 ≤ budget) × (batch ≤ 1) }
 {
     let entries = drawn_batch(alloc, seed, batch)?;
-    let parents = parents(seed);
-    let known = known_parents(batch);
-    let first = 10 * batch as u64 + 1;
-    merge_in(
-        alloc,
-        &parents[..known],
-        &entries,
-        levels,
-        first,
-        disk,
-        budget,
-    )
+    let parents = parents(alloc, seed, batch)?;
+    let first = 100 * batch as u64 + 1;
+    merge_in(alloc, &parents, &entries, levels, first, disk, budget)
 }
 
 /// The value that a walk from a version finds.
 fn walk_value(seed: u32, key: u32, version: Version) -> Option<&'static [u8]> {
     let mut at = version;
-    for _ in 0..6 {
+    for _ in 0..VERSIONS[1] {
         let newest = drawn(seed, 1, key, at).or(drawn(seed, 0, key, at));
         if let Some(entry) = newest {
             return match entry.val {
@@ -214,9 +211,9 @@ fn agrees(
     level: usize,
     disk: &mut MemDisk,
 ) -> Result<bool, Trouble> {
-    let tree = grown(alloc, &parents(seed))?;
+    let tree = whole_tree(alloc, seed)?;
     let mut reader = make_reader(alloc)?;
-    for version in 0..6 {
+    for version in 0..VERSIONS[1] {
         if !tells_all(seed, disk, levels, level, &tree, &mut reader, version) {
             return Ok(false);
         }

@@ -95,7 +95,7 @@ pub(crate) fn make_scene(
 ) -> Result<Scene, NoMemory> {
     let tree = grown(alloc, parents)?;
     let mut pool = ArenaPool::new(alloc);
-    let mut zero = Zero::new(alloc, &mut pool, 64)?;
+    let mut zero = Zero::new(alloc, &mut pool, 256)?;
     put_all(&mut pool, &mut zero, entries)?;
     Ok(Scene { tree, pool, zero })
 }
