@@ -959,6 +959,16 @@ def a_full_device_is_a_device_fault(folder):
     expect("again", serve(store.path, [b"".join(puts)]), (out, status, b""))
 
 
+def the_bench_finds_both_stores_alike(folder):
+    ran = subprocess.run([sys.executable, str(TOP / "bench" / "run"), "--counts", "40,80", "--gets", "20", "--disk", folder],
+                         capture_output=True, timeout=60)
+    expect("its status", (ran.returncode, ran.stderr.count(b"\n")), (0, 8))
+    titles = re.findall(rb"^### `(\w+)`", ran.stdout, re.MULTILINE)
+    expect("its tables", titles, [b"puts", b"chain", b"sparse", b"star"])
+    rows = re.findall(rb"^\| (40|80) \| (castle|SQLite) \|", ran.stdout, re.MULTILINE)
+    expect("its rows", rows, [(b"40", b"castle"), (b"40", b"SQLite"), (b"80", b"castle"), (b"80", b"SQLite")] * 4)
+
+
 CHECKS = [
     empty_input_is_answered_by_nothing,
     a_put_is_found_and_another_key_is_absent,
@@ -1008,6 +1018,7 @@ CHECKS = [
     a_sync_that_fails_is_a_device_fault,
     a_folder_or_file_without_leave_is_a_device_fault,
     a_full_device_is_a_device_fault,
+    the_bench_finds_both_stores_alike,
 ]
 
 
