@@ -4,9 +4,10 @@ use Rattle.std.specs.List.{AllByRecursion, list_any, range_with_len}
 use Rattle.strat_crash.specs.Image.{Image}
 use Rattle.strat_crash.specs.Moments.{DiskView, Exposes}
 use Rattle.strat_extent.specs.Blocks.{SpaceView, is_used}
-use Rattle.strat_format.specs.Chain.{HoldsChain, next_block}
-use Rattle.strat_format.specs.Chained.{chain_from, chained_bytes}
+use Rattle.strat_format.specs.Chain.{HoldsChain, IsChain, next_block}
+use Rattle.strat_format.specs.Chained.{chain_from, chained_bytes, manifest_at}
 use Rattle.strat_format.specs.Damage.{Read}
+use Rattle.strat_format.specs.Manifest.{Manifest, manifest_bytes}
 
 -- a space in which these blocks are used, and no other
 pub record AreSeen (s : SpaceView) (blocks : List ℕ) : Type 0 where
@@ -44,3 +45,9 @@ PutsRun old new start n next bytes =
     (f g : Image) (rest : List ℕ) → Exposes old f → Exposes new g → next ≡ next_block rest
     → AreAbove (start + n) rest → HoldsChain f rest (drop (4092 * n) bytes)
     → HoldsChain g (range_with_len start n ++ rest) bytes
+
+-- a manifest stands in these blocks of an image, the first of which is told, and its bytes are so many
+pub record IsStored (c : Image) (first n : ℕ) (m : Manifest) (blocks : List ℕ) : Type 0 where
+  pub read : manifest_at c first n ≡ Ok (record { manifest = m; blocks = blocks })
+  pub chain : IsChain c blocks (manifest_bytes m)
+  pub first_is : first ≡ next_block blocks

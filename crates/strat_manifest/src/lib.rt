@@ -8,9 +8,11 @@ mod manifest;
 mod parser;
 mod printer;
 mod reader;
+mod size;
 mod stored;
 
 pub use manifest::{LevelList, Manifest, ManifestFault, Parents};
 pub use parser::parse;
 pub use printer::print;
+pub use size::is_writable;
 pub use stored::{read, write};

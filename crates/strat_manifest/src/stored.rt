@@ -13,6 +13,7 @@ ghost use Rattle.strat_format.specs.Arrays.{blocks_of};
 ghost use Rattle.strat_format.specs.Chain.{chain_length};
 ghost use Rattle.strat_format.specs.Chained.{manifest_filled, manifest_at};
 ghost use Rattle.strat_format.specs.Manifest.{is_lawful_manifest, manifest_bytes};
+ghost use Rattle.strat_manifest.specs.Chains.{IsStored};
 ghost use Rattle.strat_manifest.specs.ManifestView.{manifest_of};
 
 use crate::chain::read_chain;
@@ -92,8 +93,8 @@ pub fn write<D: Disk>(
         × (1 ≤ space.old.first)
         × (used_count space.old + 1048576 ≤ 4294967295 - space.old.first) }
     ensures ok { IfOk result (λ r. IsSome (D.view disk.old).content → (g : Image)
-        → Exposes (D.view disk.new) g → manifest_at g r.0 r.1
-        ≡ Ok (record { manifest = manifest_of m.now; blocks = blocks_of r.2 })) }
+        → Exposes (D.view disk.new) g
+        → IsStored g r.0 r.1 (manifest_of m.now) (blocks_of r.2)) }
     ensures found { IfOk result (λ r. IsMarked space.old r.2 space.new
         × AreLowest r.2 space.new × (total_len r.2 ≡ chain_length r.1)) }
     ensures len { IfOk result (λ r. r.1 ≡ length (manifest_bytes (manifest_of m.now))) }

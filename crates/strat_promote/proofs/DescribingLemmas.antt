@@ -5,6 +5,7 @@ use Rattle.std.proofs.lemmas.Bool.{cases_lt}
 use Rattle.std.proofs.lemmas.List.{length_push, length-set, get_or-set_other}
 use Rattle.std.proofs.lemmas.List.FromFn.{length-map-range_with_len, get_or-map-range_with_len}
 use Rattle.strat_array.specs.Progress.{ArrayProgress}
+use Rattle.strat_array.specs.Pushed.{AreMaximal}
 use Rattle.strat_array.specs.Within.{AreWithin}
 use Rattle.strat_base.specs.declared.descriptors.ArrayDesc.{ArrayDesc}
 use Rattle.strat_plan.specs.Plan.{Plan, members}
@@ -68,8 +69,8 @@ part_read (p ∷ parts) (suc q) part d lt is = part_read parts q part d (omega a
 -- a descriptor that was made of a writer, a part and its versions
 pub described : (plan : made.Plan) (q : ℕ) (w : ArrayProgress) (part : Part) (tag : List ℕ) (a : ArrayDesc) → q < length plan.parts → part ≡ get_or plan.parts q part
     → tag ≡ members (plan_seen plan) q → (a.id ≡ w.id) × (a.entries ≡ w.count) × (a.leads ≡ part.leads) × (a.least ≡ part.least) × (a.versions ≡ tag)
-    → a.extents ≡ w.extents → AreWithin a.extents → IsDescriptor (plan_seen plan) q w a
-described plan q w part tag a lt read versions fields extents within =
+    → a.extents ≡ w.extents → AreMaximal a.extents → AreWithin a.extents → IsDescriptor (plan_seen plan) q w a
+described plan q w part tag a lt read versions fields extents maximal within =
     let at = part_read plan.parts q part (record { above = None; leads = 0; entries = 0; least = 0 }) lt read in
     record {
       id = fields.0;
@@ -78,5 +79,6 @@ described plan q w part tag a lt read versions fields extents within =
       leads = fields.2 ∙ sym (ap (λ (p : defined.Part). p.leads) at);
       least = fields.3 ∙ sym (ap (λ (p : defined.Part). p.least) at);
       versions = fields.4 ∙ versions;
+      maximal = maximal;
       within = within;
     }

@@ -13,7 +13,7 @@ use Rattle.strat_base.proofs.ListFacts.{Among, all_at, all_from, among_left, amo
 use Rattle.strat_crash.specs.Image.{Image}
 use Rattle.strat_format.specs.Arrays.{all_some, blocks_of, entries_on}
 use Rattle.strat_plan.specs.Groups.{grouped_entries, group_versions, SplitsGroups, array_of_groups, level_of_groups}
-use Rattle.strat_plan.specs.Plan.{Part, part_at}
+use Rattle.strat_plan.specs.Plan.{Part, part_at, members}
 use Rattle.strat_plan.proofs.LawLemmas.{groups_described}
 use Rattle.strat_plan.proofs.ListLemmas.{among_map}
 use Rattle.strat_promotion.specs.Merging.{runs_taken, Merges}
@@ -182,6 +182,15 @@ module _ (f g : Image) (s : State) (j first : ℕ) (taken kept : List Level) (jo
     fresh_read (Some level) is =
         ap (λ o. option_and_then (λ y. option_map (λ ys. y ∷ ys) (Some [])) o) (level_read level is)
         ∙ ap (λ (levels : List Level). Some levels) (sym (one_level m.plan.parts (level_of_groups (versions_of s) over m.plan j first) is.some))
+
+    -- the arrays of a level that was made are those of its plan
+    pub made_arrays : (level : LevelDesc) → IsLevelMade g job j first m.groups m.plan level → (q : ℕ) → q < length m.plan.parts
+        → (a : ArrayDesc) × (slice_get level.arrays q ≡ Some a) × (a.id ≡ first + q) × (a.versions ≡ members m.plan q) × (a.entries ≡ (part_at m.plan q).entries)
+    made_arrays level is q within =
+        let a = is.each q within in
+        let same : array_of_groups job.parents (groups_kept job m.groups) m.plan first q ≡ array_of_groups (versions_of s) over m.plan first q =
+        λ i. array_of_groups (of.parents i) (over_is i) m.plan first q in
+        (a.0, a.1, a.2.id, a.2.versions, a.2.entries ∙ ap (λ (t : TaggedArray). length t.content) same ∙ sym (counted q within))
 
     pub made_read : all_some (level_on g) (option_to_list made) ≡ Some (fresh_of_groups s j kept m.groups m.plan first)
     made_read = fresh_read made m.level

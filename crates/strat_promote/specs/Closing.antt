@@ -2,7 +2,7 @@
 use Rattle.std.specs.Prelude.{◌≡◌, ◌<◌, ℕ, List, [], length, flat_map, Option, None, Some}
 use Rattle.std.specs.List.{slice_get}
 use Rattle.strat_array.specs.Progress.{ArrayProgress}
-use Rattle.strat_array.specs.Pushed.{IsPushed}
+use Rattle.strat_array.specs.Pushed.{IsPushed, AreMaximal}
 use Rattle.strat_array.specs.Taking.{AreUsed}
 use Rattle.strat_array.specs.Within.{AreWithin}
 use Rattle.strat_base.specs.Entries.{Entry}
@@ -39,6 +39,7 @@ pub record IsDescriptor (plan : Plan) (q : ℕ) (w : ArrayProgress) (a : ArrayDe
   pub leads : a.leads ≡ (part_at plan q).leads
   pub least : a.least ≡ (part_at plan q).least
   pub versions : a.versions ≡ members plan q
+  pub maximal : AreMaximal a.extents
   pub within : AreWithin a.extents
 
 -- a level has the descriptors of these writers, for the parts of a plan

@@ -1,6 +1,7 @@
 -- The blocks of contents in a space.
-use Rattle.std.proofs.Common.{◌≡◌, ◌≤◌, ◌+◌, ℕ, Bool, true, false, cond, eqb, leb, ltb, not, ◌&&◌, inl, inr, List, [], ◌∷◌, ◌++◌, Option, refl, sym, ap, ◌∙◌, subst, arith, append_assoc, true≢false}
+use Rattle.std.proofs.Common.{◌≡◌, ◌≤◌, ◌+◌, ℕ, Bool, true, false, cond, eqb, leb, ltb, not, ◌&&◌, inl, inr, List, [], ◌∷◌, ◌++◌, append-nil, Option, None, Some, refl, sym, ap, ◌∙◌, subst, arith, append_assoc, true≢false}
 use Rattle.std.specs.List.{count_by, flat_map, list_all}
+use Rattle.std.specs.Option.{option_to_list}
 use Rattle.std.proofs.lemmas.Bool.{and_parts, and_from, leb-true, le-leb, eq-eqb, cases_Bool, not_from_false, not-true, false_from_ne_true}
 use Rattle.std.proofs.lemmas.Grind.{flat_map-append}
 use Rattle.std.proofs.lemmas.List.Sums.{sum_by-cons, sum_by-append}
@@ -108,7 +109,7 @@ abbrev once_if : Bool → ℕ
 once_if t = cond t 1 0
 
 -- blocks that stand at most once
-counted_some : (xs : List ℕ) (x : ℕ) → Among x xs → 1 ≤ times xs x
+pub counted_some : (xs : List ℕ) (x : ℕ) → Among x xs → 1 ≤ times xs x
 counted_some [] x among = absurd among
 counted_some (y ∷ xs) x (inl here) = omega (arith, ap once_if (eq-eqb y x (sym here)), sum_by-cons (λ (a : ℕ). cond (eqb a x) 1 0) y xs)
 counted_some (y ∷ xs) x (inr there) = omega (arith, counted_some xs x there, sum_by-cons (λ (a : ℕ). cond (eqb a x) 1 0) y xs)
@@ -198,3 +199,24 @@ free_beside s x others is = record {
       let used = used_there s b (omega (arith, is.used b, counted_some (named_blocks x) b (contained_among (named_blocks x) b named))) in
       true≢false (sym used ∙ not-true (is_used s b) parts.1));
 }
+
+-- the blocks of arrays that were made are not free
+pub array_blocks_used : (s t : SpaceView) (made : Option LevelDesc) (b : ℕ) → UsesMore s (extents_of (arrays_made made)) t
+    → Among b (flat_map (λ (a : ArrayDesc). blocks_of a.extents) (arrays_in (option_to_list made))) → is_free t b ≡ false
+array_blocks_used s t made b more among =
+    let listed : flat_map (λ (l : LevelDesc). l.arrays) (option_to_list made) ≡ arrays_made made = by_made made in
+    let here = subst (λ (rs : List ArrayDesc). Among b (flat_map (λ (a : ArrayDesc). blocks_of a.extents) rs)) listed among in
+    let some = counted_some (flat_map (λ (a : ArrayDesc). blocks_of a.extents) (arrays_made made)) b here in
+    let times_is = times_arrays (arrays_made made) b in
+    let used = used_there t b (omega (arith, more.used b, some, times_is)) in
+    false_from_ne_true (is_free t b) (λ free.
+    let parts = and_parts (leb t.first b && ltb b 4294967295) (not (is_used t b)) free in
+    true≢false (sym used ∙ not-true (is_used t b) parts.1))
+  where
+    by_made : (o : Option LevelDesc) → flat_map (λ (l : LevelDesc). l.arrays) (option_to_list o) ≡ arrays_made o
+    by_made None = refl
+    by_made (Some level) = append-nil level.arrays
+
+-- a block that contents name is used in their space
+pub named_used : (s : SpaceView) (x : Contents) (others : List Extent) → IsSpaceOf s x others → (b : ℕ) → Among b (named_blocks x) → is_used s b ≡ true
+named_used s x others is b among = used_there s b (omega (arith, is.used b, counted_some (named_blocks x) b among))

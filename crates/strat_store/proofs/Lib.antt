@@ -22,3 +22,15 @@ pub mod StoreLemmas
 pub mod TagLemmas
 pub mod VersionLemmas
 pub mod OtherLemmas
+pub mod PublishingLemmas
+pub mod PromotingLemmas
+pub mod WritingLemmas
+pub mod ComputingLemmas
+pub mod NextContentsLemmas
+pub mod ComputedLemmas
+pub mod WholeLemmas
+pub mod PlacingLemmas
+pub mod AdmitLemmas
+pub mod RedoLemmas
+pub mod RecoverLemmas
+pub mod OpenLemmas

@@ -113,7 +113,7 @@ at_there (None ∷ levels) (suc i) level e = at_there levels i level e
 at_there (Some l ∷ levels) (suc i) level e = inr (at_there levels i level e)
 
 -- levels are counted from 1
-level_next : (levels : List (Option LevelDesc)) (i : ℕ) → level_numbered levels (i + 1) ≡ get_or levels i None
+pub level_next : (levels : List (Option LevelDesc)) (i : ℕ) → level_numbered levels (i + 1) ≡ get_or levels i None
 level_next levels i =
     let some : leb 1 (i + 1) ≡ true = le-leb 1 (i + 1) (omega arith) in
     let before : i + 1 - 1 ≡ i = omega arith in

@@ -176,9 +176,9 @@ below_end (x ∷ xs) b lawful some =
 
 -- blocks that are their own can be marked where none is used
 pub own_can : (s : SpaceView) (mem : ℕ) (chain : List Extent) (levels : List LevelDesc) (sb : Super) (m : Manifest) → s.first ≡ first_free mem → ((b : ℕ) → is_used s b ≡ false)
-    → sb.mem ≡ mem → m.levels ≡ levels → list_all is_lawful_extent (chain ++ extents_of (arrays_in levels)) ≡ true
+    → sb.mem ≡ mem → m.levels ≡ levels → ((b : ℕ) → 0 < times_in (chain ++ extents_of (arrays_in levels)) b → b < 4294967295)
     → has_own_blocks sb (blocks_of chain) m ≡ true → CanMark s (chain ++ extents_of (arrays_in levels))
-own_can s mem chain levels sb m first none mem_is levels_are lawful own =
+own_can s mem chain levels sb m first none mem_is levels_are low own =
     let x : Contents = record { slot = 0; sb = sb; chained = record { manifest = m; blocks = blocks_of chain }; journal = []; levels = [] } in
     let parts = and_parts (is_distinct (named_blocks x)) (list_all (λ b. leb (first_free sb.mem) b) (named_blocks x)) own in
     let times : (b : ℕ) → times_in (chain ++ extents_of (arrays_in levels)) b ≡ counted (named_blocks x) b = λ b.
@@ -192,16 +192,24 @@ own_can s mem chain levels sb m first none mem_is levels_are lawful own =
     record {
       free = λ b some.
           let high = leb-true (first_free sb.mem) b (all_at (λ b. leb (first_free sb.mem) b) b (named_blocks x) parts.1 (counted_among (named_blocks x) b (omega (arith, some, times b)))) in
-          is_free_of s b (omega (arith, first, ap first_free mem_is, high)) (below_end (chain ++ extents_of (arrays_in levels)) b lawful some) (none b);
+          is_free_of s b (omega (arith, first, ap first_free mem_is, high)) (low b some) (none b);
       once = λ b. omega (arith, times b, once_counted (named_blocks x) b parts.0);
     }
 
+-- the blocks of a chain and of lawful extents have numbers
+numbered : (chain xs : List Extent) → list_all (λ b. ltb b 4294967295) (blocks_of chain) ≡ true → list_all is_lawful_extent xs ≡ true → (b : ℕ) → 0 < times_in (chain ++ xs) b → b < 4294967295
+numbered chain xs low lawful b some =
+    elim (cases_Bool (ltb 0 (times_in chain b))) [
+      | inl here ↦ ltb-true b 4294967295 (all_at (λ b. ltb b 4294967295) b (blocks_of chain) low (counted_among (blocks_of chain) b (omega (arith, ltb-true 0 (times_in chain b) here, times_listed chain b))))
+      | inr no' ↦ below_end xs b lawful (omega (arith, some, times_append chain xs b, ltb-false 0 (times_in chain b) no'))
+    ]
+
 pub not_own : (s : SpaceView) (mem : ℕ) (chain : List Extent) (levels : List LevelDesc) → s.first ≡ first_free mem → ((b : ℕ) → is_used s b ≡ false)
     → (CanMark s (chain ++ extents_of (arrays_in levels)) → ⊥)
-    → (sb : Super) (m : Manifest) → sb.mem ≡ mem → m.levels ≡ levels → list_all is_lawful_extent (chain ++ extents_of (arrays_in levels)) ≡ true
-    → has_own_blocks sb (blocks_of chain) m ≡ false
-not_own s mem chain levels first none fails sb m mem_is levels_are lawful =
-    false_from_ne_true (has_own_blocks sb (blocks_of chain) m) (λ own. fails (own_can s mem chain levels sb m first none mem_is levels_are lawful own))
+    → (sb : Super) (m : Manifest) → sb.mem ≡ mem → m.levels ≡ levels → list_all (λ b. ltb b 4294967295) (blocks_of chain) ≡ true
+    → list_all is_lawful_extent (extents_of (arrays_in levels)) ≡ true → has_own_blocks sb (blocks_of chain) m ≡ false
+not_own s mem chain levels first none fails sb m mem_is levels_are low lawful =
+    false_from_ne_true (has_own_blocks sb (blocks_of chain) m) (λ own. fails (own_can s mem chain levels sb m first none mem_is levels_are (numbered chain (extents_of (arrays_in levels)) low lawful) own))
 
 -- the space of contents that have this chain and these levels
 pub is_space : (s t : SpaceView) (mem : ℕ) (chain : List Extent) (levels : List LevelDesc) → s.first ≡ first_free mem → ((b : ℕ) → is_used s b ≡ false) → UsesMore s (chain ++ extents_of (arrays_in levels)) t

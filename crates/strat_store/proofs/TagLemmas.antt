@@ -14,7 +14,7 @@ use Rattle.strat_state.proofs.LevelLemmas.{tagged_among, among_tagged}
 use Rattle.strat_state.specs.Level.{is_distinct}
 use Rattle.strat_store.proofs.OwnLemmas.{counted, counted_cons, counted_among, among_counted, once_counted}
 
-rising_parts : (x : ℕ) (xs : List ℕ) → is_rising (x ∷ xs) ≡ true → ((y : ℕ) → Among y xs → x < y) × (is_rising xs ≡ true)
+pub rising_parts : (x : ℕ) (xs : List ℕ) → is_rising (x ∷ xs) ≡ true → ((y : ℕ) → Among y xs → x < y) × (is_rising xs ≡ true)
 rising_parts x [] up = (λ y there. absurd there, refl)
 rising_parts x (z ∷ zs) up =
     let parts = and_parts (ltb x z) (is_rising (z ∷ zs)) up in

@@ -7,3 +7,9 @@ pub mod Memory
 pub mod MemoryFields
 pub mod Looking
 pub mod Belonging
+pub mod Held
+pub mod Applying
+pub mod Publishing
+pub mod Promoting
+pub mod Following
+pub mod Recovering

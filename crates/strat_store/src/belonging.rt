@@ -197,7 +197,8 @@ pub(crate) fn own_blocks(
         × UsesJust space (places.first_free x.sb.mem) (named_blocks x))) }
     ensures none { IfOk result (λ own. IfNone own ((sb : Super) (m : Manifest) → sb.mem ≡ mem
         → m.levels ≡ levels.now
-        → IsTrue (list_all is_lawful_extent (chain.now ++ extents_of (arrays_in levels.now)))
+        → IsTrue (list_all (λ b. nat_lt b 4294967295) (blocks_of chain.now))
+        → IsTrue (list_all is_lawful_extent (extents_of (arrays_in levels.now)))
         → has_own_blocks sb (blocks_of chain.now) m ≡ false)) }
 {
     let mut space = Space::new(alloc, first_free(mem));

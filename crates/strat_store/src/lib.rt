@@ -1,8 +1,10 @@
 //! The store: making one on a disk, recovering it, and carrying out commands.
 #![tactic(auto)]
 
+mod admitting;
 mod belonging;
 pub mod belonging_laws;
+mod computing;
 mod formatting;
 mod looking;
 pub mod looking_laws;
@@ -10,6 +12,10 @@ mod manifest;
 mod memory;
 pub mod memory_laws;
 mod opening;
+mod promoting;
+mod publishing;
+pub mod publishing_laws;
+mod recovering;
 mod store;
 mod versions;
 

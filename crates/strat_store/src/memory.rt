@@ -278,6 +278,13 @@ impl Memory {
         (&self.zero, &self.pool, &self.tree)
     }
 
+    /// How many changes and how many updates were accepted. O(1).
+    pub fn counts(&self) -> (u32, u32)
+        ensures ok { (result.0 ≡ self.now.changes) × (result.1 ≡ self.now.updates) }
+    {
+        (self.changes, self.updates)
+    }
+
     /// Gives the next level 0 back, if one stands ready.
     fn forget_next(&mut self)
         ensures ok { self.new ≡ record self.old { ready = None } }

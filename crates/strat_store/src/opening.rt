@@ -180,7 +180,7 @@ fn read_store<D: Disk>(
 }
 
 /// Syncs, so that what is read from now on is what a crash leaves.
-fn sync_first<D: Disk>(disk: &mut D) -> Result<(), Failed>
+pub(crate) fn sync_first<D: Disk>(disk: &mut D) -> Result<(), Failed>
     ensures ok { OnOk result (IsDurable (D.view disk.new)) }
     ensures same { (D.view disk.new).content ≡ (D.view disk.old).content }
     ensures images { KeepsImages (D.view disk.old) (D.view disk.new) }

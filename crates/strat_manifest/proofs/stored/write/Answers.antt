@@ -13,8 +13,13 @@ write_chain-requires-clause-fits g c =
 
 pub returns-clause-ok : goal.returns-clause-ok
 returns-clause-ok g c = λ told f now.
-    chain_stored f c.in_ok-first.first c.len.result (blocks_of c.in_ok-first.blocks) c.in_ok-bytes.bytes.items (manifest_of c.args.m.now) c.in_ok-bytes.ensures.ok
-    (subst (IsChain f (blocks_of c.in_ok-first.blocks)) c.deref.ensures.value (c.in_ok-first.ensures.ok told f now)) c.in_ok-first.ensures.found.2 (c.len.ensures ∙ c.in_ok-bytes.ensures.len)
+    let chain = subst (IsChain f (blocks_of c.in_ok-first.blocks)) c.deref.ensures.value (c.in_ok-first.ensures.ok told f now) in
+    record {
+      read = chain_stored f c.in_ok-first.first c.len.result (blocks_of c.in_ok-first.blocks) c.in_ok-bytes.bytes.items (manifest_of c.args.m.now) c.in_ok-bytes.ensures.ok
+          chain c.in_ok-first.ensures.found.2 (c.len.ensures ∙ c.in_ok-bytes.ensures.len);
+      chain = subst (IsChain f (blocks_of c.in_ok-first.blocks)) c.in_ok-bytes.ensures.ok.text chain;
+      first_is = c.in_ok-first.ensures.found.2;
+    }
 
 pub returns-clause-fits : goal.returns-clause-fits
 returns-clause-fits g c =

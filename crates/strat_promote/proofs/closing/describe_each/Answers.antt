@@ -28,7 +28,7 @@ loop-q-preserved c =
     ∙ c.loop-q.invariant.left q (omega arith) (omega (arith, below, seen)) in
     one_described (plan_seen plan) q c.args.writers.now c.loop-q.tags.items c.loop-q.arrays c.push.new.self w c.in_ok-desc.desc c.replace-tag.new.dest c.loop-q.invariant there
     (described plan q w c.get-part.result.now c.replace-tag.result c.in_ok-desc.desc below c.get-part.ensures.ok tag c.in_ok-desc.ensures.ok c.in_ok-desc.ensures.found
-    c.in_ok-desc.ensures.kept.1)
+    c.in_ok-desc.ensures.kept.0 c.in_ok-desc.ensures.kept.1)
     c.in_default.ensures.ok
 
 pub returns-clause-ok : goal.returns-clause-ok

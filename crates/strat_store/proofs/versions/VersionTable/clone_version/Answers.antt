@@ -1,4 +1,4 @@
-use Rattle.std.proofs.Common.{◌≡◌, ◌≢◌, ℕ, length, refl, sym, ap, ◌∙◌, arith}
+use Rattle.std.proofs.Common.{◌≢◌, length, refl, sym, ap, ◌∙◌, arith}
 use Rattle.strat_tree.specs.TreeView.{TreeView}
 use Rattle.strat_store.proofs.VersionLemmas.{clone_within, clone_few, clone_room, grown_over, clone_made}
 use Rattle.strat_store.proofs.versions.VersionTable.clone_version.Goals as goal

@@ -1,6 +1,6 @@
-use Rattle.std.proofs.Common.{◌≡◌, ◌≢◌, ◌<◌, ◌^◌, ℕ, Some, None, refl, sym, ap, ◌∙◌, arith}
+use Rattle.std.proofs.Common.{◌≢◌, None, refl, sym, ◌∙◌, arith}
 use Rattle.strat_base.specs.Entries.{Entry}
-use Rattle.strat_level.specs.Memtable.{Memtable, entries_held}
+use Rattle.strat_level.specs.Memtable.{entries_held}
 use Rattle.strat_store.proofs.VersionLemmas.{update_room, set_over, sizes_set, delete_fits, delete_made}
 use Rattle.strat_store.proofs.versions.VersionTable.delete.Goals as goal
 

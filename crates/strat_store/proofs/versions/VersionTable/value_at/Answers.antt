@@ -1,4 +1,4 @@
-use Rattle.std.proofs.Common.{◌≡◌, ◌<◌, ℕ, [], None, length, map, ap, ◌∙◌, arith}
+use Rattle.std.proofs.Common.{◌<◌, [], None, length, arith}
 use Rattle.std.proofs.lemmas.List.{length-map}
 use Rattle.strat_base.specs.Entries.{Entry}
 use Rattle.strat_arena.specs.Items.{entry_of_item}

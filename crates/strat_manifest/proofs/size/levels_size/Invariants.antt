@@ -1,0 +1,8 @@
+use Rattle.std.proofs.Common.{◌≡◌, ◌-◌, ◌^◌, length, take}
+use Rattle.std.specs.Prelude.{min}
+use Rattle.std.specs.List.{flat_map}
+use Rattle.strat_format.specs.Manifest.{level_bytes}
+use Rattle.strat_manifest.proofs.size.levels_size.Given as goal
+
+abbrev pub invariant-loop-level : goal.invariant-loop-level
+invariant-loop-level l = l.size ≡ min (length (flat_map level_bytes (take l.level-index l.levels))) (2 ^ 64 - 1)

@@ -1,0 +1,160 @@
+-- The next contents of a store, from what was promoted and written.
+use Rattle.std.proofs.Common.{◌≡◌, ◌+◌, ℕ, Bool, true, false, not, cond, leb, ltb, ◌&&◌, List, [], ◌++◌, map, Contains, flat_map, Option, None, Some, IsSome, refl, sym, ap, ◌∙◌, subst, arith, true≢false}
+use Rattle.std.specs.List.{sum_by}
+use Rattle.std.proofs.lemmas.Bool.{and_parts, and_from, not-true, false_from_ne_true}
+use Rattle.std.proofs.lemmas.List.Elements.{Contains-append_right}
+use Rattle.strat_array.specs.Taking.{AreUsed}
+use Rattle.strat_base.specs.declared.descriptors.ArrayDesc.{ArrayDesc}
+use Rattle.strat_base.specs.declared.descriptors.Extent.{Extent}
+use Rattle.strat_base.specs.declared.descriptors.LevelDesc.{LevelDesc}
+use Rattle.strat_crash.proofs.BlockLemmas.{blocks_trans, blocks_wider}
+use Rattle.strat_crash.specs.Blocks.{TearsBlocks}
+use Rattle.strat_crash.specs.Image.{Image}
+use Rattle.strat_crash.specs.Moments.{DiskView, Exposes}
+use Rattle.strat_extent.proofs.CountLemmas.{times_append}
+use Rattle.strat_extent.specs.Blocks.{SpaceView, is_used, is_free, uses}
+use Rattle.strat_extent.specs.Change.{IsMarked}
+use Rattle.strat_format.specs.Arrays.{all_some, blocks_of}
+use Rattle.strat_format.specs.Manifest.{Manifest, is_rising}
+use Rattle.strat_journal.specs.Log.{Log}
+use Rattle.strat_promote.specs.Job.{blocks_listed}
+use Rattle.strat_promote.specs.Promotions.{entries_if_any}
+use Rattle.strat_promotion.specs.Promoted.{levels_behind, promoted}
+use Rattle.strat_recovery.specs.Head.{descriptors}
+use Rattle.strat_recovery.specs.Opened.{level_on}
+use Rattle.strat_standing.proofs.FreeLemmas.{Told, still_told}
+use Rattle.strat_standing.proofs.ListLemmas.{contained_among}
+use Rattle.strat_standing.proofs.OccupiedLemmas.{named_used, taken_beside}
+use Rattle.strat_standing.proofs.PromotedLemmas.{promoted_state}
+use Rattle.strat_standing.specs.Contents.{Contents, contents_state, named_blocks}
+use Rattle.strat_standing.specs.Next.{IsNextOf, HasManifest, arrays_made}
+use Rattle.strat_standing.specs.Occupied.{IsSpaceOf, UsesMore, extents_of, arrays_in}
+use Rattle.strat_standing.specs.Standing.{ReadsAs, LeavesContent}
+use Rattle.strat_state.specs.Sound.{IsSound}
+use Rattle.strat_state.specs.State.{State, IsPaid}
+use Rattle.strat_store.specs.Looking.{arrays_there}
+use Rattle.strat_store.specs.Memory.{Memory}
+use Rattle.strat_store.specs.Promoting.{HoldInMemory, IsPromotedTo}
+use Rattle.strat_store.specs.Publishing.{MayCompute, IsComputedBy, IsWrittenBeside, IsWrittenTo, manifest_after, contents_after, descs_to, descs_behind}
+use Rattle.strat_store.proofs.NextContentsLemmas.{after_next, computed, numbers_rise}
+use Rattle.strat_store.proofs.WritingLemmas.{space_written}
+
+-- where more is used no more is free
+pub fewer_free : (s t : SpaceView) (xs : List Extent) (b : ℕ) → UsesMore s xs t → is_free s b ≡ false → is_free t b ≡ false
+fewer_free s t xs b more taken = false_from_ne_true (is_free t b) (λ free.
+    let parts = and_parts (leb t.first b && ltb b 4294967295) (not (is_used t b)) free in
+    let no : is_used t b ≡ false = not-true (is_used t b) parts.1 in
+    let none : is_used s b ≡ false = false_from_ne_true (is_used s b) (λ used.
+    let one : uses s b ≡ 1 = ap {B = ℕ} (λ (u : Bool). cond u 1 0) used in
+    let zero_is : uses t b ≡ 0 = ap {B = ℕ} (λ (u : Bool). cond u 1 0) no in
+    let all = more.used b in
+    omega (arith, one, zero_is, all)) in
+    let there : is_free s b ≡ true =
+    and_from (leb s.first b && ltb b 4294967295) (not (is_used s b)) (ap (λ (n : ℕ). leb n b && ltb b 4294967295) (sym more.first) ∙ parts.0) (ap not none) in
+    true≢false (sym there ∙ taken))
+
+-- one call and then another that takes more
+pub torn_on : (s t : SpaceView) (xs : List Extent) (v w u : DiskView) → UsesMore s xs t → TearsBlocks (is_free s) v w → TearsBlocks (is_free t) w u → TearsBlocks (is_free s) v u
+torn_on s t xs v w u more first second =
+    blocks_trans (is_free s) v w u first (blocks_wider (is_free t) (is_free s) w u (λ b taken. fewer_free s t xs b more taken) second)
+
+pub uses_both : (s t u : SpaceView) (xs ys : List Extent) → UsesMore s xs t → IsMarked t ys u → UsesMore s (ys ++ xs) u
+uses_both s t u xs ys first second = record {
+  first = second.first ∙ first.first;
+  used = λ b. omega (arith, first.used b, second.used b, times_append ys xs b);
+}
+
+entries_counted : (made : Option LevelDesc) → entries_if_any made ≡ sum_by (λ (a : ArrayDesc). a.entries) (arrays_made made)
+entries_counted None = refl
+entries_counted (Some level) = refl
+
+module _ (v w u : DiskView) (s t r : SpaceView) (m : Memory) (levels : List (Option LevelDesc)) (log : Log) (x : Contents) (may : MayCompute v s m levels log x) (mem : ℕ) (mem_is : x.sb.mem ≡ mem)
+    (old : Manifest) (old_is : x.chained.manifest ≡ old) (target : ℕ) (made : Option LevelDesc) (first size : ℕ) (chain : List Extent) (promoting : TearsBlocks (is_free s) v w)
+    (taken : UsesMore s (extents_of (arrays_made made)) t) (writing : TearsBlocks (is_free t) w u) (marked : IsMarked t chain r) (between : LeavesContent w) (after : LeavesContent u) where
+  abbrev f : Image
+  f = may.stands.content
+
+  here : ReadsAs f x
+  here = may.stands.reads f may.stands.left
+
+  holds : HoldInMemory f (contents_state x) m levels
+  holds = record {
+    entries = may.memory.entries;
+    levels_are = ap (all_some (level_on f)) may.placed.listed_are ∙ here.lies.arrays;
+    numbered = may.placed.numbered;
+    parents = may.memory.parents;
+  }
+
+  used : AreUsed s (blocks_listed (arrays_there levels))
+  used b of =
+      let listed : arrays_there levels ≡ descriptors x.chained.manifest = ap (flat_map (λ (l : LevelDesc). l.arrays)) may.placed.listed_are in
+      let there = subst (λ (rs : List ArrayDesc). Contains (blocks_listed rs) b) listed of in
+      named_used s x [] may.space b (contained_among (named_blocks x) b (Contains-append_right x.chained.blocks (blocks_listed (descriptors x.chained.manifest)) b there))
+
+  module _ (promotes : (f g : Image) (st : State) → Exposes v f → Exposes w g → IsSound st → st.mem ≡ mem → HoldInMemory f st m levels → AreUsed s (blocks_listed (arrays_there levels)) → IsPromotedTo g st old.next_array target made)
+      (manifest : Manifest) (manifest_is : manifest ≡ manifest_after old m target made)
+      (stored : IsSome w.content → (g : Image) → Exposes u g → (new : Contents) → IsWrittenTo first size chain manifest new → HasManifest g new) where
+    told : Told w
+    told = still_told v w f promoting.time may.stands.exposed between
+
+    made_here : IsPromotedTo told.content (contents_state x) x.chained.manifest.next_array target made
+    made_here =
+        subst (λ (k : Manifest). IsPromotedTo told.content (contents_state x) k.next_array target made) (sym old_is)
+        (promotes f told.content (contents_state x) may.stands.exposed told.exposed may.stands.sound mem_is holds used)
+
+    abbrev new : Contents
+    new = contents_after x m target made (made_here.says.fresh ++ levels_behind target x.levels) first size (blocks_of chain)
+
+    rising : is_rising (map (λ (d : LevelDesc). d.number) x.chained.manifest.levels) ≡ true
+    rising = numbers_rise x.chained.manifest may.lawful
+
+    next : IsNextOf x new made (descs_to target x.chained.manifest.levels) (descs_behind target x.chained.manifest.levels)
+    next = after_next x m target made (made_here.says.fresh ++ levels_behind target x.levels) first size (blocks_of chain) may.memory rising
+
+    used_after : (gone : List Extent) → blocks_of gone ≡ x.chained.blocks → IsSpaceOf r new (gone ++ (extents_of (arrays_in (descs_to target x.chained.manifest.levels)) ++ []))
+    used_after gone gone_is =
+        space_written t r chain marked x new made (descs_to target x.chained.manifest.levels) (descs_behind target x.chained.manifest.levels) gone [] next refl gone_is
+        (taken_beside s t x [] (extents_of (arrays_made made)) may.space taken)
+
+    beside : IsWrittenBeside v w u s t r x new target made (may.chain ++ (extents_of (arrays_in (descs_to target x.chained.manifest.levels)) ++ []))
+    beside = record {
+      stands = may.stands;
+      logged = may.logged;
+      space = may.space;
+      promoting = promoting;
+      taken = taken;
+      writing = writing;
+      between = between;
+      after = after;
+      used = used_after may.chain may.chain_is;
+      manifest = λ g now. stored (some_told w.content told.content told.exposed) g now new (record {
+        chained = λ i. record { manifest = (ap (λ (k : Manifest). manifest_after k m target made) old_is ∙ sym manifest_is) i; blocks = blocks_of chain };
+        first_is = refl;
+        length_is = refl;
+      });
+      next = next;
+      content = told.content;
+      exposed = told.exposed;
+      promoted = made_here;
+      levels = refl;
+    }
+      where
+        some_told : (o : Option Image) (g : Image) → o ≡ Some g → IsSome o
+        some_told None g e = absurd (cc)
+        some_told (Some h) g e = refl
+
+    pub computed_by : IsComputedBy u r x m log target made first size chain
+    computed_by = record {
+      levels = made_here.says.fresh ++ levels_behind target x.levels;
+      computed = computed v w u s t r x new target made (may.chain ++ (extents_of (arrays_in (descs_to target x.chained.manifest.levels)) ++ [])) beside rising log may.log_is;
+      used = used_after;
+      paid = λ paid honest full.
+          let p = made_here.paid paid honest full in
+          let both : Some p.fresh ≡ Some made_here.says.fresh = sym p.read ∙ made_here.says.read in
+          let same : p.fresh ≡ made_here.says.fresh = cc in
+          let sum = entries_counted made in
+          let state = promoted_state x new may.stands.sound next.promoted in
+          subst IsPaid
+          ((λ i. promoted (contents_state x) (same i ++ levels_behind target x.levels) (x.chained.manifest.written + sum i) new.chained.manifest.next_array) ∙ sym state)
+          (p.paid new.chained.manifest.next_array);
+    }

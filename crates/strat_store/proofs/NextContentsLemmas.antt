@@ -1,0 +1,180 @@
+-- The contents that a promotion and the next manifest make.
+use Rattle.std.proofs.Common.{◌≡◌, ◌<◌, ℕ, suc, Bool, true, false, cond, leb, ltb, inl, inr, List, [], ◌∷◌, ◌++◌, length, map, filter, drop, Option, Some, refl, sym, ap, ◌∙◌, subst, arith}
+use Rattle.std.specs.Option.{option_to_list}
+use Rattle.std.proofs.Math.Seq.{drop-append_seam}
+use Rattle.std.proofs.lemmas.Bool.{and_parts, cases_lt, lt-leb, le-leb, lt-ltb, le-ltb, ltb-true}
+use Rattle.strat_base.specs.declared.descriptors.Extent.{Extent}
+use Rattle.strat_base.specs.declared.descriptors.LevelDesc.{LevelDesc}
+use Rattle.strat_crash.specs.Image.{Image}
+use Rattle.strat_crash.specs.Moments.{DiskView}
+use Rattle.strat_extent.specs.Blocks.{SpaceView, is_free}
+use Rattle.strat_format.specs.Arrays.{all_some}
+use Rattle.strat_format.specs.Manifest.{Manifest, is_lawful_manifest, is_rising}
+use Rattle.strat_format.proofs.ManifestLemmas.{pass_at}
+use Rattle.strat_journal.specs.Log.{Log}
+use Rattle.strat_promotion.specs.Promoted.{levels_behind, promoted, SaysTheSame}
+use Rattle.strat_recovery.proofs.OpeningLemmas.{each_some, map_some, manifest_tests}
+use Rattle.strat_recovery.specs.Head.{parent_numbers}
+use Rattle.strat_recovery.specs.Opened.{array_on, level_on}
+use Rattle.strat_standing.proofs.ComputedLemmas.{promotion_next}
+use Rattle.strat_standing.proofs.FreeLemmas.{free_stands}
+use Rattle.strat_standing.proofs.LocalLemmas.{levels_local}
+use Rattle.strat_standing.proofs.OccupiedLemmas.{array_blocks_used, taken_beside, free_beside}
+use Rattle.strat_standing.specs.Appending.{IsLogOf}
+use Rattle.strat_standing.specs.Contents.{Contents, contents_head, contents_state}
+use Rattle.strat_standing.specs.Next.{IsNextOf, IsPromotion, arrays_made}
+use Rattle.strat_standing.specs.Occupied.{IsSpaceOf, extents_of}
+use Rattle.strat_standing.specs.Standing.{ContentsStand}
+use Rattle.strat_state.specs.Level.{Level}
+use Rattle.strat_state.specs.Sound.{IsSound}
+use Rattle.strat_store.specs.Memory.{Memory, IsMemoryOf}
+use Rattle.strat_store.specs.Publishing.{IsComputed, IsWrittenBeside, contents_after, descs_to, descs_behind}
+
+rising_behind : (n : ℕ) (ns : List ℕ) → is_rising (n ∷ ns) ≡ true → is_rising ns ≡ true
+rising_behind n [] rising = refl
+rising_behind n (k ∷ ns) rising = (and_parts (ltb n k) (is_rising (k ∷ ns)) rising).1
+
+-- items in the order of their numbers, parted at a number
+module _ {X : Type 0} (number : X → ℕ) (t : ℕ) where
+  abbrev pub low : List X → List X
+  low xs = filter (λ x. leb (number x) t) xs
+
+  abbrev pub high : List X → List X
+  high xs = filter (λ x. ltb t (number x)) xs
+
+  all_high : (x : X) (xs : List X) → is_rising (number x ∷ map number xs) ≡ true → t < number x → (low (x ∷ xs) ≡ []) × (high (x ∷ xs) ≡ x ∷ xs)
+  all_high x [] rising lt = (
+    ap (λ (b : Bool). cond b (x ∷ []) []) (lt-leb (number x) t lt),
+    ap (λ (b : Bool). cond b (x ∷ []) []) (lt-ltb t (number x) lt),
+  )
+  all_high x (y ∷ ys) rising lt =
+      let up = ltb-true (number x) (number y) (and_parts (ltb (number x) (number y)) (is_rising (number y ∷ map number ys)) rising).0 in
+      let rest = all_high y ys (rising_behind (number x) (number y ∷ map number ys) rising) (omega (arith, lt, up)) in (
+        ap (λ (b : Bool). cond b (x ∷ low (y ∷ ys)) (low (y ∷ ys))) (lt-leb (number x) t lt) ∙ rest.0,
+        ap (λ (b : Bool). cond b (x ∷ high (y ∷ ys)) (high (y ∷ ys))) (lt-ltb t (number x) lt) ∙ ap (λ (zs : List X). x ∷ zs) rest.1,
+      )
+
+  pub parted : (xs : List X) → is_rising (map number xs) ≡ true → xs ≡ low xs ++ high xs
+  parted [] rising = refl
+  parted (x ∷ xs) rising =
+      let rest = parted xs (rising_behind (number x) (map number xs) rising) in
+      elim (cases_lt t (number x)) [
+        | inl above ↦
+            let all = all_high x xs rising above in
+            sym (all.1) ∙ ap (λ (zs : List X). zs ++ high (x ∷ xs)) (sym all.0)
+        | inr within ↦
+            ap (λ (zs : List X). x ∷ zs) rest
+            ∙ (λ i. cond (sym (le-leb (number x) t within) i) (x ∷ low xs) (low xs) ++ cond (sym (le-ltb t (number x) within) i) (x ∷ high xs) (high xs))
+      ]
+
+-- how many items pass depends on their numbers
+passing : {X : Type 0} (number : X → ℕ) (p : ℕ → Bool) (xs : List X) → length (filter (λ x. p (number x)) xs) ≡ length (filter p (map number xs))
+passing number p [] = refl
+passing number p (x ∷ xs) = by (p (number x)) (passing number p xs)
+  where
+    by : (b : Bool) → length (filter (λ y. p (number y)) xs) ≡ length (filter p (map number xs))
+        → length (cond b (x ∷ filter (λ y. p (number y)) xs) (filter (λ y. p (number y)) xs)) ≡ length (cond b (number x ∷ filter p (map number xs)) (filter p (map number xs)))
+    by true rest = ap suc rest
+    by false rest = rest
+
+-- levels have the numbers of their descriptors
+numbers_read : (f : Image) (ds : List LevelDesc) (levels : List Level) → all_some (level_on f) ds ≡ Some levels → map (λ (l : Level). l.number) levels ≡ map (λ (d : LevelDesc). d.number) ds
+numbers_read f [] levels e = let none : [] ≡ levels = cc in ap (map (λ (l : Level). l.number)) (sym none)
+numbers_read f (d ∷ ds) levels e =
+    let parts = each_some (level_on f) d ds levels e in
+    let made = map_some (λ arrays. record { number = d.number; horizon = d.horizon; arrays = arrays }) (all_some (array_on f) d.arrays) parts.0 parts.2 in
+    let here : parts.0.number ≡ d.number = ap (λ (l : Level). l.number) (sym made.2) in
+    ap (map (λ (l : Level). l.number)) (sym parts.4) ∙ (λ i. here i ∷ numbers_read f ds parts.1 parts.3 i)
+
+-- so the levels behind a number are those of the descriptors behind it
+pub behind_dropped : (f : Image) (ds : List LevelDesc) (levels : List Level) (t : ℕ) → all_some (level_on f) ds ≡ Some levels → is_rising (map (λ (d : LevelDesc). d.number) ds) ≡ true
+    → levels_behind t levels ≡ drop (length (descs_to t ds)) levels
+behind_dropped f ds levels t read rising =
+    let same = numbers_read f ds levels read in
+    let up : is_rising (map (λ (l : Level). l.number) levels) ≡ true = ap is_rising same ∙ rising in
+    let two : levels ≡ low (λ (l : Level). l.number) t levels ++ levels_behind t levels = parted (λ (l : Level). l.number) t levels up in
+    let many : length (descs_to t ds) ≡ length (low (λ (l : Level). l.number) t levels) =
+    passing (λ (d : LevelDesc). d.number) (λ n. leb n t) ds ∙ ap (λ (ns : List ℕ). length (filter (λ n. leb n t) ns)) (sym same) ∙ sym (passing (λ (l : Level). l.number) (λ n. leb n t) levels) in
+    sym (drop-append_seam (low (λ (l : Level). l.number) t levels) (levels_behind t levels)) ∙ ap (λ (n : ℕ). drop n (low (λ (l : Level). l.number) t levels ++ levels_behind t levels)) (sym many)
+    ∙ ap (drop (length (descs_to t ds))) (sym two)
+
+-- the next manifest makes the next contents
+pub after_next : (old : Contents) (m : Memory) (target : ℕ) (made : Option LevelDesc) (levels : List Level) (first size : ℕ) (blocks : List ℕ) → IsMemoryOf (contents_head old) m
+    → is_rising (map (λ (d : LevelDesc). d.number) old.chained.manifest.levels) ≡ true
+    → IsNextOf old (contents_after old m target made levels first size blocks) made (descs_to target old.chained.manifest.levels) (descs_behind target old.chained.manifest.levels)
+after_next old m target made levels first size blocks of rising = record {
+  slot = refl;
+  generation = refl;
+  region = refl;
+  promoted = record {
+    mem = refl;
+    changes_max = refl;
+    versions_max = refl;
+    parents = ap parent_numbers of.parents;
+    updates = of.updates;
+    changes = of.changes;
+    journal = refl;
+  };
+  written = refl;
+  next_array = refl;
+  levels_were = parted (λ (d : LevelDesc). d.number) target old.chained.manifest.levels rising;
+  levels_are = refl;
+}
+
+-- what was written beside contents is computed
+module _ (v w u : DiskView) (s t r : SpaceView) (old new : Contents) (target : ℕ) (made : Option LevelDesc) (others : List Extent) (b : IsWrittenBeside v w u s t r old new target made others)
+    (rising : is_rising (map (λ (d : LevelDesc). d.number) old.chained.manifest.levels) ≡ true) (log : Log) (is_log : IsLogOf old log) where
+  between : ContentsStand w old
+  between = free_stands (is_free s) old (free_beside s old [] b.space) v w b.promoting b.stands b.between
+
+  space_between : IsSpaceOf t old (extents_of (arrays_made made) ++ [])
+  space_between = taken_beside s t old [] (extents_of (arrays_made made)) b.space b.taken
+
+  at_end : ContentsStand u old
+  at_end = free_stands (is_free t) old (free_beside t old (extents_of (arrays_made made) ++ []) space_between) w u b.writing between b.after
+
+  made_read : all_some (level_on at_end.content) (option_to_list made) ≡ Some b.promoted.says.fresh
+  made_read =
+      levels_local b.content at_end.content (option_to_list made) (λ c among.
+      b.writing.content b.content at_end.content b.exposed at_end.exposed c (array_blocks_used s t made c b.taken among))
+      ∙ b.promoted.says.read
+
+  promotion : IsPromotion at_end.content old new made (descs_to target old.chained.manifest.levels)
+  promotion =
+      let lies = (at_end.reads at_end.content at_end.left).lies in
+      let same : promoted (contents_state old) (b.promoted.says.fresh ++ levels_behind target old.levels) new.chained.manifest.written new.chained.manifest.next_array
+      ≡ promoted (contents_state old) new.levels new.chained.manifest.written new.chained.manifest.next_array =
+      ap (λ (ls : List Level). promoted (contents_state old) ls new.chained.manifest.written new.chained.manifest.next_array) (sym b.levels) in
+      record {
+        fresh = b.promoted.says.fresh;
+        lies = lies;
+        read = made_read;
+        levels = b.levels ∙ ap (λ (ls : List Level). b.promoted.says.fresh ++ ls) (behind_dropped at_end.content old.chained.manifest.levels old.levels target lies.arrays rising);
+        sound = subst IsSound same (b.promoted.says.sound new.chained.manifest.written new.chained.manifest.next_array);
+        says = subst (SaysTheSame (contents_state old)) same (b.promoted.says.says new.chained.manifest.written new.chained.manifest.next_array);
+      }
+
+  pub computed : IsComputed u new.slot new.sb log old new
+  computed =
+      let may = promotion_next at_end.content at_end.content old new made (descs_to target old.chained.manifest.levels) (descs_behind target old.chained.manifest.levels)
+      (at_end.reads at_end.content at_end.left) b.logged at_end.sound b.next b.promoted.fresh promotion in
+      record {
+        stands = at_end;
+        log_is = is_log;
+        slot_is = refl;
+        sb_is = refl;
+        made = made;
+        taken = descs_to target old.chained.manifest.levels;
+        kept = descs_behind target old.chained.manifest.levels;
+        was = at_end.content;
+        next = may.0;
+        says = may.1;
+        space = r;
+        others = others;
+        used = b.used;
+        manifest = b.manifest at_end.content at_end.exposed;
+      }
+
+-- the levels of a lawful manifest stand in the order of their numbers
+pub numbers_rise : (m : Manifest) → is_lawful_manifest m ≡ true → is_rising (map (λ (d : LevelDesc). d.number) m.levels) ≡ true
+numbers_rise m lawful = pass_at (manifest_tests m) 9 lawful

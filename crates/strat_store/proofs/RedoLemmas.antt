@@ -1,0 +1,133 @@
+-- A journal's changes carried out one by one on what is in memory.
+use Rattle.std.proofs.Common.{◌≡◌, ◌≤◌, ◌<◌, ◌+◌, ◌-◌, ℕ, suc, Bool, true, false, not, List, [], ◌∷◌, ◌++◌, length, map, take, drop, get_or, Option, Some, None, Ok, Err, refl, sym, ap, ◌∙◌, subst, arith, append_assoc, append-nil}
+use Rattle.std.specs.Prelude.{fold, is_some}
+use Rattle.std.proofs.lemmas.Bool.{cond-true, cond-false}
+use Rattle.std.proofs.lemmas.List.{map_more, drop_more, take_all, drop_all}
+use Rattle.strat_base.proofs.ListFacts.{fold-push}
+use Rattle.strat_base.specs.Change.{Change, Put, Delete, Clone}
+use Rattle.strat_base.specs.Tree.{Parents}
+use Rattle.strat_format.specs.Damage.{Read, and_then, put_first}
+use Rattle.strat_format.specs.Manifest.{Manifest}
+use Rattle.strat_format.specs.Records.{Logged}
+use Rattle.strat_format.specs.SuperBlock.{Super}
+use Rattle.strat_model.specs.declared.replies.Refusal.{Refusal}
+use Rattle.strat_recovery.specs.Head.{Head}
+use Rattle.strat_recovery.specs.Opening.{accepted_in}
+use Rattle.strat_state.specs.State.{tree_after}
+use Rattle.strat_store.specs.Memory.{Memory, refusal_of_change, memory_after, HasRoomFor, IsMemoryOf}
+use Rattle.strat_store.proofs.MemoryLawLemmas.{accepted_same, memory_follows}
+
+-- the changes of the first records
+abbrev pub changes_before : ℕ → List Logged → List Change
+changes_before k logged = map (λ (l : Logged). l.change) (take k logged)
+
+-- changes in front of those that are read
+abbrev after_these : List Change → Read (List Change) → Read (List Change)
+after_these xs r = and_then r (λ ys. Ok (xs ++ ys))
+
+-- the changes of records, as memory accepts them in turn
+abbrev pub accepted_by : Memory → List Logged → Read (List Change)
+accepted_by m logged = accepted_in m.changes_max m.versions_max m.parents m.changes logged
+
+-- the first k of these records were carried out, and others are left for which there is room
+pub record IsRedone (m : Memory) (logged : List Logged) (k : ℕ) (now : Memory) : Type 0 where
+  pub now_is : now ≡ fold memory_after m (changes_before k logged)
+  pub room : length logged ≤ now.spare + k
+  pub rest : accepted_by m logged ≡ after_these (changes_before k logged) (accepted_by now (drop k logged))
+
+after_none : (r : Read (List Change)) → after_these [] r ≡ r
+after_none (Ok xs) = refl
+after_none (Err block) = refl
+
+after_one : (xs : List Change) (c : Change) (r : Read (List Change)) → after_these xs (put_first c r) ≡ after_these (xs ++ c ∷ []) r
+after_one xs c (Ok ys) = ap (λ (zs : List Change). Ok zs) (sym (append_assoc xs (c ∷ []) ys))
+after_one xs c (Err block) = refl
+
+-- what a change leaves of the limits, the versions, the count and the room
+after_limits : (m : Memory) (c : Change) → ((memory_after m c).changes_max ≡ m.changes_max) × ((memory_after m c).versions_max ≡ m.versions_max)
+after_limits m (Put v key value) = (refl, refl)
+after_limits m (Delete v key) = (refl, refl)
+after_limits m (Clone v) = (refl, refl)
+
+after_parents : (m : Memory) (c : Change) → (memory_after m c).parents ≡ tree_after m.parents c
+after_parents m (Put v key value) = refl
+after_parents m (Delete v key) = refl
+after_parents m (Clone v) = refl
+
+after_changes : (m : Memory) (c : Change) → (memory_after m c).changes ≡ m.changes + 1
+after_changes m (Put v key value) = refl
+after_changes m (Delete v key) = refl
+after_changes m (Clone v) = refl
+
+after_spare : (m : Memory) (c : Change) → m.spare ≤ (memory_after m c).spare + 1
+after_spare m (Put v key value) = omega arith
+after_spare m (Delete v key) = omega arith
+after_spare m (Clone v) = omega arith
+
+-- level 0 has room for a change, whichever it is
+room_any : (m : Memory) (c : Change) → 1 ≤ m.spare → HasRoomFor m c
+room_any m (Put v key value) free = free
+room_any m (Delete v key) free = free
+room_any m (Clone v) free = tt
+
+pub redone_none : (m : Memory) (logged : List Logged) → length logged ≤ m.spare → IsRedone m logged 0 m
+redone_none m logged room = record { now_is = refl; room = omega (arith, room); rest = sym (after_none (accepted_by m logged)) }
+
+pub redone_all : (m : Memory) (logged : List Logged) (k : ℕ) (now : Memory) → length logged ≤ k → IsRedone m logged k now
+    → (accepted_by m logged ≡ Ok (map (λ (l : Logged). l.change) logged)) × (now ≡ fold memory_after m (map (λ (l : Logged). l.change) logged))
+redone_all m logged k now past old =
+    let all : changes_before k logged ≡ map (λ (l : Logged). l.change) logged = ap (map (λ (l : Logged). l.change)) (take_all k logged past) in (
+      old.rest
+          ∙ ap (λ (rest : List Logged). after_these (changes_before k logged) (accepted_by now rest)) (drop_all k logged past)
+          ∙ ap (λ (xs : List Change). Ok xs) (append-nil (changes_before k logged) ∙ all),
+      old.now_is ∙ ap (λ (xs : List Change). fold memory_after m xs) all,
+    )
+
+none_some : (o : Option Refusal) → o ≡ None → not (is_some o) ≡ true
+none_some o e = ap (λ (x : Option Refusal). not (is_some x)) e
+
+module _ (m : Memory) (logged : List Logged) (k : ℕ) (now : Memory) (l : Logged) (old : IsRedone m logged k now) (within : k < length logged) (at : get_or logged k l ≡ l) where
+  next : drop k logged ≡ l ∷ drop (k + 1) logged
+  next = drop_more logged k l within ∙ ap (λ (x : Logged). x ∷ drop (k + 1) logged) at
+
+  more : changes_before (k + 1) logged ≡ changes_before k logged ++ l.change ∷ []
+  more = map_more (λ (x : Logged). x.change) logged k l within ∙ ap (λ (x : Logged). changes_before k logged ++ x.change ∷ []) at
+
+  rest_is : accepted_by m logged ≡ after_these (changes_before k logged) (accepted_by now (l ∷ drop (k + 1) logged))
+  rest_is = old.rest ∙ ap (λ (rest : List Logged). after_these (changes_before k logged) (accepted_by now rest)) next
+
+  abbrev later : Memory → ℕ → Parents → Read (List Change)
+  later x n parents = accepted_in x.changes_max x.versions_max parents n (drop (k + 1) logged)
+
+  pub redo_room : HasRoomFor now l.change
+  redo_room = room_any now l.change (omega (arith, old.room, within))
+
+  -- one more was carried out
+  pub redone_more : (after : Memory) → refusal_of_change now l.change ≡ None → after ≡ memory_after now l.change → IsRedone m logged (k + 1) after
+  redone_more after free is =
+      let next_count : suc now.changes ≡ (memory_after now l.change).changes = omega (arith, after_changes now l.change) in
+      let limits = after_limits now l.change in
+      record {
+        now_is = is ∙ ap (λ (x : Memory). memory_after x l.change) old.now_is ∙ sym (fold-push memory_after m (changes_before k logged) l.change)
+            ∙ ap (λ (xs : List Change). fold memory_after m xs) (sym more);
+        room = omega (arith, old.room, after_spare now l.change, ap (λ (x : Memory). x.spare) is);
+        rest = rest_is
+            ∙ ap (after_these (changes_before k logged)) (cond-true _ (put_first l.change (later now (suc now.changes) (tree_after now.parents l.change))) (Err l.block) (accepted_same now l.change ∙ none_some (refusal_of_change now l.change) free))
+            ∙ after_one (changes_before k logged) l.change (later now (suc now.changes) (tree_after now.parents l.change))
+            ∙ (λ i. after_these (sym more i) (accepted_in (sym limits.0 i) (sym limits.1 i) (sym (after_parents now l.change) i) (next_count i) (drop (k + 1) logged)))
+            ∙ ap (λ (x : Memory). after_these (changes_before (k + 1) logged) (accepted_by x (drop (k + 1) logged))) (sym is);
+      }
+
+  -- the next is refused
+  pub redone_not : is_some (refusal_of_change now l.change) ≡ true → accepted_by m logged ≡ Err l.block
+  redone_not refused =
+      rest_is
+      ∙ ap (after_these (changes_before k logged)) (cond-false _ (put_first l.change (later now (suc now.changes) (tree_after now.parents l.change))) (Err l.block) (accepted_same now l.change ∙ ap not refused))
+
+-- memory after changes is that of the head with them in its journal
+pub memory_follows_all : (sb : Super) (manifest : Manifest) (before changes : List Change) (m : Memory) → IsMemoryOf (record { sb = sb; manifest = manifest; journal = before }) m
+    → IsMemoryOf (record { sb = sb; manifest = manifest; journal = before ++ changes }) (fold memory_after m changes)
+memory_follows_all sb manifest before [] m of = subst (λ (js : List Change). IsMemoryOf (record { sb = sb; manifest = manifest; journal = js }) m) (sym (append-nil before)) of
+memory_follows_all sb manifest before (c ∷ changes) m of =
+    subst (λ (js : List Change). IsMemoryOf (record { sb = sb; manifest = manifest; journal = js }) (fold memory_after (memory_after m c) changes)) (append_assoc before (c ∷ []) changes)
+    (memory_follows_all sb manifest (before ++ c ∷ []) changes (memory_after m c) (memory_follows (record { sb = sb; manifest = manifest; journal = before }) m of c))

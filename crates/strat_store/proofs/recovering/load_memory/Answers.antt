@@ -1,0 +1,12 @@
+use Rattle.strat_gate.specs.SuperView.{super_of}
+use Rattle.strat_store.proofs.RecoverLemmas.{load_older, load_room, load_counts}
+use Rattle.strat_store.proofs.recovering.load_memory.Goals as goal
+
+pub load-requires-clause-fits : goal.load-requires-clause-fits
+load-requires-clause-fits c = load_older (super_of c.args.sb.now) c.args.published.now c.requires.kept c.as_slice.result.now c.as_slice.ensures.ok
+
+pub load-requires-clause-room : goal.load-requires-clause-room
+load-requires-clause-room c = rw c.in_ok-memory.ensures.ok (load_room (super_of c.args.sb.now) c.args.published.now c.requires.kept c.as_slice.result.now c.as_slice.ensures.ok)
+
+pub load-requires-clause-kept : goal.load-requires-clause-kept
+load-requires-clause-kept c = rw c.in_ok-memory.ensures.ok (load_counts (super_of c.args.sb.now) c.args.published.now c.requires.kept)

@@ -1,0 +1,43 @@
+use Rattle.std.proofs.Common.{◌≡◌, inl, inr, ◌∙◌}
+use Rattle.std.proofs.lemmas.Result.{err_from_is_err_and}
+use Rattle.strat_crash.specs.Moments.{IsDurable, OnlyReads}
+use Rattle.strat_crash.proofs.MomentLemmas.{reads_trans}
+use Rattle.strat_journal.proofs.ReadLemmas.{same_err}
+use Rattle.strat_store.proofs.AttachLemmas.{looks_kept}
+use Rattle.strat_store.specs.Recovering.{empty_cache}
+use Rattle.strat_store.proofs.OpenLemmas.{opened_as, leaves_follows}
+use Rattle.strat_store.proofs.recovering.open.Given.{Over}
+use Rattle.strat_store.proofs.recovering.open.Goals as goal
+use Rattle.strat_store.proofs.recovering.open.Goals.{After-recover_store}
+
+-- a sync leaves the disk as it was read
+synced : (g : Over) (c : After-recover_store g) → OnlyReads (g.D.Disk.view c.args.disk.now) (g.D.Disk.view c.sync_first.new.disk)
+synced g c = record { same = c.sync_first.ensures.same; images = c.sync_first.ensures.images; time = c.sync_first.ensures.time }
+
+-- until the store is recovered the disk was only read
+looks : (g : Over) (c : After-recover_store g) → OnlyReads (g.D.Disk.view c.args.disk.now) (g.D.Disk.view c.recover_store.new.disk)
+looks g c = reads_trans (synced g c) c.recover_store.ensures.same
+
+pub shut_other-requires : goal.shut_other-requires
+shut_other-requires g c = record { fits = (c.in_ok-recovered.ensures.kept (empty_cache 0)).lawful }
+
+pub returns-in_err-recovered-clause-err : goal.returns-in_err-recovered-clause-err
+returns-in_err-recovered-clause-err g c = λ failed f exposed.
+    let l = looks g (goal.at.returns-in_err-recovered-clause-err g c).After-recover_store in
+    inl (l.same, l.images)
+
+pub returns-in_err-recovered-clause-same : goal.returns-in_err-recovered-clause-same
+returns-in_err-recovered-clause-same g c =
+    looks_kept c.from_residual-in_err-recovered.result _ (g.D.Disk.view c.recover_store.new.disk) (looks g (goal.at.returns-in_err-recovered-clause-same g c).After-recover_store)
+
+pub returns-in_err-shut_other-clause-err : goal.returns-in_err-shut_other-clause-err
+returns-in_err-shut_other-clause-err g c = λ failed f exposed.
+    leaves_follows _ (g.D.Disk.view c.sync_first.new.disk) (g.D.Disk.view c.recover_store.new.disk) _ c.in_ok-recovered.recovered
+    (synced g (goal.at.returns-in_err-shut_other-clause-err g c).After-recover_store) c.in_ok-sync_first.ensures.ok (g.met.D.Disk.leaves_content c.sync_first.new.disk) c.recover_store.ensures.same c.shut_other.ensures.time
+    (λ f exposed. c.in_ok-recovered.ensures.found f (c.sync_first.ensures.same ∙ exposed)) c.shut_other.ensures.images f exposed
+
+pub returns-clause-ok : goal.returns-clause-ok
+returns-clause-ok g c = λ cap.
+    opened_as _ (g.D.Disk.view c.sync_first.new.disk) (g.D.Disk.view c.recover_store.new.disk) _ c.in_ok-recovered.recovered
+    (synced g (goal.at.returns-clause-ok g c).After-recover_store) c.in_ok-sync_first.ensures.ok (g.met.D.Disk.leaves_content c.sync_first.new.disk) c.recover_store.ensures.same c.shut_other.ensures.time
+    (λ f exposed. c.in_ok-recovered.ensures.found f (c.sync_first.ensures.same ∙ exposed)) c.shut_other.ensures.images c.in_ok-shut_other.ensures.kept cap

@@ -1,0 +1,10 @@
+use Rattle.std.proofs.Common.{map}
+use Rattle.strat_gate.specs.SuperView.{super_of}
+use Rattle.strat_store.specs.Recovering.{chained_of}
+use Rattle.strat_store.proofs.RecoverLemmas.{memory_redone}
+use Rattle.strat_store.proofs.recovering.recover_memory.Goals as goal
+
+pub returns-clause-ok : goal.returns-clause-ok
+returns-clause-ok c =
+    memory_redone (super_of c.args.sb.now) (chained_of c.args.published.now).manifest c.in_ok-memory.memory c.in_ok-memory.ensures.ok c.replay.new.memory
+    (map (λ l. l.change) c.args.logged.now) c.in_ok-replay.ensures.ok

@@ -1,0 +1,115 @@
+-- How a store answers a command.
+use Rattle.std.specs.Prelude.{◌≡◌, ◌≢◌, ◌≤◌, ◌⊎◌, ℕ, if◌then◌else◌, Bool, true, false, List, [], ◌∷◌, length, Contains, Option, Some, None}
+use Rattle.strat_crash.specs.Faults.{Rose}
+use Rattle.strat_crash.specs.Image.{Image}
+use Rattle.strat_crash.specs.Moments.{DiskView, Exposes}
+use Rattle.strat_crash.specs.Trail.{Trail}
+use Rattle.strat_base.specs.Change.{Change}
+use Rattle.strat_base.specs.Change as change
+use Rattle.strat_base.specs.declared.descriptors.LevelDesc.{LevelDesc}
+use Rattle.strat_format.specs.Arrays.{block_on}
+use Rattle.strat_model.specs.declared.replies.Refusal.{Refusal}
+use Rattle.strat_model.specs.declared.replies.Refusal.TheVariants as why
+use Rattle.strat_model.specs.declared.replies.Reply.{Reply}
+use Rattle.strat_model.specs.declared.replies.Reply.TheVariants as reply
+use Rattle.strat_model.specs.Answer.{Answer, refusal, accepts}
+use Rattle.strat_model.specs.Request.{Request, Put, Delete, Clone}
+use Rattle.strat_model.specs.Run.{position_after, reaches_disk, is_change}
+use Rattle.strat_model.specs.Step.{step}
+use Rattle.strat_model.specs.Table.{bare}
+use Rattle.strat_promote.specs.Job.{IsBadInput, blocks_listed}
+use Rattle.strat_recovery.specs.StateTable.{table_of}
+use Rattle.strat_standing.specs.Contents.{Contents, contents_state}
+use Rattle.strat_standing.specs.Standing.{ShowsTable}
+use Rattle.strat_store.specs.Held.{Held, StandsWith, position_with}
+use Rattle.strat_store.specs.Looking.{arrays_there}
+use Rattle.strat_store.specs.Memory.{Memory}
+use Rattle.strat_store.specs.Promoting.{HaveFewLeads}
+
+-- the change that a command asks for, if it asks for one
+abbrev pub change_wanted : Request → Option Change
+change_wanted (Put version key value) = Some (change.Put version key value)
+change_wanted (Delete version key) = Some (change.Delete version key)
+change_wanted (Clone version) = Some (change.Clone version)
+change_wanted _ = None
+
+-- a refusal tells of a fault: the device failed, or a block is damaged
+abbrev pub tells_fault : Refusal → Bool
+tells_fault why.DeviceFault = true
+tells_fault (why.Damaged block) = true
+tells_fault _ = false
+
+-- a reply tells of a fault, after which a store is not to be used again
+abbrev pub is_fault : Reply → Bool
+is_fault (reply.Refused r) = tells_fault r
+is_fault _ = false
+
+-- a command was answered as the table says, and the store stands at the position after it
+pub record IsAnsweredBy (now : DiskView) (old : Held) (x : Contents) (request : Request)
+    (answer : Answer) (new : Held) : Type 0 where
+  pub told : answer ≡ (step (table_of (contents_state x)) request).answer
+  pub going : new.spent ≡ false
+  pub after : Contents
+  pub stands : StandsWith now new after
+  pub place : position_with new after
+      ≡ position_after old.log.mem (position_with old x) request
+
+-- memory ran out for a change that the table accepts, at a full journal, and nothing changed
+pub record IsShortOf (now : DiskView) (old : Held) (x : Contents) (request : Request)
+    (answer : Answer) (new : Held) : Type 0 where
+  pub changes : is_change request ≡ true
+  pub acceptable : accepts (step (table_of (contents_state x)) request).answer.reply ≡ true
+  pub full : old.log.mem ≤ length old.log.list
+  pub told : answer ≡ refusal why.NoMemory
+  pub going : new.spent ≡ false
+  pub stands : StandsWith now new x
+  pub place : position_with new x ≡ position_with old x
+
+-- a command that the table accepts met a fault of the device, and the store is not to be used again
+pub record IsBrokenBy (old : Held) (x : Contents) (request : Request) (answer : Answer)
+    (new : Held) : Type 0 where
+  pub reached : reaches_disk request ≡ true
+  pub acceptable : accepts (step (table_of (contents_state x)) request).answer.reply ≡ true
+  pub told : answer ≡ refusal why.DeviceFault
+  pub spent : new.spent ≡ true
+
+-- how a store that stands with these contents may answer a command
+abbrev pub IsAppliedTo : DiskView → Held → Contents → Request → Answer → Held → Type 0
+IsAppliedTo now old x request answer new =
+    IsAnsweredBy now old x request answer new ⊎ IsShortOf now old x request answer new
+    ⊎ IsBrokenBy old x request answer new
+
+-- from the table of some contents the images of a disk go on to the table after a command, or stay
+-- where it was not carried out
+abbrev pub FollowsStep : DiskView → DiskView → Contents → Request → Answer → Type 0
+FollowsStep before now x request answer = Trail ShowsTable now before.moment
+    (table_of (contents_state x)
+    ∷ bare (step (table_of (contents_state x)) request).table ∷ [])
+    (if accepts answer.reply then 1 else 0)
+
+-- over a call a count of faults rises where the reply is that the device failed, and stays elsewhere
+pub record FailsAsTold (before now : ℕ) (told : Reply) : Type 0 where
+  pub later : before ≤ now
+  pub rose : told ≡ reply.Refused why.DeviceFault → Rose before now
+  pub same : told ≢ reply.Refused why.DeviceFault → now ≡ before
+
+-- a block is one of these levels' arrays, and where a content is exposed it is bad: it holds no entries, or
+-- none that come after those before it
+pub record IsDamagedIn (content : Option Image) (m : Memory) (levels : List (Option LevelDesc))
+    (b : ℕ) : Type 0 where
+  pub listed : Contains (blocks_listed (arrays_there levels)) b
+  pub bad : (f : Image) → content ≡ Some f → HaveFewLeads f m levels
+      → (block_on f b ≡ None) ⊎ IsBadInput f (arrays_there levels) b
+
+-- a look-up was answered as the table says, and the store stands as it did; or the device failed
+abbrev pub IsLookedUp : DiskView → Held → Contents → Request → Answer → Type 0
+IsLookedUp now new x request answer =
+    ((answer ≡ (step (table_of (contents_state x)) request).answer) × StandsWith now new x)
+    ⊎ ((answer ≡ refusal why.DeviceFault) × (reaches_disk request ≡ true)
+    × (accepts (step (table_of (contents_state x)) request).answer.reply ≡ true))
+
+-- contents took the place of others on the disk that a store stands on: they mean the same table
+pub record IsPublishedAs (now : DiskView) (x : Contents) (new : Held) : Type 0 where
+  pub after : Contents
+  pub stands : StandsWith now new after
+  pub table : table_of (contents_state after) ≡ table_of (contents_state x)

@@ -1,0 +1,87 @@
+-- An open store, and the disk that it stands on.
+use Rattle.std.specs.Prelude.{◌≡◌, ◌≤◌, ◌<◌, ℕ, ◌-◌, Bool, true, false, List, [], length, Contains, Option, Some, None, IsTrue, ◌↔◌, replicate}
+use Rattle.strat_array.specs.Kept.{Blocks}
+use Rattle.strat_base.specs.declared.descriptors.LevelDesc.{LevelDesc}
+use Rattle.strat_crash.specs.Moments.{DiskView}
+use Rattle.strat_format.specs.Chained.{Chained}
+use Rattle.strat_format.specs.Manifest.{is_lawful_manifest}
+use Rattle.strat_format.specs.SuperBlock.{Super, IsLawful}
+use Rattle.strat_journal.specs.Log.{Log}
+use Rattle.strat_level.specs.Levels.{level_numbered}
+use Rattle.strat_model.specs.Run.{Position}
+use Rattle.strat_recovery.specs.Head.{Head, descriptors}
+use Rattle.strat_recovery.specs.Opened.{parents_in}
+use Rattle.strat_recovery.specs.Opening.{belongs}
+use Rattle.strat_recovery.specs.StateTable.{table_of}
+use Rattle.strat_standing.specs.Contents.{Contents, contents_state, named_blocks}
+use Rattle.strat_standing.specs.Standing.{ContentsStand}
+use Rattle.strat_state.specs.Level.{Level}
+use Rattle.strat_state.specs.Sound.{are_accepted}
+use Rattle.strat_store.specs.Looking.{AreCachedFrom, levels_there}
+use Rattle.strat_store.specs.Memory.{Memory, IsMemoryOf}
+
+-- a store as its callers see it: the newest superblock and its slot, the manifest with the blocks of its
+-- chain, the journal, what is in memory of versions and level 0, levels 1 to 22, the blocks that are
+-- cached, and whether a fault left it unfit for use
+pub record Held : Type 0 where
+  pub slot : ℕ
+  pub sb : Super
+  pub chained : Chained
+  pub log : Log
+  pub memory : Memory
+  pub levels : List (Option LevelDesc)
+  pub cached : Blocks
+  pub spent : Bool
+
+-- the head that a store holds
+abbrev pub head_held : Held → Head
+head_held s = record { sb = s.sb; manifest = s.chained.manifest; journal = s.log.list }
+
+-- the contents that a store holds, with these levels
+abbrev pub contents_held : Held → List Level → Contents
+contents_held s levels = record {
+  slot = s.slot;
+  sb = s.sb;
+  chained = s.chained;
+  journal = s.log.list;
+  levels = levels;
+}
+
+-- each of these levels is in the place of its number, and the other places are empty
+pub record ArePlaced (listed : List LevelDesc) (levels : List (Option LevelDesc)) : Type 0 where
+  pub count : length levels ≡ 22
+  pub listed_are : levels_there levels ≡ listed
+  pub numbered : (n : ℕ) (level : LevelDesc) → level_numbered levels n ≡ Some level
+      → level.number ≡ n
+
+-- a journal in memory goes on behind a superblock: it has no batch, and no more changes than a region
+pub record IsLogBehind (sb : Super) (log : Log) : Type 0 where
+  pub mem : log.mem ≡ sb.mem
+  pub active : log.active ≡ sb.region
+  pub batch : log.batch ≡ []
+  pub few : length log.list ≤ sb.mem
+
+-- between two commands a store that is not spent holds what an opening may find
+pub record IsConsistent (s : Held) : Type 0 where
+  pub slot : s.slot ≤ 1
+  pub lawful : IsLawful s.sb
+  pub spelled : IsTrue (is_lawful_manifest s.chained.manifest)
+  pub belonging : IsTrue (belongs s.sb s.chained)
+  pub log : IsLogBehind s.sb s.log
+  pub accepted : IsTrue (are_accepted s.sb.changes_max s.sb.versions_max
+      (parents_in s.chained.manifest) s.chained.manifest.changes s.log.list)
+  pub memory : IsMemoryOf (head_held s) s.memory
+  pub placed : ArePlaced s.chained.manifest.levels s.levels
+
+-- a store stands on a disk with these contents: every crash leaves them, they are what it holds, and
+-- what it has cached is on the disk
+pub record StandsWith (v : DiskView) (s : Held) (x : Contents) : Type 0 where
+  pub stands : ContentsStand v x
+  pub held : x ≡ contents_held s x.levels
+  pub cached : AreCachedFrom stands.content s.chained.manifest.next_array
+      (descriptors s.chained.manifest) s.cached
+
+-- where a store with these contents stands in a run: the table that they mean, and how many changes the
+-- journal holds
+abbrev pub position_with : Held → Contents → Position
+position_with s x = record { table = table_of (contents_state x); fill = length s.log.list }
