@@ -24,3 +24,4 @@ pub mod RedoLemmas
 pub mod RecoverLemmas
 pub mod OpenLemmas
 pub mod ThreeTests
+pub mod ApplyLemmas

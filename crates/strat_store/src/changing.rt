@@ -47,7 +47,7 @@ pub(crate) fn change<D: Disk>(
         → IsConsistent (held_of held.new cached) }
     ensures err { (r : TheRefusal) → refusal_of_change held.old.memory (change_of change.now) ≡ Some r
         → (result ≡ reply.Refused r) × (held.new ≡ held.old) × (disk.new ≡ disk.old) }
-    ensures same { held.new.sb.mem ≡ held.old.sb.mem }
+    ensures same { (held.new.sb.mem ≡ held.old.sb.mem) × (result ≢ reply.Found) }
     ensures time { Passes (D.view disk.old) (D.view disk.new) }
     ensures cause { FailsAsTold (D.faults disk.old) (D.faults disk.new) result }
     ensures damaged { (b : ℕ) → result ≡ reply.Refused (why.Damaged b)
