@@ -6,6 +6,7 @@ mod belonging;
 pub mod belonging_laws;
 mod computing;
 mod formatting;
+mod getting;
 mod looking;
 pub mod looking_laws;
 mod manifest;
