@@ -1,14 +1,15 @@
 //! What a store over levels says of a key at a version.
 
-ghost use Rattle.std.specs.Prelude.{◌≡◌, ◌≢◌, ◌<◌, ℕ, [], ◌∷◌, length, true, false, Contains, IfOk, OnErr, IsErrOf};
+ghost use Rattle.std.specs.Prelude.{◌≡◌, ◌≢◌, ◌<◌, ◌^◌, ℕ, [], ◌∷◌, length, true, false, Contains, IfOk, OnErr, IsErrOf};
 ghost use Rattle.strat_array.specs.Kept.{Blocks};
 ghost use Rattle.strat_array.specs.Told.{TellsFound, AddsPair};
 ghost use Rattle.strat_base.specs.Tree.{is_known};
 ghost use Rattle.strat_base.specs.declared.descriptors.ArrayDesc.{ArrayDesc};
 ghost use Rattle.strat_base.specs.declared.failures.Fault.TheVariants.{Damaged, Device};
-ghost use Rattle.strat_crash.specs.Faults.{HasCause};
+ghost use Rattle.strat_crash.specs.Faults.{HasCause, ReadsAtMost};
 ghost use Rattle.strat_crash.specs.Image.{Image};
 ghost use Rattle.strat_crash.specs.Moments.{Exposes};
+ghost use Rattle.strat_format.specs.Arrays.{blocks_of};
 ghost use Rattle.strat_model.specs.Answer.{as_told};
 ghost use Rattle.strat_model.specs.Request.{Get};
 ghost use Rattle.strat_model.specs.Step.{found as answer_found};
@@ -20,7 +21,7 @@ ghost use Rattle.strat_state.specs.LookUp.{looked_up};
 ghost use Rattle.strat_store.specs.Applying.{is_fault, IsLookedUp, FailsAsTold, IsDamagedIn};
 ghost use Rattle.strat_store.specs.Getting.{reply_of_get, MayTellOfKey};
 ghost use Rattle.strat_store.specs.Held.{IsConsistent, StandsWith};
-ghost use Rattle.strat_store.specs.Looking.{levels_there, arrays_there, MayBeFound, AreInOrder, AreCachedFrom, LooksThrough, NamesNoBlock, HaveOwnIds};
+ghost use Rattle.strat_store.specs.Looking.{levels_there, arrays_there, MayBeFound, AreInOrder, AreCachedFrom, LooksThrough, NamesNoBlock, HaveOwnIds, reads_in};
 ghost use Rattle.strat_store.specs.Recovering.{held_of};
 
 use crate::looking::look_up;
@@ -76,6 +77,11 @@ fn look_through<D: Disk>(
     ensures damaged { (b : ℕ) → IsErrOf result (Damaged b)
         → NamesNoBlock (D.view disk.old).content (arrays_there held.now.published.levels) b }
     ensures cause { HasCause Device (D.faults disk.old) (D.faults disk.new) result }
+    ensures reads { (n : ℕ) → ((a : ArrayDesc)
+        → Contains (arrays_there held.now.published.levels) a
+        → length (blocks_of a.extents) < 2 ^ n)
+        → ReadsAtMost (reads_in n held.now.memory.parents version held.now.published.levels)
+        (D.reads disk.old) (D.reads disk.new) }
 {
     let (_, _, tree) = held.memory.parts();
     match held.memory.find(key, version, out) {
@@ -120,6 +126,11 @@ pub(crate) fn get<D: Disk>(
     ensures told { MayTellOfKey result }
     ensures len { (result ≡ reply.Found → length out.new ≡ 1)
         × (result ≢ reply.Found → out.new ≡ []) }
+    ensures reads { (n : ℕ) → ((a : ArrayDesc)
+        → Contains (arrays_there held.now.published.levels) a
+        → length (blocks_of a.extents) < 2 ^ n)
+        → ReadsAtMost (reads_in n held.now.memory.parents version held.now.published.levels)
+        (D.reads disk.old) (D.reads disk.new) }
 {
     if !held.memory.has(version) {
         return Reply::Refused(Refusal::UnknownVersion);
