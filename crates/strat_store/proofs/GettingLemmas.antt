@@ -1,7 +1,6 @@
 -- What a store says of a key: level 0 and its levels answer as its table.
-use Rattle.std.proofs.Common.{◌≡◌, ◌<◌, ℕ, Bool, true, false, eqb, ltb, inl, inr, List, [], ◌∷◌, ◌++◌, length, if◌then◌else◌, Contains, map, flat_map, Option, Some, None, Result, Ok, Err, IfOk, OnErr, IsErrOf, refl, sym, ap, ◌∙◌, subst, arith, true≢false}
+use Rattle.std.proofs.Common.{◌≡◌, ◌<◌, ℕ, Bool, true, false, eqb, ltb, inl, inr, List, [], ◌∷◌, ◌++◌, length, if◌then◌else◌, Contains, flat_map, Option, Some, None, Result, Ok, Err, IfOk, OnErr, IsErrOf, refl, sym, ap, ◌∙◌, subst, true≢false}
 use Rattle.std.proofs.lemmas.Bool.{ltb-true, eqb-true}
-use Rattle.std.specs.List.{list_any}
 use Rattle.std.specs.Option.{option_and_then, option_map, option_or}
 use Rattle.strat_array.specs.Kept.{Blocks}
 use Rattle.strat_array.specs.Told.{TheirPairs, TellsFound}
@@ -15,17 +14,15 @@ use Rattle.strat_base.specs.declared.descriptors.LevelDesc.{LevelDesc}
 use Rattle.strat_base.specs.declared.failures.Fault.{Fault}
 use Rattle.strat_base.specs.declared.failures.Fault.TheVariants as fault
 use Rattle.strat_crash.specs.Image.{Image}
-use Rattle.strat_crash.specs.Moments.{DiskView, Exposes}
-use Rattle.strat_format.specs.Arrays.{all_some, blocks_of, block_on, entries_on}
+use Rattle.strat_crash.specs.Moments.{DiskView}
+use Rattle.strat_format.specs.Arrays.{blocks_of, block_on, entries_on}
 use Rattle.strat_format.proofs.ManifestLemmas.{pass_at}
 use Rattle.strat_format.specs.Manifest.{versions_in}
 use Rattle.strat_model.specs.Answer.{Answer, as_told, accepts}
 use Rattle.strat_model.specs.Pairs.{value_of}
 use Rattle.strat_model.specs.Request.{Get}
 use Rattle.strat_model.specs.Step.{Outcome, step, found, refuses, replies_with, has_row, pairs_at}
-use Rattle.strat_model.specs.Table.{Table}
 use Rattle.strat_model.specs.declared.replies.Refusal.TheVariants as why
-use Rattle.strat_model.specs.declared.replies.Reply.{Reply}
 use Rattle.strat_model.specs.declared.replies.Reply.TheVariants as reply
 use Rattle.strat_promote.specs.Job.{blocks_listed}
 use Rattle.strat_recovery.proofs.AskedLemmas.{asked_same}
@@ -35,7 +32,6 @@ use Rattle.strat_recovery.proofs.PassedLemmas.{array_tests, belonging_tests}
 use Rattle.strat_recovery.proofs.RowLemmas.{length-rows}
 use Rattle.strat_recovery.specs.Asked.{on_disk, asked}
 use Rattle.strat_recovery.specs.Head.{descriptors}
-use Rattle.strat_recovery.specs.Opened.{level_on}
 use Rattle.strat_recovery.specs.Opening.{state_of}
 use Rattle.strat_recovery.specs.StateTable.{table_of}
 use Rattle.strat_standing.proofs.FreeLemmas.{read_stands}
@@ -45,7 +41,7 @@ use Rattle.strat_standing.specs.Standing.{LeavesContent, ContentsStand}
 use Rattle.strat_state.specs.Level.{Level}
 use Rattle.strat_state.specs.LookUp.{looked_up}
 use Rattle.strat_state.specs.Maps.{map_over}
-use Rattle.strat_state.specs.Reading.{live_of, level_zero}
+use Rattle.strat_state.specs.Reading.{level_zero}
 use Rattle.strat_state.specs.State.{State, versions_of, sources}
 use Rattle.strat_store.proofs.LookLawLemmas.{in_order}
 use Rattle.strat_store.proofs.LookLemmas.{still_cached}

@@ -44,8 +44,8 @@ fn reply_of_get(found: Result<Seen, Fault>) -> Reply
     }
 }
 
-/// The entry that is live for a key at a version in level 0, or else in the first of the levels that says something of it:
-/// a value's pair is put into `out`. Level 0 costs what `Memory::find` does, the levels what `look_up` does.
+/// The entry that is live for a key at a version in level 0, or else in the first of the levels that says something of
+/// it: a value's pair is put into `out`. Level 0 costs what `Memory::find` does, the levels what `look_up` does.
 fn look_through<D: Disk>(
     held: &Recovered,
     cache: &mut Cache,
@@ -93,8 +93,10 @@ fn look_through<D: Disk>(
     }
 }
 
-/// What a store says of a key at a version; a value's pair is put into `out`, which has none. Level 0 is asked first, and
-/// then the levels, of each one array at most, until one says something. It takes no memory but for blocks that are cached.
+/// What a store says of a key at a version; a value's pair is put into `out`, which has none. Level 0 is asked first,
+/// and then the levels, of each one array at most, until one says something. It takes no memory but for blocks that are
+/// cached. UnknownVersion: there is no such version, and nothing was read. DeviceFault: the disk counted a fault.
+/// Damaged: this block of one of the arrays is no block of entries.
 pub(crate) fn get<D: Disk>(
     held: &Recovered,
     cache: &mut Cache,

@@ -1,13 +1,8 @@
 use Rattle.std.proofs.Common.{sym, ◌∙◌, ap, subst}
 use Rattle.strat_model.specs.Answer.{as_told}
 use Rattle.strat_model.specs.Request.{Get}
-use Rattle.strat_model.specs.Step.{found}
-use Rattle.strat_model.specs.declared.replies.Refusal.TheVariants as why
 use Rattle.strat_model.specs.declared.replies.Reply.{Reply}
-use Rattle.strat_model.specs.declared.replies.Reply.TheVariants as reply
-use Rattle.strat_recovery.specs.Asked.{asked}
 use Rattle.strat_store.specs.Applying.{IsLookedUp, is_fault}
-use Rattle.strat_store.specs.Looking.{levels_there}
 use Rattle.strat_store.specs.Recovering.{held_of}
 use Rattle.strat_store.proofs.LookLemmas.{through_refl}
 use Rattle.strat_store.proofs.GettingLemmas.{whole_read, answer_told, damaged_told, unknown_looked_up, known_looked_up}
