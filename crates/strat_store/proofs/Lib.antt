@@ -4,6 +4,7 @@ pub mod MemoryLawLemmas
 pub mod MemoryLemmas
 pub mod IdLemmas
 pub mod LookLawLemmas
+pub mod GettingLemmas
 pub mod LookLemmas
 pub mod NewBlockLemmas
 pub mod NewStoreLemmas

@@ -4,6 +4,7 @@ pub mod Memory
 pub mod MemoryFields
 pub mod Looking
 pub mod Belonging
+pub mod Getting
 pub mod Held
 pub mod StoreFields
 pub mod Applying
