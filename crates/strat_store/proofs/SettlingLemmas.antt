@@ -13,6 +13,7 @@ use Rattle.strat_extent.specs.Blocks.{SpaceView, is_free}
 use Rattle.strat_format.specs.Arrays.{blocks_of}
 use Rattle.strat_format.specs.Chained.{Chained}
 use Rattle.strat_format.specs.Manifest.{Manifest}
+use Rattle.strat_format.specs.SuperBlock.{Super}
 use Rattle.strat_journal.specs.Log.{Log}
 use Rattle.strat_promote.specs.Job.{IsBadInput, blocks_listed}
 use Rattle.strat_recovery.specs.Head.{descriptors}
@@ -85,3 +86,8 @@ readied v w s x space after old_chain target made first size chain m whole stand
       levels = c.levels;
       computed = subst (λ (n : Contents). IsComputed w (1 - s.slot) n.sb s.log x n) same (subst (λ (k : ℕ). IsComputed w k new.sb s.log x new) slot c.computed);
     }
+
+-- the same of a superblock and a manifest that are these
+pub readied_as : (w : DiskView) (s : Held) (x : Contents) (sb is : Super) (chained here : Chained) → is ≡ sb → here ≡ chained → IsReadied w s x sb chained → IsReadied w s x is here
+readied_as w s x sb is chained here sb_is chained_is ready =
+    subst (λ (k : Super). IsReadied w s x k here) (sym sb_is) (subst (λ (ch : Chained). IsReadied w s x sb ch) (sym chained_is) ready)

@@ -2,7 +2,8 @@
 
 ghost use Rattle.std.specs.Prelude.{◌≡◌, ◌<◌, ◌≤◌, ℕ, ◌-◌, List, [], ◌∷◌, length, Some, IfOk, OnOk, IsErrOf, IsTrue};
 ghost use Rattle.strat_array.specs.Kept.{Blocks};
-ghost use Rattle.strat_base.specs.declared.failures.Trouble.TheVariants.{NoMemory, Device, Damaged};
+ghost use Rattle.strat_base.specs.declared.failures.Trouble.TheVariants as trouble;
+ghost use Rattle.strat_base.specs.declared.failures.Trouble.TheVariants.{Device, Damaged};
 ghost use Rattle.strat_crash.specs.Blocks.{TearsBlocks, AgreeOn};
 ghost use Rattle.strat_crash.specs.Faults.{CountsFaults, HasCause};
 ghost use Rattle.strat_crash.specs.Image.{Image};
@@ -141,4 +142,109 @@ fn admit_next(
         Some(published) => Ok(Next { sb, published }),
         None => Err(NoMemory),
     }
+}
+
+/// Writes the next contents of a store but for their superblock beside what it holds, and tests what their manifest says. Errors
+/// are those of `compute_beside`, and want of memory.
+fn prepare_next<D: Disk>(
+    alloc: Global,
+    held: &Recovered,
+    disk: &mut D,
+) -> Result<Next, Trouble>
+    requires kept { (cached : Blocks) → IsConsistent (held_of held.now cached) }
+    requires logged { 0 < length held.now.journal.list }
+    ensures ok { IfOk result (λ next. (x : Contents) (cached : Blocks)
+        → StandsWith (D.view disk.old) (held_of held.now cached) x
+        → IsReadied (D.view disk.new) (held_of held.now cached) x (super_of next.sb)
+        (chained_of next.published)) }
+    ensures found { IfOk result (λ next. (cached : Blocks)
+        → MayFollow (held_of held.now cached) (super_of next.sb) (chained_of next.published)) }
+    ensures kept { IfOk result (λ next. IsAdmitted (super_of next.sb) next.published) }
+    ensures images { (cached : Blocks)
+        → WritesBeside (D.view disk.old) (D.view disk.new) (held_of held.now cached) }
+    ensures cause { HasCause Device (D.faults disk.old) (D.faults disk.new) result }
+    ensures damaged { (b : ℕ) → IsErrOf result (Damaged b) → IsDamagedIn
+        (D.view disk.old).content held.now.memory held.now.published.levels b }
+{
+    let computed = compute_beside(alloc, held, disk)?;
+    let next = admit_next(
+        alloc,
+        &held.sb,
+        computed.manifest,
+        computed.first,
+        computed.length,
+        computed.chain,
+    )?;
+    Ok(next)
+}
+
+/// Lays the superblock of what a store made ready, which then takes the place of what it holds. At most five syncs, and no memory.
+fn settle<D: Disk>(held: &mut Recovered, next: Next, disk: &mut D) -> Result<(), Failed>
+    requires fits { (held.old.slot ≤ 1) × (held.old.journal.active ≤ 1) × IsLawful (super_of next.sb) }
+    requires room { held.old.memory.ready ≡ Some held.old.sb.mem }
+    requires same { next.sb.mem ≡ held.old.sb.mem }
+    ensures ok { OnOk result ((cached : Blocks) → held_of held.new cached
+        ≡ held_next (held_of held.old cached) (super_of next.sb) (chained_of next.published)
+        next.published.levels) }
+    ensures kept { OnOk result ((x y : Contents) → IsComputed (D.view disk.old) (1 - held.old.slot)
+        (super_of next.sb) held.old.journal x y → ContentsStand (D.view disk.new) y) }
+    ensures trail { (x y : Contents) → IsComputed (D.view disk.old) (1 - held.old.slot)
+        (super_of next.sb) held.old.journal x y → Trail ShowsTable (D.view disk.new)
+        (D.view disk.old).moment (table_of (contents_state x) ∷ []) 0 }
+    ensures same { held.new.sb.mem ≡ held.old.sb.mem }
+    ensures images { TearsBlocks (is_in_front held.old.journal.mem)
+        (D.view disk.old) (D.view disk.new) }
+    ensures time { Passes (D.view disk.old) (D.view disk.new) }
+    ensures cause { CountsFaults (D.faults disk.old) (D.faults disk.new) result }
+{
+    lay_next(disk, 1 - held.slot, &next.sb, &mut held.journal)?;
+    held.slot = 1 - held.slot;
+    held.sb = next.sb;
+    held.published = next.published;
+    held.memory.restart();
+    Ok(())
+}
+
+/// Empties the journal into the levels: level 0 and the shallow levels become one new level, and the manifest after that takes
+/// the place of the last one. Memory is taken before the superblock is laid: where it runs out the store is as it was.
+/// `NoMemory` also stands for a disk with too few free blocks. `Damaged` names a block of the store's arrays that is no block
+/// of entries, or is out of order: it comes of no store that stands on its disk. After `Device` only another opening can tell
+/// which contents the disk holds: they mean the same table. It reads each block of the arrays twice at most, writes the new
+/// arrays' blocks and those of the manifest once each, and takes five syncs at most.
+pub(crate) fn publish<D: Disk>(
+    alloc: Global,
+    held: &mut Recovered,
+    disk: &mut D,
+) -> Result<(), Trouble>
+    requires kept { (cached : Blocks) → IsConsistent (held_of held.old cached) }
+    requires logged { 0 < length held.old.journal.list }
+    ensures ok { OnOk result ((x : Contents) (cached : Blocks)
+        → StandsWith (D.view disk.old) (held_of held.old cached) x
+        → IsPublishedAs (D.view disk.new) x (held_of held.new cached)) }
+    ensures none { IsErrOf result trouble.NoMemory → (x : Contents) (cached : Blocks)
+        → StandsWith (D.view disk.old) (held_of held.old cached) x
+        → StandsWith (D.view disk.new) (held_of held.new cached) x }
+    ensures trail { (x : Contents) (cached : Blocks)
+        → StandsWith (D.view disk.old) (held_of held.old cached) x
+        → Trail ShowsTable (D.view disk.new) (D.view disk.old).moment
+        (table_of (contents_state x) ∷ []) 0 }
+    ensures kept { IsOkOrShort result → (cached : Blocks)
+        → IsConsistent (held_of held.new cached) }
+    ensures room { OnOk result ((held.new.journal.list ≡ [])
+        × (held.new.memory ≡ emptied held.old.sb.mem held.old.memory)) }
+    ensures same { (held.new.sb.mem ≡ held.old.sb.mem)
+        × (IsErrOf result trouble.NoMemory → held.new.journal ≡ held.old.journal) }
+    ensures time { Passes (D.view disk.old) (D.view disk.new) }
+    ensures cause { HasCause Device (D.faults disk.old) (D.faults disk.new) result }
+    ensures damaged { (b : ℕ) → IsErrOf result (Damaged b)
+        → IsDamagedIn (D.view disk.old).content held.old.memory held.old.published.levels b
+        × ((x : Contents) (cached : Blocks)
+        → StandsWith (D.view disk.old) (held_of held.old cached) x → ⊥)
+        × ((f g : Image) → Exposes (D.view disk.old) f → Exposes (D.view disk.new) g
+        → AgreeOn (blocks_listed (arrays_there held.old.published.levels)) f g) }
+{
+    held.memory.prepare(alloc, held.sb.mem)?;
+    let next = prepare_next(alloc, held, disk)?;
+    settle(held, next, disk)?;
+    Ok(())
 }
