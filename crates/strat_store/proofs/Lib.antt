@@ -26,3 +26,5 @@ pub mod RecoverLemmas
 pub mod OpenLemmas
 pub mod ThreeTests
 pub mod ApplyLemmas
+pub mod SettlingLemmas
+pub mod SettledLemmas

@@ -12,3 +12,4 @@ pub mod Publishing
 pub mod Promoting
 pub mod Following
 pub mod Recovering
+pub mod Settling

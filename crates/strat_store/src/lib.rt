@@ -15,6 +15,7 @@ mod memory;
 pub mod memory_laws;
 mod opening;
 mod promoting;
+mod publication;
 mod publishing;
 pub mod publishing_laws;
 mod recovering;
