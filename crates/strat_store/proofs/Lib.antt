@@ -34,3 +34,4 @@ pub mod AdmitLemmas
 pub mod RedoLemmas
 pub mod RecoverLemmas
 pub mod OpenLemmas
+pub mod LoggingLemmas

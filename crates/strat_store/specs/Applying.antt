@@ -1,5 +1,5 @@
 -- How a store answers a command.
-use Rattle.std.specs.Prelude.{◌≡◌, ◌≢◌, ◌≤◌, ◌⊎◌, ℕ, if◌then◌else◌, Bool, true, false, List, [], ◌∷◌, length, Contains, Option, Some, None}
+use Rattle.std.specs.Prelude.{◌≡◌, ◌≢◌, ◌≤◌, ◌⊎◌, ℕ, if◌then◌else◌, Bool, true, false, List, [], ◌∷◌, length, Contains, Option, Some, None, Result, IfErr}
 use Rattle.strat_crash.specs.Faults.{Rose}
 use Rattle.strat_crash.specs.Image.{Image}
 use Rattle.strat_crash.specs.Moments.{DiskView, Exposes}
@@ -7,6 +7,8 @@ use Rattle.strat_crash.specs.Trail.{Trail}
 use Rattle.strat_base.specs.Change.{Change}
 use Rattle.strat_base.specs.Change as change
 use Rattle.strat_base.specs.declared.descriptors.LevelDesc.{LevelDesc}
+use Rattle.strat_base.specs.declared.failures.Trouble.{Trouble}
+use Rattle.strat_base.specs.declared.failures.Trouble.TheVariants as trouble
 use Rattle.strat_format.specs.Arrays.{block_on}
 use Rattle.strat_model.specs.declared.replies.Refusal.{Refusal}
 use Rattle.strat_model.specs.declared.replies.Refusal.TheVariants as why
@@ -113,3 +115,13 @@ pub record IsPublishedAs (now : DiskView) (x : Contents) (new : Held) : Type 0 w
   pub after : Contents
   pub stands : StandsWith now new after
   pub table : table_of (contents_state after) ≡ table_of (contents_state x)
+
+-- a call succeeded, or memory ran out
+abbrev pub IsOkOrShort : {T : Type 0} → Result T Trouble → Type 0
+IsOkOrShort result = IfErr result (λ e. e ≡ trouble.NoMemory)
+
+-- why a command is refused that met a trouble
+abbrev pub refusal_of_trouble : Trouble → Refusal
+refusal_of_trouble trouble.NoMemory = why.NoMemory
+refusal_of_trouble trouble.Device = why.DeviceFault
+refusal_of_trouble (trouble.Damaged block) = why.Damaged block

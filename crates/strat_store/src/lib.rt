@@ -4,6 +4,7 @@
 mod admitting;
 mod belonging;
 pub mod belonging_laws;
+mod changing;
 mod computing;
 mod formatting;
 mod looking;
@@ -13,6 +14,7 @@ mod memory;
 pub mod memory_laws;
 mod opening;
 mod promoting;
+mod publication;
 mod publishing;
 pub mod publishing_laws;
 mod recovering;
