@@ -35,3 +35,4 @@ pub mod RedoLemmas
 pub mod RecoverLemmas
 pub mod OpenLemmas
 pub mod LoggingLemmas
+pub mod ChangingLemmas
