@@ -36,3 +36,4 @@ pub mod RecoverLemmas
 pub mod OpenLemmas
 pub mod LoggingLemmas
 pub mod ChangingLemmas
+pub mod RenewingLemmas
