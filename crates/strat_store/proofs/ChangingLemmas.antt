@@ -40,7 +40,7 @@ use Rattle.strat_standing.proofs.ListLemmas.{among_contained, contained_among}
 use Rattle.strat_state.specs.Level.{Level}
 use Rattle.strat_state.specs.Sound.{is_accepted, are_accepted, accepts_change, Takes}
 use Rattle.strat_state.specs.State.{State, tree_after}
-use Rattle.strat_store.specs.Applying.{IsAppliedTo, FollowsStep, is_fault}
+use Rattle.strat_store.specs.Applying.{IsAppliedTo, FollowsStep, is_fault, is_short, table_left}
 use Rattle.strat_store.specs.Held.{head_held, contents_held, IsConsistent, IsLogBehind, StandsWith, position_with}
 use Rattle.strat_store.specs.Looking.{AreCachedFrom}
 use Rattle.strat_store.specs.Memory.{Memory, refusal_of_change, memory_after, reply_to, IsMemoryOf}
@@ -60,10 +60,16 @@ changes_it (change.Delete v key) = refl
 changes_it (change.Clone v) = refl
 
 -- what is told of a change that is accepted is no refusal
-told_well : (m : Memory) (c : Change) → (accepts (reply_to m c) ≡ true) × (is_fault (reply_to m c) ≡ false)
-told_well m (change.Put v key value) = (refl, refl)
-told_well m (change.Delete v key) = (refl, refl)
-told_well m (change.Clone v) = (refl, refl)
+told_well : (m : Memory) (c : Change) → (accepts (reply_to m c) ≡ true) × (is_fault (reply_to m c) ≡ false) × (is_short (reply_to m c) ≡ false)
+told_well m (change.Put v key value) = (refl, refl, refl)
+told_well m (change.Delete v key) = (refl, refl, refl)
+told_well m (change.Clone v) = (refl, refl, refl)
+
+-- and no value
+pub finds_none : (m : Memory) (c : Change) (told : Reply) → told ≡ reply_to m c → told ≢ reply.Found
+finds_none m (change.Put v key value) told tells found = let e : reply.Done ≡ reply.Found = sym tells ∙ found in absurd (cc)
+finds_none m (change.Delete v key) told tells found = let e : reply.Done ≡ reply.Found = sym tells ∙ found in absurd (cc)
+finds_none m (change.Clone v) told tells found = let e : reply.Made (length m.parents) ≡ reply.Found = sym tells ∙ found in absurd (cc)
 
 -- one more change is accepted behind others
 accepted_more : (cm vm : ℕ) (parents : Parents) (n : ℕ) (journal : List Change) (c : Change) → are_accepted cm vm parents n journal ≡ true
@@ -172,7 +178,10 @@ module _ (r : Recovered) (cached : Blocks) (kept : IsConsistent (held_of r cache
             → FollowsStep v w x (request_for c) (plain told)
         told_trail w told tells trail =
             let well : true ≡ accepts told = sym (ap accepts tells ∙ (told_well r.memory c).0) in
-            subst (λ (b : Bool). Trail ShowsTable w v.moment (table_of (contents_state x) ∷ bare (step (table_of (contents_state x)) (request_for c)).table ∷ []) (if b then 1 else 0)) well (step_trail w 1 trail)
+            let still : false ≡ is_short told = sym (ap is_short tells ∙ (told_well r.memory c).2) in
+            let t : Table = table_of (contents_state x) in
+            subst (λ (b : Bool). Trail ShowsTable w v.moment (t ∷ table_left t (request_for c) told ∷ []) (if b then 1 else 0)) well
+            (subst (λ (b : Bool). Trail ShowsTable w v.moment (t ∷ (if b then t else bare (step t (request_for c)).table) ∷ []) 1) still (step_trail w 1 trail))
 
         more_held : (j : Log) → j ≡ record r.journal { list = r.journal.list ++ c ∷ [] } → with_batch x (c ∷ []) ≡ contents_held (held_of (record r { journal = j }) cached) x.levels
         more_held j grown =

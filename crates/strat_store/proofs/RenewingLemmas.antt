@@ -14,7 +14,7 @@ use Rattle.strat_crash.proofs.TrailLemmas.{trail_of_one, trail_join, trail_more}
 use Rattle.strat_model.specs.Answer.{plain, accepts}
 use Rattle.strat_model.specs.Run.{Position, position_after, fill_after, is_change}
 use Rattle.strat_model.specs.Step.{Outcome, step}
-use Rattle.strat_model.specs.Table.{Table, bare}
+use Rattle.strat_model.specs.Table.{Table}
 use Rattle.strat_model.specs.declared.replies.Refusal.{Refusal}
 use Rattle.strat_model.specs.declared.replies.Refusal.TheVariants as why
 use Rattle.strat_model.specs.declared.replies.Reply.{Reply}
@@ -23,7 +23,7 @@ use Rattle.strat_recovery.specs.StateTable.{table_of, request_for}
 use Rattle.strat_standing.specs.Contents.{Contents, contents_state}
 use Rattle.strat_standing.specs.Standing.{ShowsTable}
 use Rattle.strat_standing.proofs.FreeLemmas.{shows_contents}
-use Rattle.strat_store.specs.Applying.{IsAppliedTo, IsPublishedAs, FollowsStep, tells_fault, refusal_of_trouble}
+use Rattle.strat_store.specs.Applying.{IsAppliedTo, IsPublishedAs, FollowsStep, tells_fault, table_left, refusal_of_trouble}
 use Rattle.strat_store.specs.Held.{head_held, IsConsistent, StandsWith, position_with}
 use Rattle.strat_store.specs.Memory.{Memory, refusal_of_change}
 use Rattle.strat_store.specs.Recovering.{held_of, held_after}
@@ -67,7 +67,7 @@ module _ (r : Recovered) (cached : Blocks) (kept : IsConsistent (held_of r cache
 
   pub refused_trail : FollowsStep v v x (request_for c) (plain (reply.Refused q))
   refused_trail =
-      trail_of_one ShowsTable v v.moment (table_of (contents_state x)) (bare (step (table_of (contents_state x)) (request_for c)).table ∷ []) (omega arith)
+      trail_of_one ShowsTable v v.moment (table_of (contents_state x)) (table_left (table_of (contents_state x)) (request_for c) (reply.Refused q) ∷ []) (omega arith)
       (λ i since. shows_contents i x stands.stands.sound (stands.stands.reads i (since_now v i since)))
 
 -- a trouble that tells of no fault is want of memory
@@ -154,11 +154,11 @@ module _ (r : Recovered) (cached : Blocks) (kept : IsConsistent (held_of r cache
     renewed_trail w told passes before after =
         let n : ℕ = if accepts told then 1 else 0 in
         let t : Table = table_of (contents_state x) in
-        let more : Trail ShowsTable w u.moment (t ∷ bare (step t (request_for c)).table ∷ []) n =
-        subst (λ (s : Table). Trail ShowsTable w u.moment (s ∷ bare (step s (request_for c)).table ∷ []) n) p.table after in
+        let more : Trail ShowsTable w u.moment (t ∷ table_left t (request_for c) told ∷ []) n =
+        subst (λ (s : Table). Trail ShowsTable w u.moment (s ∷ table_left s (request_for c) told ∷ []) n) p.table after in
         let sum : 0 + n ≡ n = omega arith in
-        subst (λ (k : ℕ). Trail ShowsTable w v.moment (t ∷ bare (step t (request_for c)).table ∷ []) k) sum
-        (trail_join ShowsTable u w v.moment [] (bare (step t (request_for c)).table ∷ []) t n passes before more)
+        subst (λ (k : ℕ). Trail ShowsTable w v.moment (t ∷ table_left t (request_for c) told ∷ []) k) sum
+        (trail_join ShowsTable u w v.moment [] (table_left t (request_for c) told ∷ []) t n passes before more)
 
 -- where the publication gave up each image shows the table of before
 pub trail_so_far : (v w : DiskView) (x : Contents) (after : Table) → Trail ShowsTable w v.moment (table_of (contents_state x) ∷ []) 0 → Trail ShowsTable w v.moment (table_of (contents_state x) ∷ after ∷ []) 0

@@ -18,7 +18,7 @@ use Rattle.strat_model.specs.Answer.{Answer, refusal, accepts}
 use Rattle.strat_model.specs.Request.{Request, Put, Delete, Clone}
 use Rattle.strat_model.specs.Run.{position_after, reaches_disk, is_change}
 use Rattle.strat_model.specs.Step.{step}
-use Rattle.strat_model.specs.Table.{bare}
+use Rattle.strat_model.specs.Table.{Table, bare}
 use Rattle.strat_promote.specs.Job.{IsBadInput, blocks_listed}
 use Rattle.strat_recovery.specs.StateTable.{table_of}
 use Rattle.strat_standing.specs.Contents.{Contents, contents_state}
@@ -81,12 +81,26 @@ IsAppliedTo now old x request answer new =
     IsAnsweredBy now old x request answer new ⊎ IsShortOf now old x request answer new
     ⊎ IsBrokenBy old x request answer new
 
+-- a refusal says that memory ran out
+abbrev pub tells_short : Refusal → Bool
+tells_short why.NoMemory = true
+tells_short _ = false
+
+-- a reply says that memory ran out, so that the command was not carried out
+abbrev pub is_short : Reply → Bool
+is_short (reply.Refused r) = tells_short r
+is_short _ = false
+
+-- the table that a crash may leave after a reply to a command
+abbrev pub table_left : Table → Request → Reply → Table
+table_left t request told = if is_short told then t else bare (step t request).table
+
 -- from the table of some contents the images of a disk go on to the table after a command, or stay
 -- where it was not carried out
 abbrev pub FollowsStep : DiskView → DiskView → Contents → Request → Answer → Type 0
 FollowsStep before now x request answer = Trail ShowsTable now before.moment
     (table_of (contents_state x)
-    ∷ bare (step (table_of (contents_state x)) request).table ∷ [])
+    ∷ table_left (table_of (contents_state x)) request answer.reply ∷ [])
     (if accepts answer.reply then 1 else 0)
 
 -- over a call a count of faults rises where the reply is that the device failed, and stays elsewhere

@@ -1,6 +1,6 @@
 //! Changes of a store over levels: each is durable before it is in memory, and before it is answered.
 
-ghost use Rattle.std.specs.Prelude.{◌≡◌, ◌≤◌, ◌<◌, ℕ, [], ◌∷◌, ◌++◌, length, Some, None, OnOk, IsTrue, false};
+ghost use Rattle.std.specs.Prelude.{◌≡◌, ◌≢◌, ◌<◌, ℕ, [], ◌∷◌, ◌++◌, length, Some, None, OnOk, IsTrue, false};
 ghost use Rattle.strat_array.specs.Kept.{Blocks};
 ghost use Rattle.strat_base.specs.Change.{is_lawful};
 ghost use Rattle.strat_base.specs.ChangeView.{change_of};
@@ -83,7 +83,7 @@ fn carry_out<D: Disk>(held: &mut Recovered, disk: &mut D, change: &Change<'_>) -
     ensures kept { is_fault result ≡ false → (cached : Blocks)
         → IsConsistent (held_of held.new cached) }
     ensures damaged { (b : ℕ) → result ≡ reply.Refused (why.Damaged b) → ⊥ }
-    ensures same { held.new.sb ≡ held.old.sb }
+    ensures same { (held.new.sb.mem ≡ held.old.sb.mem) × (result ≢ reply.Found) }
     ensures time { Passes (D.view disk.old) (D.view disk.new) }
     ensures cause { FailsAsTold (D.faults disk.old) (D.faults disk.new) result }
 {
@@ -130,7 +130,7 @@ fn carry_out_anew<D: Disk>(
         → IsDamagedIn (D.view disk.old).content held.old.memory held.old.published.levels b
         × ((f g : Image) → Exposes (D.view disk.old) f → Exposes (D.view disk.new) g
         → AgreeOn (blocks_listed (arrays_there held.old.published.levels)) f g) }
-    ensures same { held.new.sb.mem ≡ held.old.sb.mem }
+    ensures same { (held.new.sb.mem ≡ held.old.sb.mem) × (result ≢ reply.Found) }
     ensures time { Passes (D.view disk.old) (D.view disk.new) }
     ensures cause { FailsAsTold (D.faults disk.old) (D.faults disk.new) result }
 {
@@ -169,7 +169,7 @@ pub(crate) fn change<D: Disk>(
         → IsDamagedIn (D.view disk.old).content held.old.memory held.old.published.levels b
         × ((f g : Image) → Exposes (D.view disk.old) f → Exposes (D.view disk.new) g
         → AgreeOn (blocks_listed (arrays_there held.old.published.levels)) f g) }
-    ensures same { held.new.sb.mem ≡ held.old.sb.mem }
+    ensures same { (held.new.sb.mem ≡ held.old.sb.mem) × (result ≢ reply.Found) }
     ensures time { Passes (D.view disk.old) (D.view disk.new) }
     ensures cause { FailsAsTold (D.faults disk.old) (D.faults disk.new) result }
 {

@@ -1,8 +1,8 @@
-use Rattle.std.proofs.Common.{◌∙◌, arith}
+use Rattle.std.proofs.Common.{refl, arith}
 use Rattle.strat_array.specs.Kept.{Blocks}
 use Rattle.strat_store.specs.Held.{IsConsistent}
 use Rattle.strat_store.specs.Recovering.{held_of, empty_cache}
-use Rattle.strat_store.proofs.ChangingLemmas.{log_of, kept_more, breaks, takes, step_trail, told_trail, carries}
+use Rattle.strat_store.proofs.ChangingLemmas.{log_of, kept_more, breaks, takes, step_trail, told_trail, carries, finds_none}
 use Rattle.strat_store.proofs.MemoryLawLemmas.{room_for}
 use Rattle.strat_store.specs.Held.{head_held}
 use Rattle.strat_store.proofs.changing.carry_out.Goals as goal
@@ -49,3 +49,6 @@ returns-clause-trail g c x cached stands =
 pub returns-clause-kept : goal.returns-clause-kept
 returns-clause-kept g c calm cached =
     kept_more c.args.held.now cached (c.requires.kept cached) _ c.requires.none c.requires.room c.log_change.new.journal c.take.new.self c.in-Ok.ensures.ok c.take.ensures.ok
+
+pub returns-clause-same : goal.returns-clause-same
+returns-clause-same g c = (refl, finds_none c.args.held.now.memory _ c.take.result c.take.ensures.found)
