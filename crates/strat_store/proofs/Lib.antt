@@ -28,3 +28,6 @@ pub mod ThreeTests
 pub mod ApplyLemmas
 pub mod SettlingLemmas
 pub mod SettledLemmas
+pub mod LoggingLemmas
+pub mod ChangingLemmas
+pub mod RenewingLemmas

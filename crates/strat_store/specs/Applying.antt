@@ -133,3 +133,9 @@ pub record IsPublishedAs (now : DiskView) (x : Contents) (new : Held) : Type 0 w
 -- a call succeeded, or memory ran out
 abbrev pub IsOkOrShort : {T : Type 0} → Result T Trouble → Type 0
 IsOkOrShort result = IfErr result (λ e. e ≡ trouble.NoMemory)
+
+-- why a command is refused that met a trouble
+abbrev pub refusal_of_trouble : Trouble → Refusal
+refusal_of_trouble trouble.NoMemory = why.NoMemory
+refusal_of_trouble trouble.Device = why.DeviceFault
+refusal_of_trouble (trouble.Damaged block) = why.Damaged block

@@ -4,8 +4,8 @@
 mod admitting;
 mod belonging;
 pub mod belonging_laws;
-mod computing;
 mod changing;
+mod computing;
 mod formatting;
 mod getting;
 mod looking;
