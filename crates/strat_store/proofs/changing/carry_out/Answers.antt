@@ -1,6 +1,4 @@
 use Rattle.std.proofs.Common.{refl, arith}
-use Rattle.strat_array.specs.Kept.{Blocks}
-use Rattle.strat_store.specs.Held.{IsConsistent}
 use Rattle.strat_store.specs.Recovering.{held_of, empty_cache}
 use Rattle.strat_store.proofs.ChangingLemmas.{log_of, kept_more, breaks, takes, step_trail, told_trail, carries, finds_none}
 use Rattle.strat_store.proofs.MemoryLawLemmas.{room_for}
