@@ -29,7 +29,7 @@ use Rattle.strat_standing.proofs.PartsLemmas.{reads_head, reads_state}
 use Rattle.strat_standing.specs.Contents.{Contents, contents_head, contents_state}
 use Rattle.strat_standing.specs.Standing.{ShowsTable}
 use Rattle.strat_store.proofs.MemoryLawLemmas.{version_told, store_told, version_unknown}
-use Rattle.strat_store.specs.Applying.{IsAppliedTo, IsLookedUp, FollowsStep, change_wanted, is_fault, is_short, table_left}
+use Rattle.strat_store.specs.Applying.{IsAppliedTo, IsLookedUp, FollowsStep, change_wanted, is_fault, ran_short, table_left}
 use Rattle.strat_store.specs.Held.{Held, position_with, IsConsistent, StandsWith}
 use Rattle.strat_store.specs.Memory.{info_told, stat_told, IsMemoryOf}
 
@@ -137,11 +137,11 @@ look_applied now old new x r answer b built none log fault looked = elim looked 
         place = (λ i. record { table = t; fill = length (log i).list }) ∙ sym (place_kept old.log.mem (position_with old x) r (look_kept t r built none) (look_no_change r built none));
       })
   | inr failed ↦ inr (inr (record {
-      reached = failed.1;
-      acceptable = failed.2;
-      told = failed.0;
-      spent = sym fault ∙ ap (λ (a : Answer). is_fault a.reply) failed.0;
-    }))
+    reached = failed.1;
+    acceptable = failed.2;
+    told = failed.0;
+    spent = sym fault ∙ ap (λ (a : Answer). is_fault a.reply) failed.0;
+  }))
 ]
 
 -- over a disk that is only read the images show the table, before a command that changes nothing and after it
@@ -150,7 +150,7 @@ pub look_follows : (before now : DiskView) (s : Held) (x : Contents) (r : Reques
 look_follows before now s x r answer built none looks w =
     let t = table_of (contents_state x) in
     let each : (c : Image) → Since now before.moment c → ShowsTable c t = λ c since. shows_contents c x w.stands.sound (w.stands.reads c (looks.images.each c since)) in
-    let after : table_left t r answer.reply ≡ t = by_short t (bare (step t r).table) (ap bare (look_kept t r built none)) (is_short answer.reply) in
+    let after : table_left t r answer.reply ≡ t = by_short t (bare (step t r).table) (ap bare (look_kept t r built none)) (ran_short answer.reply) in
     by_accept t (table_left t r answer.reply) after each (accepts answer.reply)
   where
     by_short : (t u : Table) → u ≡ t → (b : Bool) → (if b then t else u) ≡ t

@@ -38,7 +38,7 @@ use Rattle.strat_standing.proofs.ListLemmas.{among_contained, contained_among}
 use Rattle.strat_state.specs.Level.{Level}
 use Rattle.strat_state.specs.Sound.{is_accepted, are_accepted, accepts_change, Takes}
 use Rattle.strat_state.specs.State.{tree_after}
-use Rattle.strat_store.specs.Applying.{IsAppliedTo, FollowsStep, is_fault, is_short, table_left}
+use Rattle.strat_store.specs.Applying.{IsAppliedTo, FollowsStep, is_fault, ran_short, table_left}
 use Rattle.strat_store.specs.Held.{head_held, contents_held, IsConsistent, StandsWith, position_with}
 use Rattle.strat_store.specs.Looking.{AreCachedFrom}
 use Rattle.strat_store.specs.Memory.{Memory, refusal_of_change, memory_after, reply_to, IsMemoryOf}
@@ -58,7 +58,7 @@ changes_it (change.Delete v key) = refl
 changes_it (change.Clone v) = refl
 
 -- what is told of a change that is accepted is no refusal
-told_well : (m : Memory) (c : Change) → (accepts (reply_to m c) ≡ true) × (is_fault (reply_to m c) ≡ false) × (is_short (reply_to m c) ≡ false)
+told_well : (m : Memory) (c : Change) → (accepts (reply_to m c) ≡ true) × (is_fault (reply_to m c) ≡ false) × (ran_short (reply_to m c) ≡ false)
 told_well m (change.Put v key value) = (refl, refl, refl)
 told_well m (change.Delete v key) = (refl, refl, refl)
 told_well m (change.Clone v) = (refl, refl, refl)
@@ -176,7 +176,7 @@ module _ (r : Recovered) (cached : Blocks) (kept : IsConsistent (held_of r cache
             → FollowsStep v w x (request_for c) (plain told)
         told_trail w told tells trail =
             let well : true ≡ accepts told = sym (ap accepts tells ∙ (told_well r.memory c).0) in
-            let still : false ≡ is_short told = sym (ap is_short tells ∙ (told_well r.memory c).2) in
+            let still : false ≡ ran_short told = sym (ap ran_short tells ∙ (told_well r.memory c).2) in
             let t : Table = table_of (contents_state x) in
             subst (λ (b : Bool). Trail ShowsTable w v.moment (t ∷ table_left t (request_for c) told ∷ []) (if b then 1 else 0)) well
             (subst (λ (b : Bool). Trail ShowsTable w v.moment (t ∷ (if b then t else bare (step t (request_for c)).table) ∷ []) 1) still (step_trail w 1 trail))

@@ -133,8 +133,11 @@ stands_beside v w s x stands beside leaves =
       stands = now;
       held = stands.held;
       cached = cached_on stands.stands.content now.content s.chained.manifest.next_array s.chained.manifest.next_array (descriptors s.chained.manifest) (descriptors s.chained.manifest) s.cached
-          (omega arith) (λ a of. inr (of, λ b here.
-          beside.tears.content stands.stands.content now.content stands.stands.exposed now.exposed b (beside.beside.unnamed b (array_named s a b of here)))) stands.cached;
+          (omega arith) (λ a of. inr (
+            of,
+            λ b here.
+                beside.tears.content stands.stands.content now.content stands.stands.exposed now.exposed b (beside.beside.unnamed b (array_named s a b of here)),
+          )) stands.cached;
     }
 
 -- the blocks of the arrays are as they were
@@ -209,11 +212,14 @@ published_as v w u s x sb chained levels whole stands beside ready front now =
               | inl new ↦ inl new
               | inr was ↦
                   let there : Contains (descriptors s.chained.manifest) a = among_contained (descriptors s.chained.manifest) a was in
-                  inr (there, λ b here.
-                  let named = array_named s a b there here in
-                  let taken = beside.beside.unnamed b named in
-                  let behind = le-ltb b (first_free s.sb.mem) (named_behind s whole b named) in
-                  torn.content f now.content stands.stands.exposed now.exposed b (λ i. taken i || behind i))
+                  inr (
+                    there,
+                    λ b here.
+                        let named = array_named s a b there here in
+                        let taken = beside.beside.unnamed b named in
+                        let behind = le-ltb b (first_free s.sb.mem) (named_behind s whole b named) in
+                        torn.content f now.content stands.stands.exposed now.exposed b (λ i. taken i || behind i),
+                  )
             ])
             stands.cached;
       };
@@ -296,8 +302,7 @@ module _ (f : Image) (levels : List LevelDesc) (s : State) (read : all_some (lev
       let told = all_at (is_described s) array.0 level.0.arrays (all_at (λ (l : Level). list_all (is_described s) l.arrays) level.0 s.levels sound.described level.2) there in
       let x : TaggedArray = array.0 in
       let both = (and_parts (eqb x.entries (length x.content) && eqb x.leads (length (own_leads x))) (eqb x.least (least_live (versions_of s) x)) told).0 in
-      let count = eqb-true x.leads (length (own_leads x)) (and_parts (eqb x.entries (length x.content)) (eqb x.leads (length (own_leads x))) both).1 in
-      (
+      let count = eqb-true x.leads (length (own_leads x)) (and_parts (eqb x.entries (length x.content)) (eqb x.leads (length (own_leads x))) both).1 in (
         entries.0,
         entries.1,
         ap (λ (y : TaggedArray). is_ascending y.content) entries.2 ∙ up,

@@ -83,7 +83,7 @@ fn compute_beside<D: Disk>(
     disk: &mut D,
 ) -> Result<Computed, Trouble>
     requires kept { (cached : Blocks) → IsConsistent (held_of held.now cached) }
-    requires logged { 0 < length held.now.journal.list }
+    requires len { 0 < length held.now.journal.list }
     ensures ok { IfOk result (λ r. (x : Contents) (cached : Blocks)
         → StandsWith (D.view disk.old) (held_of held.now cached) x
         → IsReadied (D.view disk.new) (held_of held.now cached) x
@@ -129,9 +129,12 @@ fn admit_next(
     length: u32,
     chain: Extents,
 ) -> Result<Next, NoMemory>
-    requires kept { IsLawful (super_of old.now) × IsTrue (is_lawful_manifest (manifest_of manifest)) }
-    requires fits { (places.first_free old.now.mem ≤ first) × (first < 4294967295) × (29 ≤ length) }
-    ensures ok { IfOk result (λ next. (super_of next.sb ≡ super_after (super_of old.now) first length)
+    requires kept { IsLawful (super_of old.now)
+        × IsTrue (is_lawful_manifest (manifest_of manifest)) }
+    requires fits { (places.first_free old.now.mem ≤ first) × (first < 4294967295)
+        × (29 ≤ length) }
+    ensures ok { IfOk result (λ next.
+        (super_of next.sb ≡ super_after (super_of old.now) first length)
         × IsLawful (super_of next.sb)) }
     ensures found { IfOk result (λ next. chained_of next.published
         ≡ record { manifest = manifest_of manifest; blocks = blocks_of chain }) }
@@ -146,13 +149,9 @@ fn admit_next(
 
 /// Writes the next contents of a store but for their superblock beside what it holds, and tests what their manifest says. Errors
 /// are those of `compute_beside`, and want of memory.
-fn prepare_next<D: Disk>(
-    alloc: Global,
-    held: &Recovered,
-    disk: &mut D,
-) -> Result<Next, Trouble>
+fn prepare_next<D: Disk>(alloc: Global, held: &Recovered, disk: &mut D) -> Result<Next, Trouble>
     requires kept { (cached : Blocks) → IsConsistent (held_of held.now cached) }
-    requires logged { 0 < length held.now.journal.list }
+    requires len { 0 < length held.now.journal.list }
     ensures ok { IfOk result (λ next. (x : Contents) (cached : Blocks)
         → StandsWith (D.view disk.old) (held_of held.now cached) x
         → IsReadied (D.view disk.new) (held_of held.now cached) x (super_of next.sb)
@@ -180,7 +179,8 @@ fn prepare_next<D: Disk>(
 
 /// Lays the superblock of what a store made ready, which then takes the place of what it holds. At most five syncs, and no memory.
 fn settle<D: Disk>(held: &mut Recovered, next: Next, disk: &mut D) -> Result<(), Failed>
-    requires fits { (held.old.slot ≤ 1) × (held.old.journal.active ≤ 1) × IsLawful (super_of next.sb) }
+    requires fits { (held.old.slot ≤ 1) × (held.old.journal.active ≤ 1)
+        × IsLawful (super_of next.sb) }
     requires room { held.old.memory.ready ≡ Some held.old.sb.mem }
     requires same { next.sb.mem ≡ held.old.sb.mem }
     ensures ok { OnOk result ((cached : Blocks) → held_of held.new cached
@@ -217,7 +217,7 @@ pub(crate) fn publish<D: Disk>(
     disk: &mut D,
 ) -> Result<(), Trouble>
     requires kept { (cached : Blocks) → IsConsistent (held_of held.old cached) }
-    requires logged { 0 < length held.old.journal.list }
+    requires len { 0 < length held.old.journal.list }
     ensures ok { OnOk result ((x : Contents) (cached : Blocks)
         → StandsWith (D.view disk.old) (held_of held.old cached) x
         → IsPublishedAs (D.view disk.new) x (held_of held.new cached)) }

@@ -59,13 +59,13 @@ pub struct Store {
 
 impl Model for Store {
     ghost use Rattle.strat_store.specs.Held.{Held};
-    ghost use Rattle.strat_store.specs.StoreFields.{store_held, IsWhole};
+    ghost use Rattle.strat_store.specs.StoreFields.{store_held, IsWholeStore};
 
     ghost Value = { Held };
 
     ghost view = { store_held };
 
-    ghost invariant = { IsWhole };
+    ghost invariant = { IsWholeStore };
 }
 
 /// The change that a command asks for, if it asks for one.
@@ -229,7 +229,7 @@ impl Store {
             → is_fault result ≡ false → is_known self.old.memory.parents version ≡ true
             → as_told result out.new ≡ answer_found key (asked f self.old.memory.parents
             (self.old.memory.entries ∷ []) (levels_there self.old.levels) version key) }
-        ensures spent { (self.new.spent ≡ is_fault result)
+        ensures kept { (self.new.spent ≡ is_fault result)
             × (self.new.spent ≡ false → IsConsistent self.new) }
         ensures len { result ≡ reply.Found → length out.new ≡ 1 }
         ensures same { self.new.sb.mem ≡ self.old.sb.mem }

@@ -35,7 +35,7 @@ returns-clause-ok g c x cached stands =
     carries c.args.held.now cached kept (g.D.Disk.view c.args.disk.now) x stands _ c.requires.none c.requires.room (g.D.Disk.view c.log_change.new.disk) c.log_change.new.journal c.take.new.self c.take.result
     c.in-Ok.ensures.ok c.take.ensures.found
     (c.in-Ok.ensures.kept x stands.stands of (takes c.args.held.now cached kept (g.D.Disk.view c.args.disk.now) x stands _ c.requires.none c.requires.room)).1
-    (c.in-Ok.ensures.content x stands.stands of)
+    (c.in-Ok.ensures.same x stands.stands of)
 
 pub returns-clause-trail : goal.returns-clause-trail
 returns-clause-trail g c x cached stands =
