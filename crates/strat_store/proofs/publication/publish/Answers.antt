@@ -1,4 +1,4 @@
-use Rattle.std.proofs.Common.{◌≡◌, ◌∙◌, ℕ, Some, None, sym, ap, subst, arith}
+use Rattle.std.proofs.Common.{ℕ, Some, None, sym, subst, arith}
 use Rattle.std.proofs.lemmas.Result.{err_from_is_err_and}
 use Rattle.strat_array.specs.Kept.{Blocks}
 use Rattle.strat_crash.proofs.MomentLemmas.{passes_trans}
@@ -8,11 +8,10 @@ use Rattle.strat_journal.proofs.ReadLemmas.{same_err}
 use Rattle.strat_standing.specs.Standing.{ShowsTable}
 use Rattle.strat_store.specs.Applying.{IsPublishedAs}
 use Rattle.strat_store.specs.Held.{Held, IsConsistent}
-use Rattle.strat_store.specs.Memory.{Memory, emptied}
 use Rattle.strat_store.specs.Publishing.{is_in_front}
 use Rattle.strat_store.specs.Recovering.{held_of, empty_cache, chained_of}
 use Rattle.strat_store.proofs.SettlingLemmas.{unwritten}
-use Rattle.strat_store.proofs.SettledLemmas.{consistent_ready, stands_ready, damaged_ready, trail_beside, stands_beside, arrays_kept, one_trail, published_as, consistent_next, none_damaged}
+use Rattle.strat_store.proofs.SettledLemmas.{consistent_ready, stands_ready, damaged_ready, trail_beside, stands_beside, arrays_kept, one_trail, published_as, consistent_next, emptied_next, none_damaged}
 use Rattle.strat_store.proofs.publication.publish.Goals as goal
 
 pub prepare-requires : goal.prepare-requires
@@ -117,8 +116,7 @@ returns-clause-kept g c = λ _ cached.
 
 pub returns-clause-room : goal.returns-clause-room
 returns-clause-room g c =
-    let all = c.in_ok-settle.ensures.ok (empty_cache 0) in
-    (ap (λ (h : Held). h.log.list) all, ap (λ (h : Held). h.memory) all ∙ ap (λ (m : Memory). emptied c.args.held.now.sb.mem m) c.in_ok-prepare.ensures.ok)
+    emptied_next (held_of c.args.held.now (empty_cache 0)) (held_of c.settle.new.held (empty_cache 0)) _ _ _ c.prepare.new.self (Some c.args.held.now.sb.mem) (c.in_ok-settle.ensures.ok (empty_cache 0)) c.in_ok-prepare.ensures.ok
 
 pub returns-clause-time : goal.returns-clause-time
 returns-clause-time g c = passes_trans (c.prepare_next.ensures.images (empty_cache 0)).tears.time c.settle.ensures.time
