@@ -357,3 +357,8 @@ none_damaged v s x b whole stands bad =
           let e : None ≡ Some b = sym fit ∙ input.misfit in
           cc
     ]
+
+-- what was emptied
+pub emptied_next : (s t : Held) (sb : Super) (chained : Chained) (levels : List (Option LevelDesc)) (m : Memory) (o : Option ℕ) → t ≡ held_next (record s { memory = m }) sb chained levels → m ≡ record s.memory { ready = o }
+    → (t.log.list ≡ []) × (t.memory ≡ emptied s.sb.mem s.memory)
+emptied_next s t sb chained levels m o is ready = (ap (λ (h : Held). h.log.list) is, ap (λ (h : Held). h.memory) is ∙ ap (λ (k : Memory). emptied s.sb.mem k) ready)

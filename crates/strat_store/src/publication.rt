@@ -75,8 +75,8 @@ fn used_space(alloc: Global, held: &Recovered) -> Result<Space, NoMemory>
     }
 }
 
-/// Computes the next contents of a store but for their superblock: nothing is written but blocks that are free beside what it
-/// holds. Errors are those of `compute_next`, and want of memory for the blocks that are used.
+/// Computes the next contents of a store but for their superblock: nothing is written but blocks that are free beside
+/// what it holds. Errors are those of `compute_next`, and want of memory for the blocks that are used.
 fn compute_beside<D: Disk>(
     alloc: Global,
     held: &Recovered,
@@ -119,8 +119,8 @@ struct Next {
     published: Published,
 }
 
-/// The next superblock, and the manifest that it leads to, tested as an opening tests them. `NoMemory` also stands for what an
-/// opening would refuse.
+/// The next superblock, and the manifest that it leads to, tested as an opening tests them. `NoMemory` also stands for
+/// what an opening would refuse.
 fn admit_next(
     alloc: Global,
     old: &SuperBlock,
@@ -147,8 +147,8 @@ fn admit_next(
     }
 }
 
-/// Writes the next contents of a store but for their superblock beside what it holds, and tests what their manifest says. Errors
-/// are those of `compute_beside`, and want of memory.
+/// Writes the next contents of a store but for their superblock beside what it holds, and tests what their manifest
+/// says. Errors are those of `compute_beside`, and want of memory.
 fn prepare_next<D: Disk>(alloc: Global, held: &Recovered, disk: &mut D) -> Result<Next, Trouble>
     requires kept { (cached : Blocks) → IsConsistent (held_of held.now cached) }
     requires len { 0 < length held.now.journal.list }
@@ -177,7 +177,8 @@ fn prepare_next<D: Disk>(alloc: Global, held: &Recovered, disk: &mut D) -> Resul
     Ok(next)
 }
 
-/// Lays the superblock of what a store made ready, which then takes the place of what it holds. At most five syncs, and no memory.
+/// Lays the superblock of what a store made ready, which then takes the place of what it holds. At most five syncs, and
+/// no memory.
 fn settle<D: Disk>(held: &mut Recovered, next: Next, disk: &mut D) -> Result<(), Failed>
     requires fits { (held.old.slot ≤ 1) × (held.old.journal.active ≤ 1)
         × IsLawful (super_of next.sb) }
@@ -205,12 +206,12 @@ fn settle<D: Disk>(held: &mut Recovered, next: Next, disk: &mut D) -> Result<(),
     Ok(())
 }
 
-/// Empties the journal into the levels: level 0 and the shallow levels become one new level, and the manifest after that takes
-/// the place of the last one. Memory is taken before the superblock is laid: where it runs out the store is as it was.
-/// `NoMemory` also stands for a disk with too few free blocks. `Damaged` names a block of the store's arrays that is no block
-/// of entries, or is out of order: it comes of no store that stands on its disk. After `Device` only another opening can tell
-/// which contents the disk holds: they mean the same table. It reads each block of the arrays twice at most, writes the new
-/// arrays' blocks and those of the manifest once each, and takes five syncs at most.
+/// Empties the journal into the levels: level 0 and the shallow levels become one new level, and the manifest after that
+/// takes the place of the last one. Memory is taken before the superblock is laid: where it runs out the store is as it
+/// was. `NoMemory` also stands for a disk with too few free blocks. `Damaged` names a block of the store's arrays that
+/// is no block of entries, or is out of order: no store that stands on its disk has one. After `Device` only another
+/// opening can tell which contents the disk holds: they mean the same table. It reads each block of the arrays twice at
+/// most, writes the new arrays' blocks and those of the manifest once each, and takes five syncs at most.
 pub(crate) fn publish<D: Disk>(
     alloc: Global,
     held: &mut Recovered,
