@@ -1,38 +1,36 @@
 -- How a store answers commands that ask for no change, and what of it an answer leaves.
-use Rattle.std.proofs.Common.{◌≡◌, ◌≤◌, ℕ, Bool, true, false, inl, inr, List, [], ◌∷◌, length, Option, Some, None, Ok, refl, sym, ap, ◌∙◌, subst, true≢false, arith}
+use Rattle.std.proofs.Common.{◌≡◌, ℕ, Bool, true, false, inl, inr, List, [], ◌∷◌, length, Option, Some, None, refl, sym, ap, ◌∙◌, subst, true≢false}
 use Rattle.std.specs.Prelude.{if◌then◌else◌, option_and_then}
-use Rattle.strat_array.specs.Kept.{Blocks}
 use Rattle.strat_base.specs.Change.{Change}
 use Rattle.strat_base.specs.Change as change
 use Rattle.strat_base.specs.Tree.{is_known}
 use Rattle.strat_crash.specs.Image.{Image}
-use Rattle.strat_crash.specs.Moments.{DiskView, Images, Since, OnlyReads}
+use Rattle.strat_crash.specs.Moments.{DiskView, Since, OnlyReads}
 use Rattle.strat_crash.specs.Trail.{Trail}
 use Rattle.strat_crash.proofs.MomentLemmas.{now_since_start}
 use Rattle.strat_crash.proofs.TrailLemmas.{trail_of_one, trail_of_two}
 use Rattle.strat_format.specs.Damage.{Read}
-use Rattle.strat_journal.specs.Log.{Log}
 use Rattle.strat_model.specs.declared.replies.Reply.{Reply}
 use Rattle.strat_model.specs.declared.replies.Reply.TheVariants as reply
 use Rattle.strat_model.specs.declared.replies.Refusal.{Refusal}
 use Rattle.strat_model.specs.declared.replies.Refusal.TheVariants as why
-use Rattle.strat_model.specs.Answer.{Answer, plain, accepts, refusal}
+use Rattle.strat_model.specs.Answer.{Answer, plain, accepts}
 use Rattle.strat_model.specs.Pairs.{value_of}
 use Rattle.strat_model.specs.Request.{Request, Put, Delete, Get, Clone, Info, Stat}
 use Rattle.strat_model.specs.Run.{Position, is_change, position_after, fill_after}
 use Rattle.strat_model.specs.Spelling.{is_built}
-use Rattle.strat_model.specs.Step.{step, replies_with, refuses, has_row, pairs_at, found, is_frozen}
+use Rattle.strat_model.specs.Step.{step, replies_with, refuses, has_row, pairs_at, found}
 use Rattle.strat_model.specs.Table.{Table, bare}
 use Rattle.strat_recovery.specs.Head.{Head}
-use Rattle.strat_recovery.specs.Opening.{state_of, reads_as, opened}
+use Rattle.strat_recovery.specs.Opening.{state_of, opened}
 use Rattle.strat_recovery.specs.StateTable.{table_of, request_for}
 use Rattle.strat_standing.proofs.FreeLemmas.{shows_contents}
 use Rattle.strat_standing.proofs.PartsLemmas.{reads_head, reads_state}
 use Rattle.strat_standing.specs.Contents.{Contents, contents_head, contents_state}
-use Rattle.strat_standing.specs.Standing.{ShowsTable, ContentsStand}
+use Rattle.strat_standing.specs.Standing.{ShowsTable}
 use Rattle.strat_store.proofs.MemoryLawLemmas.{version_told, store_told, version_unknown}
-use Rattle.strat_store.specs.Applying.{IsAppliedTo, IsLookedUp, FollowsStep, change_wanted, is_fault, is_short, table_left}
-use Rattle.strat_store.specs.Held.{Held, contents_held, position_with, IsConsistent, StandsWith}
+use Rattle.strat_store.specs.Applying.{IsAppliedTo, IsLookedUp, FollowsStep, change_wanted, is_fault, ran_short, table_left}
+use Rattle.strat_store.specs.Held.{Held, position_with, IsConsistent, StandsWith}
 use Rattle.strat_store.specs.Memory.{info_told, stat_told, IsMemoryOf}
 
 -- the request of a change that is wanted
@@ -139,11 +137,11 @@ look_applied now old new x r answer b built none log fault looked = elim looked 
         place = (λ i. record { table = t; fill = length (log i).list }) ∙ sym (place_kept old.log.mem (position_with old x) r (look_kept t r built none) (look_no_change r built none));
       })
   | inr failed ↦ inr (inr (record {
-      reached = failed.1;
-      acceptable = failed.2;
-      told = failed.0;
-      spent = sym fault ∙ ap (λ (a : Answer). is_fault a.reply) failed.0;
-    }))
+    reached = failed.1;
+    acceptable = failed.2;
+    told = failed.0;
+    spent = sym fault ∙ ap (λ (a : Answer). is_fault a.reply) failed.0;
+  }))
 ]
 
 -- over a disk that is only read the images show the table, before a command that changes nothing and after it
@@ -152,7 +150,7 @@ pub look_follows : (before now : DiskView) (s : Held) (x : Contents) (r : Reques
 look_follows before now s x r answer built none looks w =
     let t = table_of (contents_state x) in
     let each : (c : Image) → Since now before.moment c → ShowsTable c t = λ c since. shows_contents c x w.stands.sound (w.stands.reads c (looks.images.each c since)) in
-    let after : table_left t r answer.reply ≡ t = by_short t (bare (step t r).table) (ap bare (look_kept t r built none)) (is_short answer.reply) in
+    let after : table_left t r answer.reply ≡ t = by_short t (bare (step t r).table) (ap bare (look_kept t r built none)) (ran_short answer.reply) in
     by_accept t (table_left t r answer.reply) after each (accepts answer.reply)
   where
     by_short : (t u : Table) → u ≡ t → (b : Bool) → (if b then t else u) ≡ t

@@ -1,12 +1,10 @@
 -- A change that is carried out on a store that stands.
-use Rattle.std.proofs.Common.{◌≡◌, ◌≢◌, ◌≤◌, ◌<◌, ◌+◌, ◌*◌, ℕ, suc, Bool, true, false, inl, inr, not, ltb, if◌then◌else◌, List, [], ◌∷◌, ◌++◌, length, Option, Some, None, refl, sym, ap, ◌∙◌, subst, arith, length-append}
+use Rattle.std.proofs.Common.{◌≡◌, ◌≢◌, ◌<◌, ◌+◌, ◌*◌, ℕ, suc, Bool, true, false, inl, inr, not, ltb, if◌then◌else◌, List, [], ◌∷◌, ◌++◌, length, Option, Some, None, refl, sym, ap, ◌∙◌, subst, arith, length-append}
 use Rattle.std.proofs.lemmas.Bool.{and_parts, and_from, lt-ltb}
-use Rattle.std.specs.List.{Contains, slice_get}
 use Rattle.std.specs.Prelude.{fold, is_some, option_map, flat_map}
 use Rattle.strat_array.specs.Kept.{Blocks}
 use Rattle.strat_base.specs.Change.{Change}
 use Rattle.strat_base.specs.Change as change
-use Rattle.strat_base.specs.Entries.{Entry}
 use Rattle.strat_base.specs.Tree.{Parents}
 use Rattle.strat_base.specs.declared.descriptors.ArrayDesc.{ArrayDesc}
 use Rattle.strat_base.proofs.ListFacts.{Among, among_in_flat, among_right, get_among}
@@ -15,19 +13,19 @@ use Rattle.strat_crash.specs.Image.{Image}
 use Rattle.strat_crash.specs.Moments.{DiskView, Exposes}
 use Rattle.strat_crash.specs.Trail.{Trail}
 use Rattle.strat_crash.proofs.ImageLemmas.{window_same}
-use Rattle.strat_format.specs.Arrays.{all_some, blocks_of, block_on}
+use Rattle.strat_format.specs.Arrays.{blocks_of}
 use Rattle.strat_format.specs.Block.{block_in}
 use Rattle.strat_format.specs.Chained.{Chained}
 use Rattle.strat_gate.specs.SuperView.{super_of}
 use Rattle.strat_journal.specs.Log.{Log}
-use Rattle.strat_model.specs.Answer.{Answer, plain, accepts}
-use Rattle.strat_model.specs.Run.{Position, position_after, fill_after, reaches_disk, is_change}
+use Rattle.strat_model.specs.Answer.{plain, accepts}
+use Rattle.strat_model.specs.Run.{position_after, fill_after, reaches_disk, is_change}
 use Rattle.strat_model.specs.Step.{step}
 use Rattle.strat_model.specs.Table.{Table, bare}
 use Rattle.strat_model.specs.declared.replies.Refusal.TheVariants as why
 use Rattle.strat_model.specs.declared.replies.Reply.{Reply}
 use Rattle.strat_model.specs.declared.replies.Reply.TheVariants as reply
-use Rattle.strat_recovery.specs.Head.{Head, descriptors, head_versions, head_changes}
+use Rattle.strat_recovery.specs.Head.{descriptors}
 use Rattle.strat_recovery.specs.Opened.{parents_in}
 use Rattle.strat_recovery.specs.Opening.{state_of}
 use Rattle.strat_recovery.specs.StateTable.{table_of, request_for}
@@ -35,13 +33,13 @@ use Rattle.strat_recovery.proofs.HeadLemmas.{state_with}
 use Rattle.strat_recovery.proofs.StateTableLemmas.{accepts_same, steps_to}
 use Rattle.strat_standing.specs.Appending.{IsLogOf, with_batch}
 use Rattle.strat_standing.specs.Contents.{Contents, contents_head, contents_state, named_blocks}
-use Rattle.strat_standing.specs.Standing.{ReadsAs, ShowsTable, ContentsStand}
+use Rattle.strat_standing.specs.Standing.{ShowsTable, ContentsStand}
 use Rattle.strat_standing.proofs.ListLemmas.{among_contained, contained_among}
 use Rattle.strat_state.specs.Level.{Level}
 use Rattle.strat_state.specs.Sound.{is_accepted, are_accepted, accepts_change, Takes}
-use Rattle.strat_state.specs.State.{State, tree_after}
-use Rattle.strat_store.specs.Applying.{IsAppliedTo, FollowsStep, is_fault, is_short, table_left}
-use Rattle.strat_store.specs.Held.{head_held, contents_held, IsConsistent, IsLogBehind, StandsWith, position_with}
+use Rattle.strat_state.specs.State.{tree_after}
+use Rattle.strat_store.specs.Applying.{IsAppliedTo, FollowsStep, is_fault, ran_short, table_left}
+use Rattle.strat_store.specs.Held.{head_held, contents_held, IsConsistent, StandsWith, position_with}
 use Rattle.strat_store.specs.Looking.{AreCachedFrom}
 use Rattle.strat_store.specs.Memory.{Memory, refusal_of_change, memory_after, reply_to, IsMemoryOf}
 use Rattle.strat_store.specs.Recovering.{chained_of, held_of, held_after}
@@ -60,7 +58,7 @@ changes_it (change.Delete v key) = refl
 changes_it (change.Clone v) = refl
 
 -- what is told of a change that is accepted is no refusal
-told_well : (m : Memory) (c : Change) → (accepts (reply_to m c) ≡ true) × (is_fault (reply_to m c) ≡ false) × (is_short (reply_to m c) ≡ false)
+told_well : (m : Memory) (c : Change) → (accepts (reply_to m c) ≡ true) × (is_fault (reply_to m c) ≡ false) × (ran_short (reply_to m c) ≡ false)
 told_well m (change.Put v key value) = (refl, refl, refl)
 told_well m (change.Delete v key) = (refl, refl, refl)
 told_well m (change.Clone v) = (refl, refl, refl)
@@ -178,7 +176,7 @@ module _ (r : Recovered) (cached : Blocks) (kept : IsConsistent (held_of r cache
             → FollowsStep v w x (request_for c) (plain told)
         told_trail w told tells trail =
             let well : true ≡ accepts told = sym (ap accepts tells ∙ (told_well r.memory c).0) in
-            let still : false ≡ is_short told = sym (ap is_short tells ∙ (told_well r.memory c).2) in
+            let still : false ≡ ran_short told = sym (ap ran_short tells ∙ (told_well r.memory c).2) in
             let t : Table = table_of (contents_state x) in
             subst (λ (b : Bool). Trail ShowsTable w v.moment (t ∷ table_left t (request_for c) told ∷ []) (if b then 1 else 0)) well
             (subst (λ (b : Bool). Trail ShowsTable w v.moment (t ∷ (if b then t else bare (step t (request_for c)).table) ∷ []) 1) still (step_trail w 1 trail))

@@ -1,5 +1,5 @@
 -- A change that meets a full journal, which a publication empties first.
-use Rattle.std.proofs.Common.{◌≡◌, ◌≤◌, ◌+◌, ℕ, Bool, true, false, inl, inr, ltb, eqb, not, if◌then◌else◌, List, [], ◌∷◌, length, Some, None, refl, sym, ap, ◌∙◌, subst, arith}
+use Rattle.std.proofs.Common.{◌≡◌, ◌+◌, ℕ, Bool, true, false, inl, inr, ltb, eqb, not, if◌then◌else◌, [], ◌∷◌, length, Some, None, refl, sym, ap, ◌∙◌, subst, arith}
 use Rattle.std.proofs.lemmas.Bool.{le-ltb}
 use Rattle.strat_array.specs.Kept.{Blocks}
 use Rattle.strat_base.specs.Change.{Change}
@@ -12,7 +12,7 @@ use Rattle.strat_crash.specs.Trail.{Trail}
 use Rattle.strat_crash.proofs.MomentLemmas.{since_now}
 use Rattle.strat_crash.proofs.TrailLemmas.{trail_of_one, trail_join, trail_more}
 use Rattle.strat_model.specs.Answer.{plain, accepts}
-use Rattle.strat_model.specs.Run.{Position, position_after, fill_after, is_change}
+use Rattle.strat_model.specs.Run.{position_after, fill_after, is_change}
 use Rattle.strat_model.specs.Step.{Outcome, step}
 use Rattle.strat_model.specs.Table.{Table}
 use Rattle.strat_model.specs.declared.replies.Refusal.{Refusal}

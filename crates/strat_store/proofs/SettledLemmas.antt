@@ -1,12 +1,12 @@
 -- A publication of a store: what stands before it, between its calls and after it.
-use Rattle.std.proofs.Common.{◌≡◌, ◌≤◌, ◌<◌, ◌+◌, ◌-◌, ◌*◌, ◌^◌, ℕ, Bool, true, false, cond, leb, ltb, eqb, ◌&&◌, ◌||◌, inl, inr, ◌⊎◌, List, [], ◌∷◌, ◌++◌, length, length-append, Contains, flat_map, fold, filter_map, map, Option, None, Some, refl, sym, ap, ◌∙◌, subst, arith, true≢false}
-use Rattle.std.specs.List.{slice_get, list_all, range_with_len, sum_by}
+use Rattle.std.proofs.Common.{◌≡◌, ◌≤◌, ◌+◌, ◌*◌, ℕ, Bool, true, false, leb, eqb, ◌&&◌, ◌||◌, inl, inr, ◌⊎◌, List, [], ◌∷◌, ◌++◌, length, length-append, Contains, flat_map, fold, map, Option, None, Some, refl, sym, ap, ◌∙◌, subst, arith, true≢false}
+use Rattle.std.specs.List.{list_all, sum_by}
 use Rattle.std.specs.Option.{option_to_list, option_map}
-use Rattle.std.proofs.lemmas.Bool.{and_parts, leb-true, eqb-true, le-ltb, cases_Bool}
+use Rattle.std.proofs.lemmas.Bool.{and_parts, leb-true, eqb-true, le-ltb}
 use Rattle.std.proofs.lemmas.List.Sums.{sum_by-cons, sum_by-append}
 use Rattle.std.proofs.lemmas.Option.{slice_get_within, get_or_from_slice_get}
 use Rattle.strat_array.specs.Kept.{Blocks}
-use Rattle.strat_base.proofs.ListFacts.{Among, all_at, among_flat, among_in_flat, among_split, among_left, among_right, range_among}
+use Rattle.strat_base.proofs.ListFacts.{Among, all_at, among_flat, among_in_flat, among_split, among_right, range_among}
 use Rattle.strat_base.specs.Change.{Change, Put, Delete, Clone}
 use Rattle.strat_base.specs.Entries.{Entry, is_ascending, lead_entries}
 use Rattle.strat_base.specs.Tree.{Parents}
@@ -15,7 +15,7 @@ use Rattle.strat_base.specs.declared.descriptors.LevelDesc.{LevelDesc}
 use Rattle.strat_crash.proofs.BlockLemmas.{blocks_trans, blocks_wider}
 use Rattle.strat_crash.proofs.ImageLemmas.{window_same}
 use Rattle.strat_crash.proofs.TrailLemmas.{trail_join}
-use Rattle.strat_crash.specs.Blocks.{KeepsBlock, KeepsTaken, TearsBlocks, AgreeOn}
+use Rattle.strat_crash.specs.Blocks.{KeepsBlock, TearsBlocks, AgreeOn}
 use Rattle.strat_crash.specs.Image.{Image}
 use Rattle.strat_crash.specs.Moments.{DiskView, Exposes, Passes}
 use Rattle.strat_crash.specs.Trail.{Trail}
@@ -28,21 +28,20 @@ use Rattle.strat_format.specs.SuperBlock.{Super}
 use Rattle.strat_format.proofs.ManifestLemmas.{pass_at}
 use Rattle.strat_plan.proofs.ListLemmas.{among_map}
 use Rattle.strat_promote.proofs.LeadLemmas.{read_whole}
-use Rattle.strat_promote.specs.Job.{IsBadInput, arrays_to, blocks_listed}
+use Rattle.strat_promote.specs.Job.{arrays_to, blocks_listed}
 use Rattle.strat_promote.specs.Leads.{leads_in, misfit_in}
 use Rattle.strat_plan.specs.Groups.{grouped_entries}
 use Rattle.strat_recovery.proofs.OpeningLemmas.{map_some, next_some}
 use Rattle.strat_recovery.proofs.PassedLemmas.{belonging_tests}
 use Rattle.strat_recovery.specs.Head.{Head, head_versions, head_updates, parent_numbers, descriptors}
-use Rattle.strat_recovery.specs.Opened.{array_on, level_on, parents_in}
+use Rattle.strat_recovery.specs.Opened.{array_on, level_on}
 use Rattle.strat_recovery.specs.Opening.{belongs}
 use Rattle.strat_recovery.specs.StateTable.{table_of}
 use Rattle.strat_standing.proofs.FreeLemmas.{free_stands, free_trail}
 use Rattle.strat_standing.proofs.ListLemmas.{contained_among, among_contained}
-use Rattle.strat_standing.proofs.LocalLemmas.{entries_local}
 use Rattle.strat_standing.proofs.TableLemmas.{same_table}
 use Rattle.strat_standing.specs.Contents.{Contents, contents_state, named_blocks}
-use Rattle.strat_standing.specs.Next.{AreNewArrays, arrays_made}
+use Rattle.strat_standing.specs.Next.{arrays_made}
 use Rattle.strat_standing.specs.Standing.{AreFree, LeavesContent, ShowsTable, ContentsStand}
 use Rattle.strat_state.specs.Level.{TaggedArray, Level, own_leads, least_live, is_distinct}
 use Rattle.strat_state.specs.Sound.{IsSound, is_described, has_ascending_entries}
@@ -134,8 +133,11 @@ stands_beside v w s x stands beside leaves =
       stands = now;
       held = stands.held;
       cached = cached_on stands.stands.content now.content s.chained.manifest.next_array s.chained.manifest.next_array (descriptors s.chained.manifest) (descriptors s.chained.manifest) s.cached
-          (omega arith) (λ a of. inr (of, λ b here.
-          beside.tears.content stands.stands.content now.content stands.stands.exposed now.exposed b (beside.beside.unnamed b (array_named s a b of here)))) stands.cached;
+          (omega arith) (λ a of. inr (
+            of,
+            λ b here.
+                beside.tears.content stands.stands.content now.content stands.stands.exposed now.exposed b (beside.beside.unnamed b (array_named s a b of here)),
+          )) stands.cached;
     }
 
 -- the blocks of the arrays are as they were
@@ -210,11 +212,14 @@ published_as v w u s x sb chained levels whole stands beside ready front now =
               | inl new ↦ inl new
               | inr was ↦
                   let there : Contains (descriptors s.chained.manifest) a = among_contained (descriptors s.chained.manifest) a was in
-                  inr (there, λ b here.
-                  let named = array_named s a b there here in
-                  let taken = beside.beside.unnamed b named in
-                  let behind = le-ltb b (first_free s.sb.mem) (named_behind s whole b named) in
-                  torn.content f now.content stands.stands.exposed now.exposed b (λ i. taken i || behind i))
+                  inr (
+                    there,
+                    λ b here.
+                        let named = array_named s a b there here in
+                        let taken = beside.beside.unnamed b named in
+                        let behind = le-ltb b (first_free s.sb.mem) (named_behind s whole b named) in
+                        torn.content f now.content stands.stands.exposed now.exposed b (λ i. taken i || behind i),
+                  )
             ])
             stands.cached;
       };
@@ -297,8 +302,7 @@ module _ (f : Image) (levels : List LevelDesc) (s : State) (read : all_some (lev
       let told = all_at (is_described s) array.0 level.0.arrays (all_at (λ (l : Level). list_all (is_described s) l.arrays) level.0 s.levels sound.described level.2) there in
       let x : TaggedArray = array.0 in
       let both = (and_parts (eqb x.entries (length x.content) && eqb x.leads (length (own_leads x))) (eqb x.least (least_live (versions_of s) x)) told).0 in
-      let count = eqb-true x.leads (length (own_leads x)) (and_parts (eqb x.entries (length x.content)) (eqb x.leads (length (own_leads x))) both).1 in
-      (
+      let count = eqb-true x.leads (length (own_leads x)) (and_parts (eqb x.entries (length x.content)) (eqb x.leads (length (own_leads x))) both).1 in (
         entries.0,
         entries.1,
         ap (λ (y : TaggedArray). is_ascending y.content) entries.2 ∙ up,
@@ -353,3 +357,8 @@ none_damaged v s x b whole stands bad =
           let e : None ≡ Some b = sym fit ∙ input.misfit in
           cc
     ]
+
+-- what was emptied
+pub emptied_next : (s t : Held) (sb : Super) (chained : Chained) (levels : List (Option LevelDesc)) (m : Memory) (o : Option ℕ) → t ≡ held_next (record s { memory = m }) sb chained levels → m ≡ record s.memory { ready = o }
+    → (t.log.list ≡ []) × (t.memory ≡ emptied s.sb.mem s.memory)
+emptied_next s t sb chained levels m o is ready = (ap (λ (h : Held). h.log.list) is, ap (λ (h : Held). h.memory) is ∙ ap (λ (k : Memory). emptied s.sb.mem k) ready)

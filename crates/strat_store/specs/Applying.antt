@@ -2,7 +2,7 @@
 use Rattle.std.specs.Prelude.{◌≡◌, ◌≢◌, ◌≤◌, ◌⊎◌, ℕ, if◌then◌else◌, Bool, true, false, List, [], ◌∷◌, length, Contains, Option, Some, None, Result, IfErr}
 use Rattle.strat_crash.specs.Faults.{Rose}
 use Rattle.strat_crash.specs.Image.{Image}
-use Rattle.strat_crash.specs.Moments.{DiskView, Exposes}
+use Rattle.strat_crash.specs.Moments.{DiskView}
 use Rattle.strat_crash.specs.Trail.{Trail}
 use Rattle.strat_base.specs.Change.{Change}
 use Rattle.strat_base.specs.Change as change
@@ -87,13 +87,13 @@ tells_short why.NoMemory = true
 tells_short _ = false
 
 -- a reply says that memory ran out, so that the command was not carried out
-abbrev pub is_short : Reply → Bool
-is_short (reply.Refused r) = tells_short r
-is_short _ = false
+abbrev pub ran_short : Reply → Bool
+ran_short (reply.Refused r) = tells_short r
+ran_short _ = false
 
 -- the table that a crash may leave after a reply to a command
 abbrev pub table_left : Table → Request → Reply → Table
-table_left t request told = if is_short told then t else bare (step t request).table
+table_left t request told = if ran_short told then t else bare (step t request).table
 
 -- from the table of some contents the images of a disk go on to the table after a command, or stay
 -- where it was not carried out

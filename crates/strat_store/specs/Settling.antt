@@ -47,8 +47,8 @@ contents_next s sb chained levels = record {
   levels = levels;
 }
 
--- a superblock and a manifest may follow those that a store holds: the limits are the same, and all that memory counts is
--- behind the manifest
+-- a superblock and a manifest may follow those that a store holds: the limits are the same, and all that memory counts
+-- is behind the manifest
 pub record MayFollow (s : Held) (sb : Super) (chained : Chained) : Type 0 where
   pub lawful : IsLawful sb
   pub region : sb.region ≡ other_region s.sb.region

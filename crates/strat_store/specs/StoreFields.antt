@@ -10,5 +10,5 @@ abbrev pub store_held : Inside → Held
 store_held s = record (held_of s.held s.cache) { spent = s.spent }
 
 -- between two commands it holds what an opening may find, unless it is spent
-abbrev pub IsWhole : Inside → Type 0
-IsWhole s = s.spent ≡ false → (cached : Blocks) → IsConsistent (held_of s.held cached)
+abbrev pub IsWholeStore : Inside → Type 0
+IsWholeStore s = s.spent ≡ false → (cached : Blocks) → IsConsistent (held_of s.held cached)

@@ -14,10 +14,10 @@ ghost use Rattle.strat_recovery.specs.Opening.{has_own_versions};
 ghost use Rattle.strat_store.specs.Held.{ArePlaced};
 ghost use Rattle.strat_store.specs.Recovering.{FitsInMemory, MayBePlaced, counts_belong, chained_of, IsAdmitted};
 
-use crate::computing::copy_levels;
 use crate::belonging::{
     all_filled, has_few_leads, has_few_publications, has_low_tags, own_blocks, own_ids,
 };
+use crate::computing::copy_levels;
 use std::alloc::Global;
 use strat_base::{Extents, LevelDesc, NoMemory};
 use strat_extent::Space;

@@ -54,7 +54,7 @@ fn log_change<D: Disk>(
         × ContentsStand (D.view disk.new) (with_batch x (change_of change.now ∷ []))) }
     ensures ok { OnOk result (journal.new
         ≡ record journal.old { list = journal.old.list ++ change_of change.now ∷ [] }) }
-    ensures content { OnOk result ((x : Contents) → ContentsStand (D.view disk.old) x
+    ensures same { OnOk result ((x : Contents) → ContentsStand (D.view disk.old) x
         → IsLogOf x journal.old → (f g : Image) → Exposes (D.view disk.old) f
         → Exposes (D.view disk.new) g → AgreeOn (named_blocks x) f g) }
     ensures time { Passes (D.view disk.old) (D.view disk.new) }

@@ -125,7 +125,7 @@ pub(crate) fn get<D: Disk>(
     ensures cause { FailsAsTold (D.faults disk.old) (D.faults disk.new) result }
     ensures damaged { (b : ℕ) → result ≡ reply.Refused (why.Damaged b)
         → IsDamagedIn (D.view disk.old).content held.now.memory held.now.published.levels b }
-    ensures told { MayTellOfKey result }
+    ensures end { MayTellOfKey result }
     ensures len { (result ≡ reply.Found → length out.new ≡ 1)
         × (result ≢ reply.Found → out.new ≡ []) }
     ensures reads { (n : ℕ) → ((a : ArrayDesc)

@@ -75,15 +75,15 @@ fn used_space(alloc: Global, held: &Recovered) -> Result<Space, NoMemory>
     }
 }
 
-/// Computes the next contents of a store but for their superblock: nothing is written but blocks that are free beside what it
-/// holds. Errors are those of `compute_next`, and want of memory for the blocks that are used.
+/// Computes the next contents of a store but for their superblock: nothing is written but blocks that are free beside
+/// what it holds. Errors are those of `compute_next`, and want of memory for the blocks that are used.
 fn compute_beside<D: Disk>(
     alloc: Global,
     held: &Recovered,
     disk: &mut D,
 ) -> Result<Computed, Trouble>
     requires kept { (cached : Blocks) → IsConsistent (held_of held.now cached) }
-    requires logged { 0 < length held.now.journal.list }
+    requires len { 0 < length held.now.journal.list }
     ensures ok { IfOk result (λ r. (x : Contents) (cached : Blocks)
         → StandsWith (D.view disk.old) (held_of held.now cached) x
         → IsReadied (D.view disk.new) (held_of held.now cached) x
@@ -119,8 +119,8 @@ struct Next {
     published: Published,
 }
 
-/// The next superblock, and the manifest that it leads to, tested as an opening tests them. `NoMemory` also stands for what an
-/// opening would refuse.
+/// The next superblock, and the manifest that it leads to, tested as an opening tests them. `NoMemory` also stands for
+/// what an opening would refuse.
 fn admit_next(
     alloc: Global,
     old: &SuperBlock,
@@ -129,9 +129,12 @@ fn admit_next(
     length: u32,
     chain: Extents,
 ) -> Result<Next, NoMemory>
-    requires kept { IsLawful (super_of old.now) × IsTrue (is_lawful_manifest (manifest_of manifest)) }
-    requires fits { (places.first_free old.now.mem ≤ first) × (first < 4294967295) × (29 ≤ length) }
-    ensures ok { IfOk result (λ next. (super_of next.sb ≡ super_after (super_of old.now) first length)
+    requires kept { IsLawful (super_of old.now)
+        × IsTrue (is_lawful_manifest (manifest_of manifest)) }
+    requires fits { (places.first_free old.now.mem ≤ first) × (first < 4294967295)
+        × (29 ≤ length) }
+    ensures ok { IfOk result (λ next.
+        (super_of next.sb ≡ super_after (super_of old.now) first length)
         × IsLawful (super_of next.sb)) }
     ensures found { IfOk result (λ next. chained_of next.published
         ≡ record { manifest = manifest_of manifest; blocks = blocks_of chain }) }
@@ -144,15 +147,11 @@ fn admit_next(
     }
 }
 
-/// Writes the next contents of a store but for their superblock beside what it holds, and tests what their manifest says. Errors
-/// are those of `compute_beside`, and want of memory.
-fn prepare_next<D: Disk>(
-    alloc: Global,
-    held: &Recovered,
-    disk: &mut D,
-) -> Result<Next, Trouble>
+/// Writes the next contents of a store but for their superblock beside what it holds, and tests what their manifest
+/// says. Errors are those of `compute_beside`, and want of memory.
+fn prepare_next<D: Disk>(alloc: Global, held: &Recovered, disk: &mut D) -> Result<Next, Trouble>
     requires kept { (cached : Blocks) → IsConsistent (held_of held.now cached) }
-    requires logged { 0 < length held.now.journal.list }
+    requires len { 0 < length held.now.journal.list }
     ensures ok { IfOk result (λ next. (x : Contents) (cached : Blocks)
         → StandsWith (D.view disk.old) (held_of held.now cached) x
         → IsReadied (D.view disk.new) (held_of held.now cached) x (super_of next.sb)
@@ -178,9 +177,11 @@ fn prepare_next<D: Disk>(
     Ok(next)
 }
 
-/// Lays the superblock of what a store made ready, which then takes the place of what it holds. At most five syncs, and no memory.
+/// Lays the superblock of what a store made ready, which then takes the place of what it holds. At most five syncs, and
+/// no memory.
 fn settle<D: Disk>(held: &mut Recovered, next: Next, disk: &mut D) -> Result<(), Failed>
-    requires fits { (held.old.slot ≤ 1) × (held.old.journal.active ≤ 1) × IsLawful (super_of next.sb) }
+    requires fits { (held.old.slot ≤ 1) × (held.old.journal.active ≤ 1)
+        × IsLawful (super_of next.sb) }
     requires room { held.old.memory.ready ≡ Some held.old.sb.mem }
     requires same { next.sb.mem ≡ held.old.sb.mem }
     ensures ok { OnOk result ((cached : Blocks) → held_of held.new cached
@@ -205,19 +206,19 @@ fn settle<D: Disk>(held: &mut Recovered, next: Next, disk: &mut D) -> Result<(),
     Ok(())
 }
 
-/// Empties the journal into the levels: level 0 and the shallow levels become one new level, and the manifest after that takes
-/// the place of the last one. Memory is taken before the superblock is laid: where it runs out the store is as it was.
-/// `NoMemory` also stands for a disk with too few free blocks. `Damaged` names a block of the store's arrays that is no block
-/// of entries, or is out of order: it comes of no store that stands on its disk. After `Device` only another opening can tell
-/// which contents the disk holds: they mean the same table. It reads each block of the arrays twice at most, writes the new
-/// arrays' blocks and those of the manifest once each, and takes five syncs at most.
+/// Empties the journal into the levels: level 0 and the shallow levels become one new level, and the manifest after that
+/// takes the place of the last one. Memory is taken before the superblock is laid: where it runs out the store is as it
+/// was. `NoMemory` also stands for a disk with too few free blocks. `Damaged` names a block of the store's arrays that
+/// is no block of entries, or is out of order: no store that stands on its disk has one. After `Device` only another
+/// opening can tell which contents the disk holds: they mean the same table. It reads each block of the arrays twice at
+/// most, writes the new arrays' blocks and those of the manifest once each, and takes five syncs at most.
 pub(crate) fn publish<D: Disk>(
     alloc: Global,
     held: &mut Recovered,
     disk: &mut D,
 ) -> Result<(), Trouble>
     requires kept { (cached : Blocks) → IsConsistent (held_of held.old cached) }
-    requires logged { 0 < length held.old.journal.list }
+    requires len { 0 < length held.old.journal.list }
     ensures ok { OnOk result ((x : Contents) (cached : Blocks)
         → StandsWith (D.view disk.old) (held_of held.old cached) x
         → IsPublishedAs (D.view disk.new) x (held_of held.new cached)) }

@@ -7,7 +7,7 @@ ghost use Rattle.strat_base.specs.declared.failures.Trouble.TheVariants.{NoMemor
 ghost use Rattle.strat_crash.specs.Blocks.{TearsBlocks};
 ghost use Rattle.strat_crash.specs.Faults.{CountsFaults, HasCause};
 ghost use Rattle.strat_crash.specs.Image.{Image};
-ghost use Rattle.strat_crash.specs.Moments.{Exposes, Passes};
+ghost use Rattle.strat_crash.specs.Moments.{Exposes, Passes, OnlyReads, IsDurable};
 ghost use Rattle.strat_crash.specs.Trail.{Trail};
 ghost use Rattle.strat_extent.specs.Blocks.{is_free};
 ghost use Rattle.strat_extent.specs.Change.{IsMarked, SameBlocks, AreLowest};
@@ -72,6 +72,16 @@ pub(crate) fn write_next<D: Disk>(
     write(alloc, disk, space, m)
 }
 
+/// Makes what was written beside the contents of a disk durable, before anything leads to it: one sync.
+fn sync_written<D: Disk>(disk: &mut D) -> Result<(), Failed>
+    ensures ok { OnOk result (IsDurable (D.view disk.new)) }
+    ensures same { OnlyReads (D.view disk.old) (D.view disk.new) }
+    ensures cause { CountsFaults (D.faults disk.old) (D.faults disk.new) result }
+{
+    disk.sync()?;
+    Ok(())
+}
+
 /// Makes contents that were computed those of the disk: what was written becomes durable, their superblock is laid, and
 /// the journal goes on in the other region. A crash at any moment leaves the old contents or the new ones, which mean the
 /// same table. At most five syncs, whatever the size of the store. After an error only another opening can tell
@@ -97,7 +107,7 @@ pub(crate) fn lay_next<D: Disk>(
     ensures time { Passes (D.view disk.old) (D.view disk.new) }
     ensures cause { CountsFaults (D.faults disk.old) (D.faults disk.new) result }
 {
-    disk.sync()?;
+    sync_written(disk)?;
     lay(disk, slot, sb)?;
     journal.turn(disk)?;
     Ok(())

@@ -59,13 +59,13 @@ pub struct Store {
 
 impl Model for Store {
     ghost use Rattle.strat_store.specs.Held.{Held};
-    ghost use Rattle.strat_store.specs.StoreFields.{store_held, IsWhole};
+    ghost use Rattle.strat_store.specs.StoreFields.{store_held, IsWholeStore};
 
     ghost Value = { Held };
 
     ghost view = { store_held };
 
-    ghost invariant = { IsWhole };
+    ghost invariant = { IsWholeStore };
 }
 
 /// The change that a command asks for, if it asks for one.
@@ -205,7 +205,14 @@ impl Store {
         self.spent
     }
 
-    /// Carries out one command. The pairs of its answer are in `out`, from which all others are gone.
+    /// Carries out one command. The pairs of its answer are in `out`, from which all others are gone. A change is durable before
+    /// it is answered: two writes and two syncs, and in memory one insertion into level 0, or O(log versions_max) for a clone;
+    /// it takes no memory. A change that meets a full journal, one in `mem`, has it emptied into the levels first: the levels that
+    /// are merged are read twice, the new arrays and the manifest are written once, and there are five syncs at most. That takes
+    /// memory before anything of the store is replaced, and where there is none the answer is `NoMemory`, and the store is as it
+    /// was. A get asks level 0, and then in each level one array at most, by a binary search of its blocks; it takes no memory but
+    /// for blocks that are cached. Other look-ups are O(1). `DeviceFault`: the disk counted a fault. `Damaged`: this block of one of
+    /// the arrays holds no entries, or none that come after those before it. After these two, and no other, the store is spent.
     pub fn apply<D: Disk>(
         &mut self,
         disk: &mut D,
@@ -229,7 +236,7 @@ impl Store {
             → is_fault result ≡ false → is_known self.old.memory.parents version ≡ true
             → as_told result out.new ≡ answer_found key (asked f self.old.memory.parents
             (self.old.memory.entries ∷ []) (levels_there self.old.levels) version key) }
-        ensures spent { (self.new.spent ≡ is_fault result)
+        ensures kept { (self.new.spent ≡ is_fault result)
             × (self.new.spent ≡ false → IsConsistent self.new) }
         ensures len { result ≡ reply.Found → length out.new ≡ 1 }
         ensures same { self.new.sb.mem ≡ self.old.sb.mem }
@@ -255,7 +262,14 @@ impl Store {
         told
     }
 
-    /// Opens the store on a disk.
+    /// Opens the store on a disk. It syncs, reads the two superblock slots, each block of the manifest's chain, the active journal
+    /// region up to its first closed gate, and one gate of the other region, each once, and no block of an array. It shuts that
+    /// gate where it reads open while the active region has room (a run that was killed in a publication leaves it so): one
+    /// write and one sync more. Until the first sync succeeds a crash leaves only what it might have left before. Linear in the
+    /// manifest and the journal, but for O(log) at each array and each version. It takes the memory of all changes that do not
+    /// meet a full journal: 3.9 KB for each of `mem` and 70 bytes for each of `versions_max`, while it recovers 2.6 KB more for each
+    /// of `mem`; and the levels' descriptors twice, once with an index of versions. Up to 1 MiB of blocks is cached later. After an
+    /// error other than `Device` the disk is as it was; after that one too, or its last step failed, which shuts the gate.
     pub fn attach<D: Disk>(alloc: Global, disk: &mut D) -> Result<Store, AttachFault>
         ensures ok { IfOk result (λ s. IsOpenedAs (D.view disk.old) (D.view disk.new) s
             × (s.cached.entries ≡ []) × IsConsistent s) }

@@ -1,6 +1,4 @@
 use Rattle.std.proofs.Common.{refl, arith}
-use Rattle.strat_array.specs.Kept.{Blocks}
-use Rattle.strat_store.specs.Held.{IsConsistent}
 use Rattle.strat_store.specs.Recovering.{held_of, empty_cache}
 use Rattle.strat_store.proofs.ChangingLemmas.{log_of, kept_more, breaks, takes, step_trail, told_trail, carries, finds_none}
 use Rattle.strat_store.proofs.MemoryLawLemmas.{room_for}
@@ -37,7 +35,7 @@ returns-clause-ok g c x cached stands =
     carries c.args.held.now cached kept (g.D.Disk.view c.args.disk.now) x stands _ c.requires.none c.requires.room (g.D.Disk.view c.log_change.new.disk) c.log_change.new.journal c.take.new.self c.take.result
     c.in-Ok.ensures.ok c.take.ensures.found
     (c.in-Ok.ensures.kept x stands.stands of (takes c.args.held.now cached kept (g.D.Disk.view c.args.disk.now) x stands _ c.requires.none c.requires.room)).1
-    (c.in-Ok.ensures.content x stands.stands of)
+    (c.in-Ok.ensures.same x stands.stands of)
 
 pub returns-clause-trail : goal.returns-clause-trail
 returns-clause-trail g c x cached stands =

@@ -9,8 +9,8 @@ use Rattle.strat_store.proofs.changing.carry_out_anew.Goals as goal
 handed : {T : Type 0} {t u : Trouble} → t ≡ u → IsErrOf {T = T} (Err t) u
 handed same = λ i. Err (same i)
 
-pub publish-requires-clause-logged : goal.publish-requires-clause-logged
-publish-requires-clause-logged g c = omega (arith, c.requires.room, (c.requires.kept (empty_cache 0)).lawful.mem_least)
+pub publish-requires-clause-len : goal.publish-requires-clause-len
+publish-requires-clause-len g c = omega (arith, c.requires.room, (c.requires.kept (empty_cache 0)).lawful.mem_least)
 
 pub returns-in-Err-clause-ok : goal.returns-in-Err-clause-ok
 returns-in-Err-clause-ok g c x cached stands =

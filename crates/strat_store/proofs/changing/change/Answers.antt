@@ -1,4 +1,4 @@
-use Rattle.std.proofs.Common.{◌∙◌, sym, arith}
+use Rattle.std.proofs.Common.{sym, arith}
 use Rattle.strat_store.specs.Recovering.{empty_cache}
 use Rattle.strat_store.proofs.RenewingLemmas.{refused_well, refused_trail}
 use Rattle.strat_store.proofs.changing.change.Goals as goal

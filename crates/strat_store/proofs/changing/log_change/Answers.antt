@@ -23,7 +23,7 @@ returns-clause-kept g c x stands of takes =
     (appends g (goal.at.returns-clause-kept g c).After-append) c.append.new.self c.in_ok-append.ensures.ok c.in_ok-append.ensures.kept
     (g.met.D.Disk.leaves_content c.append.new.disk)
 
-pub returns-clause-content : goal.returns-clause-content
-returns-clause-content g c x stands of =
+pub returns-clause-same : goal.returns-clause-same
+returns-clause-same g c x stands of =
     logged_agrees _ (g.D.Disk.view c.append.new.disk) x c.args.journal.now c.add.new.self _ stands of c.requires.none c.add.ensures.ok
     c.requires.fits c.requires.room c.in_ok-append.ensures.durable

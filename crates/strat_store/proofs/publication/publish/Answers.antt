@@ -1,4 +1,4 @@
-use Rattle.std.proofs.Common.{◌≡◌, ◌∙◌, ℕ, Some, None, sym, ap, subst, arith}
+use Rattle.std.proofs.Common.{◌∙◌, ℕ, Some, None, sym, ap, subst, arith}
 use Rattle.std.proofs.lemmas.Result.{err_from_is_err_and}
 use Rattle.strat_array.specs.Kept.{Blocks}
 use Rattle.strat_crash.proofs.MomentLemmas.{passes_trans}

@@ -6,17 +6,17 @@ use Rattle.strat_format.specs.Layout.{region_at}
 use Rattle.strat_store.specs.Publishing.{is_in_front}
 use Rattle.strat_store.proofs.PublishingLemmas.{synced_trail, next_of, lay_trail, turn_trail, turn_stands, torn_in_front, gate_in_front, slot_in_front}
 use Rattle.strat_store.proofs.publishing.lay_next.Given.{Over}
-use Rattle.strat_store.proofs.publishing.lay_next.Goals.{After-sync, After-lay, After-turn}
+use Rattle.strat_store.proofs.publishing.lay_next.Goals.{After-sync_written, After-lay, After-turn}
 use Rattle.strat_store.proofs.publishing.lay_next.Goals as goal
 
 -- the sync only reads
-synced : (g : Over) (c : After-sync g) → OnlyReads (g.D.Disk.view c.args.disk.now) (g.D.Disk.view c.sync.new.self)
-synced g c = record { same = c.sync.ensures.same; images = c.sync.ensures.images; time = c.sync.ensures.time }
+synced : (g : Over) (c : After-sync_written g) → OnlyReads (g.D.Disk.view c.args.disk.now) (g.D.Disk.view c.sync_written.new.disk)
+synced g c = c.sync_written.ensures.same
 
 -- up to the laying blocks in front alone are torn
-laid : (g : Over) (c : After-lay g) → OnlyReads (g.D.Disk.view c.args.disk.now) (g.D.Disk.view c.sync.new.self) → IsDurable (g.D.Disk.view c.sync.new.self) → TearsBlocks (is_in_front c.args.journal.now.mem) (g.D.Disk.view c.args.disk.now) (g.D.Disk.view c.lay.new.disk)
+laid : (g : Over) (c : After-lay g) → OnlyReads (g.D.Disk.view c.args.disk.now) (g.D.Disk.view c.sync_written.new.disk) → IsDurable (g.D.Disk.view c.sync_written.new.disk) → TearsBlocks (is_in_front c.args.journal.now.mem) (g.D.Disk.view c.args.disk.now) (g.D.Disk.view c.lay.new.disk)
 laid g c reads durable =
-    blocks_trans (is_in_front c.args.journal.now.mem) _ (g.D.Disk.view c.sync.new.self) _
+    blocks_trans (is_in_front c.args.journal.now.mem) _ (g.D.Disk.view c.sync_written.new.disk) _
     (reads_tear_none (is_in_front c.args.journal.now.mem) _ _ reads)
     (torn_in_front _ _ c.args.journal.now.mem (4096 * c.args.slot) 4096 (slot_in_front c.args.journal.now.mem c.args.slot c.requires.fits.0) durable
     (g.met.D.Disk.leaves_content c.lay.new.disk) c.lay.ensures.images c.lay.ensures.time)
@@ -30,37 +30,37 @@ turned g c torn settled few =
 
 pub returns-in_err-lay-clause-trail : goal.returns-in_err-lay-clause-trail
 returns-in_err-lay-clause-trail g c old new computed =
-    lay_trail _ (g.D.Disk.view c.sync.new.self) _ _ _ old new computed (synced g (goal.at.returns-in_err-lay-clause-trail g c).After-sync) c.in_ok-sync.ensures.ok (g.met.D.Disk.leaves_content c.sync.new.self)
+    lay_trail _ (g.D.Disk.view c.sync_written.new.disk) _ _ _ old new computed (synced g (goal.at.returns-in_err-lay-clause-trail g c).After-sync_written) c.in_ok-sync_written.ensures.ok (g.met.D.Disk.leaves_content c.sync_written.new.disk)
     _ c.lay.ensures.images c.lay.ensures.time c.lay.ensures.trail
 
 pub returns-in_err-lay-clause-images : goal.returns-in_err-lay-clause-images
-returns-in_err-lay-clause-images g c few = laid g (goal.at.returns-in_err-lay-clause-images g c).After-lay (synced g (goal.at.returns-in_err-lay-clause-images g c).After-sync) c.in_ok-sync.ensures.ok
+returns-in_err-lay-clause-images g c few = laid g (goal.at.returns-in_err-lay-clause-images g c).After-lay (synced g (goal.at.returns-in_err-lay-clause-images g c).After-sync_written) c.in_ok-sync_written.ensures.ok
 
 pub returns-in_err-turn-clause-trail : goal.returns-in_err-turn-clause-trail
 returns-in_err-turn-clause-trail g c old new computed =
-    turn_trail _ (g.D.Disk.view c.sync.new.self) _ _ _ old new computed (synced g (goal.at.returns-in_err-turn-clause-trail g c).After-sync) c.in_ok-sync.ensures.ok (g.met.D.Disk.leaves_content c.sync.new.self)
+    turn_trail _ (g.D.Disk.view c.sync_written.new.disk) _ _ _ old new computed (synced g (goal.at.returns-in_err-turn-clause-trail g c).After-sync_written) c.in_ok-sync_written.ensures.ok (g.met.D.Disk.leaves_content c.sync_written.new.disk)
     (g.D.Disk.view c.lay.new.disk) c.lay.ensures.images c.lay.ensures.time c.lay.ensures.trail c.in_ok-lay.ensures.durable c.in_ok-lay.ensures.found _ c.turn.ensures.images c.turn.ensures.time
 
 pub returns-in_err-turn-clause-images : goal.returns-in_err-turn-clause-images
 returns-in_err-turn-clause-images g c few =
-    turned g (goal.at.returns-in_err-turn-clause-images g c).After-turn (laid g (goal.at.returns-in_err-turn-clause-images g c).After-lay (synced g (goal.at.returns-in_err-turn-clause-images g c).After-sync) c.in_ok-sync.ensures.ok) c.in_ok-lay.ensures.durable few
+    turned g (goal.at.returns-in_err-turn-clause-images g c).After-turn (laid g (goal.at.returns-in_err-turn-clause-images g c).After-lay (synced g (goal.at.returns-in_err-turn-clause-images g c).After-sync_written) c.in_ok-sync_written.ensures.ok) c.in_ok-lay.ensures.durable few
 
 pub returns-clause-trail : goal.returns-clause-trail
 returns-clause-trail g c old new computed =
-    turn_trail _ (g.D.Disk.view c.sync.new.self) _ _ _ old new computed (synced g (goal.at.returns-clause-trail g c).After-sync) c.in_ok-sync.ensures.ok (g.met.D.Disk.leaves_content c.sync.new.self)
+    turn_trail _ (g.D.Disk.view c.sync_written.new.disk) _ _ _ old new computed (synced g (goal.at.returns-clause-trail g c).After-sync_written) c.in_ok-sync_written.ensures.ok (g.met.D.Disk.leaves_content c.sync_written.new.disk)
     (g.D.Disk.view c.lay.new.disk) c.lay.ensures.images c.lay.ensures.time c.lay.ensures.trail c.in_ok-lay.ensures.durable c.in_ok-lay.ensures.found _ c.turn.ensures.images c.turn.ensures.time
 
 pub returns-clause-kept : goal.returns-clause-kept
 returns-clause-kept g c old new computed = (
-  turn_stands _ (g.D.Disk.view c.sync.new.self) _ _ _ old new computed (synced g (goal.at.returns-clause-kept g c).After-sync) c.in_ok-sync.ensures.ok (g.met.D.Disk.leaves_content c.sync.new.self)
+  turn_stands _ (g.D.Disk.view c.sync_written.new.disk) _ _ _ old new computed (synced g (goal.at.returns-clause-kept g c).After-sync_written) c.in_ok-sync_written.ensures.ok (g.met.D.Disk.leaves_content c.sync_written.new.disk)
       (g.D.Disk.view c.lay.new.disk) c.lay.ensures.images c.lay.ensures.time c.lay.ensures.trail c.in_ok-lay.ensures.durable c.in_ok-lay.ensures.found _ c.turn.ensures.images c.turn.ensures.time
       (g.met.D.Disk.leaves_content c.lay.new.disk) (g.met.D.Disk.leaves_content c.turn.new.disk) c.in_ok-turn.ensures.durable,
-  next_of _ (g.D.Disk.view c.sync.new.self) _ _ _ old new computed (synced g (goal.at.returns-clause-kept g c).After-sync) c.in_ok-sync.ensures.ok (g.met.D.Disk.leaves_content c.sync.new.self) c.turn.new.self c.in_ok-turn.ensures.ok,
+  next_of _ (g.D.Disk.view c.sync_written.new.disk) _ _ _ old new computed (synced g (goal.at.returns-clause-kept g c).After-sync_written) c.in_ok-sync_written.ensures.ok (g.met.D.Disk.leaves_content c.sync_written.new.disk) c.turn.new.self c.in_ok-turn.ensures.ok,
 )
 
 pub returns-clause-images : goal.returns-clause-images
 returns-clause-images g c few =
-    turned g (goal.at.returns-clause-images g c).After-turn (laid g (goal.at.returns-clause-images g c).After-lay (synced g (goal.at.returns-clause-images g c).After-sync) c.in_ok-sync.ensures.ok) c.in_ok-lay.ensures.durable few
+    turned g (goal.at.returns-clause-images g c).After-turn (laid g (goal.at.returns-clause-images g c).After-lay (synced g (goal.at.returns-clause-images g c).After-sync_written) c.in_ok-sync_written.ensures.ok) c.in_ok-lay.ensures.durable few
 
-pub returns-in_err-sync-clause-trail : goal.returns-in_err-sync-clause-trail
-returns-in_err-sync-clause-trail g c old new computed = synced_trail _ (g.D.Disk.view c.sync.new.self) _ _ _ old new computed (synced g (goal.at.returns-in_err-sync-clause-trail g c).After-sync)
+pub returns-in_err-sync_written-clause-trail : goal.returns-in_err-sync_written-clause-trail
+returns-in_err-sync_written-clause-trail g c old new computed = synced_trail _ (g.D.Disk.view c.sync_written.new.disk) _ _ _ old new computed (synced g (goal.at.returns-in_err-sync_written-clause-trail g c).After-sync_written)

@@ -1,4 +1,4 @@
-use Rattle.std.proofs.Common.{◌≡◌, List, [], refl, sym, ap, subst}
+use Rattle.std.proofs.Common.{refl, sym, subst}
 use Rattle.strat_model.specs.Answer.{as_told, plain}
 use Rattle.strat_model.specs.Command.{request_of}
 use Rattle.strat_model.specs.Pairs.{Pairs}

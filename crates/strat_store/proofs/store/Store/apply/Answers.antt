@@ -11,8 +11,8 @@ answer-told-requires-clause-kept g c =
 pub invariant_of-self : goal.invariant_of-self
 invariant_of-self g c calm = c.answer-told.ensures.kept (sym c.is_fault-self-inside.ensures.ok ∙ calm)
 
-pub returns-clause-spent : goal.returns-clause-spent
-returns-clause-spent g c = (
+pub returns-clause-kept : goal.returns-clause-kept
+returns-clause-kept g c = (
   c.is_fault-self-inside.ensures.ok,
   λ calm. spent_consistent (held_of c.answer-told.new.held c.answer-told.new.cache) c.is_fault-self-inside.result
       (c.answer-told.ensures.kept (sym c.is_fault-self-inside.ensures.ok ∙ calm) c.answer-told.new.cache),
