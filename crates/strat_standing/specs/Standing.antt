@@ -1,9 +1,5 @@
--- What a store stands on: the contents that every image of its disk has.
---
--- This is general: manifests, levels and journals are of any kind that recovery takes, and the images of
--- a disk may differ in blocks that nothing names. The opening of today (`Opened` and `Store` of the
--- store's crate) is narrower: its manifest is that of a new store, its table takes no more changes than
--- one journal region (`limited`), and its disk has one image.
+-- What a store stands on: the contents that every image of its disk has. The images may differ in blocks that
+-- nothing names.
 use Rattle.std.specs.Prelude.{◌≡◌, ◌≢◌, ◌<◌, ℕ, Bool, false, List, Some, IfSome, Ok, IsTrue}
 use Rattle.std.specs.List.{Contains}
 use Rattle.strat_crash.specs.Image.{Image, SameIn}

@@ -2,7 +2,7 @@
 use Rattle.std.specs.Prelude.{◌≡◌, ◌≢◌, ◌≤◌, ◌⊎◌, ℕ, if◌then◌else◌, Bool, true, false, List, [], ◌∷◌, length, Contains, Option, Some, None, Result, IfErr}
 use Rattle.strat_crash.specs.Faults.{Rose}
 use Rattle.strat_crash.specs.Image.{Image}
-use Rattle.strat_crash.specs.Moments.{DiskView}
+use Rattle.strat_crash.specs.Moments.{DiskView, OnlyReads}
 use Rattle.strat_crash.specs.Trail.{Trail}
 use Rattle.strat_base.specs.Change.{Change}
 use Rattle.strat_base.specs.Change as change
@@ -24,8 +24,8 @@ use Rattle.strat_recovery.specs.StateTable.{table_of}
 use Rattle.strat_standing.specs.Contents.{Contents, contents_state}
 use Rattle.strat_standing.specs.Standing.{ShowsTable}
 use Rattle.strat_store.specs.Held.{Held, StandsWith, position_with}
-use Rattle.strat_store.specs.Looking.{arrays_there}
-use Rattle.strat_store.specs.Memory.{Memory}
+use Rattle.strat_store.specs.Looking.{LooksThrough, arrays_there}
+use Rattle.strat_store.specs.Memory.{Memory, refusal_of_change}
 use Rattle.strat_store.specs.Promoting.{HaveFewLeads}
 
 -- the change that a command asks for, if it asks for one
@@ -123,6 +123,17 @@ IsLookedUp now new x request answer =
     ((answer ≡ (step (table_of (contents_state x)) request).answer) × StandsWith now new x)
     ⊎ ((answer ≡ refusal why.DeviceFault) × (reaches_disk request ≡ true)
     × (accepts (step (table_of (contents_state x)) request).answer.reply ≡ true))
+
+-- a command that asks for no change leaves the disk as it was, and a store but for blocks that it cached as they
+-- stand there; a change that is refused leaves both as they were
+pub record IsUntouched (before now : DiskView) (request : Request) (old : Held) (told : Reply)
+    (new : Held) : Type 0 where
+  pub looks : change_wanted request ≡ None
+      → LooksThrough before now (arrays_there old.levels) old.cached new.cached
+  pub refused : (c : Change) (r : Refusal) → change_wanted request ≡ Some c
+      → refusal_of_change old.memory c ≡ Some r
+      → (told ≡ reply.Refused r) × (new.cached ≡ old.cached)
+      × OnlyReads before now
 
 -- contents took the place of others on the disk that a store stands on: they mean the same table
 pub record IsPublishedAs (now : DiskView) (x : Contents) (new : Held) : Type 0 where

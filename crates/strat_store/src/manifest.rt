@@ -1,5 +1,5 @@
-//! The manifest of a new store, which is the only one so far: nothing was changed or written, the
-//! first array will be number 1, there is one version, and no level.
+//! The manifest of a new store, as formatting writes it: nothing was changed or written, the first array
+//! will be number 1, there is one version, and no level.
 
 ghost use Rattle.std.specs.Prelude.{◌≡◌, ◌≤◌, ◌*◌, ℕ, length, bytes_eq, Some, Ok, Err, OnOk, IsErrOf};
 ghost use Rattle.strat_crash.specs.Faults.{CountsFaults, HasCause, ReadsAtMost};

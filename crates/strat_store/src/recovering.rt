@@ -45,8 +45,8 @@ pub(crate) struct Recovered {
     pub(crate) memory: Memory,
 }
 
-/// What the last publication left, from the blocks that a superblock leads to: one read a block. Damaged: the block of its
-/// chain with a wrong link, or the first where no manifest of such a store stands.
+/// What the last publication left, from the blocks that a superblock leads to: one read a block. Damaged: the block
+/// of its chain with a wrong link, or the first where no manifest of such a store stands.
 fn read_published<D: Disk>(
     alloc: Global,
     disk: &mut D,
@@ -71,7 +71,7 @@ fn read_published<D: Disk>(
 }
 
 /// What a store has in memory of its versions and of level 0 before any change of its journal. O(versions log
-/// versions_max), and all the memory that changes will take. The only error is want of memory.
+/// versions_max), and all the memory that changes take until the journal is full. The only error is want of memory.
 fn load_memory(alloc: Global, sb: &SuperBlock, published: &Published) -> Result<Memory, NoMemory>
     requires fits { IsLawful (super_of sb.now) }
     requires kept { IsAdmitted (super_of sb.now) published.now }
@@ -127,8 +127,9 @@ fn replay(memory: &mut Memory, logged: &[Logged]) -> Result<(), Trouble>
     Ok(())
 }
 
-/// What a store has in memory of its versions and of level 0, with the changes of its journal carried out. `Damaged` names
-/// the block of the first that is refused. One insertion a change, and all the memory that later changes will take.
+/// What a store has in memory of its versions and of level 0, with the changes of its journal carried out. `Damaged`
+/// names the block of the first that is refused. One insertion a change, and all the memory that changes take until
+/// the journal is full.
 fn recover_memory(
     alloc: Global,
     sb: &SuperBlock,
@@ -157,9 +158,9 @@ fn recover_memory(
     Ok(memory)
 }
 
-/// The journal of a superblock, behind what the last publication left, and memory with its changes carried out. It reads
-/// each block of the active region at most once, none after its first closed gate, and one of the other region. Damaged:
-/// the block of a record that is no change, or of a change that is refused.
+/// The journal of a superblock, behind what the last publication left, and memory with its changes carried out. It
+/// reads each block of the active region at most once, none after its first closed gate, and one of the other region.
+/// Damaged: the block of a record that is no change, or of a change that is refused.
 fn read_journal<D: Disk>(
     alloc: Global,
     disk: &mut D,
@@ -192,8 +193,8 @@ fn read_journal<D: Disk>(
     Ok((journal, memory))
 }
 
-/// The store behind a superblock in a slot: each block of its manifest's chain, those of the active journal region up to
-/// its first closed gate and one of the other region are read, each once.
+/// The store behind a superblock in a slot: each block of its manifest's chain, those of the active journal region up
+/// to its first closed gate and one of the other region are read, each once.
 fn recover_at<D: Disk>(
     alloc: Global,
     disk: &mut D,
@@ -223,10 +224,10 @@ fn recover_at<D: Disk>(
     })
 }
 
-/// The store on a disk, with all the memory that its changes will take. It writes nothing. It reads the two superblock
-/// slots and what `recover_at` reads behind the newest. NotAStore: no slot is open with the text of a store. Device: the
-/// disk counted a fault. Damaged: the block that recovery finds damaged. Linear in the manifest and the journal, but for
-/// O(log versions_max) at each version and one insertion at each change.
+/// The store on a disk, with all the memory that its changes take until the journal is full. It writes nothing. It
+/// reads the two superblock slots and what `recover_at` reads behind the newest. NotAStore: no slot is open with the
+/// text of a store. Device: the disk counted a fault. Damaged: the block that recovery finds damaged. Linear in the
+/// manifest and the journal, but for O(log versions_max) at each version and one insertion at each change.
 pub(crate) fn recover_store<D: Disk>(alloc: Global, disk: &mut D) -> Result<Recovered, AttachFault>
     ensures found { IfOk result (λ r. (f : Image) → Exposes (D.view disk.old) f
         → IsRecoveredFrom f r) }
@@ -248,8 +249,8 @@ pub(crate) fn recover_store<D: Disk>(alloc: Global, disk: &mut D) -> Result<Reco
     Ok(recovered)
 }
 
-/// Shuts the first gate of the region that is not active, where it was read open and nothing leads behind it: at most one
-/// read, one write and one sync. Meanwhile every crash leaves the same contents.
+/// Shuts the first gate of the region that is not active, where it was read open and nothing leads behind it: at most
+/// one read, one write and one sync. Meanwhile every crash leaves the same contents.
 fn shut_other<D: Disk>(disk: &mut D, sb: &SuperBlock, journal: &Journal) -> Result<(), Failed>
     requires fits { IsLawful (super_of sb.now) }
     ensures images { (f : Image) (x : Contents) → Exposes (D.view disk.old) f
@@ -269,11 +270,12 @@ fn shut_other<D: Disk>(disk: &mut D, sb: &SuperBlock, journal: &Journal) -> Resu
     Ok(())
 }
 
-/// Opens the store on a disk. It syncs, reads what `recover_store` does, and shuts the first gate of the region that is not
-/// active where it was read open while the active one has room (no run of this program leaves it so): at most one read, one
-/// write and one sync more. Until the sync succeeds a crash leaves only what it might have left before. It takes all the
-/// memory that the store will ever need beside its cache. After an error other than `Device` the disk is as it was; after
-/// that one too, or its last step failed, which shuts that gate.
+/// Opens the store on a disk. It syncs, reads what `recover_store` does, and shuts the first gate of the region that
+/// is not active where it was read open while the active one has room (a run that was killed in a publication leaves
+/// it so): at most one read, one write and one sync more. Until the sync succeeds a crash leaves only what it might
+/// have left before. It takes all the memory that the store needs beside its cache until its journal is full. After
+/// an error other than `Device` the disk is as it was; after that one too, or its last step failed, which shuts that
+/// gate.
 pub(crate) fn open<D: Disk>(alloc: Global, disk: &mut D) -> Result<Recovered, AttachFault>
     ensures ok { IfOk result (λ r. (cap : ℕ)
         → IsOpenedAs (D.view disk.old) (D.view disk.new) (held_of r (empty_cache cap))) }

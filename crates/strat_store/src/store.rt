@@ -22,12 +22,12 @@ ghost use Rattle.strat_promote.specs.Job.{blocks_listed};
 ghost use Rattle.strat_recovery.specs.Asked.{asked};
 ghost use Rattle.strat_recovery.specs.Opening.{recover};
 ghost use Rattle.strat_standing.specs.Contents.{Contents};
-ghost use Rattle.strat_store.specs.Applying.{IsAppliedTo, FollowsStep, FailsAsTold, IsDamagedIn, IsLookedUp, change_wanted, is_fault};
+ghost use Rattle.strat_store.specs.Applying.{IsAppliedTo, FollowsStep, FailsAsTold, IsDamagedIn, IsLookedUp, IsUntouched, change_wanted, is_fault};
 ghost use Rattle.strat_store.specs.Following.{IsOpenedAs, IsUnchanged, LeavesOpening};
 ghost use Rattle.strat_store.specs.Held.{IsConsistent, StandsWith};
 ghost use Rattle.strat_store.specs.Memory.{info_told};
 ghost use Rattle.strat_store.specs.Looking.{AreInOrder, AreCachedFrom, LooksThrough, arrays_there, levels_there};
-ghost use Rattle.strat_store.specs.Recovering.{held_of, held_after};
+ghost use Rattle.strat_store.specs.Recovering.{held_of, held_after, empty_cache};
 ghost use Rattle.strat_store.specs.declared.opening.AttachFault.TheVariants as fault;
 
 use crate::changing::change;
@@ -184,6 +184,8 @@ fn answer<D: Disk>(
         → IsConsistent (held_of held.new cached) }
     ensures len { (result ≡ reply.Found → length out.new ≡ 1)
         × (held.new.sb.mem ≡ held.old.sb.mem) }
+    ensures same { IsUntouched (D.view disk.old) (D.view disk.new) (request_of command.now)
+        (held_of held.old cache.old) result (held_after held.new cache.new result) }
     ensures time { Passes (D.view disk.old) (D.view disk.new) }
     ensures cause { FailsAsTold (D.faults disk.old) (D.faults disk.new) result }
     ensures damaged { (b : ℕ) → result ≡ reply.Refused (why.Damaged b)
@@ -239,7 +241,9 @@ impl Store {
         ensures kept { (self.new.spent ≡ is_fault result)
             × (self.new.spent ≡ false → IsConsistent self.new) }
         ensures len { result ≡ reply.Found → length out.new ≡ 1 }
-        ensures same { self.new.sb.mem ≡ self.old.sb.mem }
+        ensures same { (self.new.sb.mem ≡ self.old.sb.mem)
+            × IsUntouched (D.view disk.old) (D.view disk.new) (request_of command.now)
+            self.old result self.new }
         ensures time { Passes (D.view disk.old) (D.view disk.new) }
         ensures cause { FailsAsTold (D.faults disk.old) (D.faults disk.new) result }
         ensures damaged { (b : ℕ) → result ≡ reply.Refused (why.Damaged b)
@@ -272,7 +276,7 @@ impl Store {
     /// error other than `Device` the disk is as it was; after that one too, or its last step failed, which shuts the gate.
     pub fn attach<D: Disk>(alloc: Global, disk: &mut D) -> Result<Store, AttachFault>
         ensures ok { IfOk result (λ s. IsOpenedAs (D.view disk.old) (D.view disk.new) s
-            × (s.cached.entries ≡ []) × IsConsistent s) }
+            × (s.cached ≡ empty_cache 256) × IsConsistent s) }
         ensures none { IsErrOf result fault.NotAStore → (f : Image)
             → Exposes (D.view disk.old) f → recover f ≡ Ok None }
         ensures damaged { (block : ℕ) → IsErrOf result (fault.Damaged block) → (f : Image)
