@@ -1,5 +1,5 @@
 -- What a crash leaves of a disk while a new store is made on it, phase by phase.
-use Rattle.std.proofs.Common.{◌≡◌, ◌≢◌, ◌<◌, ℕ, ◌+◌, ◌*◌, inl, inr, true, [], length, Some, None, Ok, Option, IfSome, sym, ap, subst, ◌∙◌, arith}
+use Rattle.std.proofs.Common.{◌≡◌, ◌≢◌, ◌<◌, ℕ, ◌+◌, ◌*◌, inl, inr, true, [], length, Some, None, Ok, Option, IfSome, refl, sym, ap, subst, ◌∙◌, arith}
 use Rattle.std.proofs.lemmas.List.{length-replicate}
 use Rattle.strat_format.specs.Chain.{link_bytes}
 use Rattle.strat_format.specs.Damage.{Read, and_then, passed_or}
@@ -16,9 +16,8 @@ use Rattle.strat_format.proofs.SuperBlockLemmas.{slot_closed}
 use Rattle.strat_gate.specs.Laying.{LaysOver, OldOrNew}
 use Rattle.strat_journal.proofs.AloneLemmas.{empty}
 use Rattle.strat_format.specs.Records.{journal_in_one}
-use Rattle.strat_store.specs.Format.{IsNewDisk, IsShut, IsNewStore, IsNoneOrNew, super_for, head_for}
-use Rattle.strat_store.specs.Opened.{new_block, has_new_manifest, accepted_now, head_from, recover_slot_now, recover_now}
-use Rattle.strat_store.proofs.OpenedLemmas.{reads_now}
+use Rattle.strat_store.specs.Format.{new_block, IsNewDisk, IsShut, IsNewStore, IsNoneOrNew, super_for, head_for}
+use Rattle.strat_store.proofs.NewStoreLemmas.{head_found, state_found}
 use Rattle.strat_store.proofs.ShutLemmas.{StaysBlank}
 
 -- the manifest of a new store fills a block
@@ -85,15 +84,10 @@ module _ (mem changes_max versions_max : ℕ) (some : 0 < mem) (v : DiskView) (p
       let sb : Super = super_for mem changes_max versions_max in
       let same : SameIn (4096 * first_free mem) 4096 p.content c = outside_same_above 0 4096 (4096 * first_free mem) 4096 (omega arith) out in
       let block : window c (4096 * first_free mem) 4096 ≡ new_block = window_same p.content c (4096 * first_free mem) 4096 same ∙ p.block in
-      let has : has_new_manifest c sb ≡ true = same_bytes (window c (4096 * first_free mem) 4096) new_block block in
       let none : journal_in_one c mem 0 ≡ Ok [] = empty c mem 0 some (λ up. p.active (sym (out.above (region_at mem 0) (omega arith)) ∙ up)) in
-      let found : recover_now c ≡ Ok (Some (head_for mem changes_max versions_max)) =
-      ap (λ (r : Read (Option (ℕ × Super))). and_then r (recover_slot_now c)) newest
-      ∙ (λ j. and_then (and_then (passed_or sb.manifest (has j) new_manifest) (λ _. and_then (none j) (λ logged.
-      and_then (accepted_now sb logged) (λ journal. Ok (head_from sb journal))))) (λ h. Ok (Some h))) in
       record {
-        found = found;
-        reads = reads_now c (head_for mem changes_max versions_max) found;
+        found = head_found c sb refl refl block 0 newest none;
+        reads = state_found c sb refl refl block 0 newest none;
         slot = λ up. p.second (sym (out.above 4096 (omega arith)) ∙ up);
         region = λ up. p.other (sym (out.above (region_at mem 1) (omega arith)) ∙ up);
       }

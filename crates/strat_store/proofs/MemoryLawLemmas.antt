@@ -35,7 +35,7 @@ use Rattle.strat_state.proofs.UpdateLemmas.{all_lives}
 use Rattle.strat_store.specs.Memory.{Memory, refusal_of_update, refusal_of_clone, refusal_of_change, memory_after, HasRoomFor, reply_to, info_told, stat_told, emptied, fresh_memory, IsMemoryOf}
 use Rattle.strat_promotion.proofs.PaidLemmas.{updates_few}
 use Rattle.strat_store.proofs.MemoryLemmas.{left_few}
-use Rattle.strat_store.proofs.VersionLemmas.{three_none, three_pass, three_refuse}
+use Rattle.strat_store.proofs.ThreeTests.{three_none, three_pass, three_refuse}
 
 -- of three tests that refuse in turn none does where all pass
 three_pass_all : (k f l : Bool) (a b c : Refusal) → (k && not f && not l) ≡ not (is_some (if not k then Some a else if f then Some b else if l then Some c else None))

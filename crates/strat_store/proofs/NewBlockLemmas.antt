@@ -5,7 +5,7 @@ use Rattle.strat_format.specs.Manifest.{manifest_bytes, new_manifest}
 use Rattle.strat_base.specs.Numbers.{be, placed}
 use Rattle.strat_format.specs.SuperBlock.{spelled, zeros}
 use Rattle.strat_format.proofs.SuperBlockLemmas.{spelled_next}
-use Rattle.strat_store.specs.Opened.{new_block}
+use Rattle.strat_store.specs.Format.{new_block}
 
 -- zeros are zeros in front of zeros
 zeros_joined : (k m : ℕ) → zeros (k + m) ≡ zeros k ++ zeros m

@@ -1,10 +1,10 @@
 -- A disk on which a store was recovered, while the region that is not active is shut.
-use Rattle.std.proofs.Common.{◌≡◌, ◌≢◌, ◌≤◌, ◌<◌, ◌+◌, ℕ, zero, suc, Bool, true, false, inl, inr, List, [], ◌∷◌, length, Option, Some, Ok, refl, sym, ap, ◌∙◌, subst, arith, true≢false}
-use Rattle.std.specs.Prelude.{IsTrue, ◌↔◌}
+use Rattle.std.proofs.Common.{◌≡◌, ◌≢◌, ◌≤◌, ◌<◌, ◌+◌, ℕ, zero, suc, Bool, true, false, inl, inr, List, [], ◌∷◌, length, Option, Some, Result, Ok, Err, refl, sym, ap, ◌∙◌, subst, arith, true≢false}
+use Rattle.std.specs.Prelude.{IsTrue, IfErr, ◌↔◌}
 use Rattle.strat_base.specs.declared.descriptors.ArrayDesc.{ArrayDesc}
 use Rattle.strat_array.specs.Kept.{Blocks}
 use Rattle.strat_crash.specs.Image.{Image}
-use Rattle.strat_crash.specs.Moments.{DiskView, Exposes, Images, Since, Passes, TearsOnly, IsDurable, OnlyReads}
+use Rattle.strat_crash.specs.Moments.{DiskView, Exposes, Images, Since, Passes, TearsOnly, IsDurable, KeepsImages, OnlyReads}
 use Rattle.strat_crash.specs.Trail.{At, Trail}
 use Rattle.strat_crash.proofs.MomentLemmas.{each_then, passes_trans, settled_at, since_now, at_told, reads_keep_durable}
 use Rattle.strat_crash.proofs.TrailLemmas.{trail_of_one}
@@ -24,6 +24,8 @@ use Rattle.strat_standing.proofs.ListLemmas.{contained_among}
 use Rattle.strat_standing.proofs.PartsLemmas.{reads_head, StateParts, state_parts}
 use Rattle.strat_standing.proofs.PlaceLemmas.{one_super}
 use Rattle.strat_state.specs.Sound.{IsSound}
+use Rattle.strat_store.specs.declared.opening.AttachFault.{AttachFault}
+use Rattle.strat_store.specs.declared.opening.AttachFault.TheVariants.{Device}
 use Rattle.strat_store.specs.Following.{FollowsFrom, IsOpenedAs, LeavesOpening}
 use Rattle.strat_store.specs.Held.{contents_held, StandsWith}
 use Rattle.strat_store.specs.Looking.{AreCachedFrom}
@@ -168,3 +170,8 @@ module _ (before synced read now : DiskView) (r : Recovered) (syncs : OnlyReads 
         );
     follows = from_opening;
   }
+
+-- a disk that was only read is as it was, whatever the outcome
+pub looks_kept : {T : Type 0} (r : Result T AttachFault) (old new : DiskView) → OnlyReads old new → IfErr r (λ e. e ≢ Device → (new.content ≡ old.content) × KeepsImages old new)
+looks_kept (Ok x) old new looks = tt
+looks_kept (Err e) old new looks = λ _. (looks.same, looks.images)

@@ -1,7 +1,7 @@
 -- What a crash leaves of a disk on which a store was opened and carried out commands.
 use Rattle.std.specs.Prelude.{◌≡◌, ◌≤◌, ◌⊎◌, ℕ, List, [], ◌∷◌, Some, false, Ok}
 use Rattle.strat_crash.specs.Image.{Image}
-use Rattle.strat_crash.specs.Moments.{DiskView, Exposes, Images}
+use Rattle.strat_crash.specs.Moments.{DiskView, Exposes, Images, KeepsImages}
 use Rattle.strat_crash.specs.Trail.{At, Trail}
 use Rattle.strat_model.specs.Table.{Table}
 use Rattle.strat_recovery.specs.Opening.{recover}
@@ -9,7 +9,6 @@ use Rattle.strat_recovery.specs.StateTable.{table_of}
 use Rattle.strat_standing.specs.Contents.{Contents, contents_state}
 use Rattle.strat_standing.specs.Standing.{ShowsTable}
 use Rattle.strat_store.specs.Held.{Held, head_held, StandsWith}
-use Rattle.strat_store.specs.Opened.{IsUnchanged}
 
 -- a disk with this content was synced, and from then on followed tables
 pub record FollowsFrom (before now : DiskView) (f : Image) (tables : List Table) (n : ℕ)
@@ -27,6 +26,11 @@ pub record FollowsFrom (before now : DiskView) (f : Image) (tables : List Table)
   pub trail : Trail ShowsTable now synced tables n
   -- which says of now: each image shows a table at place n or behind it
   pub left : (c : Image) → Images now c → (i : ℕ) × (n ≤ i) × At tables i (ShowsTable c)
+
+-- a disk is left as it was: it has the content of before, and a crash leaves only what it might
+-- have left before
+abbrev pub IsUnchanged : DiskView → DiskView → Type 0
+IsUnchanged before now = (now.content ≡ before.content) × KeepsImages before now
 
 -- a store was opened: it holds what recovery finds in the content, and where that shows a table the store stands on the
 -- disk with contents that mean it, and a crash leaves that table from the opening's sync on

@@ -1,14 +1,14 @@
 -- A disk that was just formatted.
-use Rattle.std.specs.Prelude.{◌≡◌, ◌≢◌, ◌⊎◌, ℕ, [], Some, None, Ok, ◌≤◌, ◌<◌, ◌+◌, ◌*◌}
+use Rattle.std.specs.Prelude.{◌≡◌, ◌≢◌, ◌⊎◌, ℕ, List, [], Some, None, Ok, ◌≤◌, ◌<◌, ◌+◌, ◌*◌}
 use Rattle.strat_crash.specs.Image.{Image}
 use Rattle.strat_format.specs.Layout.{region_at, first_free, open_flag, manifest_min}
 use Rattle.strat_crash.specs.Moments.{DiskView, Exposes, Images, Since}
 use Rattle.strat_state.specs.State.{fresh_state}
 use Rattle.strat_format.specs.SuperBlock.{Super, newest_in}
 use Rattle.strat_recovery.specs.Head.{Head}
-use Rattle.strat_recovery.specs.Opening.{reads_as}
-use Rattle.strat_store.specs.Opened.{recover_now, IsAtRest}
-use Rattle.strat_format.specs.Manifest.{new_manifest}
+use Rattle.strat_recovery.specs.Opening.{recover, reads_as}
+use Rattle.strat_format.specs.Chain.{link_bytes}
+use Rattle.strat_format.specs.Manifest.{manifest_bytes, new_manifest}
 
 -- the superblock of a new store: the first generation, with the manifest in the first free block
 abbrev pub super_for : ℕ → ℕ → ℕ → Super
@@ -27,10 +27,21 @@ abbrev pub head_for : ℕ → ℕ → ℕ → Head
 head_for mem changes_max versions_max =
     record { sb = super_for mem changes_max versions_max; manifest = new_manifest; journal = [] }
 
+-- the block of a new store's manifest: it is the last of its chain, and behind the manifest there
+-- are zeros
+abbrev pub new_block : List ℕ
+new_block = link_bytes 0 (manifest_bytes new_manifest)
+
+-- a crash leaves one image, the content
+pub record IsAtRest (v : DiskView) : Type 0 where
+  pub content : Image
+  pub exposed : Exposes v content
+  pub alone : (c : Image) → Images v c → c ≡ content
+
 -- an image is a new store with these limits: recovery finds its head, it reads as the state of a
 -- new store, and the second superblock slot and the second journal region are shut
 pub record IsNewStore (mem changes_max versions_max : ℕ) (c : Image) : Type 0 where
-  pub found : recover_now c ≡ Ok (Some (head_for mem changes_max versions_max))
+  pub found : recover c ≡ Ok (Some (head_for mem changes_max versions_max))
   pub reads : reads_as c ≡ Some (fresh_state mem changes_max versions_max)
   pub slot : c 4096 ≢ open_flag
   pub region : c (region_at mem 1) ≢ open_flag

@@ -1,13 +1,11 @@
 pub mod Causes
 pub mod Format
-pub mod Opened
-pub mod Store
-pub mod VersionFields
 pub mod Memory
 pub mod MemoryFields
 pub mod Looking
 pub mod Belonging
 pub mod Held
+pub mod StoreFields
 pub mod Applying
 pub mod Publishing
 pub mod Promoting

@@ -5,7 +5,9 @@ mod admitting;
 mod belonging;
 pub mod belonging_laws;
 mod computing;
+mod changing;
 mod formatting;
+mod getting;
 mod looking;
 pub mod looking_laws;
 mod manifest;
@@ -17,7 +19,6 @@ mod publishing;
 pub mod publishing_laws;
 mod recovering;
 mod store;
-mod versions;
 
 pub use formatting::{FormatFault, format};
 pub use opening::AttachFault;

@@ -19,10 +19,9 @@ ghost use Rattle.strat_recovery.specs.Opening.{accepted_in, recover_manifest, re
 ghost use Rattle.strat_standing.specs.Contents.{Contents};
 ghost use Rattle.strat_standing.specs.Standing.{ReadsAs, ContentsStand};
 ghost use Rattle.strat_state.specs.Sound.{are_accepted};
-ghost use Rattle.strat_store.specs.Following.{IsOpenedAs, LeavesOpening};
+ghost use Rattle.strat_store.specs.Following.{IsOpenedAs, IsUnchanged, LeavesOpening};
 ghost use Rattle.strat_store.specs.Held.{IsConsistent, IsLogBehind};
 ghost use Rattle.strat_store.specs.Memory.{refusal_of_change, memory_after, HasRoomFor, IsMemoryOf};
-ghost use Rattle.strat_store.specs.Opened.{IsUnchanged};
 ghost use Rattle.strat_store.specs.Recovering.{chained_of, held_of, empty_cache, IsAdmitted, IsRecoveredFrom, ReadsAsSound};
 ghost use Rattle.strat_store.specs.declared.opening.AttachFault.TheVariants as fault;
 

@@ -1,53 +1,76 @@
-//! An open store: its table in memory, and the journal that makes each change durable before it is
-//! answered.
+//! An open store: what it holds in memory of a disk, and how it carries out commands.
 
-ghost use Rattle.std.specs.Prelude.{◌≡◌, ◌≢◌, ◌≤◌, ◌<◌, ◌⊎◌, ℕ, ◌+◌, ◌-◌, [], ◌∷◌, ◌++◌, length, Some, None, Ok, IfOk, OnOk, IsTrue, true, false};
-ghost use Rattle.strat_base.specs.Change.{is_lawful};
+ghost use Rattle.std.specs.Prelude.{◌≡◌, ◌≢◌, ◌≤◌, ◌+◌, ℕ, List, [], ◌∷◌, length, Some, None, Ok, Err, IfOk, IfErr, IsErrOf, true, false};
+ghost use Rattle.strat_array.specs.Kept.{Blocks};
 ghost use Rattle.strat_base.specs.ChangeView.{change_of};
-ghost use Rattle.strat_crash.specs.Faults.{CountsFaults};
 ghost use Rattle.strat_base.specs.Finds.{Finds};
+ghost use Rattle.strat_base.specs.Tree.{is_known};
+ghost use Rattle.strat_crash.specs.Blocks.{AgreeOn};
+ghost use Rattle.strat_crash.specs.Faults.{HasCause, ReadsAtMost};
 ghost use Rattle.strat_crash.specs.Image.{Image};
-ghost use Rattle.strat_format.specs.Layout.{region_at, region_size};
-ghost use Rattle.strat_crash.specs.Moments.{Since, Passes, TearsOnly};
-ghost use Rattle.strat_model.specs.Answer.{as_told, accepts};
+ghost use Rattle.strat_crash.specs.Moments.{Exposes, Passes};
+ghost use Rattle.strat_format.specs.Chain.{chain_length};
+ghost use Rattle.strat_format.specs.Layout.{region_blocks};
+ghost use Rattle.strat_model.specs.Answer.{as_told};
 ghost use Rattle.strat_model.specs.Command.{request_of};
-ghost use Rattle.strat_recovery.specs.Head.{Head};
+ghost use Rattle.strat_model.specs.Request.{Get};
 ghost use Rattle.strat_model.specs.Spelling.{is_built, has_lawful_sizes};
+ghost use Rattle.strat_model.specs.Step.{found as answer_found};
 ghost use Rattle.strat_model.specs.declared.replies.Refusal.TheVariants as why;
 ghost use Rattle.strat_model.specs.declared.replies.Reply.TheVariants as reply;
-ghost use Rattle.strat_store.specs.Opened.{recover_now, head_with, MayFollow};
-ghost use Rattle.strat_store.specs.Store.{IsReady, Holds, StandsOn, IsApplied, Moves, BreaksByFault, change_asked};
+ghost use Rattle.strat_promote.specs.Job.{blocks_listed};
+ghost use Rattle.strat_recovery.specs.Asked.{asked};
+ghost use Rattle.strat_recovery.specs.Opening.{recover};
+ghost use Rattle.strat_standing.specs.Contents.{Contents};
+ghost use Rattle.strat_store.specs.Applying.{IsAppliedTo, FollowsStep, FailsAsTold, IsDamagedIn, IsLookedUp, change_wanted, is_fault};
+ghost use Rattle.strat_store.specs.Following.{IsOpenedAs, IsUnchanged, LeavesOpening};
+ghost use Rattle.strat_store.specs.Held.{IsConsistent, StandsWith};
+ghost use Rattle.strat_store.specs.Memory.{info_told};
+ghost use Rattle.strat_store.specs.Looking.{AreInOrder, AreCachedFrom, LooksThrough, arrays_there, levels_there};
+ghost use Rattle.strat_store.specs.Recovering.{held_of};
+ghost use Rattle.strat_store.specs.declared.opening.AttachFault.TheVariants as fault;
 
-use crate::versions::VersionTable;
+use crate::changing::change;
+use crate::getting::get;
+use crate::memory::Memory;
+use crate::opening::AttachFault;
+use crate::recovering::{Recovered, open};
+use std::alloc::Global;
 use std::marker::Model;
-use strat_base::{Change, Failed, PairBuf};
+use strat_array::{Cache, Scratch};
+use strat_base::{Change, PairBuf, Version};
 use strat_disk::Disk;
-use strat_journal::Journal;
 use strat_model::{Command, Refusal, Reply};
 
-/// An open store, seen as its table, its journal, and whether it is spent: after a fault of the
-/// device only another opening can tell what the disk holds.
+/// Most blocks of arrays that are cached: 1 MiB.
+const CACHED_MAX: usize = 256;
+
+/// An open store. It is seen as what it holds of a disk: the newest superblock and its slot, the manifest and the blocks of its
+/// chain, the journal, the versions and level 0, the levels, the blocks that are cached, and whether it is spent: after a fault
+/// of the device, or a damaged block, only another opening can tell what the disk holds.
 #[derive(Drop)]
 pub struct Store {
-    table: VersionTable,
-    journal: Journal,
+    alloc: Global,
+    held: Recovered,
+    cache: Cache,
+    scratch: Scratch,
     spent: bool,
 }
 
 impl Model for Store {
-    ghost use Rattle.std.specs.Prelude.{◌≡◌, false};
-    ghost use Rattle.strat_store.specs.Store.{Attached, IsReady};
+    ghost use Rattle.strat_store.specs.Held.{Held};
+    ghost use Rattle.strat_store.specs.StoreFields.{store_held, IsWhole};
 
-    ghost Value = { Attached };
+    ghost Value = { Held };
 
-    ghost view = { λ s. record { table = s.table; log = s.journal; spent = s.spent } };
+    ghost view = { store_held };
 
-    ghost invariant = { λ s. s.spent ≡ false → IsReady (record { table = s.table; log = s.journal; spent = s.spent }) };
+    ghost invariant = { IsWhole };
 }
 
 /// The change that a command asks for, if it asks for one.
 fn change_asked<'a>(command: &Command<'a>) -> Option<Change<'a>>
-    ensures { Finds change_of result (change_asked (request_of command.now)) }
+    ensures { Finds change_of result (change_wanted (request_of command.now)) }
 {
     match *command {
         Command::Put {
@@ -65,69 +88,79 @@ fn change_asked<'a>(command: &Command<'a>) -> Option<Change<'a>>
     }
 }
 
-/// Whether a reply is no refusal.
-fn accepts(reply: &Reply) -> bool
-    ensures { result ≡ accepts reply.now }
+/// Whether a reply tells of a fault.
+fn is_fault(reply: Reply) -> bool
+    ensures ok { result ≡ is_fault reply }
 {
-    !matches!(reply, Reply::Refused(_))
+    match reply {
+        Reply::Refused(Refusal::DeviceFault) => true,
+        Reply::Refused(Refusal::Damaged { .. }) => true,
+        _ => false,
+    }
 }
 
-/// Makes a change durable at the end of the journal: two writes and two syncs.
-fn log_change<D: Disk>(
-    journal: &mut Journal,
-    disk: &mut D,
-    change: &Change<'_>,
-) -> Result<(), Failed>
-    requires fits { IsTrue (is_lawful (change_of change.now)) }
-    requires none { journal.old.batch ≡ [] }
-    requires room { length journal.old.list < journal.old.mem }
-    ensures trail { (h : Head) → Holds (D.view disk.old) journal.old h
-        → MayFollow h (change_of change.now)
-        → (c : Image) → Since (D.view disk.new) (D.view disk.old).moment c
-        → (recover_now c ≡ Ok (Some h))
-        ⊎ (recover_now c ≡ Ok (Some (head_with h (change_of change.now)))) }
-    ensures kept { OnOk result ((h : Head) → Holds (D.view disk.old) journal.old h
-        → MayFollow h (change_of change.now)
-        → Holds (D.view disk.new) journal.new (head_with h (change_of change.now))) }
-    ensures ok { OnOk result (journal.new
-        ≡ record journal.old { list = journal.old.list ++ change_of change.now ∷ [] }) }
-    ensures same { journal.new.mem ≡ journal.old.mem }
-    ensures images { TearsOnly (D.view disk.old) (D.view disk.new)
-        (region_at journal.old.mem journal.old.active) (region_size journal.old.mem) }
-    ensures time { Passes (D.view disk.old) (D.view disk.new) }
-    ensures cause { CountsFaults (D.faults disk.old) (D.faults disk.new) result }
+/// What is told of a version. O(1).
+fn info(memory: &Memory, version: Version) -> Reply
+    ensures found { is_known memory.now.parents version ≡ true
+        → result ≡ info_told memory.now version }
+    ensures none { is_known memory.now.parents version ≡ false
+        → result ≡ reply.Refused why.UnknownVersion }
 {
-    journal.add(change);
-    journal.append(disk)?;
-    Ok(())
+    if !memory.has(version) {
+        return Reply::Refused(Refusal::UnknownVersion);
+    }
+    memory.info(version)
+}
+
+/// Answers a command that asks for no change.
+fn look<D: Disk>(
+    held: &Recovered,
+    cache: &mut Cache,
+    scratch: &mut Scratch,
+    disk: &mut D,
+    command: &Command<'_>,
+    out: &mut PairBuf,
+) -> Reply
+    requires kept { (cached : Blocks) → IsConsistent (held_of held.now cached) }
+    requires none { change_wanted (request_of command.now) ≡ None }
+    requires fits { is_built (request_of command.now) ≡ true }
+    requires room { out.old ≡ [] }
+    ensures ok { (x : Contents) → StandsWith (D.view disk.old) (held_of held.now cache.old) x
+        → IsLookedUp (D.view disk.new) (held_of held.now cache.new) x
+        (request_of command.now) (as_told result out.new) }
+    ensures found { (f : Image) (version : ℕ) (key : List ℕ)
+        → request_of command.now ≡ Get version key → Exposes (D.view disk.old) f
+        → AreInOrder f (arrays_there held.now.published.levels)
+        → AreCachedFrom f held.now.published.manifest.next_array
+        (arrays_there held.now.published.levels) cache.old
+        → is_fault result ≡ false → is_known held.now.memory.parents version ≡ true
+        → as_told result out.new ≡ answer_found key (asked f held.now.memory.parents
+        (held.now.memory.entries ∷ []) (levels_there held.now.published.levels) version key) }
+    ensures len { result ≡ reply.Found → length out.new ≡ 1 }
+    ensures same { LooksThrough (D.view disk.old) (D.view disk.new)
+        (arrays_there held.now.published.levels) cache.old cache.new }
+    ensures cause { FailsAsTold (D.faults disk.old) (D.faults disk.new) result }
+    ensures damaged { (b : ℕ) → result ≡ reply.Refused (why.Damaged b)
+        → IsDamagedIn (D.view disk.old).content held.now.memory held.now.published.levels b }
+{
+    match *command {
+        Command::Get { version, key } => get(held, cache, scratch, disk, version, key, out),
+        Command::Info { version } => info(&held.memory, version),
+        Command::Stat => held.memory.stat(),
+        // The premises leave no other command.
+        _ => Reply::Refused(Refusal::Malformed),
+    }
 }
 
 impl Store {
-    /// A store with this journal, all of whose changes are in the table.
-    pub(crate) fn new(journal: Journal, table: VersionTable) -> Store
-        requires { IsReady (record { table = table; log = journal; spent = false }) }
-        ensures { result ≡ record { table = table; log = journal; spent = false } }
-    {
-        Store {
-            table,
-            journal,
-            spent: false,
-        }
-    }
-
-    /// Whether a fault of the device left the store unfit for use.
+    /// Whether a fault left the store unfit for use.
     pub fn is_spent(&self) -> bool
         ensures { result ≡ self.now.spent }
     {
         self.spent
     }
 
-    /// Carries out one command. The pairs of its answer are in `out`, from which all others are
-    /// gone. A change is durable before it is answered: two writes and two syncs, whatever the size
-    /// of the store. In memory an update is one insertion into level 0, a clone takes O(log V), and
-    /// a look-up is a binary search among the entries of level 0 and a walk over those of its key.
-    /// No command takes memory. After the refusal `DeviceFault`, and no other, the store is spent:
-    /// whether the change is there the next opening tells.
+    /// Carries out one command. The pairs of its answer are in `out`, from which all others are gone.
     pub fn apply<D: Disk>(
         &mut self,
         disk: &mut D,
@@ -137,28 +170,75 @@ impl Store {
         requires kept { self.old.spent ≡ false }
         requires fits { (is_built (request_of command.now) ≡ true)
             × (has_lawful_sizes (request_of command.now) ≡ true) }
-        ensures ok { IsApplied self.old (request_of command.now) (as_told result out.new) self.new }
-        ensures trail { StandsOn (D.view disk.old) self.old
-            → Moves (D.view disk.old) (D.view disk.new) self.old self.new }
-        ensures same { self.new.log.mem ≡ self.old.log.mem }
-        ensures none { change_asked (request_of command.now) ≡ None → disk.new ≡ disk.old }
-        ensures err { accepts result ≡ false → result ≢ reply.Refused why.DeviceFault
-            → disk.new ≡ disk.old }
+        ensures ok { (x : Contents) → StandsWith (D.view disk.old) self.old x
+            → IsAppliedTo (D.view disk.new) self.old x (request_of command.now)
+            (as_told result out.new) self.new }
+        ensures trail { (x : Contents) → StandsWith (D.view disk.old) self.old x
+            → FollowsStep (D.view disk.old) (D.view disk.new) x (request_of command.now)
+            (as_told result out.new) }
+        ensures found { (f : Image) (version : ℕ) (key : List ℕ)
+            → request_of command.now ≡ Get version key → Exposes (D.view disk.old) f
+            → AreInOrder f (arrays_there self.old.levels)
+            → AreCachedFrom f self.old.chained.manifest.next_array
+            (arrays_there self.old.levels) self.old.cached
+            → is_fault result ≡ false → is_known self.old.memory.parents version ≡ true
+            → as_told result out.new ≡ answer_found key (asked f self.old.memory.parents
+            (self.old.memory.entries ∷ []) (levels_there self.old.levels) version key) }
+        ensures spent { self.new.spent ≡ is_fault result }
+        ensures len { result ≡ reply.Found → length out.new ≡ 1 }
+        ensures same { self.new.sb.mem ≡ self.old.sb.mem }
         ensures time { Passes (D.view disk.old) (D.view disk.new) }
-        ensures cause { BreaksByFault (D.faults disk.old) (D.faults disk.new) self.new }
+        ensures cause { FailsAsTold (D.faults disk.old) (D.faults disk.new) result }
+        ensures damaged { (b : ℕ) → result ≡ reply.Refused (why.Damaged b)
+            → IsDamagedIn (D.view disk.old).content self.old.memory self.old.levels b
+            × ((f g : Image) → Exposes (D.view disk.old) f → Exposes (D.view disk.new) g
+            → AgreeOn (blocks_listed (arrays_there self.old.levels)) f g) }
     {
-        let reply = self.table.step(command, out);
-        let Some(change) = change_asked(command) else {
-            return reply;
-        };
-        if !accepts(&reply) {
-            return reply;
-        }
+        out.clear();
         self.spent = true;
-        let Ok(()) = log_change(&mut self.journal, disk, &change) else {
-            return Reply::Refused(Refusal::DeviceFault);
+        let told = match change_asked(command) {
+            Some(asked) => change(self.alloc, &mut self.held, disk, &asked),
+            None => look(
+                &self.held,
+                &mut self.cache,
+                &mut self.scratch,
+                disk,
+                command,
+                out,
+            ),
         };
-        self.spent = false;
-        reply
+        self.spent = is_fault(told);
+        told
+    }
+
+    /// Opens the store on a disk.
+    pub fn attach<D: Disk>(alloc: Global, disk: &mut D) -> Result<Store, AttachFault>
+        ensures ok { IfOk result (λ s. IsOpenedAs (D.view disk.old) (D.view disk.new) s
+            × (s.cached.entries ≡ [])) }
+        ensures none { IsErrOf result fault.NotAStore → (f : Image)
+            → Exposes (D.view disk.old) f → recover f ≡ Ok None }
+        ensures damaged { (block : ℕ) → IsErrOf result (fault.Damaged block) → (f : Image)
+            → Exposes (D.view disk.old) f → recover f ≡ Err block }
+        ensures err { IsErrOf result fault.Device → (f : Image) → Exposes (D.view disk.old) f
+            → LeavesOpening (D.view disk.old) (D.view disk.new) f }
+        ensures same { IfErr result (λ e. e ≢ fault.Device
+            → IsUnchanged (D.view disk.old) (D.view disk.new)) }
+        ensures time { Passes (D.view disk.old) (D.view disk.new) }
+        ensures cause { HasCause fault.Device (D.faults disk.old) (D.faults disk.new) result }
+        ensures reads { ReadsAtMost 1050895 (D.reads disk.old) (D.reads disk.new)
+            × IfOk result (λ s. ReadsAtMost
+            (chain_length s.sb.length + region_blocks s.sb.mem + 4)
+            (D.reads disk.old) (D.reads disk.new)) }
+    {
+        let cache = Cache::new(alloc, CACHED_MAX)?;
+        let scratch = Scratch::new(alloc)?;
+        let held = open(alloc, disk)?;
+        Ok(Store {
+            alloc,
+            held,
+            cache,
+            scratch,
+            spent: false,
+        })
     }
 }

@@ -3,7 +3,7 @@ use Rattle.strat_crash.specs.Image.{Image}
 use Rattle.strat_crash.specs.Moments.{Since}
 use Rattle.strat_crash.proofs.MomentLemmas.{passes_trans, each_then, settled_at}
 use Rattle.strat_store.specs.Format.{IsBlank, IsShut, IsNoneOrNew, KeepsOthers}
-use Rattle.strat_store.specs.Opened.{new_block}
+use Rattle.strat_store.specs.Format.{new_block}
 use Rattle.strat_store.proofs.OtherLemmas.{tears_keep, keep_trans}
 use Rattle.strat_store.proofs.ShutLemmas.{StaysBlank, blank_behind, blank_then}
 use Rattle.strat_store.proofs.FormatLemmas.{length-new_block, Prepared, prepared, lays_over, laying, laid, none_yet, new_disk}

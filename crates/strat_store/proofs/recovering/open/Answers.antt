@@ -1,11 +1,8 @@
-use Rattle.std.proofs.Common.{◌≡◌, inl, inr, ◌∙◌}
-use Rattle.std.proofs.lemmas.Result.{err_from_is_err_and}
-use Rattle.strat_crash.specs.Moments.{IsDurable, OnlyReads}
+use Rattle.std.proofs.Common.{inl, ◌∙◌}
+use Rattle.strat_crash.specs.Moments.{OnlyReads}
 use Rattle.strat_crash.proofs.MomentLemmas.{reads_trans}
-use Rattle.strat_journal.proofs.ReadLemmas.{same_err}
-use Rattle.strat_store.proofs.AttachLemmas.{looks_kept}
 use Rattle.strat_store.specs.Recovering.{empty_cache}
-use Rattle.strat_store.proofs.OpenLemmas.{opened_as, leaves_follows}
+use Rattle.strat_store.proofs.OpenLemmas.{looks_kept, opened_as, leaves_follows}
 use Rattle.strat_store.proofs.recovering.open.Given.{Over}
 use Rattle.strat_store.proofs.recovering.open.Goals as goal
 use Rattle.strat_store.proofs.recovering.open.Goals.{After-recover_store}

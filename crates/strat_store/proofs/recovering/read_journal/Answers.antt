@@ -1,4 +1,4 @@
-use Rattle.std.proofs.Common.{◌≡◌, List, map, Ok, sym, ap, ◌∙◌}
+use Rattle.std.proofs.Common.{List, map, Ok, sym, ap, ◌∙◌}
 use Rattle.strat_base.specs.Change.{Change}
 use Rattle.strat_gate.specs.SuperView.{super_of}
 use Rattle.strat_journal.specs.Records.{logged_of}

@@ -1,5 +1,4 @@
-use Rattle.std.proofs.Common.{◌≡◌, ℕ, Err, sym, ap, ◌∙◌}
-use Rattle.strat_base.specs.declared.failures.Trouble.TheVariants.{Damaged}
+use Rattle.std.proofs.Common.{ℕ, Err, ap, ◌∙◌}
 use Rattle.strat_format.specs.Arrays.{blocks_of}
 use Rattle.strat_gate.specs.SuperView.{super_of}
 use Rattle.strat_manifest.specs.ManifestView.{manifest_of}

@@ -1,10 +1,9 @@
-use Rattle.std.proofs.Common.{refl, [], ◌∙◌}
+use Rattle.std.proofs.Common.{◌∙◌}
 use Rattle.std.proofs.lemmas.Result.{err_from_is_err_and}
 use Rattle.strat_crash.proofs.MomentLemmas.{reads_trans}
 use Rattle.strat_gate.specs.SuperView.{super_of}
 use Rattle.strat_journal.proofs.ReadLemmas.{same_err}
-use Rattle.strat_store.specs.Held.{contents_held}
-use Rattle.strat_store.specs.Recovering.{chained_of, held_of, head_recovered}
+use Rattle.strat_store.specs.Recovering.{chained_of}
 use Rattle.strat_store.proofs.RecoverLemmas.{manifest_recovered, head_recovered_from, head_damaged_journal, store_recovered_from}
 use Rattle.strat_store.proofs.recovering.recover_at.Goals as goal
 
