@@ -1,9 +1,9 @@
 -- One body, answered.
 use Rattle.std.proofs.Common.{◌≡◌, ◌≢◌, ◌≤◌, ℕ, zero, suc, ◌+◌, Bool, true, false, List, [], ◌∷◌, Option, Some, None, refl, sym, ap, subst, ◌∙◌, ◌⊎◌, inl, inr, arith}
-use Rattle.std.specs.Prelude.{if◌then◌else◌}
+use Rattle.std.specs.Prelude.{if◌then◌else◌, IsSome, is_some}
 use Rattle.strat_base.specs.declared.failures.Fault.{Fault}
 use Rattle.strat_base.specs.declared.failures.Fault.TheVariants as fault
-use Rattle.strat_crash.specs.Faults.{Rose}
+use Rattle.strat_crash.specs.Blocks.{AgreeOn}
 use Rattle.strat_crash.specs.Image.{Image}
 use Rattle.strat_crash.specs.Moments.{DiskView, Images, Since}
 use Rattle.strat_crash.specs.Trail.{At, Trail}
@@ -23,23 +23,25 @@ use Rattle.strat_model.specs.Step.{step}
 use Rattle.strat_model.specs.Stream.{frame}
 use Rattle.strat_model.specs.Table.{Table, bare}
 use Rattle.strat_model.specs.Run.{Position, Response, position_after, is_change, takes_memory}
+use Rattle.strat_promote.specs.Job.{blocks_listed}
 use Rattle.strat_recovery.specs.StateTable.{table_of}
 use Rattle.strat_standing.specs.Contents.{Contents, contents_state}
 use Rattle.strat_standing.specs.Standing.{ShowsTable}
 use Rattle.strat_standing.proofs.FreeLemmas.{shows_contents}
 use Rattle.strat_store.specs.Applying.{is_fault, IsAnsweredBy, IsShortOf, IsBrokenBy, IsAppliedTo, FollowsStep, FailsAsTold, IsDamagedIn}
 use Rattle.strat_store.specs.Held.{Held, StandsWith, IsConsistent, position_with}
+use Rattle.strat_store.specs.Looking.{arrays_there}
 use Rattle.strat_serve.specs.Session.{IsAnswered, ContinuesWith, StopsWith, FailsAsMet, IsFoundDamaged, fault_told}
 
 -- what a reply tells of faults
 pub record Tells (r : Reply) : Type 0 where
-  pub going : fault_told r ≡ None → is_fault r ≡ false
+  pub spent : is_fault r ≡ is_some (fault_told r)
   pub device : fault_told r ≡ Some fault.Device → r ≡ reply.Refused why.DeviceFault
   pub damaged : (block : ℕ) → fault_told r ≡ Some (fault.Damaged block) → r ≡ reply.Refused (why.Damaged block)
 
 tells_none : (r : Reply) → fault_told r ≡ None → is_fault r ≡ false → Tells r
 tells_none r none calm = record {
-  going = λ _. calm;
+  spent = calm ∙ ap is_some (sym none);
   device = λ e. absurd (let f : ◌≡◌ {A = Option Fault} None (Some fault.Device) = sym none ∙ e in cc);
   damaged = λ block e. absurd (let f : ◌≡◌ {A = Option Fault} None (Some (fault.Damaged block)) = sym none ∙ e in cc);
 }
@@ -66,19 +68,19 @@ tells (reply.Refused why.ScanSize) = tells_none (reply.Refused why.ScanSize) ref
 tells (reply.Refused why.FrameTooLong) = tells_none (reply.Refused why.FrameTooLong) refl refl
 tells (reply.Refused why.NoMemory) = tells_none (reply.Refused why.NoMemory) refl refl
 tells (reply.Refused why.DeviceFault) = record {
-  going = λ e. absurd (let f : ◌≡◌ {A = Option Fault} (Some fault.Device) None = e in cc);
+  spent = refl;
   device = λ _. refl;
   damaged = λ block e. absurd (let f : ◌≡◌ {A = Option Fault} (Some fault.Device) (Some (fault.Damaged block)) = e in cc);
 }
 tells (reply.Refused (why.Damaged b)) = record {
-  going = λ e. absurd (let f : ◌≡◌ {A = Option Fault} (Some (fault.Damaged b)) None = e in cc);
+  spent = refl;
   device = λ e. absurd (let f : ◌≡◌ {A = Option Fault} (Some (fault.Damaged b)) (Some fault.Device) = e in cc);
   damaged = λ block e. let f : ◌≡◌ {A = Option Fault} (Some (fault.Damaged b)) (Some (fault.Damaged block)) = e in let same : b ≡ block = cc in ap (λ (x : ℕ). reply.Refused (why.Damaged x)) same;
 }
 
--- where a command met no fault the store goes on
-pub goes : (r : Reply) (met : Option Fault) (spent : Bool) → met ≡ fault_told r → spent ≡ is_fault r → met ≡ None → spent ≡ false
-goes r met spent is s none = s ∙ (tells r).going (sym is ∙ none)
+-- a store is spent where it met a fault
+pub spent_by : (r : Reply) (met : Option Fault) (spent : Bool) → met ≡ fault_told r → spent ≡ is_fault r → spent ≡ is_some met
+spent_by r met spent is s = s ∙ (tells r).spent ∙ ap is_some (sym is)
 
 -- a count of faults rises for the device's fault alone
 pub fails_as_met : (r : Reply) (met : Option Fault) (before now : ℕ) → met ≡ fault_told r → FailsAsTold before now r → FailsAsMet before now met
@@ -88,10 +90,17 @@ fails_as_met r met before now is told = record {
 }
 
 -- a block that a command found damaged is one of the store's arrays
-pub found_damaged : (r : Reply) (met : Option Fault) (now : DiskView) (s : Held) → met ≡ fault_told r → IsConsistent s
-    → ((b : ℕ) → r ≡ reply.Refused (why.Damaged b) → (f : Image) → now.content ≡ Some f → IsDamagedIn (Some f) s.memory s.levels b)
-    → (b : ℕ) → met ≡ Some (fault.Damaged b) → IsFoundDamaged now b
-found_damaged r met now s is lawful damaged b e = record { store = s; lawful = lawful; bad = damaged b ((tells r).damaged b (sym is ∙ e)) }
+pub found_damaged : (r : Reply) (met : Option Fault) (before now : DiskView) (s : Held) → met ≡ fault_told r → IsConsistent s
+    → ((b : ℕ) → r ≡ reply.Refused (why.Damaged b) → IsDamagedIn before.content s.memory s.levels b
+    × ((f g : Image) → before.content ≡ Some f → now.content ≡ Some g → AgreeOn (blocks_listed (arrays_there s.levels)) f g))
+    → (b : ℕ) → met ≡ Some (fault.Damaged b) → IsFoundDamaged before now b
+found_damaged r met before now s is lawful damaged b e =
+    let found = damaged b ((tells r).damaged b (sym is ∙ e)) in
+    record { store = s; lawful = lawful; content = before.content; exposed = λ f there. some before.content f there; bad = found.0; kept = found.1 }
+  where
+    some : (o : Option Image) (f : Image) → o ≡ Some f → IsSome o
+    some (Some g) f e = refl
+    some None f e = absurd (let x : ◌≡◌ {A = Option Image} None (Some f) = e in cc)
 
 -- no body is refused for a fault
 pub none_told : (f : BodyFault) → fault_told (reply.Refused (refusal_for f)) ≡ None
@@ -163,6 +172,7 @@ module _ (before now : DiskView) (old new : Held) (bytes : List ℕ) (tag : ℕ)
       let next : bare (step (table_of (contents_state x)) request).table ≡ table_of (contents_state is.after) = ap (λ (p : Position). bare p.table) (sym is.place) in
       let n : ℕ = if accepts r then 1 else 0 in
       record {
+        going = is.going;
         after = is.after;
         stands = is.stands;
         answers = inr (inl (record { request = request; spelled = spelled; answer = is.told; place = is.place }));
@@ -174,6 +184,7 @@ module _ (before now : DiskView) (old new : Held) (bytes : List ℕ) (tag : ℕ)
   falls_short : (x : Contents) → IsShortOf now old x request (as_told r pairs) new
       → (r ≡ reply.Refused why.NoMemory → Trail ShowsTable now before.moment (table_of (contents_state x) ∷ []) 0) → ContinuesWith before now old x bytes told new
   falls_short x is still = record {
+    going = is.going;
     after = x;
     stands = is.stands;
     answers = inr (inr (record { request = request; spelled = spelled; takes = change_takes request is.changes; accepted = is.acceptable; full = λ _. is.full; answer = is.told; same = is.place }));
@@ -210,9 +221,9 @@ module _ (before now : DiskView) (old new : Held) (bytes : List ℕ) (tag : ℕ)
   }
 
 -- a body that is no command
-pub told_faulty : (v : DiskView) (s : Held) (bytes : List ℕ) (tag : ℕ) (f : BodyFault) (pairs : Pairs) (out : List ℕ)
+pub told_faulty : (v : DiskView) (s : Held) (bytes : List ℕ) (tag : ℕ) (f : BodyFault) (pairs : Pairs) (out : List ℕ) → s.spent ≡ false
     → IsRefusedAs bytes tag (refusal_for f) → pairs ≡ [] → out ≡ frame (reply_body tag (as_told (reply.Refused (refusal_for f)) pairs)) → IsAnswered v v s bytes None s out
-told_faulty v s bytes tag f pairs out is none sent_bytes =
+told_faulty v s bytes tag f pairs out going is none sent_bytes =
     let response : Response = record { tag = tag; answer = as_told (reply.Refused (refusal_for f)) pairs } in
     let said : response.answer ≡ refusal (refusal_for f) = ap (λ (p : Pairs). as_told (reply.Refused (refusal_for f)) p) none in
     record {
@@ -223,6 +234,7 @@ told_faulty v s bytes tag f pairs out is none sent_bytes =
       run = λ x stands.
           let at_end = stands_table v s x stands in
           inl (record {
+            going = going;
             after = x;
             stands = stands;
             answers = inl (record { cause = refusal_for f; refused = is; answer = said; same = refl });

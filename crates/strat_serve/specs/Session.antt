@@ -4,6 +4,7 @@ use Rattle.std.specs.Prelude.{◌≡◌, ◌≢◌, ◌≤◌, ◌<◌, ◌⊎�
 use Rattle.std.specs.List.{AllByRecursion}
 use Rattle.strat_base.specs.declared.failures.Fault.{Fault}
 use Rattle.strat_base.specs.declared.failures.Fault.TheVariants as fault
+use Rattle.strat_crash.specs.Blocks.{AgreeOn}
 use Rattle.strat_crash.specs.Faults.{Rose}
 use Rattle.strat_crash.specs.Image.{Image}
 use Rattle.strat_crash.specs.Moments.{DiskView, Exposes}
@@ -22,15 +23,16 @@ use Rattle.strat_model.specs.Spelling.{Spells, IsRefusedAs, reply_body}
 use Rattle.strat_model.specs.Stream.{frame, Splits, Whole, Rest, Long, ending_of, is_too_long}
 use Rattle.strat_model.specs.Table.{Table, bare}
 use Rattle.strat_model.specs.Run.{Position, Response, response_bytes, Answers, AnswersFault, Transcript, IsTranscript, bodies_of, tables_of, sent_bytes}
+use Rattle.strat_promote.specs.Job.{blocks_listed}
 use Rattle.strat_recovery.specs.Head.{Head}
 use Rattle.strat_recovery.specs.Opening.{recover}
 use Rattle.strat_recovery.specs.StateTable.{table_of}
 use Rattle.strat_standing.specs.Contents.{Contents, contents_state}
 use Rattle.strat_standing.specs.Standing.{ShowsTable}
 use Rattle.strat_store.specs.Applying.{IsDamagedIn}
-use Rattle.strat_store.specs.Following.{FollowsFrom, LeavesOpening}
+use Rattle.strat_store.specs.Following.{FollowsFrom, IsUnchanged, LeavesOpening}
 use Rattle.strat_store.specs.Held.{Held, IsConsistent, StandsWith, position_with}
-use Rattle.strat_store.specs.Opened.{IsUnchanged}
+use Rattle.strat_store.specs.Looking.{arrays_there}
 use Rattle.strat_serve.specs.World.{World}
 
 -- these bytes were taken from the front of a source
@@ -91,6 +93,7 @@ pub record FailsAsMet (before now : ℕ) (met : Option Fault) : Type 0 where
 -- a body was answered, and a store that stood with these contents goes on
 pub record ContinuesWith (before now : DiskView) (old : Held) (x : Contents) (body : List ℕ)
     (response : Response) (new : Held) : Type 0 where
+  pub going : new.spent ≡ false
   pub after : Contents
   pub stands : StandsWith now new after
   pub answers : Answers old.log.mem (position_with old x) body response (position_with new after)
@@ -118,13 +121,16 @@ pub record IsAnswered (before now : DiskView) (old : Held) (body : List ℕ) (me
       → ContinuesWith before now old x body response new
       ⊎ StopsWith before now old x body response
 
--- a block is one of the arrays of a store as an opening may find it, and bad where the disk exposes
--- its content
-pub record IsFoundDamaged (now : DiskView) (block : ℕ) : Type 0 where
+-- a block is one of the arrays of a store as an opening may find it, and bad in the content that a
+-- disk had, where it exposed that; and what it exposes now is the same in all blocks of these arrays
+pub record IsFoundDamaged (before now : DiskView) (block : ℕ) : Type 0 where
   pub store : Held
   pub lawful : IsConsistent store
-  pub bad : (f : Image) → Exposes now f
-      → IsDamagedIn (Some f) store.memory store.levels block
+  pub content : Option Image
+  pub exposed : (f : Image) → Exposes before f → IsSome content
+  pub bad : IsDamagedIn content store.memory store.levels block
+  pub kept : (f g : Image) → content ≡ Some f → Exposes now g
+      → AgreeOn (blocks_listed (arrays_there store.levels)) f g
 
 -- a run begins where this image leads: at the table that it shows, with as many changes as its
 -- journal has, of which a region takes so many
@@ -254,10 +260,15 @@ pub record Served (budget : ℕ) (how : Ended) (before now : World) : Type 0 whe
   pub calm : (EndsWithFault session.broken fault.Device → ⊥)
       → now.disk_faults ≡ before.disk_faults
   pub damaged : (block : ℕ) → EndsWithFault session.broken (fault.Damaged block)
-      → IsFoundDamaged now.disk block
+      → IsFoundDamaged before.disk now.disk block
   -- where the disk exposes a content that shows a table, the session is a run of that table
   pub follows : (f : Image) (t : Table) → Exposes before.disk f → ShowsTable f t
       → FollowsRun before.disk now.disk f t session
+
+-- how a run ends whose store met a fault
+abbrev pub broken_by : Fault → Ended
+broken_by fault.Device = ended.Device
+broken_by (fault.Damaged block) = ended.Damaged block
 
 -- how a run may end whose opening gave up
 abbrev pub IsGivenUp : Ended → Type 0
@@ -266,6 +277,20 @@ IsGivenUp ended.Device = Unit {0}
 IsGivenUp (ended.Damaged block) = Unit {0}
 IsGivenUp ended.NoMemory = Unit {0}
 IsGivenUp _ = ⊥
+
+-- a disk exposes a content in which recovery finds a damaged block
+pub record ExposesDamage (v : DiskView) : Type 0 where
+  pub content : Image
+  pub exposed : Exposes v content
+  pub block : ℕ
+  pub damaged : recover content ≡ Err block
+
+-- a run that ended so on this disk gave up before its first read
+abbrev pub IsEarlyEnd : Ended → DiskView → Type 0
+IsEarlyEnd ended.NotAStore before = Unit {0}
+IsEarlyEnd ended.NoMemory before = Unit {0}
+IsEarlyEnd (ended.Damaged block) before = ExposesDamage before
+IsEarlyEnd _ before = ⊥
 
 -- a serving run gave up before its first read
 pub record GaveUp (how : Ended) (before now : World) : Type 0 where
@@ -290,7 +315,7 @@ RunOutcome budget how before now = GaveUp how before now ⊎ Served budget how b
 pub record RefusesFor (how : Ended) (before now : DiskView) : Type 0 where
   pub none : how ≡ ended.NotAStore → (f : Image) → Exposes before f → newest_in f ≡ Ok None
   pub damaged : (block : ℕ) → how ≡ ended.Damaged block → (f : Image) → Exposes before f
-      → (recover f ≡ Err block) ⊎ IsFoundDamaged now block
+      → (recover f ≡ Err block) ⊎ IsFoundDamaged before now block
 
 -- when a count of faults may have risen: that of the source, the sink or the disk where the end
 -- names it, and no other; where the end is that of the sink, the disk may have failed too

@@ -5,12 +5,12 @@ ghost use Rattle.strat_crash.specs.Faults.{CountsFaults};
 ghost use Rattle.strat_crash.specs.Moments.{Passes};
 ghost use Rattle.strat_io.specs.Streams.{Appends};
 ghost use Rattle.strat_store.specs.Causes.{ended_for};
-ghost use Rattle.strat_serve.specs.Session.{Took, IsAtEnd, SendsPrefix, RunOutcome, RefusesFor, IsGivenUp, EndHasCause};
+ghost use Rattle.strat_serve.specs.Session.{Took, IsAtEnd, SendsPrefix, RunOutcome, RefusesFor, IsEarlyEnd, EndHasCause, broken_by};
 ghost use Rattle.strat_serve.specs.World.{world};
 
 use crate::answering::{Buffers, answer, refuse_long};
 use std::alloc::Global;
-use strat_base::Failed;
+use strat_base::{Failed, Fault};
 use strat_disk::Disk;
 use strat_frame::{Next, OutBuf};
 use strat_io::{Sink, Source, put_all};
@@ -29,6 +29,16 @@ fn ended_for(fault: AttachFault) -> Ended
         AttachFault::Device => Ended::Device,
         AttachFault::Damaged { block } => Ended::Damaged { block },
         AttachFault::NoMemory => Ended::NoMemory,
+    }
+}
+
+/// How a run ends whose store met a fault.
+fn broken_by(fault: Fault) -> Ended
+    ensures { result ≡ broken_by fault }
+{
+    match fault {
+        Fault::Device => Ended::Device,
+        Fault::Damaged { block } => Ended::Damaged { block },
     }
 }
 
@@ -99,14 +109,14 @@ pub fn serve<S: Source, K: Sink, D: Disk>(
         (D.view disk.old) (D.faults disk.old))
         (world (S.left source.new) (S.faults source.new) (K.held sink.new) (K.faults sink.new)
         (D.view disk.new) (D.faults disk.new)) }
-    ensures found { RefusesFor result (D.view disk.old) }
+    ensures found { RefusesFor result (D.view disk.old) (D.view disk.new) }
     ensures time { Passes (D.view disk.old) (D.view disk.new) }
     ensures cause { EndHasCause result
         (world (S.left source.old) (S.faults source.old) (K.held sink.old) (K.faults sink.old)
         (D.view disk.old) (D.faults disk.old))
         (world (S.left source.new) (S.faults source.new) (K.held sink.new) (K.faults sink.new)
         (D.view disk.new) (D.faults disk.new)) }
-    ensures same { IsGivenUp result → result ≢ Ended.Device
+    ensures same { IsEarlyEnd result (D.view disk.old)
         → (source.new ≡ source.old) × (sink.new ≡ sink.old) }
 {
     let Ok(mut buffers) = Buffers::new(alloc) else {
@@ -121,7 +131,7 @@ pub fn serve<S: Source, K: Sink, D: Disk>(
     loop {
         match buffers.frames.next() {
             Next::Frame => {
-                answer(
+                let met = answer(
                     &mut store,
                     disk,
                     buffers.frames.body(),
@@ -131,8 +141,8 @@ pub fn serve<S: Source, K: Sink, D: Disk>(
                 let Ok(()) = send(sink, &buffers.out) else {
                     return Ended::Sink;
                 };
-                if store.is_spent() {
-                    return Ended::Device;
+                if let Some(fault) = met {
+                    return broken_by(fault);
                 }
             }
             Next::NotYet => {

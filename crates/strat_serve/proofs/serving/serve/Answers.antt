@@ -1,10 +1,12 @@
-use Rattle.std.proofs.Common.{◌≡◌, ◌≤◌, ◌<◌, ℕ, List, [], ◌++◌, take, length, false, Err, refl, sym, ap, subst, ◌∙◌, length-take, inl, inr, arith}
+use Rattle.std.proofs.Common.{◌≡◌, ◌≤◌, ◌<◌, ℕ, List, [], ◌++◌, take, length, Option, Some, None, Err, refl, sym, ap, subst, ◌∙◌, length-take, inl, inr, arith}
+use Rattle.strat_base.specs.declared.failures.Fault.{Fault}
+use Rattle.strat_base.specs.declared.failures.Fault.TheVariants as fault
 use Rattle.strat_crash.proofs.MomentLemmas.{passes_trans}
 use Rattle.strat_model.specs.declared.ended.Ended.{Ended}
 use Rattle.strat_store.specs.declared.opening.AttachFault.{AttachFault}
 use Rattle.strat_serve.specs.Session.{IsAnswered, Took, Served}
 use Rattle.strat_serve.specs.World.{World, world}
-use Rattle.strat_serve.proofs.GiveUpLemmas.{gave_up, ends_by_input}
+use Rattle.strat_serve.proofs.GiveUpLemmas.{gave_up, gave_up_for, ends_by_input}
 use Rattle.strat_serve.proofs.ProgressLemmas.{Answered, begins, reads, reads_none}
 use Rattle.strat_serve.proofs.SendLemmas.{frame_shrinks}
 use Rattle.strat_serve.proofs.SessionLemmas.{goes_on, ends_unsent, ends_broken, ends_long, ends_long_cut, ends_at_end, ends_budget, ends_source}
@@ -19,12 +21,17 @@ shown g source sink disk = world (g.S.Source.left source) (g.S.Source.faults sou
 pub returns-in-Err-clause-ok : goal.returns-in-Err-clause-ok
 returns-in-Err-clause-ok g c =
     inl (gave_up c.ended_for.result c.in-Err.fault (shown g c.args.source.now c.args.sink.now c.args.disk.now) (g.D.Disk.view c.attach.new.disk) (g.D.Disk.faults c.attach.new.disk)
-    c.ended_for.ensures (λ e. c.in-Err.ensures.err (ap (λ (x : AttachFault). Err x) e)) c.in-Err.ensures.same)
+    c.ended_for.ensures (λ e. c.in-Err.ensures.err (ap (λ (x : AttachFault). Err x) e)) c.in-Err.ensures.same (λ b e. c.in-Err.ensures.damaged b (ap (λ (x : AttachFault). Err x) e)))
+
+pub returns-in-Err-clause-found : goal.returns-in-Err-clause-found
+returns-in-Err-clause-found g c =
+    gave_up_for c.ended_for.result c.in-Err.fault (g.D.Disk.view c.args.disk.now) (g.D.Disk.view c.attach.new.disk) c.ended_for.ensures
+    (λ e. c.in-Err.ensures.none (ap (λ (x : AttachFault). Err x) e)) (λ b e. c.in-Err.ensures.damaged b (ap (λ (x : AttachFault). Err x) e))
 
 pub loop-store-init : goal.loop-store-init
 loop-store-init g c = record {
   progress = begins c.in-Ok-attach.store c.in-Ok.buffers.frames.held (shown g c.args.source.now c.args.sink.now c.args.disk.now) (g.D.Disk.view c.attach.new.disk) (g.D.Disk.faults c.attach.new.disk)
-      c.in-Ok.ensures.ok c.in-Ok-attach.ensures.cause.ok c.in-Ok-attach.ensures.ok;
+      c.in-Ok.ensures.ok c.in-Ok-attach.ensures.cause.ok c.in-Ok-attach.ensures.ok.0 c.in-Ok-attach.ensures.kept;
   time = c.in-Ok-attach.ensures.time;
   within = omega arith;
   source_same = refl;
@@ -33,59 +40,64 @@ loop-store-init g c = record {
 }
 
 -- a body was answered, and its reply handed on
-answered : (g : Over) (c : After-send g) → Answered c.loop-store.store c.answer.new.store
-    (shown g c.loop-store.source c.loop-store.sink c.loop-store.disk) (shown g c.loop-store.source c.send.new.sink c.answer.new.disk)
+answered : (g : Over) (c : After-send g) → Answered c.loop-store.store c.answer-met.new.store
+    (shown g c.loop-store.source c.loop-store.sink c.loop-store.disk) (shown g c.loop-store.source c.send.new.sink c.answer-met.new.disk) c.next.new.self.body c.answer-met.result c.answer-met.new.out
 answered g c = record {
-  mem = c.answer.ensures.same;
   left = refl;
-  moves = c.answer.ensures.trail;
-  passes = c.answer.ensures.time;
-  breaks = c.answer.ensures.cause;
+  is = subst (λ (b : List ℕ). IsAnswered (g.D.Disk.view c.loop-store.disk) (g.D.Disk.view c.answer-met.new.disk) c.loop-store.store b c.answer-met.result c.answer-met.new.store c.answer-met.new.out) c.body.ensures c.answer-met.ensures.ok;
+  passes = c.answer-met.ensures.time;
+  cause = c.answer-met.ensures.cause;
+  spent = c.answer-met.ensures.spent;
+  kept = c.answer-met.ensures.kept;
+  same = c.answer-met.ensures.same;
+  damaged = c.answer-met.ensures.damaged;
 }
 
--- its body was answered
-body_answered : (g : Over) (c : After-send g) → IsAnswered c.loop-store.store c.next.new.self.body c.answer.new.store c.answer.new.out
-body_answered g c = subst (λ (b : List ℕ). IsAnswered c.loop-store.store b c.answer.new.store c.answer.new.out) c.body.ensures c.answer.ensures.ok
+pub answer-met-requires-clause-going : goal.answer-met-requires-clause-going
+answer-met-requires-clause-going g c = c.loop-store.invariant.progress.going
+
+pub answer-met-requires-clause-lawful : goal.answer-met-requires-clause-lawful
+answer-met-requires-clause-lawful g c = c.loop-store.invariant.progress.lawful
 
 pub returns-in_default-send-clause-ok : goal.returns-in_default-send-clause-ok
 returns-in_default-send-clause-ok g c =
     let s = c.loop-store in
     let sent = (goal.at.returns-in_default-send-clause-ok g c).After-send in
-    inr (ends_unsent c.in-Ok-attach.store s.store c.answer.new.store s.taken c.args.budget s.buffers.frames.held c.next.new.self.held c.next.new.self.body c.answer.new.out
-    (shown g c.args.source.now c.args.sink.now c.args.disk.now) (shown g s.source s.sink s.disk) (shown g s.source c.send.new.sink c.answer.new.disk)
-    s.invariant.progress s.invariant.within (body_answered g sent) (answered g sent) c.in-Frame.ensures.ok.0 c.in-Frame.ensures.ok.1 c.in-Frame.ensures.fits
-    c.in_default-send.ensures.err)
+    inr (ends_unsent c.in-Ok-attach.store s.store c.answer-met.new.store s.taken c.args.budget s.buffers.frames.held c.next.new.self.held c.next.new.self.body c.answer-met.result c.answer-met.new.out
+    (shown g c.args.source.now c.args.sink.now c.args.disk.now) (shown g s.source s.sink s.disk) (shown g s.source c.send.new.sink c.answer-met.new.disk)
+    s.invariant.progress s.invariant.within (answered g sent) c.in-Frame.ensures.ok.0 c.in-Frame.ensures.ok.1 c.in-Frame.ensures.fits
+    s.invariant.time c.in_default-send.ensures.err)
 
-pub returns-then-is_spent-clause-ok : goal.returns-then-is_spent-clause-ok
-returns-then-is_spent-clause-ok g c =
+pub returns-in-Some-met-clause-ok : goal.returns-in-Some-met-clause-ok
+returns-in-Some-met-clause-ok g c =
     let s = c.loop-store in
-    let sent = (goal.at.returns-then-is_spent-clause-ok g c).After-send in
-    inr (ends_broken c.in-Ok-attach.store s.store c.answer.new.store s.taken c.args.budget s.buffers.frames.held c.next.new.self.held c.next.new.self.body c.answer.new.out
-    (shown g c.args.source.now c.args.sink.now c.args.disk.now) (shown g s.source s.sink s.disk) (shown g s.source c.send.new.sink c.answer.new.disk)
-    s.invariant.progress s.invariant.within (body_answered g sent) (answered g sent) c.in-Frame.ensures.ok.0 c.in-Frame.ensures.ok.1 c.in-Frame.ensures.fits
-    (sym c.is_spent.ensures ∙ c.if-is_spent.true) c.in-Ok-send.ensures.ok)
+    let sent = (goal.at.returns-in-Some-met-clause-ok g c).After-send in
+    inr (ends_broken c.in-Ok-attach.store s.store c.answer-met.new.store s.taken c.args.budget s.buffers.frames.held c.next.new.self.held c.next.new.self.body c.answer-met.result c.answer-met.new.out
+    (shown g c.args.source.now c.args.sink.now c.args.disk.now) (shown g s.source s.sink s.disk) (shown g s.source c.send.new.sink c.answer-met.new.disk)
+    s.invariant.progress s.invariant.within (answered g sent) c.in-Frame.ensures.ok.0 c.in-Frame.ensures.ok.1 c.in-Frame.ensures.fits
+    c.in-Some-met.fault c.in-Some-met.is s.invariant.time c.in-Ok-send.ensures.ok c.broken_by.result c.broken_by.ensures)
 
-pub loop-store-smaller-else-is_spent : goal.loop-store-smaller-else-is_spent
-loop-store-smaller-else-is_spent g c =
+pub loop-store-smaller-in-None-met : goal.loop-store-smaller-in-None-met
+loop-store-smaller-in-None-met g c =
     let rest = c.next.new.self.held in
     let fewer : length rest < length c.loop-store.buffers.frames.held = frame_shrinks c.loop-store.buffers.frames.held c.next.new.self.body rest c.in-Frame.ensures.ok.0 in
     omega arith
 
-pub loop-store-preserved-else-is_spent : goal.loop-store-preserved-else-is_spent
-loop-store-preserved-else-is_spent g c =
+pub loop-store-preserved-in-None-met : goal.loop-store-preserved-in-None-met
+loop-store-preserved-in-None-met g c =
     let s = c.loop-store in
-    let sent = (goal.at.loop-store-preserved-else-is_spent g c).After-send in
-    let going : c.answer.new.store.spent ≡ false = sym c.is_spent.ensures ∙ c.if-is_spent.false in
+    let sent = (goal.at.loop-store-preserved-in-None-met g c).After-send in
+    let none : c.answer-met.result ≡ None = c.in-None-met.is in
     record {
-      progress = goes_on c.in-Ok-attach.store s.store c.answer.new.store s.taken c.args.budget s.buffers.frames.held c.next.new.self.held c.next.new.self.body c.answer.new.out
-          (shown g c.args.source.now c.args.sink.now c.args.disk.now) (shown g s.source s.sink s.disk) (shown g s.source c.send.new.sink c.answer.new.disk)
-          s.invariant.progress s.invariant.within (body_answered g sent) (answered g sent) c.in-Frame.ensures.ok.0 c.in-Frame.ensures.ok.1 c.in-Frame.ensures.fits
-          going c.in-Ok-send.ensures.ok;
-      time = passes_trans s.invariant.time c.answer.ensures.time;
+      progress = goes_on c.in-Ok-attach.store s.store c.answer-met.new.store s.taken c.args.budget s.buffers.frames.held c.next.new.self.held c.next.new.self.body c.answer-met.result c.answer-met.new.out
+          (shown g c.args.source.now c.args.sink.now c.args.disk.now) (shown g s.source s.sink s.disk) (shown g s.source c.send.new.sink c.answer-met.new.disk)
+          s.invariant.progress s.invariant.within (answered g sent) c.in-Frame.ensures.ok.0 c.in-Frame.ensures.ok.1 c.in-Frame.ensures.fits
+          none c.in-Ok-send.ensures.ok;
+      time = passes_trans s.invariant.time c.answer-met.ensures.time;
       within = s.invariant.within;
       source_same = s.invariant.source_same;
       sink_same = c.in-Ok-send.ensures.cause.ok ∙ s.invariant.sink_same;
-      disk_same = c.answer.ensures.cause.same going ∙ s.invariant.disk_same;
+      disk_same = c.answer-met.ensures.cause.same (λ e. let f : ◌≡◌ {A = Option Fault} None (Some fault.Device) = sym none ∙ e in cc) ∙ s.invariant.disk_same;
     }
 
 pub returns-in_default-most_next-clause-ok : goal.returns-in_default-most_next-clause-ok
@@ -120,7 +132,7 @@ returns-then-n-eq0-clause-ok g c =
     (c.in-Ok-read_piece.ensures.end none room))
 
 pub returns-then-n-eq0-clause-found : goal.returns-then-n-eq0-clause-found
-returns-then-n-eq0-clause-found g c = ends_by_input c.at_end.result c.next.new.self.held (g.D.Disk.view c.args.disk.now) (λ e. c.at_end.ensures.none (c.held.ensures.ok ∙ e)) (λ e. c.at_end.ensures.end (λ f. e (sym c.held.ensures.ok ∙ f)))
+returns-then-n-eq0-clause-found g c = ends_by_input c.at_end.result c.next.new.self.held (g.D.Disk.view c.args.disk.now) (g.D.Disk.view c.loop-store.disk) (λ e. c.at_end.ensures.none (c.held.ensures.ok ∙ e)) (λ e. c.at_end.ensures.end (λ f. e (sym c.held.ensures.ok ∙ f)))
 
 pub loop-store-preserved : goal.loop-store-preserved
 loop-store-preserved g c =
