@@ -68,38 +68,6 @@ returns-in_default-send-clause-ok g c =
     s.invariant.progress s.invariant.within (answered g sent) c.in-Frame.ensures.ok.0 c.in-Frame.ensures.ok.1 c.in-Frame.ensures.fits
     s.invariant.time c.in_default-send.ensures.err)
 
-pub returns-in-Some-met-clause-ok : goal.returns-in-Some-met-clause-ok
-returns-in-Some-met-clause-ok g c =
-    let s = c.loop-store in
-    let sent = (goal.at.returns-in-Some-met-clause-ok g c).After-send in
-    inr (ends_broken c.in-Ok-attach.store s.store c.answer-met.new.store s.taken c.args.budget s.buffers.frames.held c.next.new.self.held c.next.new.self.body c.answer-met.result c.answer-met.new.out
-    (shown g c.args.source.now c.args.sink.now c.args.disk.now) (shown g s.source s.sink s.disk) (shown g s.source c.send.new.sink c.answer-met.new.disk)
-    s.invariant.progress s.invariant.within (answered g sent) c.in-Frame.ensures.ok.0 c.in-Frame.ensures.ok.1 c.in-Frame.ensures.fits
-    c.in-Some-met.fault c.in-Some-met.is s.invariant.time c.in-Ok-send.ensures.ok c.broken_by.result c.broken_by.ensures)
-
-pub loop-store-smaller-in-None-met : goal.loop-store-smaller-in-None-met
-loop-store-smaller-in-None-met g c =
-    let rest = c.next.new.self.held in
-    let fewer : length rest < length c.loop-store.buffers.frames.held = frame_shrinks c.loop-store.buffers.frames.held c.next.new.self.body rest c.in-Frame.ensures.ok.0 in
-    omega arith
-
-pub loop-store-preserved-in-None-met : goal.loop-store-preserved-in-None-met
-loop-store-preserved-in-None-met g c =
-    let s = c.loop-store in
-    let sent = (goal.at.loop-store-preserved-in-None-met g c).After-send in
-    let none : c.answer-met.result ≡ None = c.in-None-met.is in
-    record {
-      progress = goes_on c.in-Ok-attach.store s.store c.answer-met.new.store s.taken c.args.budget s.buffers.frames.held c.next.new.self.held c.next.new.self.body c.answer-met.result c.answer-met.new.out
-          (shown g c.args.source.now c.args.sink.now c.args.disk.now) (shown g s.source s.sink s.disk) (shown g s.source c.send.new.sink c.answer-met.new.disk)
-          s.invariant.progress s.invariant.within (answered g sent) c.in-Frame.ensures.ok.0 c.in-Frame.ensures.ok.1 c.in-Frame.ensures.fits
-          none c.in-Ok-send.ensures.ok;
-      time = passes_trans s.invariant.time c.answer-met.ensures.time;
-      within = s.invariant.within;
-      source_same = s.invariant.source_same;
-      sink_same = c.in-Ok-send.ensures.cause.ok ∙ s.invariant.sink_same;
-      disk_same = c.answer-met.ensures.cause.same (λ e. let f : ◌≡◌ {A = Option Fault} None (Some fault.Device) = sym none ∙ e in cc) ∙ s.invariant.disk_same;
-    }
-
 pub returns-in_default-most_next-clause-ok : goal.returns-in_default-most_next-clause-ok
 returns-in_default-most_next-clause-ok g c =
     let s = c.loop-store in
@@ -125,8 +93,8 @@ returns-then-n-eq0-clause-ok g c =
     s.invariant.progress took in
     let same : length c.next.new.self.held ≡ length s.buffers.frames.held = ap length c.in-NotYet.ensures.ok.1 in
     let within : s.taken ≤ c.args.budget = s.invariant.within in
-    let room : 0 < c.in-Some.most = c.in-Some.ensures.fits.0 in
-    let less : s.taken < c.args.budget = omega (arith, room, c.in-Some.ensures.fits.2) in
+    let room : 0 < c.in-Some-most_next.most = c.in-Some-most_next.ensures.fits.0 in
+    let less : s.taken < c.args.budget = omega (arith, room, c.in-Some-most_next.ensures.fits.2) in
     inr (ends_at_end c.in-Ok-attach.store s.store s.taken c.args.budget s.buffers.frames.held before (shown g c.read_piece.new.source s.sink s.disk)
     p within c.in-NotYet.ensures.ok.0 less c.at_end.result (λ e. c.at_end.ensures.none (c.held.ensures.ok ∙ same ∙ e)) (λ e. c.at_end.ensures.end (λ f. e (sym same ∙ sym c.held.ensures.ok ∙ f)))
     (c.in-Ok-read_piece.ensures.end none room))
@@ -139,13 +107,13 @@ loop-store-preserved g c =
     let s = c.loop-store in
     let n = c.in-Ok-read_piece.n in
     let piece = take n c.read_piece.new.piece in
-    let len : length piece ≡ n = omega (arith, length-take n c.read_piece.new.piece, c.read_piece.auto.piece, c.in-Ok-read_piece.ensures.fits, c.in-Some.ensures.fits.1) in
+    let len : length piece ≡ n = omega (arith, length-take n c.read_piece.new.piece, c.read_piece.auto.piece, c.in-Ok-read_piece.ensures.fits, c.in-Some-most_next.ensures.fits.1) in
     let fed : c.feed.new.self.held ≡ s.buffers.frames.held ++ piece = c.feed.ensures ∙ ap (λ (x : List ℕ). x ++ piece) c.in-NotYet.ensures.ok.1 in
     record {
       progress = reads c.in-Ok-attach.store s.store s.taken n s.buffers.frames.held piece c.feed.new.self.held (shown g c.args.source.now c.args.sink.now c.args.disk.now) (shown g s.source s.sink s.disk)
           (g.S.Source.left c.read_piece.new.source) (g.S.Source.faults c.read_piece.new.source) s.invariant.progress c.in-Ok-read_piece.ensures.ok len fed;
       time = s.invariant.time;
-      within = omega (arith, c.in-Ok-read_piece.ensures.fits, c.in-Some.ensures.fits.2);
+      within = omega (arith, c.in-Ok-read_piece.ensures.fits, c.in-Some-most_next.ensures.fits.2);
       source_same = c.in-Ok-read_piece.ensures.cause.ok ∙ s.invariant.source_same;
       sink_same = s.invariant.sink_same;
       disk_same = s.invariant.disk_same;
