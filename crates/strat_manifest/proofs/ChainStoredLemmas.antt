@@ -1,5 +1,5 @@
 -- A manifest that was written into a chain of blocks is read from there.
-use Rattle.std.proofs.Common.{◌≡◌, ◌≤◌, ◌+◌, ◌*◌, ℕ, List, [], ◌∷◌, length, Ok, refl, sym, ap, ◌∙◌, subst, arith}
+use Rattle.std.proofs.Common.{◌≡◌, ◌≤◌, ℕ, List, [], ◌∷◌, length, Ok, sym, ap, ◌∙◌, arith}
 use Rattle.strat_crash.specs.Image.{Image}
 use Rattle.strat_format.specs.Chain.{IsChain, next_block}
 use Rattle.strat_format.specs.Chained.{manifest_at}

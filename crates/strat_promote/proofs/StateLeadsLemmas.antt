@@ -1,5 +1,5 @@
 -- Levels that hold those of a state have as many leads, and are cut at a number as they are.
-use Rattle.std.proofs.Common.{◌≡◌, ◌<◌, ◌≤◌, ◌+◌, ◌-◌, ℕ, zero, suc, Bool, true, false, not, is_some, cond, eqb, leb, ltb, ◌&&◌, inl, inr, List, [], ◌∷◌, length, length-append, map, filter, flat_map, take, drop, get_or, Option, Some, None, refl, sym, ap, ◌∙◌, subst, arith}
+use Rattle.std.proofs.Common.{◌≡◌, ◌<◌, ◌≤◌, ◌+◌, ℕ, zero, suc, Bool, true, false, not, is_some, cond, eqb, leb, ltb, ◌&&◌, inl, inr, List, [], ◌∷◌, length, length-append, map, filter, flat_map, take, drop, get_or, Option, Some, None, refl, sym, ap, ◌∙◌, subst, arith}
 use Rattle.std.specs.List.{list_all, range_with_len, filter_map, sum, sum_by}
 use Rattle.std.specs.Option.{option_map, option_and_then, option_to_list}
 use Rattle.std.proofs.lemmas.Bool.{and_parts, eqb-true, eq-eqb, ne_eqb, le-leb, lt-leb, lt-ltb, le-ltb}

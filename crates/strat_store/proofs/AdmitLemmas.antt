@@ -1,6 +1,6 @@
 -- Whether a store may have a manifest that was read.
-use Rattle.std.proofs.Common.{◌≡◌, ◌<◌, ◌≤◌, ◌+◌, ◌^◌, ℕ, Bool, true, false, leb, ltb, inl, inr, List, [], ◌∷◌, ◌++◌, get_or, length, map, Option, Some, None, Result, Ok, Err, refl, sym, ap, ◌∙◌, subst, arith, true≢false}
-use Rattle.std.specs.List.{flat_map, list_all, sum_by}
+use Rattle.std.proofs.Common.{◌≡◌, ◌≤◌, ◌^◌, ℕ, Bool, true, false, ltb, inl, inr, List, [], ◌∷◌, get_or, map, Option, Some, None, Result, Ok, Err, refl, sym, ap, ◌∙◌, subst, arith, true≢false}
+use Rattle.std.specs.List.{list_all, sum_by}
 use Rattle.std.specs.Prelude.{IfOk, IfSome, IfNone}
 use Rattle.std.proofs.lemmas.Bool.{and_parts, leb-true, ltb-true, false_from_ne_true}
 use Rattle.std.proofs.lemmas.List.Sums.{sum_by-append}
@@ -27,7 +27,7 @@ use Rattle.strat_extent.specs.Blocks.{SpaceView}
 use Rattle.strat_state.specs.Level.{is_distinct}
 use Rattle.strat_store.specs.Belonging.{UsesJust}
 use Rattle.strat_store.specs.Held.{ArePlaced}
-use Rattle.strat_store.specs.Recovering.{FitsInMemory, MayBePlaced, counts_belong, count_tests, chained_of, IsAdmitted}
+use Rattle.strat_store.specs.Recovering.{MayBePlaced, counts_belong, count_tests, chained_of, IsAdmitted}
 use Rattle.strat_store.specs.declared.admitting.Published.{Published}
 
 pass_rest : (test : Bool) (tests : List Bool) → all_pass (test ∷ tests) ≡ true → all_pass tests ≡ true

@@ -1,22 +1,20 @@
 -- What a crash leaves of a disk while a new store is made on it, phase by phase.
-use Rattle.std.proofs.Common.{◌≡◌, ◌≢◌, ◌<◌, ℕ, ◌+◌, ◌*◌, inl, inr, true, [], length, Some, None, Ok, Option, IfSome, refl, sym, ap, subst, ◌∙◌, arith}
+use Rattle.std.proofs.Common.{◌≡◌, ◌≢◌, ◌<◌, ℕ, ◌+◌, ◌*◌, inl, inr, [], length, Some, None, Ok, Option, IfSome, refl, sym, ap, subst, ◌∙◌, arith}
 use Rattle.std.proofs.lemmas.List.{length-replicate}
 use Rattle.strat_format.specs.Chain.{link_bytes}
-use Rattle.strat_format.specs.Damage.{Read, and_then, passed_or}
 use Rattle.strat_crash.specs.Image.{Image, Outside, SameIn, patch, window}
 use Rattle.strat_format.specs.Layout.{region_at, first_free}
-use Rattle.strat_format.specs.Manifest.{manifest_bytes, new_manifest}
+use Rattle.strat_format.specs.Manifest.{manifest_bytes}
 use Rattle.strat_crash.specs.Moments.{DiskView, Images, Since, Passes, TearsOnly, IsDurable}
 use Rattle.strat_base.specs.Numbers.{be}
 use Rattle.strat_format.specs.SuperBlock.{Super, Slot, slot_in, newer, verdict, chosen_in, newest_in}
 use Rattle.strat_crash.proofs.ImageLemmas.{over_below, outside_same_above, window_same, window_patch}
-use Rattle.strat_base.proofs.EntryLemmas.{same_bytes}
 use Rattle.strat_crash.proofs.MomentLemmas.{now_since_start, at_told, settled_at}
 use Rattle.strat_format.proofs.SuperBlockLemmas.{slot_closed}
 use Rattle.strat_gate.specs.Laying.{LaysOver, OldOrNew}
 use Rattle.strat_journal.proofs.AloneLemmas.{empty}
 use Rattle.strat_format.specs.Records.{journal_in_one}
-use Rattle.strat_store.specs.Format.{new_block, IsNewDisk, IsShut, IsNewStore, IsNoneOrNew, super_for, head_for}
+use Rattle.strat_store.specs.Format.{new_block, IsNewDisk, IsShut, IsNewStore, IsNoneOrNew, super_for}
 use Rattle.strat_store.proofs.NewStoreLemmas.{head_found, state_found}
 use Rattle.strat_store.proofs.ShutLemmas.{StaysBlank}
 

@@ -4,6 +4,7 @@ pub mod MemoryLawLemmas
 pub mod MemoryLemmas
 pub mod IdLemmas
 pub mod LookLawLemmas
+pub mod GettingLemmas
 pub mod LookLemmas
 pub mod NewBlockLemmas
 pub mod NewStoreLemmas
@@ -24,3 +25,9 @@ pub mod RedoLemmas
 pub mod RecoverLemmas
 pub mod OpenLemmas
 pub mod ThreeTests
+pub mod ApplyLemmas
+pub mod SettlingLemmas
+pub mod SettledLemmas
+pub mod LoggingLemmas
+pub mod ChangingLemmas
+pub mod RenewingLemmas

@@ -18,7 +18,7 @@ use Rattle.strat_state.specs.State.{State}
 use Rattle.strat_store.specs.Looking.{AreInOrder}
 
 -- what an image makes of an item of a list is in the list that it makes
-made_of : {A B : Type 0} (h : A → Option B) (xs : List A) (ys : List B) (x : A) → all_some h xs ≡ Some ys → Among x xs → (y : B) × (h x ≡ Some y) × Among y ys
+pub made_of : {A B : Type 0} (h : A → Option B) (xs : List A) (ys : List B) (x : A) → all_some h xs ≡ Some ys → Among x xs → (y : B) × (h x ≡ Some y) × Among y ys
 made_of h [] ys x all there = absurd there
 made_of h (z ∷ xs) ys x all (inl here) =
     let parts = each_some h z xs ys all in

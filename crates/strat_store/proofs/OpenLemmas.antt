@@ -1,14 +1,14 @@
 -- A disk on which a store was recovered, while the region that is not active is shut.
-use Rattle.std.proofs.Common.{◌≡◌, ◌≢◌, ◌≤◌, ◌<◌, ◌+◌, ℕ, zero, suc, Bool, true, false, inl, inr, List, [], ◌∷◌, length, Option, Some, Result, Ok, Err, refl, sym, ap, ◌∙◌, subst, arith, true≢false}
+use Rattle.std.proofs.Common.{◌≡◌, ◌≢◌, ◌<◌, ℕ, Bool, true, false, inr, List, [], ◌∷◌, length, Some, Result, Ok, Err, refl, sym, ap, ◌∙◌, subst, arith, true≢false}
 use Rattle.std.specs.Prelude.{IsTrue, IfErr, ◌↔◌}
 use Rattle.strat_base.specs.declared.descriptors.ArrayDesc.{ArrayDesc}
 use Rattle.strat_array.specs.Kept.{Blocks}
 use Rattle.strat_crash.specs.Image.{Image}
 use Rattle.strat_crash.specs.Moments.{DiskView, Exposes, Images, Since, Passes, TearsOnly, IsDurable, KeepsImages, OnlyReads}
-use Rattle.strat_crash.specs.Trail.{At, Trail}
+use Rattle.strat_crash.specs.Trail.{Trail}
 use Rattle.strat_crash.proofs.MomentLemmas.{each_then, passes_trans, settled_at, since_now, at_told, reads_keep_durable}
 use Rattle.strat_crash.proofs.TrailLemmas.{trail_of_one}
-use Rattle.strat_format.specs.Chained.{Chained, manifest_at}
+use Rattle.strat_format.specs.Chained.{manifest_at}
 use Rattle.strat_format.specs.Layout.{region_at, other_region}
 use Rattle.strat_format.specs.SuperBlock.{Super}
 use Rattle.strat_gate.specs.SuperView.{super_of}

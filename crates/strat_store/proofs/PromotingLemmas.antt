@@ -48,7 +48,7 @@ use Rattle.strat_store.specs.Memory.{Memory}
 use Rattle.strat_store.specs.Promoting.{MayPromote, HoldInMemory, HaveFewLeads, IsPromotedTo}
 
 -- the arrays of the levels down to a number stand in front of the others
-to_front : (levels : List (Option LevelDesc)) (j : ℕ) → (rest : List ArrayDesc) × (arrays_there levels ≡ arrays_to levels j ++ rest)
+pub to_front : (levels : List (Option LevelDesc)) (j : ℕ) → (rest : List ArrayDesc) × (arrays_there levels ≡ arrays_to levels j ++ rest)
 to_front [] zero = ([], refl)
 to_front [] (suc j) = ([], refl)
 to_front (level ∷ levels) zero = (arrays_there (level ∷ levels), refl)

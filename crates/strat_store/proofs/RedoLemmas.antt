@@ -1,5 +1,5 @@
 -- A journal's changes carried out one by one on what is in memory.
-use Rattle.std.proofs.Common.{◌≡◌, ◌≤◌, ◌<◌, ◌+◌, ◌-◌, ℕ, suc, Bool, true, false, not, List, [], ◌∷◌, ◌++◌, length, map, take, drop, get_or, Option, Some, None, Ok, Err, refl, sym, ap, ◌∙◌, subst, arith, append_assoc, append-nil}
+use Rattle.std.proofs.Common.{◌≡◌, ◌≤◌, ◌<◌, ◌+◌, ℕ, suc, true, not, List, [], ◌∷◌, ◌++◌, length, map, take, drop, get_or, Option, None, Ok, Err, refl, sym, ap, ◌∙◌, subst, arith, append_assoc, append-nil}
 use Rattle.std.specs.Prelude.{fold, is_some}
 use Rattle.std.proofs.lemmas.Bool.{cond-true, cond-false}
 use Rattle.std.proofs.lemmas.List.{map_more, drop_more, take_all, drop_all}
@@ -11,7 +11,6 @@ use Rattle.strat_format.specs.Manifest.{Manifest}
 use Rattle.strat_format.specs.Records.{Logged}
 use Rattle.strat_format.specs.SuperBlock.{Super}
 use Rattle.strat_model.specs.declared.replies.Refusal.{Refusal}
-use Rattle.strat_recovery.specs.Head.{Head}
 use Rattle.strat_recovery.specs.Opening.{accepted_in}
 use Rattle.strat_state.specs.State.{tree_after}
 use Rattle.strat_store.specs.Memory.{Memory, refusal_of_change, memory_after, HasRoomFor, IsMemoryOf}

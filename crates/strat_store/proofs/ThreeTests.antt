@@ -1,5 +1,5 @@
 -- Three tests that refuse in turn.
-use Rattle.std.proofs.Common.{◌≡◌, Bool, true, false, not, true≢false, Option, Some, None, refl, sym, ap}
+use Rattle.std.proofs.Common.{◌≡◌, Bool, true, false, not, true≢false, Some, None, refl, sym, ap}
 use Rattle.std.specs.Prelude.{if◌then◌else◌}
 use Rattle.strat_model.specs.declared.replies.Refusal.{Refusal}
 use Rattle.strat_model.specs.Step.{Outcome, refuses}

@@ -1,12 +1,12 @@
 -- A whole store may promote: what it holds is known, may be read, and is no more than any store has.
-use Rattle.std.proofs.Common.{◌≡◌, ◌<◌, ◌≤◌, ◌+◌, ◌*◌, ◌^◌, ℕ, zero, suc, Bool, true, false, not, cond, eqb, ltb, leb, ◌&&◌, inl, inr, List, [], ◌∷◌, append-nil, length, map, Contains, flat_map, fold, filter_map, get_or, Option, None, Some, refl, sym, ap, ◌∙◌, subst, arith, true≢false}
-use Rattle.std.specs.List.{count_by, list_all, range_with_len, sum, sum_by}
+use Rattle.std.proofs.Common.{◌≡◌, ◌<◌, ◌≤◌, ◌+◌, ◌*◌, ◌^◌, ℕ, zero, suc, Bool, true, not, eqb, ltb, leb, ◌&&◌, inl, inr, List, [], ◌∷◌, append-nil, length, map, Contains, flat_map, fold, filter_map, get_or, Option, None, Some, refl, sym, ap, ◌∙◌, subst, arith}
+use Rattle.std.specs.List.{list_all, range_with_len, sum, sum_by}
 use Rattle.std.specs.Ordering.{match_ordering}
 use Rattle.std.specs.declared.cmp.Ordering.{Ordering}
 use Rattle.std.specs.declared.cmp.Ordering.TheVariants.{Less, Equal, Greater}
 use Rattle.std.proofs.lemmas.Bool.Decides.{nat_tests}
 use Rattle.std.proofs.lemmas.List.{length-map}
-use Rattle.std.proofs.lemmas.Bool.{and_parts, ltb-true, leb-true, lt-ltb, eqb-true, not-true, cases_Bool, false_from_ne_true}
+use Rattle.std.proofs.lemmas.Bool.{and_parts, ltb-true, leb-true, lt-ltb}
 use Rattle.std.proofs.lemmas.List.Sums.{sum_by-cons, sum_by-append, sum-map}
 use Rattle.strat_array.specs.Within.{AreWithin}
 use Rattle.strat_base.proofs.ListFacts.{Among, all_at, all_from, among_split, among_in_flat}
@@ -25,25 +25,22 @@ use Rattle.strat_recovery.proofs.OpeningLemmas.{level_tests, manifest_tests}
 use Rattle.strat_recovery.proofs.PassedLemmas.{array_tests, belonging_tests}
 use Rattle.strat_recovery.specs.Head.{descriptors}
 use Rattle.strat_recovery.specs.Opened.{parents_in}
-use Rattle.strat_recovery.specs.Opening.{array_blocks, has_own_blocks, has_own_versions, is_filled}
+use Rattle.strat_recovery.specs.Opening.{array_blocks, has_own_versions, is_filled}
 use Rattle.strat_standing.proofs.DescribedLemmas.{blocks_counted}
-use Rattle.strat_standing.proofs.ListLemmas.{contained_among, among_contained}
-use Rattle.strat_standing.proofs.OccupiedLemmas.{counted_some}
-use Rattle.strat_standing.specs.Contents.{Contents, named_blocks}
+use Rattle.strat_standing.proofs.ListLemmas.{contained_among}
+use Rattle.strat_standing.specs.Contents.{Contents}
 use Rattle.strat_standing.specs.Occupied.{IsSpaceOf}
 use Rattle.strat_standing.specs.Standing.{ContentsStand}
 use Rattle.strat_crash.specs.Moments.{DiskView}
-use Rattle.strat_extent.specs.Blocks.{SpaceView, is_used}
+use Rattle.strat_extent.specs.Blocks.{SpaceView}
 use Rattle.strat_format.specs.Arrays.{blocks_of}
-use Rattle.strat_format.specs.Layout.{first_free}
 use Rattle.strat_state.proofs.AppendedLemmas.{length-grown}
-use Rattle.strat_state.proofs.LevelLemmas.{tagged_among, among_tagged}
+use Rattle.strat_state.proofs.LevelLemmas.{tagged_among}
 use Rattle.strat_state.proofs.UpdateLemmas.{all_among}
 use Rattle.strat_state.specs.Level.{is_distinct}
 use Rattle.strat_state.specs.Setting.{set_entry, set_all}
 use Rattle.strat_state.specs.Sound.{is_accepted, are_accepted}
 use Rattle.strat_state.specs.State.{tree_after, update_of}
-use Rattle.strat_store.specs.Belonging.{UsesJust}
 use Rattle.strat_store.specs.Held.{Held, IsConsistent, StandsWith, contents_held}
 use Rattle.strat_store.specs.Publishing.{MayCompute}
 use Rattle.strat_store.specs.Looking.{arrays_there}

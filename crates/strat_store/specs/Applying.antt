@@ -1,12 +1,14 @@
 -- How a store answers a command.
-use Rattle.std.specs.Prelude.{◌≡◌, ◌≢◌, ◌≤◌, ◌⊎◌, ℕ, if◌then◌else◌, Bool, true, false, List, [], ◌∷◌, length, Contains, Option, Some, None}
+use Rattle.std.specs.Prelude.{◌≡◌, ◌≢◌, ◌≤◌, ◌⊎◌, ℕ, if◌then◌else◌, Bool, true, false, List, [], ◌∷◌, length, Contains, Option, Some, None, Result, IfErr}
 use Rattle.strat_crash.specs.Faults.{Rose}
 use Rattle.strat_crash.specs.Image.{Image}
-use Rattle.strat_crash.specs.Moments.{DiskView, Exposes}
+use Rattle.strat_crash.specs.Moments.{DiskView}
 use Rattle.strat_crash.specs.Trail.{Trail}
 use Rattle.strat_base.specs.Change.{Change}
 use Rattle.strat_base.specs.Change as change
 use Rattle.strat_base.specs.declared.descriptors.LevelDesc.{LevelDesc}
+use Rattle.strat_base.specs.declared.failures.Trouble.{Trouble}
+use Rattle.strat_base.specs.declared.failures.Trouble.TheVariants as trouble
 use Rattle.strat_format.specs.Arrays.{block_on}
 use Rattle.strat_model.specs.declared.replies.Refusal.{Refusal}
 use Rattle.strat_model.specs.declared.replies.Refusal.TheVariants as why
@@ -16,7 +18,7 @@ use Rattle.strat_model.specs.Answer.{Answer, refusal, accepts}
 use Rattle.strat_model.specs.Request.{Request, Put, Delete, Clone}
 use Rattle.strat_model.specs.Run.{position_after, reaches_disk, is_change}
 use Rattle.strat_model.specs.Step.{step}
-use Rattle.strat_model.specs.Table.{bare}
+use Rattle.strat_model.specs.Table.{Table, bare}
 use Rattle.strat_promote.specs.Job.{IsBadInput, blocks_listed}
 use Rattle.strat_recovery.specs.StateTable.{table_of}
 use Rattle.strat_standing.specs.Contents.{Contents, contents_state}
@@ -79,12 +81,26 @@ IsAppliedTo now old x request answer new =
     IsAnsweredBy now old x request answer new ⊎ IsShortOf now old x request answer new
     ⊎ IsBrokenBy old x request answer new
 
+-- a refusal says that memory ran out
+abbrev pub tells_short : Refusal → Bool
+tells_short why.NoMemory = true
+tells_short _ = false
+
+-- a reply says that memory ran out, so that the command was not carried out
+abbrev pub is_short : Reply → Bool
+is_short (reply.Refused r) = tells_short r
+is_short _ = false
+
+-- the table that a crash may leave after a reply to a command
+abbrev pub table_left : Table → Request → Reply → Table
+table_left t request told = if is_short told then t else bare (step t request).table
+
 -- from the table of some contents the images of a disk go on to the table after a command, or stay
 -- where it was not carried out
 abbrev pub FollowsStep : DiskView → DiskView → Contents → Request → Answer → Type 0
 FollowsStep before now x request answer = Trail ShowsTable now before.moment
     (table_of (contents_state x)
-    ∷ bare (step (table_of (contents_state x)) request).table ∷ [])
+    ∷ table_left (table_of (contents_state x)) request answer.reply ∷ [])
     (if accepts answer.reply then 1 else 0)
 
 -- over a call a count of faults rises where the reply is that the device failed, and stays elsewhere
@@ -113,3 +129,13 @@ pub record IsPublishedAs (now : DiskView) (x : Contents) (new : Held) : Type 0 w
   pub after : Contents
   pub stands : StandsWith now new after
   pub table : table_of (contents_state after) ≡ table_of (contents_state x)
+
+-- a call succeeded, or memory ran out
+abbrev pub IsOkOrShort : {T : Type 0} → Result T Trouble → Type 0
+IsOkOrShort result = IfErr result (λ e. e ≡ trouble.NoMemory)
+
+-- why a command is refused that met a trouble
+abbrev pub refusal_of_trouble : Trouble → Refusal
+refusal_of_trouble trouble.NoMemory = why.NoMemory
+refusal_of_trouble trouble.Device = why.DeviceFault
+refusal_of_trouble (trouble.Damaged block) = why.Damaged block

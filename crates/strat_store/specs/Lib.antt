@@ -4,6 +4,7 @@ pub mod Memory
 pub mod MemoryFields
 pub mod Looking
 pub mod Belonging
+pub mod Getting
 pub mod Held
 pub mod StoreFields
 pub mod Applying
@@ -11,3 +12,4 @@ pub mod Publishing
 pub mod Promoting
 pub mod Following
 pub mod Recovering
+pub mod Settling

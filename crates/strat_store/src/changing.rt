@@ -1,32 +1,149 @@
-//! Changes of a store.
+//! Changes of a store over levels: each is durable before it is in memory, and before it is answered.
 
-ghost use Rattle.std.specs.Prelude.{◌≡◌, ◌≢◌, [], ◌∷◌, false, true, length, ℕ, Some, IsTrue};
+ghost use Rattle.std.specs.Prelude.{◌≡◌, ◌≢◌, ◌<◌, ℕ, [], ◌∷◌, ◌++◌, length, Some, None, OnOk, IsTrue, false};
 ghost use Rattle.strat_array.specs.Kept.{Blocks};
 ghost use Rattle.strat_base.specs.Change.{is_lawful};
 ghost use Rattle.strat_base.specs.ChangeView.{change_of};
 ghost use Rattle.strat_crash.specs.Blocks.{AgreeOn};
+ghost use Rattle.strat_crash.specs.Faults.{CountsFaults};
 ghost use Rattle.strat_crash.specs.Image.{Image};
 ghost use Rattle.strat_crash.specs.Moments.{Exposes, Passes};
+ghost use Rattle.strat_crash.specs.Trail.{Trail};
 ghost use Rattle.strat_model.specs.Answer.{plain};
-ghost use Rattle.strat_model.specs.declared.replies.Refusal.{Refusal as TheRefusal};
+ghost use Rattle.strat_model.specs.declared.replies.Refusal.{Refusal};
 ghost use Rattle.strat_model.specs.declared.replies.Refusal.TheVariants as why;
 ghost use Rattle.strat_model.specs.declared.replies.Reply.TheVariants as reply;
 ghost use Rattle.strat_promote.specs.Job.{blocks_listed};
-ghost use Rattle.strat_recovery.specs.StateTable.{request_for};
-ghost use Rattle.strat_standing.specs.Contents.{Contents};
-ghost use Rattle.strat_store.specs.Applying.{IsAppliedTo, FollowsStep, FailsAsTold, IsDamagedIn, is_fault};
+ghost use Rattle.strat_recovery.specs.StateTable.{table_of, request_for};
+ghost use Rattle.strat_standing.specs.Appending.{IsLogOf, with_batch};
+ghost use Rattle.strat_standing.specs.Contents.{Contents, contents_state, named_blocks};
+ghost use Rattle.strat_standing.specs.Standing.{ShowsTable, ContentsStand};
+ghost use Rattle.strat_state.specs.Sound.{Takes};
+ghost use Rattle.strat_store.specs.Applying.{IsAppliedTo, FollowsStep, FailsAsTold, IsDamagedIn, is_fault, refusal_of_trouble};
 ghost use Rattle.strat_store.specs.Held.{IsConsistent, StandsWith};
 ghost use Rattle.strat_store.specs.Looking.{arrays_there};
 ghost use Rattle.strat_store.specs.Memory.{refusal_of_change};
 ghost use Rattle.strat_store.specs.Recovering.{held_of, held_after};
 
+use crate::publication::publish;
 use crate::recovering::Recovered;
 use std::alloc::Global;
-use strat_base::Change;
+use strat_base::{Change, Failed, Trouble};
 use strat_disk::Disk;
+use strat_journal::Journal;
 use strat_model::{Refusal, Reply};
 
-/// Carries out a change.
+/// Makes a change durable at the end of the journal, which has room for it: two writes and two syncs. It writes in the
+/// active region alone.
+fn log_change<D: Disk>(
+    journal: &mut Journal,
+    disk: &mut D,
+    change: &Change<'_>,
+) -> Result<(), Failed>
+    requires fits { IsTrue (is_lawful (change_of change.now)) }
+    requires none { journal.old.batch ≡ [] }
+    requires room { length journal.old.list < journal.old.mem }
+    ensures trail { (x : Contents) → ContentsStand (D.view disk.old) x → IsLogOf x journal.old
+        → Takes (contents_state x) (change_of change.now)
+        → Trail ShowsTable (D.view disk.new) (D.view disk.old).moment (table_of (contents_state x)
+        ∷ table_of (contents_state (with_batch x (change_of change.now ∷ []))) ∷ []) 0 }
+    ensures kept { OnOk result ((x : Contents) → ContentsStand (D.view disk.old) x
+        → IsLogOf x journal.old → Takes (contents_state x) (change_of change.now)
+        → Trail ShowsTable (D.view disk.new) (D.view disk.old).moment (table_of (contents_state x)
+        ∷ table_of (contents_state (with_batch x (change_of change.now ∷ []))) ∷ []) 1
+        × ContentsStand (D.view disk.new) (with_batch x (change_of change.now ∷ []))) }
+    ensures ok { OnOk result (journal.new
+        ≡ record journal.old { list = journal.old.list ++ change_of change.now ∷ [] }) }
+    ensures content { OnOk result ((x : Contents) → ContentsStand (D.view disk.old) x
+        → IsLogOf x journal.old → (f g : Image) → Exposes (D.view disk.old) f
+        → Exposes (D.view disk.new) g → AgreeOn (named_blocks x) f g) }
+    ensures time { Passes (D.view disk.old) (D.view disk.new) }
+    ensures cause { CountsFaults (D.faults disk.old) (D.faults disk.new) result }
+{
+    journal.add(change);
+    journal.append(disk)?;
+    Ok(())
+}
+
+/// Carries out a change that is not refused, where the journal has room: it is durable before it is in memory. Two writes
+/// and two syncs, and one insertion into level 0 or O(log versions_max); no memory. DeviceFault: the disk failed.
+fn carry_out<D: Disk>(held: &mut Recovered, disk: &mut D, change: &Change<'_>) -> Reply
+    requires kept { (cached : Blocks) → IsConsistent (held_of held.old cached) }
+    requires fits { IsTrue (is_lawful (change_of change.now)) }
+    requires none { refusal_of_change held.old.memory (change_of change.now) ≡ None }
+    requires room { length held.old.journal.list < held.old.sb.mem }
+    ensures ok { (x : Contents) (cached : Blocks)
+        → StandsWith (D.view disk.old) (held_of held.old cached) x
+        → IsAppliedTo (D.view disk.new) (held_of held.old cached) x
+        (request_for (change_of change.now)) (plain result) (held_after held.new cached result) }
+    ensures trail { (x : Contents) (cached : Blocks)
+        → StandsWith (D.view disk.old) (held_of held.old cached) x
+        → FollowsStep (D.view disk.old) (D.view disk.new) x (request_for (change_of change.now))
+        (plain result) }
+    ensures kept { is_fault result ≡ false → (cached : Blocks)
+        → IsConsistent (held_of held.new cached) }
+    ensures damaged { (b : ℕ) → result ≡ reply.Refused (why.Damaged b) → ⊥ }
+    ensures same { (held.new.sb.mem ≡ held.old.sb.mem) × (result ≢ reply.Found) }
+    ensures time { Passes (D.view disk.old) (D.view disk.new) }
+    ensures cause { FailsAsTold (D.faults disk.old) (D.faults disk.new) result }
+{
+    let Ok(()) = log_change(&mut held.journal, disk, change) else {
+        return Reply::Refused(Refusal::DeviceFault);
+    };
+    held.memory.take(change)
+}
+
+/// Why a command is refused that met a trouble.
+fn refusal_of(trouble: Trouble) -> Refusal
+    ensures ok { result ≡ refusal_of_trouble trouble }
+{
+    match trouble {
+        Trouble::NoMemory => Refusal::NoMemory,
+        Trouble::Device => Refusal::DeviceFault,
+        Trouble::Damaged { block } => Refusal::Damaged { block },
+    }
+}
+
+/// Carries out a change that is not refused, where the journal is full: it is emptied into the levels first, and the change
+/// begins it anew. It costs a publication, and then what `carry_out` costs.
+fn carry_out_anew<D: Disk>(
+    alloc: Global,
+    held: &mut Recovered,
+    disk: &mut D,
+    change: &Change<'_>,
+) -> Reply
+    requires kept { (cached : Blocks) → IsConsistent (held_of held.old cached) }
+    requires fits { IsTrue (is_lawful (change_of change.now)) }
+    requires none { refusal_of_change held.old.memory (change_of change.now) ≡ None }
+    requires room { length held.old.journal.list ≡ held.old.sb.mem }
+    ensures ok { (x : Contents) (cached : Blocks)
+        → StandsWith (D.view disk.old) (held_of held.old cached) x
+        → IsAppliedTo (D.view disk.new) (held_of held.old cached) x
+        (request_for (change_of change.now)) (plain result) (held_after held.new cached result) }
+    ensures trail { (x : Contents) (cached : Blocks)
+        → StandsWith (D.view disk.old) (held_of held.old cached) x
+        → FollowsStep (D.view disk.old) (D.view disk.new) x (request_for (change_of change.now))
+        (plain result) }
+    ensures kept { is_fault result ≡ false → (cached : Blocks)
+        → IsConsistent (held_of held.new cached) }
+    ensures damaged { (b : ℕ) → result ≡ reply.Refused (why.Damaged b)
+        → IsDamagedIn (D.view disk.old).content held.old.memory held.old.published.levels b
+        × ((f g : Image) → Exposes (D.view disk.old) f → Exposes (D.view disk.new) g
+        → AgreeOn (blocks_listed (arrays_there held.old.published.levels)) f g) }
+    ensures same { (held.new.sb.mem ≡ held.old.sb.mem) × (result ≢ reply.Found) }
+    ensures time { Passes (D.view disk.old) (D.view disk.new) }
+    ensures cause { FailsAsTold (D.faults disk.old) (D.faults disk.new) result }
+{
+    if let Err(trouble) = publish(alloc, held, disk) {
+        return Reply::Refused(refusal_of(trouble));
+    }
+    carry_out(held, disk, change)
+}
+
+/// Carries out a change: one that is refused changes nothing, and a full journal is emptied into the levels first. A change
+/// costs two writes and two syncs, and one insertion into level 0 or O(log versions_max); one in `mem` changes costs a
+/// publication before these. NoMemory: a publication took no more memory, and nothing has changed. DeviceFault: the disk
+/// failed. Damaged: a block of an array is bad. After these two the store is not to be used again.
 pub(crate) fn change<D: Disk>(
     alloc: Global,
     held: &mut Recovered,
@@ -41,19 +158,26 @@ pub(crate) fn change<D: Disk>(
         (request_for (change_of change.now)) (plain result) (held_after held.new cached result) }
     ensures trail { (x : Contents) (cached : Blocks)
         → StandsWith (D.view disk.old) (held_of held.old cached) x
-        → FollowsStep (D.view disk.old) (D.view disk.new) x
-        (request_for (change_of change.now)) (plain result) }
+        → FollowsStep (D.view disk.old) (D.view disk.new) x (request_for (change_of change.now))
+        (plain result) }
     ensures kept { is_fault result ≡ false → (cached : Blocks)
         → IsConsistent (held_of held.new cached) }
-    ensures err { (r : TheRefusal) → refusal_of_change held.old.memory (change_of change.now) ≡ Some r
+    ensures err { (r : Refusal)
+        → refusal_of_change held.old.memory (change_of change.now) ≡ Some r
         → (result ≡ reply.Refused r) × (held.new ≡ held.old) × (disk.new ≡ disk.old) }
-    ensures same { held.new.sb.mem ≡ held.old.sb.mem }
-    ensures time { Passes (D.view disk.old) (D.view disk.new) }
-    ensures cause { FailsAsTold (D.faults disk.old) (D.faults disk.new) result }
     ensures damaged { (b : ℕ) → result ≡ reply.Refused (why.Damaged b)
         → IsDamagedIn (D.view disk.old).content held.old.memory held.old.published.levels b
         × ((f g : Image) → Exposes (D.view disk.old) f → Exposes (D.view disk.new) g
         → AgreeOn (blocks_listed (arrays_there held.old.published.levels)) f g) }
+    ensures same { (held.new.sb.mem ≡ held.old.sb.mem) × (result ≢ reply.Found) }
+    ensures time { Passes (D.view disk.old) (D.view disk.new) }
+    ensures cause { FailsAsTold (D.faults disk.old) (D.faults disk.new) result }
 {
-    Reply::Refused(Refusal::UnknownVersion)
+    if let Some(refusal) = held.memory.refusal(change) {
+        return Reply::Refused(refusal);
+    }
+    if held.journal.room() == 0 {
+        return carry_out_anew(alloc, held, disk, change);
+    }
+    carry_out(held, disk, change)
 }

@@ -1,29 +1,102 @@
-//! A look-up of a key in a store.
+//! What a store over levels says of a key at a version.
 
-ghost use Rattle.std.specs.Prelude.{◌≡◌, ◌≢◌, [], ◌∷◌, false, true, length, ℕ};
+ghost use Rattle.std.specs.Prelude.{◌≡◌, ◌≢◌, ◌<◌, ◌^◌, ℕ, [], ◌∷◌, length, true, false, Contains, IfOk, OnErr, IsErrOf};
 ghost use Rattle.strat_array.specs.Kept.{Blocks};
+ghost use Rattle.strat_array.specs.Told.{TellsFound, AddsPair};
 ghost use Rattle.strat_base.specs.Tree.{is_known};
+ghost use Rattle.strat_base.specs.declared.descriptors.ArrayDesc.{ArrayDesc};
+ghost use Rattle.strat_base.specs.declared.failures.Fault.TheVariants.{Damaged, Device};
+ghost use Rattle.strat_crash.specs.Faults.{HasCause, ReadsAtMost};
 ghost use Rattle.strat_crash.specs.Image.{Image};
 ghost use Rattle.strat_crash.specs.Moments.{Exposes};
+ghost use Rattle.strat_format.specs.Arrays.{blocks_of};
 ghost use Rattle.strat_model.specs.Answer.{as_told};
 ghost use Rattle.strat_model.specs.Request.{Get};
 ghost use Rattle.strat_model.specs.Step.{found as answer_found};
 ghost use Rattle.strat_model.specs.declared.replies.Refusal.TheVariants as why;
 ghost use Rattle.strat_model.specs.declared.replies.Reply.TheVariants as reply;
-ghost use Rattle.strat_recovery.specs.Asked.{asked};
+ghost use Rattle.strat_recovery.specs.Asked.{on_disk, asked};
 ghost use Rattle.strat_standing.specs.Contents.{Contents};
-ghost use Rattle.strat_store.specs.Applying.{IsLookedUp, FailsAsTold, IsDamagedIn, is_fault};
+ghost use Rattle.strat_state.specs.LookUp.{looked_up};
+ghost use Rattle.strat_store.specs.Applying.{is_fault, IsLookedUp, FailsAsTold, IsDamagedIn};
+ghost use Rattle.strat_store.specs.Getting.{reply_of_get, MayTellOfKey};
 ghost use Rattle.strat_store.specs.Held.{IsConsistent, StandsWith};
-ghost use Rattle.strat_store.specs.Looking.{AreInOrder, AreCachedFrom, LooksThrough, arrays_there, levels_there};
+ghost use Rattle.strat_store.specs.Looking.{levels_there, arrays_there, MayBeFound, AreInOrder, AreCachedFrom, LooksThrough, NamesNoBlock, HaveOwnIds, reads_in};
 ghost use Rattle.strat_store.specs.Recovering.{held_of};
 
+use crate::looking::look_up;
 use crate::recovering::Recovered;
-use strat_array::{Cache, Scratch};
-use strat_base::{PairBuf, Version};
+use strat_array::{Cache, Scratch, Seen};
+use strat_base::{Fault, PairBuf, Version};
 use strat_disk::Disk;
 use strat_model::{Refusal, Reply};
 
-/// What a store says of a key at a version.
+/// What is told of a key after a look-up, or after the fault that ended it.
+fn reply_of_get(found: Result<Seen, Fault>) -> Reply
+    ensures ok { result ≡ reply_of_get found }
+{
+    match found {
+        Ok(Seen::Put) => Reply::Found,
+        Ok(Seen::Gone) => Reply::Absent,
+        Ok(Seen::None) => Reply::Absent,
+        Err(Fault::Device) => Reply::Refused(Refusal::DeviceFault),
+        Err(Fault::Damaged { block }) => Reply::Refused(Refusal::Damaged { block }),
+    }
+}
+
+/// The entry that is live for a key at a version in level 0, or else in the first of the levels that says something of
+/// it: a value's pair is put into `out`. Level 0 costs what `Memory::find` does, the levels what `look_up` does.
+fn look_through<D: Disk>(
+    held: &Recovered,
+    cache: &mut Cache,
+    scratch: &mut Scratch,
+    disk: &mut D,
+    version: Version,
+    key: &[u8],
+    out: &mut PairBuf,
+) -> Result<Seen, Fault>
+    requires fits { MayBeFound (arrays_there held.now.published.levels) }
+    requires kept { version < length held.now.memory.parents }
+    requires room { out.old ≡ [] }
+    ensures found { IfOk result (λ seen. (f : Image) (next : ℕ) → Exposes (D.view disk.old) f
+        → AreInOrder f (arrays_there held.now.published.levels)
+        → HaveOwnIds (arrays_there held.now.published.levels)
+        → AreCachedFrom f next (arrays_there held.now.published.levels) cache.old
+        → TellsFound (looked_up (on_disk f) held.now.memory.parents
+        (held.now.memory.entries ∷ []) (levels_there held.now.published.levels) version key.now)
+        key.now [] out.new seen) }
+    ensures err { OnErr result (out.new ≡ []) }
+    ensures len { IfOk result (λ seen. AddsPair [] out.new seen) }
+    ensures same { LooksThrough (D.view disk.old) (D.view disk.new)
+        (arrays_there held.now.published.levels) cache.old cache.new }
+    ensures kept { (f : Image) (next : ℕ) → Exposes (D.view disk.old) f
+        → ((a : ArrayDesc) → Contains (arrays_there held.now.published.levels) a → a.id < next)
+        → HaveOwnIds (arrays_there held.now.published.levels)
+        → AreCachedFrom f next (arrays_there held.now.published.levels) cache.old
+        → AreCachedFrom f next (arrays_there held.now.published.levels) cache.new }
+    ensures damaged { (b : ℕ) → IsErrOf result (Damaged b)
+        → NamesNoBlock (D.view disk.old).content (arrays_there held.now.published.levels) b }
+    ensures cause { HasCause Device (D.faults disk.old) (D.faults disk.new) result }
+    ensures reads { (n : ℕ) → ((a : ArrayDesc)
+        → Contains (arrays_there held.now.published.levels) a
+        → length (blocks_of a.extents) < 2 ^ n)
+        → ReadsAtMost (reads_in n held.now.memory.parents version held.now.published.levels)
+        (D.reads disk.old) (D.reads disk.new) }
+{
+    let (_, _, tree) = held.memory.parts();
+    match held.memory.find(key, version, out) {
+        Seen::None => {
+            let levels = &held.published.levels;
+            look_up(disk, cache, levels, tree, key, version, scratch, out)
+        }
+        seen => Ok(seen),
+    }
+}
+
+/// What a store says of a key at a version; a value's pair is put into `out`, which has none. Level 0 is asked first,
+/// and then the levels, of each one array at most, until one says something. It takes no memory but for blocks that are
+/// cached. UnknownVersion: there is no such version, and nothing was read. DeviceFault: the disk counted a fault.
+/// Damaged: this block of one of the arrays is no block of entries.
 pub(crate) fn get<D: Disk>(
     held: &Recovered,
     cache: &mut Cache,
@@ -47,13 +120,23 @@ pub(crate) fn get<D: Disk>(
         (held.now.memory.entries ∷ []) (levels_there held.now.published.levels) version key.now) }
     ensures none { is_known held.now.memory.parents version ≡ false
         → (result ≡ reply.Refused why.UnknownVersion) × (disk.new ≡ disk.old) }
-    ensures len { (result ≡ reply.Found → length out.new ≡ 1)
-        × (result ≢ reply.Found → out.new ≡ []) }
     ensures same { LooksThrough (D.view disk.old) (D.view disk.new)
         (arrays_there held.now.published.levels) cache.old cache.new }
     ensures cause { FailsAsTold (D.faults disk.old) (D.faults disk.new) result }
     ensures damaged { (b : ℕ) → result ≡ reply.Refused (why.Damaged b)
         → IsDamagedIn (D.view disk.old).content held.now.memory held.now.published.levels b }
+    ensures told { MayTellOfKey result }
+    ensures len { (result ≡ reply.Found → length out.new ≡ 1)
+        × (result ≢ reply.Found → out.new ≡ []) }
+    ensures reads { (n : ℕ) → ((a : ArrayDesc)
+        → Contains (arrays_there held.now.published.levels) a
+        → length (blocks_of a.extents) < 2 ^ n)
+        → ReadsAtMost (reads_in n held.now.memory.parents version held.now.published.levels)
+        (D.reads disk.old) (D.reads disk.new) }
 {
-    Reply::Refused(Refusal::UnknownVersion)
+    if !held.memory.has(version) {
+        return Reply::Refused(Refusal::UnknownVersion);
+    }
+    let found = look_through(held, cache, scratch, disk, version, key, out);
+    reply_of_get(found)
 }

@@ -4,8 +4,8 @@
 mod admitting;
 mod belonging;
 pub mod belonging_laws;
-mod computing;
 mod changing;
+mod computing;
 mod formatting;
 mod getting;
 mod looking;
@@ -15,6 +15,7 @@ mod memory;
 pub mod memory_laws;
 mod opening;
 mod promoting;
+mod publication;
 mod publishing;
 pub mod publishing_laws;
 mod recovering;

@@ -27,7 +27,7 @@ ghost use Rattle.strat_store.specs.Following.{IsOpenedAs, IsUnchanged, LeavesOpe
 ghost use Rattle.strat_store.specs.Held.{IsConsistent, StandsWith};
 ghost use Rattle.strat_store.specs.Memory.{info_told};
 ghost use Rattle.strat_store.specs.Looking.{AreInOrder, AreCachedFrom, LooksThrough, arrays_there, levels_there};
-ghost use Rattle.strat_store.specs.Recovering.{held_of};
+ghost use Rattle.strat_store.specs.Recovering.{held_of, held_after};
 ghost use Rattle.strat_store.specs.declared.opening.AttachFault.TheVariants as fault;
 
 use crate::changing::change;
@@ -152,6 +152,51 @@ fn look<D: Disk>(
     }
 }
 
+/// Answers a command: one that asks for a change is carried out, any other is looked up.
+fn answer<D: Disk>(
+    alloc: Global,
+    held: &mut Recovered,
+    cache: &mut Cache,
+    scratch: &mut Scratch,
+    disk: &mut D,
+    command: &Command<'_>,
+    out: &mut PairBuf,
+) -> Reply
+    requires kept { (cached : Blocks) → IsConsistent (held_of held.old cached) }
+    requires fits { (is_built (request_of command.now) ≡ true)
+        × (has_lawful_sizes (request_of command.now) ≡ true) }
+    requires room { out.old ≡ [] }
+    ensures ok { (x : Contents) → StandsWith (D.view disk.old) (held_of held.old cache.old) x
+        → IsAppliedTo (D.view disk.new) (held_of held.old cache.old) x (request_of command.now)
+        (as_told result out.new) (held_after held.new cache.new result) }
+    ensures trail { (x : Contents) → StandsWith (D.view disk.old) (held_of held.old cache.old) x
+        → FollowsStep (D.view disk.old) (D.view disk.new) x (request_of command.now)
+        (as_told result out.new) }
+    ensures found { (f : Image) (version : ℕ) (key : List ℕ)
+        → request_of command.now ≡ Get version key → Exposes (D.view disk.old) f
+        → AreInOrder f (arrays_there held.old.published.levels)
+        → AreCachedFrom f held.old.published.manifest.next_array
+        (arrays_there held.old.published.levels) cache.old
+        → is_fault result ≡ false → is_known held.old.memory.parents version ≡ true
+        → as_told result out.new ≡ answer_found key (asked f held.old.memory.parents
+        (held.old.memory.entries ∷ []) (levels_there held.old.published.levels) version key) }
+    ensures kept { is_fault result ≡ false → (cached : Blocks)
+        → IsConsistent (held_of held.new cached) }
+    ensures len { (result ≡ reply.Found → length out.new ≡ 1)
+        × (held.new.sb.mem ≡ held.old.sb.mem) }
+    ensures time { Passes (D.view disk.old) (D.view disk.new) }
+    ensures cause { FailsAsTold (D.faults disk.old) (D.faults disk.new) result }
+    ensures damaged { (b : ℕ) → result ≡ reply.Refused (why.Damaged b)
+        → IsDamagedIn (D.view disk.old).content held.old.memory held.old.published.levels b
+        × ((f g : Image) → Exposes (D.view disk.old) f → Exposes (D.view disk.new) g
+        → AgreeOn (blocks_listed (arrays_there held.old.published.levels)) f g) }
+{
+    match change_asked(command) {
+        Some(asked) => change(alloc, held, disk, &asked),
+        None => look(held, cache, scratch, disk, command, out),
+    }
+}
+
 impl Store {
     /// Whether a fault left the store unfit for use.
     pub fn is_spent(&self) -> bool
@@ -184,7 +229,8 @@ impl Store {
             → is_fault result ≡ false → is_known self.old.memory.parents version ≡ true
             → as_told result out.new ≡ answer_found key (asked f self.old.memory.parents
             (self.old.memory.entries ∷ []) (levels_there self.old.levels) version key) }
-        ensures spent { self.new.spent ≡ is_fault result }
+        ensures spent { (self.new.spent ≡ is_fault result)
+            × (self.new.spent ≡ false → IsConsistent self.new) }
         ensures len { result ≡ reply.Found → length out.new ≡ 1 }
         ensures same { self.new.sb.mem ≡ self.old.sb.mem }
         ensures time { Passes (D.view disk.old) (D.view disk.new) }
@@ -196,17 +242,15 @@ impl Store {
     {
         out.clear();
         self.spent = true;
-        let told = match change_asked(command) {
-            Some(asked) => change(self.alloc, &mut self.held, disk, &asked),
-            None => look(
-                &self.held,
-                &mut self.cache,
-                &mut self.scratch,
-                disk,
-                command,
-                out,
-            ),
-        };
+        let told = answer(
+            self.alloc,
+            &mut self.held,
+            &mut self.cache,
+            &mut self.scratch,
+            disk,
+            command,
+            out,
+        );
         self.spent = is_fault(told);
         told
     }
@@ -214,7 +258,7 @@ impl Store {
     /// Opens the store on a disk.
     pub fn attach<D: Disk>(alloc: Global, disk: &mut D) -> Result<Store, AttachFault>
         ensures ok { IfOk result (λ s. IsOpenedAs (D.view disk.old) (D.view disk.new) s
-            × (s.cached.entries ≡ [])) }
+            × (s.cached.entries ≡ []) × IsConsistent s) }
         ensures none { IsErrOf result fault.NotAStore → (f : Image)
             → Exposes (D.view disk.old) f → recover f ≡ Ok None }
         ensures damaged { (block : ℕ) → IsErrOf result (fault.Damaged block) → (f : Image)

@@ -1,0 +1,177 @@
+-- How a store answers commands that ask for no change, and what of it an answer leaves.
+use Rattle.std.proofs.Common.{◌≡◌, ℕ, Bool, true, false, inl, inr, List, [], ◌∷◌, length, Option, Some, None, refl, sym, ap, ◌∙◌, subst, true≢false}
+use Rattle.std.specs.Prelude.{if◌then◌else◌, option_and_then}
+use Rattle.strat_base.specs.Change.{Change}
+use Rattle.strat_base.specs.Change as change
+use Rattle.strat_base.specs.Tree.{is_known}
+use Rattle.strat_crash.specs.Image.{Image}
+use Rattle.strat_crash.specs.Moments.{DiskView, Since, OnlyReads}
+use Rattle.strat_crash.specs.Trail.{Trail}
+use Rattle.strat_crash.proofs.MomentLemmas.{now_since_start}
+use Rattle.strat_crash.proofs.TrailLemmas.{trail_of_one, trail_of_two}
+use Rattle.strat_format.specs.Damage.{Read}
+use Rattle.strat_model.specs.declared.replies.Reply.{Reply}
+use Rattle.strat_model.specs.declared.replies.Reply.TheVariants as reply
+use Rattle.strat_model.specs.declared.replies.Refusal.{Refusal}
+use Rattle.strat_model.specs.declared.replies.Refusal.TheVariants as why
+use Rattle.strat_model.specs.Answer.{Answer, plain, accepts}
+use Rattle.strat_model.specs.Pairs.{value_of}
+use Rattle.strat_model.specs.Request.{Request, Put, Delete, Get, Clone, Info, Stat}
+use Rattle.strat_model.specs.Run.{Position, is_change, position_after, fill_after}
+use Rattle.strat_model.specs.Spelling.{is_built}
+use Rattle.strat_model.specs.Step.{step, replies_with, refuses, has_row, pairs_at, found}
+use Rattle.strat_model.specs.Table.{Table, bare}
+use Rattle.strat_recovery.specs.Head.{Head}
+use Rattle.strat_recovery.specs.Opening.{state_of, opened}
+use Rattle.strat_recovery.specs.StateTable.{table_of, request_for}
+use Rattle.strat_standing.proofs.FreeLemmas.{shows_contents}
+use Rattle.strat_standing.proofs.PartsLemmas.{reads_head, reads_state}
+use Rattle.strat_standing.specs.Contents.{Contents, contents_head, contents_state}
+use Rattle.strat_standing.specs.Standing.{ShowsTable}
+use Rattle.strat_store.proofs.MemoryLawLemmas.{version_told, store_told, version_unknown}
+use Rattle.strat_store.specs.Applying.{IsAppliedTo, IsLookedUp, FollowsStep, change_wanted, is_fault, is_short, table_left}
+use Rattle.strat_store.specs.Held.{Held, position_with, IsConsistent, StandsWith}
+use Rattle.strat_store.specs.Memory.{info_told, stat_told, IsMemoryOf}
+
+-- the request of a change that is wanted
+pub wanted_for : (r : Request) (c : Change) → change_wanted r ≡ Some c → request_for c ≡ r
+wanted_for (Put v key value) c wanted = let same : change.Put v key value ≡ c = cc in ap request_for (sym same)
+wanted_for (Delete v key) c wanted = let same : change.Delete v key ≡ c = cc in ap request_for (sym same)
+wanted_for (Clone v) c wanted = let same : change.Clone v ≡ c = cc in ap request_for (sym same)
+wanted_for _ c wanted = absurd (cc)
+
+-- what reads a version leaves the table as it was
+says_kept : (k : Bool) (t : Table) (a : Answer) (r : Refusal) → (if k then replies_with t a else refuses t r).table ≡ t
+says_kept true t a r = refl
+says_kept false t a r = refl
+
+-- a command that is built and wants no change leaves the table as it was
+pub look_kept : (t : Table) (r : Request) → is_built r ≡ true → change_wanted r ≡ None → (step t r).table ≡ t
+look_kept t (Get v key) built none = says_kept (has_row t v) t _ why.UnknownVersion
+look_kept t (Info v) built none = says_kept (has_row t v) t _ why.UnknownVersion
+look_kept t Stat built none = refl
+look_kept t (Put v key value) built none = absurd (cc)
+look_kept t (Delete v key) built none = absurd (cc)
+look_kept t (Clone v) built none = absurd (cc)
+look_kept t _ built none = absurd (true≢false (sym built))
+
+-- it is not a change
+pub look_no_change : (r : Request) → is_built r ≡ true → change_wanted r ≡ None → is_change r ≡ false
+look_no_change (Get v key) built none = refl
+look_no_change (Info v) built none = refl
+look_no_change Stat built none = refl
+look_no_change (Put v key value) built none = absurd (cc)
+look_no_change (Delete v key) built none = absurd (cc)
+look_no_change (Clone v) built none = absurd (cc)
+look_no_change _ built none = absurd (true≢false (sym built))
+
+says_no_fault : (k : Bool) (t : Table) (a : Answer) → is_fault a.reply ≡ false → is_fault (if k then replies_with t a else refuses t why.UnknownVersion).answer.reply ≡ false
+says_no_fault true t a calm = calm
+says_no_fault false t a calm = refl
+
+found_no_fault : (key : List ℕ) (o : Option (List ℕ)) → is_fault (found key o).reply ≡ false
+found_no_fault key None = refl
+found_no_fault key (Some value) = refl
+
+-- and a table answers it with no fault
+pub look_no_fault : (t : Table) (r : Request) → is_built r ≡ true → change_wanted r ≡ None → is_fault (step t r).answer.reply ≡ false
+look_no_fault t (Get v key) built none = says_no_fault (has_row t v) t (found key (value_of (pairs_at t v) key)) (found_no_fault key (value_of (pairs_at t v) key))
+look_no_fault t (Info v) built none = says_no_fault (has_row t v) t _ refl
+look_no_fault t Stat built none = refl
+look_no_fault t (Put v key value) built none = absurd (cc)
+look_no_fault t (Delete v key) built none = absurd (cc)
+look_no_fault t (Clone v) built none = absurd (cc)
+look_no_fault t _ built none = absurd (true≢false (sym built))
+
+-- a store stands with the same contents whether it is spent or not
+pub spent_stands : (v : DiskView) (s : Held) (x : Contents) (b : Bool) → StandsWith v s x → StandsWith v (record s { spent = b }) x
+spent_stands v s x b w = record { stands = w.stands; held = w.held; cached = w.cached }
+
+-- what memory tells of versions and of the store is the table's
+module _ (v : DiskView) (s : Held) (x : Contents) (whole : IsConsistent s) (w : StandsWith v s x) where
+  abbrev here : Image
+  here = w.stands.content
+
+  pub state_here : state_of here (contents_head x) ≡ Some (contents_state x)
+  state_here =
+      let reads = w.stands.reads here w.stands.left in
+      ap (λ (found : Read (Option Head)). option_and_then (state_of here) (opened found)) (sym (reads_head here x reads)) ∙ reads_state here x reads
+
+  pub memory_here : IsMemoryOf (contents_head x) s.memory
+  memory_here = subst (λ (z : Contents). IsMemoryOf (contents_head z) s.memory) (sym w.held) whole.memory
+
+  pub info_here : (version : ℕ) (told : Reply) → (is_known s.memory.parents version ≡ true → told ≡ info_told s.memory version) → (is_known s.memory.parents version ≡ false → told ≡ reply.Refused why.UnknownVersion)
+      → plain told ≡ (step (table_of (contents_state x)) (Info version)).answer
+  info_here version told known unknown = by_test (is_known s.memory.parents version) refl
+    where
+      by_test : (b : Bool) → is_known s.memory.parents version ≡ b → plain told ≡ (step (table_of (contents_state x)) (Info version)).answer
+      by_test true is = ap plain (known is) ∙ sym (version_told here (contents_head x) (contents_state x) s.memory state_here memory_here version is)
+      by_test false is = ap plain (unknown is) ∙ ap (λ o. o.answer) (sym (version_unknown here (contents_head x) (contents_state x) s.memory state_here memory_here version is))
+
+  pub stat_here : plain (stat_told s.memory) ≡ (step (table_of (contents_state x)) Stat).answer
+  stat_here = sym (store_told here (contents_head x) (contents_state x) s.memory state_here memory_here)
+
+-- the position after a command that changes nothing
+place_kept : (mem : ℕ) (at : Position) (r : Request) → (step at.table r).table ≡ at.table → is_change r ≡ false → position_after mem at r ≡ at
+place_kept mem at r table still = λ i. record { table = table i; fill = fill i }
+  where
+    by_accept : (b : Bool) → (if b then (if is_change r then fill_after mem at.fill else at.fill) else at.fill) ≡ at.fill
+    by_accept true = ap (λ (c : Bool). if c then fill_after mem at.fill else at.fill) still
+    by_accept false = refl
+
+    fill : (position_after mem at r).fill ≡ at.fill
+    fill = by_accept (accepts (step at.table r).answer.reply)
+
+-- a command that was looked up is answered as a store may answer it
+pub look_applied : (now : DiskView) (old new : Held) (x : Contents) (r : Request) (answer : Answer) (b : Bool) → is_built r ≡ true → change_wanted r ≡ None → new.log ≡ old.log → is_fault answer.reply ≡ b
+    → IsLookedUp now new x r answer → IsAppliedTo now old x r answer (record new { spent = b })
+look_applied now old new x r answer b built none log fault looked = elim looked [
+  | inl answered ↦
+      let t = table_of (contents_state x) in
+      let calm : b ≡ false = sym fault ∙ ap (λ (a : Answer). is_fault a.reply) answered.0 ∙ look_no_fault t r built none in
+      inl (record {
+        told = answered.0;
+        going = calm;
+        after = x;
+        stands = spent_stands now new x b answered.1;
+        place = (λ i. record { table = t; fill = length (log i).list }) ∙ sym (place_kept old.log.mem (position_with old x) r (look_kept t r built none) (look_no_change r built none));
+      })
+  | inr failed ↦ inr (inr (record {
+      reached = failed.1;
+      acceptable = failed.2;
+      told = failed.0;
+      spent = sym fault ∙ ap (λ (a : Answer). is_fault a.reply) failed.0;
+    }))
+]
+
+-- over a disk that is only read the images show the table, before a command that changes nothing and after it
+pub look_follows : (before now : DiskView) (s : Held) (x : Contents) (r : Request) (answer : Answer) → is_built r ≡ true → change_wanted r ≡ None → OnlyReads before now → StandsWith before s x
+    → FollowsStep before now x r answer
+look_follows before now s x r answer built none looks w =
+    let t = table_of (contents_state x) in
+    let each : (c : Image) → Since now before.moment c → ShowsTable c t = λ c since. shows_contents c x w.stands.sound (w.stands.reads c (looks.images.each c since)) in
+    let after : table_left t r answer.reply ≡ t = by_short t (bare (step t r).table) (ap bare (look_kept t r built none)) (is_short answer.reply) in
+    by_accept t (table_left t r answer.reply) after each (accepts answer.reply)
+  where
+    by_short : (t u : Table) → u ≡ t → (b : Bool) → (if b then t else u) ≡ t
+    by_short t u same true = refl
+    by_short t u same false = same
+
+    by_accept : (t u : Table) → u ≡ t → ((c : Image) → Since now before.moment c → ShowsTable c t) → (b : Bool) → Trail ShowsTable now before.moment (t ∷ u ∷ []) (if b then 1 else 0)
+    by_accept t u after each true =
+        trail_of_two ShowsTable now before.moment t u [] looks.time.later (λ c since. inl (each c since))
+        (λ c left. subst (λ (z : Table). ShowsTable c z) (sym after) (each c (now_since_start before now c looks.time left)))
+    by_accept t u after each false = trail_of_one ShowsTable now before.moment t (u ∷ []) looks.time.later each
+
+-- a store holds what an opening may find whether it is spent or not
+pub spent_consistent : (s : Held) (b : Bool) → IsConsistent s → IsConsistent (record s { spent = b })
+spent_consistent s b whole = record {
+  slot = whole.slot;
+  lawful = whole.lawful;
+  spelled = whole.spelled;
+  belonging = whole.belonging;
+  log = whole.log;
+  accepted = whole.accepted;
+  memory = whole.memory;
+  placed = whole.placed;
+}

@@ -1,0 +1,215 @@
+-- A change that is carried out on a store that stands.
+use Rattle.std.proofs.Common.{◌≡◌, ◌≢◌, ◌<◌, ◌+◌, ◌*◌, ℕ, suc, Bool, true, false, inl, inr, not, ltb, if◌then◌else◌, List, [], ◌∷◌, ◌++◌, length, Option, Some, None, refl, sym, ap, ◌∙◌, subst, arith, length-append}
+use Rattle.std.proofs.lemmas.Bool.{and_parts, and_from, lt-ltb}
+use Rattle.std.specs.Prelude.{fold, is_some, option_map, flat_map}
+use Rattle.strat_array.specs.Kept.{Blocks}
+use Rattle.strat_base.specs.Change.{Change}
+use Rattle.strat_base.specs.Change as change
+use Rattle.strat_base.specs.Tree.{Parents}
+use Rattle.strat_base.specs.declared.descriptors.ArrayDesc.{ArrayDesc}
+use Rattle.strat_base.proofs.ListFacts.{Among, among_in_flat, among_right, get_among}
+use Rattle.strat_crash.specs.Blocks.{AgreeOn, KeepsBlock}
+use Rattle.strat_crash.specs.Image.{Image}
+use Rattle.strat_crash.specs.Moments.{DiskView, Exposes}
+use Rattle.strat_crash.specs.Trail.{Trail}
+use Rattle.strat_crash.proofs.ImageLemmas.{window_same}
+use Rattle.strat_format.specs.Arrays.{blocks_of}
+use Rattle.strat_format.specs.Block.{block_in}
+use Rattle.strat_format.specs.Chained.{Chained}
+use Rattle.strat_gate.specs.SuperView.{super_of}
+use Rattle.strat_journal.specs.Log.{Log}
+use Rattle.strat_model.specs.Answer.{plain, accepts}
+use Rattle.strat_model.specs.Run.{position_after, fill_after, reaches_disk, is_change}
+use Rattle.strat_model.specs.Step.{step}
+use Rattle.strat_model.specs.Table.{Table, bare}
+use Rattle.strat_model.specs.declared.replies.Refusal.TheVariants as why
+use Rattle.strat_model.specs.declared.replies.Reply.{Reply}
+use Rattle.strat_model.specs.declared.replies.Reply.TheVariants as reply
+use Rattle.strat_recovery.specs.Head.{descriptors}
+use Rattle.strat_recovery.specs.Opened.{parents_in}
+use Rattle.strat_recovery.specs.Opening.{state_of}
+use Rattle.strat_recovery.specs.StateTable.{table_of, request_for}
+use Rattle.strat_recovery.proofs.HeadLemmas.{state_with}
+use Rattle.strat_recovery.proofs.StateTableLemmas.{accepts_same, steps_to}
+use Rattle.strat_standing.specs.Appending.{IsLogOf, with_batch}
+use Rattle.strat_standing.specs.Contents.{Contents, contents_head, contents_state, named_blocks}
+use Rattle.strat_standing.specs.Standing.{ShowsTable, ContentsStand}
+use Rattle.strat_standing.proofs.ListLemmas.{among_contained, contained_among}
+use Rattle.strat_state.specs.Level.{Level}
+use Rattle.strat_state.specs.Sound.{is_accepted, are_accepted, accepts_change, Takes}
+use Rattle.strat_state.specs.State.{tree_after}
+use Rattle.strat_store.specs.Applying.{IsAppliedTo, FollowsStep, is_fault, is_short, table_left}
+use Rattle.strat_store.specs.Held.{head_held, contents_held, IsConsistent, StandsWith, position_with}
+use Rattle.strat_store.specs.Looking.{AreCachedFrom}
+use Rattle.strat_store.specs.Memory.{Memory, refusal_of_change, memory_after, reply_to, IsMemoryOf}
+use Rattle.strat_store.specs.Recovering.{chained_of, held_of, held_after}
+use Rattle.strat_store.specs.declared.recovering.Recovered.{Recovered}
+use Rattle.strat_store.proofs.MemoryLawLemmas.{accepted_same, change_answered, change_taken, memory_follows}
+
+-- a command that asks for a change reaches the disk, and is one
+pub reached : (c : Change) → reaches_disk (request_for c) ≡ true
+reached (change.Put v key value) = refl
+reached (change.Delete v key) = refl
+reached (change.Clone v) = refl
+
+pub changes_it : (c : Change) → is_change (request_for c) ≡ true
+changes_it (change.Put v key value) = refl
+changes_it (change.Delete v key) = refl
+changes_it (change.Clone v) = refl
+
+-- what is told of a change that is accepted is no refusal
+told_well : (m : Memory) (c : Change) → (accepts (reply_to m c) ≡ true) × (is_fault (reply_to m c) ≡ false) × (is_short (reply_to m c) ≡ false)
+told_well m (change.Put v key value) = (refl, refl, refl)
+told_well m (change.Delete v key) = (refl, refl, refl)
+told_well m (change.Clone v) = (refl, refl, refl)
+
+-- and no value
+pub finds_none : (m : Memory) (c : Change) (told : Reply) → told ≡ reply_to m c → told ≢ reply.Found
+finds_none m (change.Put v key value) told tells found = let e : reply.Done ≡ reply.Found = sym tells ∙ found in absurd (cc)
+finds_none m (change.Delete v key) told tells found = let e : reply.Done ≡ reply.Found = sym tells ∙ found in absurd (cc)
+finds_none m (change.Clone v) told tells found = let e : reply.Made (length m.parents) ≡ reply.Found = sym tells ∙ found in absurd (cc)
+
+-- one more change is accepted behind others
+accepted_more : (cm vm : ℕ) (parents : Parents) (n : ℕ) (journal : List Change) (c : Change) → are_accepted cm vm parents n journal ≡ true
+    → is_accepted cm vm (fold tree_after parents journal) (n + length journal) c ≡ true → are_accepted cm vm parents n (journal ++ c ∷ []) ≡ true
+accepted_more cm vm parents n [] c all one =
+    let at : n + 0 ≡ n = omega arith in
+    and_from (is_accepted cm vm parents n c) true (subst (λ (k : ℕ). is_accepted cm vm parents k c ≡ true) at one) refl
+accepted_more cm vm parents n (d ∷ journal) c all one =
+    let parts = and_parts (is_accepted cm vm parents n d) (are_accepted cm vm (tree_after parents d) (suc n) journal) all in
+    let at : n + suc (length journal) ≡ suc n + length journal = omega arith in
+    and_from (is_accepted cm vm parents n d) (are_accepted cm vm (tree_after parents d) (suc n) (journal ++ c ∷ [])) parts.0
+    (accepted_more cm vm (tree_after parents d) (suc n) journal c parts.1 (subst (λ (k : ℕ). is_accepted cm vm (fold tree_after (tree_after parents d) journal) k c ≡ true) at one))
+
+-- blocks that are cached are as they stand on the disk while the blocks of arrays do
+cached_still : (f g : Image) (chained : Chained) (c : Blocks) → AgreeOn (chained.blocks ++ flat_map (λ (a : ArrayDesc). blocks_of a.extents) (descriptors chained.manifest)) f g
+    → AreCachedFrom f chained.manifest.next_array (descriptors chained.manifest) c → AreCachedFrom g chained.manifest.next_array (descriptors chained.manifest) c
+cached_still f g chained c agree was = record {
+  old = was.old;
+  same = λ a index block x among there at.
+      let named : Among block (flat_map (λ (a : ArrayDesc). blocks_of a.extents) (descriptors chained.manifest)) =
+      among_in_flat (λ (a : ArrayDesc). blocks_of a.extents) (descriptors chained.manifest) a block (contained_among (descriptors chained.manifest) a among) (get_among (blocks_of a.extents) index block at) in
+      let keeps : KeepsBlock block f g = agree block (among_contained _ block (among_right chained.blocks _ block named)) in
+      ap block_in (window_same f g (4096 * block) 4096 keeps) ∙ was.same a index block x among there at;
+}
+
+module _ (r : Recovered) (cached : Blocks) (kept : IsConsistent (held_of r cached)) where
+  -- the journal is that of the contents that the store holds
+  module _ (x : Contents) (held : x ≡ contents_held (held_of r cached) x.levels) where
+    pub log_of : IsLogOf x r.journal
+    log_of = record {
+      mem = kept.log.mem ∙ sym (ap (λ (y : Contents). y.sb.mem) held);
+      active = kept.log.active ∙ sym (ap (λ (y : Contents). y.sb.region) held);
+      list = sym (ap (λ (y : Contents). y.journal) held);
+    }
+
+  -- a change that is not refused leaves a store consistent
+  module _ (c : Change) (free : refusal_of_change r.memory c ≡ None) (room : length r.journal.list < r.sb.mem) where
+    accepted_last : are_accepted r.sb.changes_max r.sb.versions_max (parents_in (chained_of r.published).manifest) (chained_of r.published).manifest.changes (r.journal.list ++ c ∷ []) ≡ true
+    accepted_last =
+        let one : is_accepted r.memory.changes_max r.memory.versions_max r.memory.parents r.memory.changes c ≡ true =
+        accepted_same r.memory c ∙ ap (λ o. not (is_some o)) free in
+        accepted_more r.sb.changes_max r.sb.versions_max (parents_in (chained_of r.published).manifest) (chained_of r.published).manifest.changes r.journal.list c kept.accepted
+        ((λ i. is_accepted (sym kept.memory.changes_max i) (sym kept.memory.versions_max i) (sym kept.memory.parents i) (sym kept.memory.changes i) c) ∙ one)
+
+    pub kept_more : (j : Log) (m : Memory) → j ≡ record r.journal { list = r.journal.list ++ c ∷ [] } → m ≡ memory_after r.memory c
+        → IsConsistent (held_of (record r { journal = j; memory = m }) cached)
+    kept_more j m grown follows =
+        let list : r.journal.list ++ c ∷ [] ≡ j.list = sym (ap (λ (l : Log). l.list) grown) in
+        record {
+          slot = kept.slot;
+          lawful = kept.lawful;
+          spelled = kept.spelled;
+          belonging = kept.belonging;
+          log = record {
+            mem = ap (λ (l : Log). l.mem) grown ∙ kept.log.mem;
+            active = ap (λ (l : Log). l.active) grown ∙ kept.log.active;
+            batch = ap (λ (l : Log). l.batch) grown ∙ kept.log.batch;
+            few = omega (arith, room, ap length list, length-append r.journal.list (c ∷ []));
+          };
+          accepted = subst (λ (cs : List Change). are_accepted r.sb.changes_max r.sb.versions_max (parents_in (chained_of r.published).manifest) (chained_of r.published).manifest.changes cs ≡ true) list accepted_last;
+          memory =
+              let of : IsMemoryOf (record (head_held (held_of r cached)) { journal = r.journal.list ++ c ∷ [] }) (memory_after r.memory c) = memory_follows (head_held (held_of r cached)) r.memory kept.memory c in
+              subst (λ (m : Memory). IsMemoryOf (record (head_held (held_of r cached)) { journal = j.list }) m) (sym follows)
+              (subst (λ (cs : List Change). IsMemoryOf (record (head_held (held_of r cached)) { journal = cs }) (memory_after r.memory c)) list of);
+          placed = kept.placed;
+        }
+
+  -- and what stands on the disk answers as its table does
+  module _ (v : DiskView) (x : Contents) (stands : StandsWith v (held_of r cached) x) where
+    pub state_held : state_of stands.stands.content (head_held (held_of r cached)) ≡ Some (contents_state x)
+    state_held =
+        ap (λ (y : Contents). state_of stands.stands.content (contents_head y)) (sym stands.held)
+        ∙ ap (λ (o : Option (List Level)). option_map (state_with (contents_head x)) o) (stands.stands.reads stands.stands.content stands.stands.left).lies.arrays
+
+    module _ (c : Change) (free : refusal_of_change r.memory c ≡ None) where
+      answered : (step (table_of (contents_state x)) (request_for c)).answer ≡ plain (reply_to r.memory c)
+      answered = change_answered stands.stands.content (head_held (held_of r cached)) (contents_state x) r.memory state_held kept.memory c free
+
+      taken : accepts_change (contents_state x) c ≡ true
+      taken = change_taken stands.stands.content (head_held (held_of r cached)) (contents_state x) r.memory state_held kept.memory c free
+
+      pub acceptable : accepts (step (table_of (contents_state x)) (request_for c)).answer.reply ≡ true
+      acceptable = accepts_same (contents_state x) c ∙ taken
+
+      -- a fault of the device
+      pub breaks : (r' : Recovered) (w : DiskView) → IsAppliedTo w (held_of r cached) x (request_for c) (plain (reply.Refused why.DeviceFault)) (held_after r' cached (reply.Refused why.DeviceFault))
+      breaks r' w = inr (inr (record { reached = reached c; acceptable = acceptable; told = refl; spent = refl }))
+
+      module _ (room : length r.journal.list < r.sb.mem) where
+        pub takes : Takes (contents_state x) c
+        takes = record {
+          sound = stands.stands.sound;
+          accepted = taken;
+          room = omega (arith, room, ap (λ (y : Contents). length y.journal) stands.held, ap (λ (y : Contents). y.sb.mem) stands.held);
+        }
+
+        steps : table_of (contents_state (with_batch x (c ∷ []))) ≡ bare (step (table_of (contents_state x)) (request_for c)).table
+        steps = ap bare (sym (steps_to (contents_state x) c takes))
+
+        -- the trail of the tables before and after
+        pub step_trail : (w : DiskView) (n : ℕ) → Trail ShowsTable w v.moment (table_of (contents_state x) ∷ table_of (contents_state (with_batch x (c ∷ []))) ∷ []) n
+            → Trail ShowsTable w v.moment (table_of (contents_state x) ∷ bare (step (table_of (contents_state x)) (request_for c)).table ∷ []) n
+        step_trail w n trail = subst (λ (t : Table). Trail ShowsTable w v.moment (table_of (contents_state x) ∷ t ∷ []) n) steps trail
+
+        pub told_trail : (w : DiskView) (told : Reply) → told ≡ reply_to r.memory c → Trail ShowsTable w v.moment (table_of (contents_state x) ∷ table_of (contents_state (with_batch x (c ∷ []))) ∷ []) 1
+            → FollowsStep v w x (request_for c) (plain told)
+        told_trail w told tells trail =
+            let well : true ≡ accepts told = sym (ap accepts tells ∙ (told_well r.memory c).0) in
+            let still : false ≡ is_short told = sym (ap is_short tells ∙ (told_well r.memory c).2) in
+            let t : Table = table_of (contents_state x) in
+            subst (λ (b : Bool). Trail ShowsTable w v.moment (t ∷ table_left t (request_for c) told ∷ []) (if b then 1 else 0)) well
+            (subst (λ (b : Bool). Trail ShowsTable w v.moment (t ∷ (if b then t else bare (step t (request_for c)).table) ∷ []) 1) still (step_trail w 1 trail))
+
+        more_held : (j : Log) → j ≡ record r.journal { list = r.journal.list ++ c ∷ [] } → with_batch x (c ∷ []) ≡ contents_held (held_of (record r { journal = j }) cached) x.levels
+        more_held j grown =
+            ap (λ (y : Contents). with_batch y (c ∷ [])) stands.held
+            ∙ ap (λ (cs : List Change). record { slot = r.slot; sb = super_of r.sb; chained = chained_of r.published; journal = cs; levels = x.levels }) (sym (ap (λ (l : Log). l.list) grown))
+
+        filled : (j : Log) → j ≡ record r.journal { list = r.journal.list ++ c ∷ [] } → length j.list ≡ (position_after r.journal.mem (position_with (held_of r cached) x) (request_for c)).fill
+        filled j grown =
+            let fill : ℕ = length r.journal.list in
+            let more : length j.list ≡ fill + 1 = ap (λ (l : Log). length l.list) grown ∙ length-append r.journal.list (c ∷ []) in
+            let lt : ltb fill r.journal.mem ≡ true = lt-ltb fill r.journal.mem (omega (arith, room, kept.log.mem)) in
+            more
+            ∙ sym (ap (λ (b : Bool). if b then (if is_change (request_for c) then fill_after r.journal.mem fill else fill) else fill) acceptable
+            ∙ ap (λ (b : Bool). if b then fill_after r.journal.mem fill else fill) (changes_it c)
+            ∙ ap (λ (b : Bool). if b then fill + 1 else 1) lt)
+
+        -- the change is carried out
+        pub carries : (w : DiskView) (j : Log) (m : Memory) (told : Reply) → j ≡ record r.journal { list = r.journal.list ++ c ∷ [] } → told ≡ reply_to r.memory c → ContentsStand w (with_batch x (c ∷ []))
+            → ((f g : Image) → Exposes v f → Exposes w g → AgreeOn (named_blocks x) f g)
+            → IsAppliedTo w (held_of r cached) x (request_for c) (plain told) (held_after (record r { journal = j; memory = m }) cached told)
+        carries w j m told grown tells now agree = inl (record {
+          told = ap plain tells ∙ sym answered;
+          going = ap is_fault tells ∙ (told_well r.memory c).1;
+          after = with_batch x (c ∷ []);
+          stands = record {
+            stands = now;
+            held = more_held j grown;
+            cached = cached_still stands.stands.content now.content (chained_of r.published) cached
+                (subst (λ (ch : Chained). AgreeOn (ch.blocks ++ flat_map (λ (a : ArrayDesc). blocks_of a.extents) (descriptors ch.manifest)) stands.stands.content now.content) (ap (λ (y : Contents). y.chained) stands.held)
+                (agree stands.stands.content now.content stands.stands.exposed now.exposed)) stands.cached;
+          };
+          place = λ i. record { table = sym (steps_to (contents_state x) c takes) i; fill = filled j grown i };
+        })

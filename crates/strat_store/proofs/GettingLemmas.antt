@@ -1,0 +1,239 @@
+-- What a store says of a key: level 0 and its levels answer as its table.
+use Rattle.std.proofs.Common.{◌≡◌, ◌<◌, ℕ, Bool, true, false, eqb, ltb, inl, inr, List, [], ◌∷◌, ◌++◌, length, if◌then◌else◌, Contains, flat_map, Option, Some, None, Result, Ok, Err, IfOk, OnErr, IsErrOf, refl, sym, ap, ◌∙◌, subst, true≢false}
+use Rattle.std.proofs.lemmas.Bool.{ltb-true, eqb-true}
+use Rattle.std.specs.Option.{option_and_then, option_map, option_or}
+use Rattle.strat_array.specs.Kept.{Blocks}
+use Rattle.strat_array.specs.Told.{TheirPairs, TellsFound}
+use Rattle.strat_array.specs.declared.seen.Seen.{Seen}
+use Rattle.strat_array.specs.declared.seen.Seen.TheVariants as seen
+use Rattle.strat_base.proofs.ListFacts.{Among, any_among, among_in_flat}
+use Rattle.strat_base.specs.Entries.{Entry}
+use Rattle.strat_base.specs.Tree.{Parents, is_known}
+use Rattle.strat_base.specs.declared.descriptors.ArrayDesc.{ArrayDesc}
+use Rattle.strat_base.specs.declared.descriptors.LevelDesc.{LevelDesc}
+use Rattle.strat_base.specs.declared.failures.Fault.{Fault}
+use Rattle.strat_base.specs.declared.failures.Fault.TheVariants as fault
+use Rattle.strat_crash.specs.Image.{Image}
+use Rattle.strat_crash.specs.Moments.{DiskView}
+use Rattle.strat_format.specs.Arrays.{blocks_of, block_on, entries_on}
+use Rattle.strat_format.proofs.ManifestLemmas.{pass_at}
+use Rattle.strat_format.specs.Manifest.{versions_in}
+use Rattle.strat_model.specs.Answer.{Answer, as_told, accepts}
+use Rattle.strat_model.specs.Pairs.{value_of}
+use Rattle.strat_model.specs.Request.{Get}
+use Rattle.strat_model.specs.Step.{Outcome, step, found, refuses, replies_with, has_row, pairs_at}
+use Rattle.strat_model.specs.declared.replies.Refusal.TheVariants as why
+use Rattle.strat_model.specs.declared.replies.Reply.TheVariants as reply
+use Rattle.strat_promote.specs.Job.{blocks_listed}
+use Rattle.strat_recovery.proofs.AskedLemmas.{asked_same}
+use Rattle.strat_recovery.proofs.HeadLemmas.{state_with}
+use Rattle.strat_recovery.proofs.OpeningLemmas.{map_some, next_some, manifest_tests}
+use Rattle.strat_recovery.proofs.PassedLemmas.{array_tests, belonging_tests}
+use Rattle.strat_recovery.proofs.RowLemmas.{length-rows}
+use Rattle.strat_recovery.specs.Asked.{on_disk, asked}
+use Rattle.strat_recovery.specs.Head.{descriptors}
+use Rattle.strat_recovery.specs.Opening.{state_of}
+use Rattle.strat_recovery.specs.StateTable.{table_of}
+use Rattle.strat_standing.proofs.FreeLemmas.{read_stands}
+use Rattle.strat_standing.proofs.ListLemmas.{among_contained, contained_among}
+use Rattle.strat_standing.specs.Contents.{Contents, contents_state}
+use Rattle.strat_standing.specs.Standing.{LeavesContent, ContentsStand}
+use Rattle.strat_state.specs.Level.{Level}
+use Rattle.strat_state.specs.LookUp.{looked_up}
+use Rattle.strat_state.specs.Maps.{map_over}
+use Rattle.strat_state.specs.Reading.{level_zero}
+use Rattle.strat_state.specs.State.{State, versions_of, sources}
+use Rattle.strat_store.proofs.LookLawLemmas.{in_order}
+use Rattle.strat_store.proofs.LookLemmas.{still_cached}
+use Rattle.strat_store.proofs.MemoryLawLemmas.{key_unknown, key_found}
+use Rattle.strat_store.proofs.WholeLemmas.{whole_promotes, array_lawful}
+use Rattle.strat_store.specs.Applying.{is_fault, IsLookedUp, IsDamagedIn}
+use Rattle.strat_store.specs.Getting.{reply_of_get}
+use Rattle.strat_store.specs.Held.{Held, IsConsistent, StandsWith, contents_held, head_held}
+use Rattle.strat_store.specs.Looking.{levels_there, arrays_there, MayBeFound, AreInOrder, AreCachedFrom, LooksThrough, NamesNoBlock, HaveOwnIds}
+use Rattle.strat_store.specs.Memory.{Memory}
+
+-- what is told of what was found is the answer
+answer_of : (e : Option Entry) (key : List ℕ) (out : TheirPairs) (told : Seen) → TellsFound e key [] out told → as_told (reply_of_get (Ok told)) out ≡ found key (option_and_then (λ x. x.value) e)
+answer_of e key out seen.Put tells =
+    ap (as_told reply.Found) tells.4
+    ∙ ap (found key) (sym (ap (λ (o : Option Entry). option_and_then (λ x. x.value) o) tells.2 ∙ tells.3))
+answer_of e key out seen.Gone tells =
+    ap (as_told reply.Absent) tells.3
+    ∙ ap (found key) (sym (ap (λ (o : Option Entry). option_and_then (λ x. x.value) o) tells.1 ∙ tells.2))
+answer_of e key out seen.None tells =
+    ap (as_told reply.Absent) tells.1
+    ∙ ap (found key) (sym (ap (λ (o : Option Entry). option_and_then (λ x. x.value) o) tells.0))
+
+-- what a look-up through level 0 and levels says of what it found
+abbrev pub FindsIt : Option Image → Parents → List Entry → List (Option LevelDesc) → ℕ → List ℕ → Blocks → TheirPairs → Seen → Type 0
+FindsIt content parents entries levels n key c out told =
+    (f : Image) (next : ℕ) → content ≡ Some f → AreInOrder f (arrays_there levels) → HaveOwnIds (arrays_there levels) → AreCachedFrom f next (arrays_there levels) c
+    → TellsFound (looked_up (on_disk f) parents (entries ∷ []) (levels_there levels) n key) key [] out told
+
+-- unless a fault ended the look-up it is so
+pub answer_told : (content : Option Image) (parents : Parents) (entries : List Entry) (levels : List (Option LevelDesc)) (n : ℕ) (key : List ℕ) (c : Blocks) (out : TheirPairs) (r : Result Seen Fault)
+    → IfOk r (FindsIt content parents entries levels n key c out) → is_fault (reply_of_get r) ≡ false
+    → (f : Image) (next : ℕ) → content ≡ Some f → AreInOrder f (arrays_there levels) → HaveOwnIds (arrays_there levels) → AreCachedFrom f next (arrays_there levels) c
+    → as_told (reply_of_get r) out ≡ found key (asked f parents (entries ∷ []) (levels_there levels) n key)
+answer_told content parents entries levels n key c out (Ok told) tells none f next exposed ordered own cached =
+    answer_of (looked_up (on_disk f) parents (entries ∷ []) (levels_there levels) n key) key out told (tells f next exposed ordered own cached)
+answer_told content parents entries levels n key c out (Err fault.Device) tells none f next exposed ordered own cached = absurd (true≢false none)
+answer_told content parents entries levels n key c out (Err (fault.Damaged block)) tells none f next exposed ordered own cached = absurd (true≢false none)
+
+-- a block that is told of is one of the arrays'
+pub damaged_told : (content : Option Image) (m : Memory) (levels : List (Option LevelDesc)) (r : Result Seen Fault) (b : ℕ) → ((block : ℕ) → IsErrOf r (fault.Damaged block) → NamesNoBlock content (arrays_there levels) block)
+    → reply_of_get r ≡ reply.Refused (why.Damaged b) → IsDamagedIn content m levels b
+damaged_told content m levels (Ok seen.Put) b names told = absurd (cc)
+damaged_told content m levels (Ok seen.Gone) b names told = absurd (cc)
+damaged_told content m levels (Ok seen.None) b names told = absurd (cc)
+damaged_told content m levels (Err fault.Device) b names told = absurd (cc)
+damaged_told content m levels (Err (fault.Damaged block)) b names told =
+    let same : block ≡ b = cc in
+    let is = subst (λ (n : ℕ). NamesNoBlock content (arrays_there levels) n) same (names block refl) in
+    let at = any_among (λ other. eqb other b) (blocks_of is.array.extents) is.none.0 in
+    let here : at.0 ≡ b = eqb-true at.0 b at.2 in
+    record {
+      listed = among_contained (blocks_listed (arrays_there levels)) b
+          (among_in_flat (λ (a : ArrayDesc). blocks_of a.extents) (arrays_there levels) is.array b (contained_among (arrays_there levels) is.array is.one)
+          (subst (λ (n : ℕ). Among n (blocks_of is.array.extents)) here at.1));
+      bad = λ f exposed few. inl (is.none.1 f exposed);
+    }
+
+-- where blocks have entries each of them is a block
+block_read : (f : Image) (blocks : List ℕ) (entries : List Entry) (b : ℕ) → entries_on f blocks ≡ Some entries → Among b blocks → (es : List Entry) × (block_on f b ≡ Some es)
+unfolding entries_on
+block_read f [] entries b read there = absurd there
+block_read f (c ∷ blocks) entries b read (inl here) =
+    let first = next_some (λ es. option_map (λ rest. es ++ rest) (entries_on f blocks)) (block_on f c) entries read in
+    (first.0, ap (block_on f) here ∙ first.1)
+block_read f (c ∷ blocks) entries b read (inr there) =
+    let first = next_some (λ es. option_map (λ rest. es ++ rest) (entries_on f blocks)) (block_on f c) entries read in
+    let rest = map_some (λ rest. first.0 ++ rest) (entries_on f blocks) entries first.2 in
+    block_read f blocks rest.0 b rest.1 there
+
+-- so no block of arrays in order is damaged
+none_damaged : (content : Option Image) (f : Image) (arrays : List ArrayDesc) (b : ℕ) → content ≡ Some f → AreInOrder f arrays → NamesNoBlock content arrays b → ⊥
+none_damaged content f arrays b exposed ordered is =
+    let entries = ordered.each is.array is.one in
+    let at = any_among (λ other. eqb other b) (blocks_of is.array.extents) is.none.0 in
+    let here : at.0 ≡ b = eqb-true at.0 b at.2 in
+    let read = block_read f (blocks_of is.array.extents) entries.0 b entries.1 (subst (λ (n : ℕ). Among n (blocks_of is.array.extents)) here at.1) in
+    let none : None ≡ Some read.0 = sym (is.none.1 f exposed) ∙ read.1 in
+    absurd (cc)
+
+-- the arrays of a whole store may be read, have numbers of their own, and these are below the next one
+pub record MayBeRead (arrays : List ArrayDesc) (next : ℕ) : Type 0 where
+  pub within : MayBeFound arrays
+  pub own : HaveOwnIds arrays
+  pub few : (a : ArrayDesc) → Contains arrays a → a.id < next
+
+pub whole_read : (s : Held) → IsConsistent s → MayBeRead (arrays_there s.levels) s.chained.manifest.next_array
+whole_read s whole =
+    let listed : arrays_there s.levels ≡ descriptors s.chained.manifest = ap (flat_map (λ (l : LevelDesc). l.arrays)) whole.placed.listed_are in
+    let lawful = array_lawful (versions_in s.chained.manifest) s.chained.manifest.next_array s.chained.manifest.levels (pass_at (manifest_tests s.chained.manifest) 8 whole.spelled)
+    (pass_at (belonging_tests s.sb s.chained) 2 whole.belonging) in
+    record {
+      within = record { each = (whole_promotes s whole).arrays.within };
+      own = subst HaveOwnIds (sym listed) (pass_at (belonging_tests s.sb s.chained) 1 whole.belonging);
+      few = λ a of.
+          ltb-true a.id s.chained.manifest.next_array (pass_at (array_tests s.chained.manifest.next_array a) 1
+          (lawful a (contained_among (descriptors s.chained.manifest) a (subst (λ (rs : List ArrayDesc). Contains rs a) listed of))).0);
+    }
+
+-- a whole store stands with the contents that it holds
+module _ (v : DiskView) (s : Held) (levels : List Level) (whole : IsConsistent s) (w : StandsWith v s (contents_held s levels)) where
+  abbrev y : Contents
+  y = contents_held s levels
+
+  abbrev it : State
+  it = contents_state y
+
+  -- their state is that of the disk's content
+  read : state_of w.stands.content (head_held s) ≡ Some it
+  read = ap (option_map (state_with (head_held s))) (w.stands.reads w.stands.content w.stands.left).lies.arrays
+
+  listed : arrays_there s.levels ≡ descriptors s.chained.manifest
+  listed = ap (flat_map (λ (l : LevelDesc). l.arrays)) whole.placed.listed_are
+
+  ordered : AreInOrder w.stands.content (arrays_there s.levels)
+  ordered = subst (AreInOrder w.stands.content) (sym listed) (in_order w.stands.content (head_held s) it read w.stands.sound)
+
+  cached : AreCachedFrom w.stands.content s.chained.manifest.next_array (arrays_there s.levels) s.cached
+  cached = subst (λ (rs : List ArrayDesc). AreCachedFrom w.stands.content s.chained.manifest.next_array rs s.cached) (sym listed) w.cached
+
+  -- a version is known where the table has it
+  known : (n : ℕ) → is_known s.memory.parents n ≡ has_row (table_of it) n
+  known n = ap (ltb n) (ap (λ (ps : Parents). length ps) whole.memory.parents ∙ sym (length-rows (map_over (versions_of it) (sources it)) 0 (versions_of it)))
+
+  stepped : (n : ℕ) (key : List ℕ) → is_known s.memory.parents n ≡ true → (step (table_of it) (Get n key)).answer ≡ found key (value_of (pairs_at (table_of it) n) key)
+  stepped n key is =
+      ap (λ (b : Bool). (if b then replies_with (table_of it) (found key (value_of (pairs_at (table_of it) n) key)) else refuses (table_of it) why.UnknownVersion).answer) (sym (known n) ∙ is)
+
+  -- what is looked up is what the table has
+  asked_is : (n : ℕ) (key : List ℕ) → is_known s.memory.parents n ≡ true
+      → asked w.stands.content s.memory.parents (s.memory.entries ∷ []) (levels_there s.levels) n key ≡ value_of (pairs_at (table_of it) n) key
+  asked_is n key is =
+      let same = key_found w.stands.content (head_held s) it s.memory read whole.memory w.stands.sound n key in
+      let here : n < length (versions_of it) = subst (λ (ps : Parents). n < length ps) whole.memory.parents (ltb-true n (length s.memory.parents) is) in
+      ap (λ (o : Option Entry). option_and_then (λ x. x.value) (option_or o (looked_up (on_disk w.stands.content) s.memory.parents [] (levels_there s.levels) n key))) same
+      ∙ (λ i. asked w.stands.content (whole.memory.parents i) (level_zero it ∷ []) (whole.placed.listed_are i) n key)
+      ∙ asked_same w.stands.content (head_held s) it n key read w.stands.sound here
+
+  accepted : (n : ℕ) (key : List ℕ) → is_known s.memory.parents n ≡ true → accepts (step (table_of it) (Get n key)).answer.reply ≡ true
+  accepted n key is = ap (λ (a : Answer). accepts a.reply) (stepped n key is) ∙ each (value_of (pairs_at (table_of it) n) key)
+    where
+      each : (o : Option (List ℕ)) → accepts (found key o).reply ≡ true
+      each None = refl
+      each (Some value) = refl
+
+  module _ (now : DiskView) (d : Blocks) (looks : LooksThrough v now (arrays_there s.levels) s.cached d) (leaves : LeavesContent now) where
+    later : ContentsStand now y
+    later = read_stands y v now looks.disk w.stands leaves
+
+    -- the store stands as it did
+    stays : StandsWith now (record s { cached = d }) y
+    stays =
+        let may = whole_read s whole in
+        let some : Some w.stands.content ≡ Some later.content = sym w.stands.exposed ∙ sym looks.disk.same ∙ later.exposed in
+        let same : w.stands.content ≡ later.content = cc in
+        let kept = still_cached v now w.stands.content s.chained.manifest.next_array (arrays_there s.levels) s.cached d looks w.stands.exposed may.few may.own cached in
+        record {
+          stands = later;
+          held = refl;
+          cached = subst (λ (f : Image). AreCachedFrom f s.chained.manifest.next_array (descriptors s.chained.manifest) d) same
+              (subst (λ (rs : List ArrayDesc). AreCachedFrom w.stands.content s.chained.manifest.next_array rs d) listed kept);
+        }
+
+    not_there : (n : ℕ) (key : List ℕ) → is_known s.memory.parents n ≡ false → IsLookedUp now (record s { cached = d }) y (Get n key) (as_told (reply.Refused why.UnknownVersion) [])
+    not_there n key off = inl (sym (ap (λ (o : Outcome). o.answer) (key_unknown w.stands.content (head_held s) it s.memory read whole.memory n key off)), stays)
+
+    there : (n : ℕ) (key : List ℕ) (out : TheirPairs) (r : Result Seen Fault) → is_known s.memory.parents n ≡ true → IfOk r (FindsIt v.content s.memory.parents s.memory.entries s.levels n key s.cached out)
+        → OnErr r (out ≡ []) → ((b : ℕ) → IsErrOf r (fault.Damaged b) → NamesNoBlock v.content (arrays_there s.levels) b)
+        → IsLookedUp now (record s { cached = d }) y (Get n key) (as_told (reply_of_get r) out)
+    there n key out (Ok told) is tells none names =
+        let may = whole_read s whole in
+        inl (
+          answer_of (looked_up (on_disk w.stands.content) s.memory.parents (s.memory.entries ∷ []) (levels_there s.levels) n key) key out told
+              (tells w.stands.content s.chained.manifest.next_array w.stands.exposed ordered may.own cached)
+              ∙ ap (found key) (asked_is n key is) ∙ sym (stepped n key is),
+          stays,
+        )
+    there n key out (Err fault.Device) is tells none names = inr (ap (as_told (reply.Refused why.DeviceFault)) none, refl, accepted n key is)
+    there n key out (Err (fault.Damaged block)) is tells none names = absurd (none_damaged v.content w.stands.content (arrays_there s.levels) block w.stands.exposed ordered (names block refl))
+
+-- whatever contents it stands with
+module _ (v now : DiskView) (s : Held) (x : Contents) (d : Blocks) (n : ℕ) (key : List ℕ) (out : TheirPairs) (whole : IsConsistent s) (w : StandsWith v s x)
+    (looks : LooksThrough v now (arrays_there s.levels) s.cached d) (leaves : LeavesContent now) where
+  pub unknown_looked_up : is_known s.memory.parents n ≡ false → out ≡ [] → IsLookedUp now (record s { cached = d }) x (Get n key) (as_told (reply.Refused why.UnknownVersion) out)
+  unknown_looked_up off none =
+      subst (λ (z : Contents). IsLookedUp now (record s { cached = d }) z (Get n key) (as_told (reply.Refused why.UnknownVersion) out)) (sym w.held)
+      (subst (λ (ps : TheirPairs). IsLookedUp now (record s { cached = d }) (contents_held s x.levels) (Get n key) (as_told (reply.Refused why.UnknownVersion) ps)) (sym none)
+      (not_there v s x.levels whole (subst (StandsWith v s) w.held w) now d looks leaves n key off))
+
+  pub known_looked_up : (r : Result Seen Fault) → is_known s.memory.parents n ≡ true → IfOk r (FindsIt v.content s.memory.parents s.memory.entries s.levels n key s.cached out)
+      → OnErr r (out ≡ []) → ((b : ℕ) → IsErrOf r (fault.Damaged b) → NamesNoBlock v.content (arrays_there s.levels) b)
+      → IsLookedUp now (record s { cached = d }) x (Get n key) (as_told (reply_of_get r) out)
+  known_looked_up r is tells none names =
+      subst (λ (z : Contents). IsLookedUp now (record s { cached = d }) z (Get n key) (as_told (reply_of_get r) out)) (sym w.held)
+      (there v s x.levels whole (subst (StandsWith v s) w.held w) now d looks leaves n key out r is tells none names)

@@ -1,0 +1,165 @@
+-- A change that meets a full journal, which a publication empties first.
+use Rattle.std.proofs.Common.{◌≡◌, ◌+◌, ℕ, Bool, true, false, inl, inr, ltb, eqb, not, if◌then◌else◌, [], ◌∷◌, length, Some, None, refl, sym, ap, ◌∙◌, subst, arith}
+use Rattle.std.proofs.lemmas.Bool.{le-ltb}
+use Rattle.strat_array.specs.Kept.{Blocks}
+use Rattle.strat_base.specs.Change.{Change}
+use Rattle.strat_base.specs.Change as change
+use Rattle.strat_base.specs.Tree.{is_known, has_child}
+use Rattle.strat_base.specs.declared.failures.Trouble.{Trouble}
+use Rattle.strat_base.specs.declared.failures.Trouble.TheVariants as trouble
+use Rattle.strat_crash.specs.Moments.{DiskView, Passes}
+use Rattle.strat_crash.specs.Trail.{Trail}
+use Rattle.strat_crash.proofs.MomentLemmas.{since_now}
+use Rattle.strat_crash.proofs.TrailLemmas.{trail_of_one, trail_join, trail_more}
+use Rattle.strat_model.specs.Answer.{plain, accepts}
+use Rattle.strat_model.specs.Run.{position_after, fill_after, is_change}
+use Rattle.strat_model.specs.Step.{Outcome, step}
+use Rattle.strat_model.specs.Table.{Table}
+use Rattle.strat_model.specs.declared.replies.Refusal.{Refusal}
+use Rattle.strat_model.specs.declared.replies.Refusal.TheVariants as why
+use Rattle.strat_model.specs.declared.replies.Reply.{Reply}
+use Rattle.strat_model.specs.declared.replies.Reply.TheVariants as reply
+use Rattle.strat_recovery.specs.StateTable.{table_of, request_for}
+use Rattle.strat_standing.specs.Contents.{Contents, contents_state}
+use Rattle.strat_standing.specs.Standing.{ShowsTable}
+use Rattle.strat_standing.proofs.FreeLemmas.{shows_contents}
+use Rattle.strat_store.specs.Applying.{IsAppliedTo, IsPublishedAs, FollowsStep, tells_fault, table_left, refusal_of_trouble}
+use Rattle.strat_store.specs.Held.{head_held, IsConsistent, StandsWith, position_with}
+use Rattle.strat_store.specs.Memory.{Memory, refusal_of_change}
+use Rattle.strat_store.specs.Recovering.{held_of, held_after}
+use Rattle.strat_store.specs.declared.recovering.Recovered.{Recovered}
+use Rattle.strat_store.proofs.ChangingLemmas.{changes_it, state_held, acceptable, breaks}
+use Rattle.strat_store.proofs.MemoryLawLemmas.{change_refused}
+
+-- a change that is refused tells of no fault
+calm_three : (k f l : Bool) (a b c r : Refusal) → tells_fault a ≡ false → tells_fault b ≡ false → tells_fault c ≡ false
+    → (if not k then Some a else if f then Some b else if l then Some c else None) ≡ Some r → tells_fault r ≡ false
+calm_three false f l a b c r x y z e = let same : a ≡ r = cc in ap tells_fault (sym same) ∙ x
+calm_three true true l a b c r x y z e = let same : b ≡ r = cc in ap tells_fault (sym same) ∙ y
+calm_three true false true a b c r x y z e = let same : c ≡ r = cc in ap tells_fault (sym same) ∙ z
+calm_three true false false a b c r x y z e = absurd (cc)
+
+refused_calm : (m : Memory) (c : Change) (q : Refusal) → refusal_of_change m c ≡ Some q → tells_fault q ≡ false
+refused_calm m (change.Put v key value) q e =
+    calm_three (is_known m.parents v) (has_child m.parents v) (eqb m.changes m.changes_max) why.UnknownVersion why.Frozen why.ChangeLimit q refl refl refl e
+refused_calm m (change.Delete v key) q e =
+    calm_three (is_known m.parents v) (has_child m.parents v) (eqb m.changes m.changes_max) why.UnknownVersion why.Frozen why.ChangeLimit q refl refl refl e
+refused_calm m (change.Clone v) q e =
+    calm_three (is_known m.parents v) (eqb (length m.parents) m.versions_max) (eqb m.changes m.changes_max) why.UnknownVersion why.VersionLimit why.ChangeLimit q refl refl refl e
+
+-- and changes nothing
+module _ (r : Recovered) (cached : Blocks) (kept : IsConsistent (held_of r cached)) (v : DiskView) (x : Contents) (stands : StandsWith v (held_of r cached) x)
+    (c : Change) (q : Refusal) (refused : refusal_of_change r.memory c ≡ Some q) where
+  pub refused_well : IsAppliedTo v (held_of r cached) x (request_for c) (plain (reply.Refused q)) (held_after r cached (reply.Refused q))
+  refused_well =
+      let fill : ℕ = length r.journal.list in
+      let same = change_refused stands.stands.content (head_held (held_of r cached)) (contents_state x) r.memory (state_held r cached kept v x stands) kept.memory c q refused in
+      inl (record {
+        told = sym (ap (λ (o : Outcome). o.answer) same);
+        going = refused_calm r.memory c q refused;
+        after = x;
+        stands = record { stands = stands.stands; held = stands.held; cached = stands.cached };
+        place = λ i. record {
+          table = (sym same i).table;
+          fill = if accepts (sym same i).answer.reply then (if is_change (request_for c) then fill_after r.journal.mem fill else fill) else fill;
+        };
+      })
+
+  pub refused_trail : FollowsStep v v x (request_for c) (plain (reply.Refused q))
+  refused_trail =
+      trail_of_one ShowsTable v v.moment (table_of (contents_state x)) (table_left (table_of (contents_state x)) (request_for c) (reply.Refused q) ∷ []) (omega arith)
+      (λ i since. shows_contents i x stands.stands.sound (stands.stands.reads i (since_now v i since)))
+
+-- a trouble that tells of no fault is want of memory
+pub calm_short : (t : Trouble) (told : Refusal) → told ≡ refusal_of_trouble t → tells_fault told ≡ false → t ≡ trouble.NoMemory
+calm_short trouble.NoMemory told is calm = refl
+calm_short trouble.Device told is calm = let fault : true ≡ false = sym (ap tells_fault is) ∙ calm in absurd (cc)
+calm_short (trouble.Damaged b) told is calm = let fault : true ≡ false = sym (ap tells_fault is) ∙ calm in absurd (cc)
+
+-- a journal that has room for none begins anew, and so does an empty one
+begun : (mem n : ℕ) → n ≡ 0 → fill_after mem n ≡ 1
+begun mem n none = ap (fill_after mem) none ∙ by_test (ltb 0 mem)
+  where
+    by_test : (b : Bool) → (if b then 0 + 1 else 1) ≡ 1
+    by_test true = refl
+    by_test false = refl
+
+begun_anew : (mem n : ℕ) → n ≡ mem → fill_after mem n ≡ 1
+begun_anew mem n full = ap (λ (b : Bool). if b then n + 1 else 1) (le-ltb n mem (omega (arith, full)))
+
+-- how full the journal is after a change that is accepted
+filled_by : (mem fill : ℕ) (c : Change) (b : Bool) → b ≡ true → (if b then (if is_change (request_for c) then fill_after mem fill else fill) else fill) ≡ fill_after mem fill
+filled_by mem fill c b taken =
+    ap (λ (t : Bool). if t then (if is_change (request_for c) then fill_after mem fill else fill) else fill) taken
+    ∙ ap (λ (t : Bool). if t then fill_after mem fill else fill) (changes_it c)
+
+module _ (r : Recovered) (cached : Blocks) (kept : IsConsistent (held_of r cached)) (v : DiskView) (x : Contents) (stands : StandsWith v (held_of r cached) x)
+    (c : Change) (free : refusal_of_change r.memory c ≡ None) (full : length r.journal.list ≡ r.sb.mem) where
+  accepted : accepts (step (table_of (contents_state x)) (request_for c)).answer.reply ≡ true
+  accepted = acceptable r cached kept v x stands c free
+
+  -- the publication gave up
+  gives_up : (new : Recovered) (w : DiskView) (t : Trouble) → (t ≡ trouble.NoMemory → StandsWith w (held_of new cached) x) → (t ≡ trouble.NoMemory → new.journal ≡ r.journal)
+      → ((b : ℕ) → t ≡ trouble.Damaged b → ⊥)
+      → IsAppliedTo w (held_of r cached) x (request_for c) (plain (reply.Refused (refusal_of_trouble t))) (held_after new cached (reply.Refused (refusal_of_trouble t)))
+  gives_up new w trouble.NoMemory still same whole =
+      let now : StandsWith w (held_of new cached) x = still refl in
+      inr (inl (record {
+        changes = changes_it c;
+        acceptable = accepted;
+        full = omega (arith, full, kept.log.mem);
+        told = refl;
+        going = refl;
+        stands = record { stands = now.stands; held = now.held; cached = now.cached };
+        place = λ i. record { table = table_of (contents_state x); fill = length (same refl i).list };
+      }))
+  gives_up new w trouble.Device still same whole = breaks r cached kept v x stands c free new w
+  gives_up new w (trouble.Damaged b) still same whole = absurd (whole b refl)
+
+  pub told_up : (new : Recovered) (w : DiskView) (t : Trouble) (told : Refusal) → told ≡ refusal_of_trouble t → (t ≡ trouble.NoMemory → StandsWith w (held_of new cached) x)
+      → (t ≡ trouble.NoMemory → new.journal ≡ r.journal) → ((b : ℕ) → t ≡ trouble.Damaged b → ⊥)
+      → IsAppliedTo w (held_of r cached) x (request_for c) (plain (reply.Refused told)) (held_after new cached (reply.Refused told))
+  told_up new w t told is still same whole =
+      subst (λ (q : Refusal). IsAppliedTo w (held_of r cached) x (request_for c) (plain (reply.Refused q)) (held_after new cached (reply.Refused q))) (sym is)
+      (gives_up new w t still same whole)
+
+  -- or other contents that mean the same table stand, and the journal is empty
+  module _ (mid : Recovered) (u : DiskView) (held : IsConsistent (held_of mid cached)) (empty : mid.journal.list ≡ []) (p : IsPublishedAs u x (held_of mid cached)) where
+    same_place : position_after mid.journal.mem (position_with (held_of mid cached) p.after) (request_for c) ≡ position_after r.journal.mem (position_with (held_of r cached) x) (request_for c)
+    same_place =
+        let there : accepts (step (table_of (contents_state p.after)) (request_for c)).answer.reply ≡ true =
+        ap (λ (t : Table). accepts (step t (request_for c)).answer.reply) p.table ∙ accepted in
+        let none : length mid.journal.list ≡ 0 = ap length empty in
+        let all : length r.journal.list ≡ r.journal.mem = full ∙ sym kept.log.mem in
+        let fills =
+        filled_by mid.journal.mem (length mid.journal.list) c _ there ∙ begun mid.journal.mem (length mid.journal.list) none
+        ∙ sym (filled_by r.journal.mem (length r.journal.list) c _ accepted ∙ begun_anew r.journal.mem (length r.journal.list) all) in
+        λ i. record { table = (step (p.table i) (request_for c)).table; fill = fills i }
+
+    -- the change is carried out on these
+    pub renewed : (new : Recovered) (w : DiskView) (told : Reply) → IsAppliedTo w (held_of mid cached) p.after (request_for c) (plain told) (held_after new cached told)
+        → IsAppliedTo w (held_of r cached) x (request_for c) (plain told) (held_after new cached told)
+    renewed new w told (inl a) = inl (record {
+      told = a.told ∙ ap (λ (t : Table). (step t (request_for c)).answer) p.table;
+      going = a.going;
+      after = a.after;
+      stands = a.stands;
+      place = a.place ∙ same_place;
+    })
+    renewed new w told (inr (inl short)) = absurd (omega (arith, short.full, held.log.mem, held.lawful.mem_least, ap length empty))
+    renewed new w told (inr (inr broken)) = inr (inr (record { reached = broken.reached; acceptable = accepted; told = broken.told; spent = broken.spent }))
+
+    pub renewed_trail : (w : DiskView) (told : Reply) → Passes u w → Trail ShowsTable u v.moment (table_of (contents_state x) ∷ []) 0 → FollowsStep u w p.after (request_for c) (plain told)
+        → FollowsStep v w x (request_for c) (plain told)
+    renewed_trail w told passes before after =
+        let n : ℕ = if accepts told then 1 else 0 in
+        let t : Table = table_of (contents_state x) in
+        let more : Trail ShowsTable w u.moment (t ∷ table_left t (request_for c) told ∷ []) n =
+        subst (λ (s : Table). Trail ShowsTable w u.moment (s ∷ table_left s (request_for c) told ∷ []) n) p.table after in
+        let sum : 0 + n ≡ n = omega arith in
+        subst (λ (k : ℕ). Trail ShowsTable w v.moment (t ∷ table_left t (request_for c) told ∷ []) k) sum
+        (trail_join ShowsTable u w v.moment [] (table_left t (request_for c) told ∷ []) t n passes before more)
+
+-- where the publication gave up each image shows the table of before
+pub trail_so_far : (v w : DiskView) (x : Contents) (after : Table) → Trail ShowsTable w v.moment (table_of (contents_state x) ∷ []) 0 → Trail ShowsTable w v.moment (table_of (contents_state x) ∷ after ∷ []) 0
+trail_so_far v w x after trail = trail_more ShowsTable w v.moment (table_of (contents_state x) ∷ []) (after ∷ []) 0 trail

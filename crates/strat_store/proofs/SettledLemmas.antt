@@ -1,0 +1,354 @@
+-- A publication of a store: what stands before it, between its calls and after it.
+use Rattle.std.proofs.Common.{◌≡◌, ◌≤◌, ◌+◌, ◌*◌, ℕ, Bool, true, false, leb, eqb, ◌&&◌, ◌||◌, inl, inr, ◌⊎◌, List, [], ◌∷◌, ◌++◌, length, length-append, Contains, flat_map, fold, map, Option, None, Some, refl, sym, ap, ◌∙◌, subst, arith, true≢false}
+use Rattle.std.specs.List.{list_all, sum_by}
+use Rattle.std.specs.Option.{option_to_list, option_map}
+use Rattle.std.proofs.lemmas.Bool.{and_parts, leb-true, eqb-true, le-ltb}
+use Rattle.std.proofs.lemmas.List.Sums.{sum_by-cons, sum_by-append}
+use Rattle.std.proofs.lemmas.Option.{slice_get_within, get_or_from_slice_get}
+use Rattle.strat_array.specs.Kept.{Blocks}
+use Rattle.strat_base.proofs.ListFacts.{Among, all_at, among_flat, among_in_flat, among_split, among_right, range_among}
+use Rattle.strat_base.specs.Change.{Change, Put, Delete, Clone}
+use Rattle.strat_base.specs.Entries.{Entry, is_ascending, lead_entries}
+use Rattle.strat_base.specs.Tree.{Parents}
+use Rattle.strat_base.specs.declared.descriptors.ArrayDesc.{ArrayDesc}
+use Rattle.strat_base.specs.declared.descriptors.LevelDesc.{LevelDesc}
+use Rattle.strat_crash.proofs.BlockLemmas.{blocks_trans, blocks_wider}
+use Rattle.strat_crash.proofs.ImageLemmas.{window_same}
+use Rattle.strat_crash.proofs.TrailLemmas.{trail_join}
+use Rattle.strat_crash.specs.Blocks.{KeepsBlock, TearsBlocks, AgreeOn}
+use Rattle.strat_crash.specs.Image.{Image}
+use Rattle.strat_crash.specs.Moments.{DiskView, Exposes, Passes}
+use Rattle.strat_crash.specs.Trail.{Trail}
+use Rattle.strat_format.specs.Arrays.{all_some, blocks_of, block_on, entries_on}
+use Rattle.strat_format.specs.Block.{block_in}
+use Rattle.strat_format.specs.Chained.{Chained}
+use Rattle.strat_format.specs.Layout.{first_free, other_region}
+use Rattle.strat_format.specs.Manifest.{is_lawful_manifest}
+use Rattle.strat_format.specs.SuperBlock.{Super}
+use Rattle.strat_format.proofs.ManifestLemmas.{pass_at}
+use Rattle.strat_plan.proofs.ListLemmas.{among_map}
+use Rattle.strat_promote.proofs.LeadLemmas.{read_whole}
+use Rattle.strat_promote.specs.Job.{arrays_to, blocks_listed}
+use Rattle.strat_promote.specs.Leads.{leads_in, misfit_in}
+use Rattle.strat_plan.specs.Groups.{grouped_entries}
+use Rattle.strat_recovery.proofs.OpeningLemmas.{map_some, next_some}
+use Rattle.strat_recovery.proofs.PassedLemmas.{belonging_tests}
+use Rattle.strat_recovery.specs.Head.{Head, head_versions, head_updates, parent_numbers, descriptors}
+use Rattle.strat_recovery.specs.Opened.{array_on, level_on}
+use Rattle.strat_recovery.specs.Opening.{belongs}
+use Rattle.strat_recovery.specs.StateTable.{table_of}
+use Rattle.strat_standing.proofs.FreeLemmas.{free_stands, free_trail}
+use Rattle.strat_standing.proofs.ListLemmas.{contained_among, among_contained}
+use Rattle.strat_standing.proofs.TableLemmas.{same_table}
+use Rattle.strat_standing.specs.Contents.{Contents, contents_state, named_blocks}
+use Rattle.strat_standing.specs.Next.{arrays_made}
+use Rattle.strat_standing.specs.Standing.{AreFree, LeavesContent, ShowsTable, ContentsStand}
+use Rattle.strat_state.specs.Level.{TaggedArray, Level, own_leads, least_live, is_distinct}
+use Rattle.strat_state.specs.Sound.{IsSound, is_described, has_ascending_entries}
+use Rattle.strat_state.specs.State.{State, versions_of, tree_after}
+use Rattle.strat_store.proofs.LookLawLemmas.{made_of}
+use Rattle.strat_store.proofs.MemoryLawLemmas.{memory_emptied}
+use Rattle.strat_store.proofs.PromotingLemmas.{to_front, array_there}
+use Rattle.strat_store.proofs.SettlingLemmas.{listed_arrays, named_there}
+use Rattle.strat_store.proofs.WholeLemmas.{leads_summed, whole_promotes}
+use Rattle.strat_store.specs.Applying.{IsDamagedIn, IsPublishedAs}
+use Rattle.strat_store.specs.Held.{Held, ArePlaced, IsConsistent, StandsWith, contents_held, head_held}
+use Rattle.strat_store.specs.Looking.{AreCachedFrom, arrays_there}
+use Rattle.strat_store.specs.Memory.{Memory, IsMemoryOf, emptied}
+use Rattle.strat_store.specs.Promoting.{HaveFewLeads}
+use Rattle.strat_store.specs.Publishing.{is_in_front}
+use Rattle.strat_store.specs.Settling.{held_next, contents_next, MayFollow, WritesBeside, IsReadied}
+
+-- memory in which the next level 0 stands ready, or none does
+pub consistent_ready : (s : Held) (o : Option ℕ) (m : Memory) → m ≡ record s.memory { ready = o } → IsConsistent s → IsConsistent (record s { memory = m })
+consistent_ready s o m is whole =
+    let of : IsMemoryOf (head_held s) (record s.memory { ready = o }) = record {
+      changes_max = whole.memory.changes_max;
+      versions_max = whole.memory.versions_max;
+      parents = whole.memory.parents;
+      updates = whole.memory.updates;
+      changes = whole.memory.changes;
+      entries = whole.memory.entries;
+      room = whole.memory.room;
+    } in
+    record {
+      slot = whole.slot;
+      lawful = whole.lawful;
+      spelled = whole.spelled;
+      belonging = whole.belonging;
+      log = whole.log;
+      accepted = whole.accepted;
+      memory = subst (λ (k : Memory). IsMemoryOf (head_held s) k) (sym is) of;
+      placed = whole.placed;
+    }
+
+pub stands_ready : (v : DiskView) (s : Held) (x : Contents) (m : Memory) → StandsWith v s x → StandsWith v (record s { memory = m }) x
+stands_ready v s x m w = record { stands = w.stands; held = w.held; cached = w.cached }
+
+pub damaged_ready : (content : Option Image) (m k : Memory) (o : Option ℕ) (levels : List (Option LevelDesc)) (b : ℕ) → k ≡ record m { ready = o } → IsDamagedIn content k levels b → IsDamagedIn content m levels b
+damaged_ready content m k o levels b is bad =
+    let here : IsDamagedIn content (record m { ready = o }) levels b = subst (λ (n : Memory). IsDamagedIn content n levels b) is bad in
+    record { listed = here.listed; bad = λ f exposed few. here.bad f exposed few }
+
+-- while free blocks are written
+module _ (v w : DiskView) (s : Held) (x : Contents) (stands : StandsWith v s x) (beside : WritesBeside v w s) where
+  free_here : AreFree beside.free x
+  free_here =
+      let held : AreFree beside.free (contents_held s x.levels) = record { behind = beside.beside.behind; unnamed = beside.beside.unnamed } in
+      subst (λ (y : Contents). AreFree beside.free y) (sym stands.held) held
+
+  pub trail_beside : Trail ShowsTable w v.moment (table_of (contents_state x) ∷ []) 0
+  trail_beside = free_trail beside.free x free_here v w beside.tears stands.stands
+
+-- a block that was kept is read as before
+block_kept : (f g : Image) (b : ℕ) → KeepsBlock b f g → block_on g b ≡ block_on f b
+block_kept f g b keeps = ap block_in (window_same f g (4096 * b) 4096 keeps)
+
+-- the blocks of arrays that are cached, where others may be new and the blocks of the rest were kept
+cached_on : (f g : Image) (next later : ℕ) (arrays after : List ArrayDesc) (c : Blocks) → next ≤ later
+    → ((a : ArrayDesc) → Contains after a → (next ≤ a.id) ⊎ (Contains arrays a × ((b : ℕ) → Contains (blocks_of a.extents) b → KeepsBlock b f g)))
+    → AreCachedFrom f next arrays c → AreCachedFrom g later after c
+cached_on f g next later arrays after c le each cached = record {
+  old = λ k x of. let lt = cached.old k x of in omega (arith, lt, le);
+  same = λ a index block x there of at. elim (each a there) [
+    | inl new ↦ absurd (let lt = cached.old (a.id, index) x of in omega (arith, lt, new))
+    | inr was ↦
+        let here : Contains (blocks_of a.extents) block = (index, slice_get_within (blocks_of a.extents) index block at, get_or_from_slice_get (blocks_of a.extents) index block block at) in
+        block_kept f g block (was.1 block here) ∙ cached.same a index block x was.0 of at
+  ];
+}
+
+-- a block of an array that a manifest names is named
+array_named : (s : Held) (a : ArrayDesc) (b : ℕ) → Contains (descriptors s.chained.manifest) a → Contains (blocks_of a.extents) b → Contains (named_blocks (contents_held s [])) b
+array_named s a b of here =
+    let arrays : List ArrayDesc = descriptors s.chained.manifest in
+    among_contained (named_blocks (contents_held s [])) b
+    (among_right s.chained.blocks (blocks_listed arrays) b (among_in_flat (λ (d : ArrayDesc). blocks_of d.extents) arrays a b (contained_among arrays a of) (contained_among (blocks_of a.extents) b here)))
+
+-- memory ran out after some blocks were written
+pub stands_beside : (v w : DiskView) (s : Held) (x : Contents) → StandsWith v s x → WritesBeside v w s → LeavesContent w → StandsWith w s x
+stands_beside v w s x stands beside leaves =
+    let now : ContentsStand w x = free_stands beside.free x (free_here v w s x stands beside) v w beside.tears stands.stands leaves in
+    record {
+      stands = now;
+      held = stands.held;
+      cached = cached_on stands.stands.content now.content s.chained.manifest.next_array s.chained.manifest.next_array (descriptors s.chained.manifest) (descriptors s.chained.manifest) s.cached
+          (omega arith) (λ a of. inr (of, λ b here.
+          beside.tears.content stands.stands.content now.content stands.stands.exposed now.exposed b (beside.beside.unnamed b (array_named s a b of here)))) stands.cached;
+    }
+
+-- the blocks of the arrays are as they were
+pub arrays_kept : (v w : DiskView) (s : Held) → WritesBeside v w s → ArePlaced s.chained.manifest.levels s.levels → (f g : Image) → Exposes v f → Exposes w g → AgreeOn (blocks_listed (arrays_there s.levels)) f g
+arrays_kept v w s beside placed f g was now b of = beside.tears.content f g was now b (beside.beside.unnamed b (named_there s placed b of))
+
+-- a trail and another of the same table
+pub one_trail : {T : Type 0} (shows : Image → T → Type 0) (mid new : DiskView) (start : ℕ) (x : T) → Passes mid new → Trail shows mid start (x ∷ []) 0 → Trail shows new mid.moment (x ∷ []) 0 → Trail shows new start (x ∷ []) 0
+one_trail shows mid new start x time a b = trail_join shows mid new start [] [] x 0 time a b
+
+-- what a store holds lies behind the journal
+named_behind : (s : Held) → IsConsistent s → (b : ℕ) → Contains (named_blocks (contents_held s [])) b → first_free s.sb.mem ≤ b
+named_behind s whole b of =
+    let blocks : List ℕ = named_blocks (contents_held s []) in
+    let own = and_parts (is_distinct blocks) (list_all (λ k. leb (first_free s.sb.mem) k) blocks) (pass_at (belonging_tests s.sb s.chained) 0 whole.belonging) in
+    leb-true (first_free s.sb.mem) b (all_at (λ k. leb (first_free s.sb.mem) k) b blocks own.1 (contained_among blocks b of))
+
+or_false : (a b : Bool) → (a || b) ≡ false → (a ≡ false) × (b ≡ false)
+or_false false b e = (refl, e)
+or_false true b e = absurd (true≢false e)
+
+-- an array of the level that was made
+made_among : (made : Option LevelDesc) (level : LevelDesc) (a : ArrayDesc) → Among level (option_to_list made) → Among a level.arrays → Among a (arrays_made made)
+made_among None level a among there = absurd among
+made_among (Some l) level a (inl here) there = subst (λ (d : LevelDesc). Among a d.arrays) here there
+made_among (Some l) level a (inr none) there = absurd none
+
+-- the arrays of the next contents are new, or the old ones have them
+module _ (w : DiskView) (s : Held) (x : Contents) (held : x ≡ contents_held s x.levels) (sb : Super) (chained : Chained) (ready : IsReadied w s x sb chained) where
+  next_arrays : (a : ArrayDesc) → Among a (descriptors chained.manifest) → (s.chained.manifest.next_array ≤ a.id) ⊎ Among a (descriptors s.chained.manifest)
+  next_arrays a among =
+      let c = ready.computed in
+      let next = c.next.next in
+      let arrays : LevelDesc → List ArrayDesc = λ l. l.arrays in
+      let at = among_flat arrays (option_to_list c.made ++ c.kept) a (subst (λ (ls : List LevelDesc). Among a (flat_map arrays ls)) next.levels_are among) in
+      elim (among_split (option_to_list c.made) c.kept at.0 at.1) [
+        | inl made ↦
+            let ids : List ℕ = map (λ (d : ArrayDesc). d.id) (arrays_made c.made) in
+            let there : Among a.id ids = among_map (λ (d : ArrayDesc). d.id) (arrays_made c.made) a (made_among c.made at.0 a made at.2) in
+            let low = (range_among x.chained.manifest.next_array (length (arrays_made c.made)) a.id (subst (Among a.id) c.next.fresh.numbered there)).0 in
+            let same : x.chained.manifest.next_array ≡ s.chained.manifest.next_array = ap (λ (y : Contents). y.chained.manifest.next_array) held in
+            inl (omega (arith, low, same))
+        | inr kept ↦
+            let was : Among a (flat_map arrays (c.taken ++ c.kept)) = among_in_flat arrays (c.taken ++ c.kept) at.0 a (among_right c.taken c.kept at.0 kept) at.2 in
+            let levels : c.taken ++ c.kept ≡ s.chained.manifest.levels = sym next.levels_were ∙ ap (λ (y : Contents). y.chained.manifest.levels) held in
+            inr (subst (λ (ls : List LevelDesc). Among a (flat_map arrays ls)) levels was)
+      ]
+
+  next_later : s.chained.manifest.next_array ≤ chained.manifest.next_array
+  next_later =
+      let more = ready.computed.next.next.next_array in
+      let same : x.chained.manifest.next_array ≡ s.chained.manifest.next_array = ap (λ (y : Contents). y.chained.manifest.next_array) held in
+      omega (arith, more, same)
+
+-- once the next contents stand, the store stands with them
+pub published_as : (v w u : DiskView) (s : Held) (x : Contents) (sb : Super) (chained : Chained) (levels : List (Option LevelDesc)) → IsConsistent s → StandsWith v s x → WritesBeside v w s
+    → (ready : IsReadied w s x sb chained) → TearsBlocks (is_in_front s.sb.mem) w u → ContentsStand u (contents_next s sb chained ready.levels) → IsPublishedAs u x (held_next s sb chained levels)
+published_as v w u s x sb chained levels whole stands beside ready front now =
+    let either : ℕ → Bool = λ b. beside.free b || is_in_front s.sb.mem b in
+    let torn : TearsBlocks either v u =
+    blocks_trans either v w u (blocks_wider beside.free either v w (λ b e. (or_false (beside.free b) (is_in_front s.sb.mem b) e).0) beside.tears)
+    (blocks_wider (is_in_front s.sb.mem) either w u (λ b e. (or_false (beside.free b) (is_in_front s.sb.mem b) e).1) front) in
+    let f : Image = stands.stands.content in
+    record {
+      after = contents_next s sb chained ready.levels;
+      stands = record {
+        stands = now;
+        held = refl;
+        cached = cached_on f now.content s.chained.manifest.next_array chained.manifest.next_array (descriptors s.chained.manifest) (descriptors chained.manifest) s.cached
+            (next_later w s x stands.held sb chained ready)
+            (λ a of. elim (next_arrays w s x stands.held sb chained ready a (contained_among (descriptors chained.manifest) a of)) [
+              | inl new ↦ inl new
+              | inr was ↦
+                  let there : Contains (descriptors s.chained.manifest) a = among_contained (descriptors s.chained.manifest) a was in
+                  inr (there, λ b here.
+                  let named = array_named s a b there here in
+                  let taken = beside.beside.unnamed b named in
+                  let behind = le-ltb b (first_free s.sb.mem) (named_behind s whole b named) in
+                  torn.content f now.content stands.stands.exposed now.exposed b (λ i. taken i || behind i))
+            ])
+            stands.cached;
+      };
+      table = same_table (contents_state x) (contents_state (contents_next s sb chained ready.levels)) ready.computed.says;
+    }
+
+-- the versions of a head have the parents that their numbers say
+grown_from : (ps : List ℕ) (journal : List Change) → (qs : List ℕ) × (fold tree_after (None ∷ map (λ p. Some p) ps) journal ≡ None ∷ map (λ p. Some p) qs)
+grown_from ps [] = (ps, refl)
+grown_from ps (Put v key value ∷ journal) = grown_from ps journal
+grown_from ps (Delete v key ∷ journal) = grown_from ps journal
+grown_from ps (Clone v ∷ journal) =
+    let more : None ∷ (map (λ p. Some p) ps ++ Some v ∷ []) ≡ None ∷ map (λ p. Some p) (ps ++ v ∷ []) = ap (λ (rest : Parents). None ∷ rest) (mapped ps v) in
+    let rest = grown_from (ps ++ v ∷ []) journal in
+    (rest.0, ap (λ (start : Parents). fold tree_after start journal) more ∙ rest.1)
+  where
+    mapped : (ns : List ℕ) (n : ℕ) → map (λ (p : ℕ). Some p) ns ++ Some n ∷ [] ≡ map (λ p. Some p) (ns ++ n ∷ [])
+    mapped [] n = refl
+    mapped (m ∷ ns) n = ap (λ (rest : Parents). Some m ∷ rest) (mapped ns n)
+
+numbers_of : (ns : List ℕ) → parent_numbers (map (λ p. Some p) ns) ≡ ns
+numbers_of [] = refl
+numbers_of (n ∷ ns) = ap (λ (rest : List ℕ). n ∷ rest) (numbers_of ns)
+
+versions_back : (h : Head) → None ∷ map (λ p. Some p) (parent_numbers (head_versions h)) ≡ head_versions h
+versions_back h =
+    let grown = grown_from h.manifest.parents h.journal in
+    ap (λ (ps : Parents). None ∷ map (λ p. Some p) (parent_numbers ps)) grown.1 ∙ ap (λ (ns : List ℕ). None ∷ map (λ p. Some p) ns) (numbers_of grown.0) ∙ sym grown.1
+
+-- what a store holds after a publication is consistent
+pub consistent_next : (s : Held) (sb : Super) (chained : Chained) (levels : List (Option LevelDesc)) → IsConsistent s → MayFollow s sb chained → is_lawful_manifest chained.manifest ≡ true → belongs sb chained ≡ true
+    → ArePlaced chained.manifest.levels levels → IsConsistent (held_next s sb chained levels)
+consistent_next s sb chained levels whole follows spelled belonging placed =
+    let h : Head = head_held s in
+    let new : Head = record { sb = sb; manifest = chained.manifest; journal = [] } in
+    let versions : head_versions new ≡ head_versions h =
+    ap (λ (ns : List ℕ). None ∷ map (λ p. Some p) ns) (follows.parents ∙ ap parent_numbers whole.memory.parents) ∙ versions_back h in
+    let updates : head_updates new ≡ head_updates h = let one = follows.updates in let two = whole.memory.updates in omega (arith, one, two) in
+    let changes : chained.manifest.changes + 0 ≡ h.manifest.changes + length h.journal = let one = follows.changes in let two = whole.memory.changes in omega (arith, one, two) in
+    record {
+      slot = omega arith;
+      lawful = follows.lawful;
+      spelled = spelled;
+      belonging = belonging;
+      log = record {
+        mem = whole.log.mem ∙ sym follows.mem;
+        active = ap other_region whole.log.active ∙ sym follows.region;
+        batch = whole.log.batch;
+        few = omega arith;
+      };
+      accepted = refl;
+      memory = subst (λ (n : ℕ). IsMemoryOf new (emptied n s.memory)) follows.mem
+          (memory_emptied h new s.memory whole.memory refl follows.changes_max follows.versions_max versions updates changes);
+      placed = placed;
+    }
+
+-- each block of entries that are read is read
+none_unread : (f : Image) (blocks : List ℕ) (entries : List Entry) (b : ℕ) → entries_on f blocks ≡ Some entries → Among b blocks → block_on f b ≡ None → ⊥
+unfolding entries_on
+none_unread f [] entries b on among none = absurd among
+none_unread f (c ∷ blocks) entries b on among none =
+    let one = next_some (λ es. option_map (λ rest. es ++ rest) (entries_on f blocks)) (block_on f c) entries on in
+    let rest = map_some (λ es. one.0 ++ es) (entries_on f blocks) entries one.2 in
+    elim among [
+      | inl here ↦ let e : None ≡ Some one.0 = sym none ∙ ap (block_on f) here ∙ one.1 in cc
+      | inr there ↦ none_unread f blocks rest.0 b rest.1 there none
+    ]
+
+-- the arrays of a sound state are read whole, in order, and have as many leads as their descriptors say
+module _ (f : Image) (levels : List LevelDesc) (s : State) (read : all_some (level_on f) levels ≡ Some s.levels) (sound : IsSound s) (a : ArrayDesc) (among : Among a (flat_map (λ (l : LevelDesc). l.arrays) levels)) where
+  whole_array : (entries : List Entry) × (entries_on f (blocks_of a.extents) ≡ Some entries) × (is_ascending entries ≡ true) × (length (lead_entries a.versions entries) ≡ a.leads)
+  whole_array =
+      let at = among_flat (λ (l : LevelDesc). l.arrays) levels a among in
+      let level = made_of (level_on f) levels s.levels at.0 read at.1 in
+      let arrays = map_some (λ xs. record { number = at.0.number; horizon = at.0.horizon; arrays = xs }) (all_some (array_on f) at.0.arrays) level.0 level.1 in
+      let array = made_of (array_on f) at.0.arrays arrays.0 a arrays.1 at.2 in
+      let entries = map_some (λ entries. record { id = a.id; tag = a.versions; content = entries; entries = a.entries; leads = a.leads; least = a.least }) (entries_on f (blocks_of a.extents)) array.0 array.1 in
+      let there : Among array.0 level.0.arrays = subst (λ (l : Level). Among array.0 l.arrays) arrays.2 array.2 in
+      let up = all_at has_ascending_entries array.0 level.0.arrays (all_at (λ (l : Level). list_all has_ascending_entries l.arrays) level.0 s.levels sound.ascending level.2) there in
+      let told = all_at (is_described s) array.0 level.0.arrays (all_at (λ (l : Level). list_all (is_described s) l.arrays) level.0 s.levels sound.described level.2) there in
+      let x : TaggedArray = array.0 in
+      let both = (and_parts (eqb x.entries (length x.content) && eqb x.leads (length (own_leads x))) (eqb x.least (least_live (versions_of s) x)) told).0 in
+      let count = eqb-true x.leads (length (own_leads x)) (and_parts (eqb x.entries (length x.content)) (eqb x.leads (length (own_leads x))) both).1 in
+      (
+        entries.0,
+        entries.1,
+        ap (λ (y : TaggedArray). is_ascending y.content) entries.2 ∙ up,
+        ap (λ (y : TaggedArray). length (own_leads y)) entries.2 ∙ sym count ∙ ap (λ (y : TaggedArray). y.leads) (sym entries.2),
+      )
+
+  leads_counted : length (leads_in f a) ≡ a.leads
+  leads_counted =
+      let one = whole_array in
+      ap (λ (es : List Entry). length (lead_entries a.versions es)) (read_whole f None (blocks_of a.extents) one.0 one.1 one.2).0 ∙ one.3
+
+  no_misfit_in : misfit_in f a ≡ None
+  no_misfit_in = let one = whole_array in (read_whole f None (blocks_of a.extents) one.0 one.1 one.2).1
+
+leads_summed_up : (f : Image) (arrays : List ArrayDesc) → ((a : ArrayDesc) → Among a arrays → length (leads_in f a) ≡ a.leads)
+    → length (grouped_entries (map (leads_in f) arrays)) ≡ sum_by (λ (a : ArrayDesc). a.leads) arrays
+leads_summed_up f [] each = refl
+leads_summed_up f (a ∷ arrays) each =
+    let rest = leads_summed_up f arrays (λ d among. each d (inr among)) in
+    let here = each a (inl refl) in
+    let both = length-append (leads_in f a) (grouped_entries (map (leads_in f) arrays)) in
+    let cons = sum_by-cons (λ (d : ArrayDesc). d.leads) a arrays in
+    omega (arith, rest, here, both, cons)
+
+-- no store that stands on its disk has a damaged block
+pub none_damaged : (v : DiskView) (s : Held) (x : Contents) (b : ℕ) → IsConsistent s → StandsWith v s x → IsDamagedIn v.content s.memory s.levels b → ⊥
+none_damaged v s x b whole stands bad =
+    let f : Image = stands.stands.content in
+    let read = (stands.stands.reads f stands.stands.left).lies.arrays in
+    let arrays : List ArrayDesc = arrays_there s.levels in
+    let same : arrays ≡ descriptors x.chained.manifest = listed_arrays s whole.placed ∙ sym (ap (λ (y : Contents). descriptors y.chained.manifest) stands.held) in
+    let at : (a : ArrayDesc) → Among a arrays → Among a (descriptors x.chained.manifest) = λ a of. subst (λ (rs : List ArrayDesc). Among a rs) same of in
+    let levels : List LevelDesc = x.chained.manifest.levels in
+    let st : State = contents_state x in
+    let few : HaveFewLeads f s.memory s.levels = λ j.
+    let front = to_front s.levels j in
+    let part : List ArrayDesc = arrays_to s.levels j in
+    let leads = leads_summed_up f part (λ a of. leads_counted f levels st read stands.stands.sound a (at a (contained_among arrays a (array_there s.levels j a (among_contained part a of))))) in
+    let both = length-append s.memory.entries (grouped_entries (map (leads_in f) part)) in
+    let two = sum_by-append (λ (d : ArrayDesc). d.leads) part front.0 in
+    let all = ap (λ (rs : List ArrayDesc). sum_by (λ (d : ArrayDesc). d.leads) rs) front.1 in
+    let sums = leads_summed s.levels (length s.memory.entries) whole.placed.count in
+    let most = (whole_promotes s whole).few in
+    omega (arith, leads, both, two, all, sums, most) in
+    elim (bad.bad f stands.stands.exposed few) [
+      | inl none ↦
+          let one = among_flat (λ (a : ArrayDesc). blocks_of a.extents) arrays b (contained_among (blocks_listed arrays) b bad.listed) in
+          let whole_one = whole_array f levels st read stands.stands.sound one.0 (at one.0 one.1) in
+          none_unread f (blocks_of one.0.extents) whole_one.0 b whole_one.1 one.2 none
+      | inr input ↦
+          let fit = no_misfit_in f levels st read stands.stands.sound input.array (at input.array (contained_among arrays input.array input.one)) in
+          let e : None ≡ Some b = sym fit ∙ input.misfit in
+          cc
+    ]

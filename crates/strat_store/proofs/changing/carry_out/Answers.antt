@@ -1,0 +1,52 @@
+use Rattle.std.proofs.Common.{refl, arith}
+use Rattle.strat_store.specs.Recovering.{held_of, empty_cache}
+use Rattle.strat_store.proofs.ChangingLemmas.{log_of, kept_more, breaks, takes, step_trail, told_trail, carries, finds_none}
+use Rattle.strat_store.proofs.MemoryLawLemmas.{room_for}
+use Rattle.strat_store.specs.Held.{head_held}
+use Rattle.strat_store.proofs.changing.carry_out.Goals as goal
+
+pub log_change-requires-clause-none : goal.log_change-requires-clause-none
+log_change-requires-clause-none g c = (c.requires.kept (empty_cache 0)).log.batch
+
+pub log_change-requires-clause-room : goal.log_change-requires-clause-room
+log_change-requires-clause-room g c = omega (arith, c.requires.room, (c.requires.kept (empty_cache 0)).log.mem)
+
+pub returns-in_default-clause-ok : goal.returns-in_default-clause-ok
+returns-in_default-clause-ok g c x cached stands =
+    breaks c.args.held.now cached (c.requires.kept cached) (g.D.Disk.view c.args.disk.now) x stands _ c.requires.none
+    (record c.args.held.now { journal = c.log_change.new.journal }) (g.D.Disk.view c.log_change.new.disk)
+
+pub returns-in_default-clause-trail : goal.returns-in_default-clause-trail
+returns-in_default-clause-trail g c x cached stands =
+    let kept = c.requires.kept cached in
+    step_trail c.args.held.now cached kept (g.D.Disk.view c.args.disk.now) x stands _ c.requires.none c.requires.room (g.D.Disk.view c.log_change.new.disk) 0
+    (c.log_change.ensures.trail x stands.stands (log_of c.args.held.now cached kept x stands.held)
+    (takes c.args.held.now cached kept (g.D.Disk.view c.args.disk.now) x stands _ c.requires.none c.requires.room))
+
+pub take-requires-clause-room : goal.take-requires-clause-room
+take-requires-clause-room g c =
+    let kept = c.requires.kept (empty_cache 0) in
+    room_for (head_held (held_of c.args.held.now (empty_cache 0))) c.args.held.now.memory kept.memory _ c.requires.room
+
+pub returns-clause-ok : goal.returns-clause-ok
+returns-clause-ok g c x cached stands =
+    let kept = c.requires.kept cached in
+    let of = log_of c.args.held.now cached kept x stands.held in
+    carries c.args.held.now cached kept (g.D.Disk.view c.args.disk.now) x stands _ c.requires.none c.requires.room (g.D.Disk.view c.log_change.new.disk) c.log_change.new.journal c.take.new.self c.take.result
+    c.in-Ok.ensures.ok c.take.ensures.found
+    (c.in-Ok.ensures.kept x stands.stands of (takes c.args.held.now cached kept (g.D.Disk.view c.args.disk.now) x stands _ c.requires.none c.requires.room)).1
+    (c.in-Ok.ensures.content x stands.stands of)
+
+pub returns-clause-trail : goal.returns-clause-trail
+returns-clause-trail g c x cached stands =
+    let kept = c.requires.kept cached in
+    told_trail c.args.held.now cached kept (g.D.Disk.view c.args.disk.now) x stands _ c.requires.none c.requires.room (g.D.Disk.view c.log_change.new.disk) c.take.result c.take.ensures.found
+    (c.in-Ok.ensures.kept x stands.stands (log_of c.args.held.now cached kept x stands.held)
+    (takes c.args.held.now cached kept (g.D.Disk.view c.args.disk.now) x stands _ c.requires.none c.requires.room)).0
+
+pub returns-clause-kept : goal.returns-clause-kept
+returns-clause-kept g c calm cached =
+    kept_more c.args.held.now cached (c.requires.kept cached) _ c.requires.none c.requires.room c.log_change.new.journal c.take.new.self c.in-Ok.ensures.ok c.take.ensures.ok
+
+pub returns-clause-same : goal.returns-clause-same
+returns-clause-same g c = (refl, finds_none c.args.held.now.memory _ c.take.result c.take.ensures.found)

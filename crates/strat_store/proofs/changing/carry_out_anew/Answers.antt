@@ -1,0 +1,47 @@
+use Rattle.std.proofs.Common.{◌≡◌, length, Err, ap, arith}
+use Rattle.std.specs.Prelude.{IsErrOf}
+use Rattle.strat_base.specs.declared.failures.Trouble.{Trouble}
+use Rattle.strat_store.specs.Recovering.{empty_cache}
+use Rattle.strat_store.proofs.RenewingLemmas.{calm_short, told_up, renewed, renewed_trail, trail_so_far}
+use Rattle.strat_store.proofs.changing.carry_out_anew.Goals as goal
+
+-- a trouble that came is the trouble of the call
+handed : {T : Type 0} {t u : Trouble} → t ≡ u → IsErrOf {T = T} (Err t) u
+handed same = λ i. Err (same i)
+
+pub publish-requires-clause-logged : goal.publish-requires-clause-logged
+publish-requires-clause-logged g c = omega (arith, c.requires.room, (c.requires.kept (empty_cache 0)).lawful.mem_least)
+
+pub returns-in-Err-clause-ok : goal.returns-in-Err-clause-ok
+returns-in-Err-clause-ok g c x cached stands =
+    told_up c.args.held.now cached (c.requires.kept cached) (g.D.Disk.view c.args.disk.now) x stands _ c.requires.none c.requires.room c.publish.new.held (g.D.Disk.view c.publish.new.disk)
+    c.in-Err.trouble c.refusal_of.result c.refusal_of.ensures.ok (λ short. c.in-Err.ensures.none (handed short) x cached stands) (λ short. c.in-Err.ensures.same.1 (handed short))
+    (λ b bad. (c.in-Err.ensures.damaged b (handed bad)).1 x cached stands)
+
+pub returns-in-Err-clause-trail : goal.returns-in-Err-clause-trail
+returns-in-Err-clause-trail g c x cached stands =
+    trail_so_far (g.D.Disk.view c.args.disk.now) (g.D.Disk.view c.publish.new.disk) x _ (c.publish.ensures.trail x cached stands)
+
+pub returns-in-Err-clause-kept : goal.returns-in-Err-clause-kept
+returns-in-Err-clause-kept g c calm = c.in-Err.ensures.kept (calm_short c.in-Err.trouble c.refusal_of.result c.refusal_of.ensures.ok calm)
+
+pub carry_out-requires-clause-kept : goal.carry_out-requires-clause-kept
+carry_out-requires-clause-kept g c = c.in_default.ensures.kept tt
+
+pub carry_out-requires-clause-room : goal.carry_out-requires-clause-room
+carry_out-requires-clause-room g c =
+    omega (arith, ap length c.in_default.ensures.room.0, c.publish.ensures.same.0, (c.requires.kept (empty_cache 0)).lawful.mem_least)
+
+pub returns-clause-ok : goal.returns-clause-ok
+returns-clause-ok g c x cached stands =
+    let p = c.in_default.ensures.ok x cached stands in
+    renewed c.args.held.now cached (c.requires.kept cached) (g.D.Disk.view c.args.disk.now) x stands _ c.requires.none c.requires.room c.publish.new.held (g.D.Disk.view c.publish.new.disk)
+    (c.in_default.ensures.kept tt cached) c.in_default.ensures.room.0 p c.carry_out.new.held (g.D.Disk.view c.carry_out.new.disk) c.carry_out.result
+    (c.carry_out.ensures.ok p.after cached p.stands)
+
+pub returns-clause-trail : goal.returns-clause-trail
+returns-clause-trail g c x cached stands =
+    let p = c.in_default.ensures.ok x cached stands in
+    renewed_trail c.args.held.now cached (c.requires.kept cached) (g.D.Disk.view c.args.disk.now) x stands _ c.requires.none c.requires.room c.publish.new.held (g.D.Disk.view c.publish.new.disk)
+    (c.in_default.ensures.kept tt cached) c.in_default.ensures.room.0 p (g.D.Disk.view c.carry_out.new.disk) c.carry_out.result c.carry_out.ensures.time (c.publish.ensures.trail x cached stands)
+    (c.carry_out.ensures.trail p.after cached p.stands)

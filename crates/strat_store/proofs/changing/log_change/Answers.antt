@@ -1,0 +1,29 @@
+use Rattle.strat_standing.specs.Appending.{AppendsBatch}
+use Rattle.strat_store.proofs.LoggingLemmas.{logged_agrees, logged_trail, logged_stands}
+use Rattle.strat_store.proofs.changing.log_change.Given.{Over}
+use Rattle.strat_store.proofs.changing.log_change.Goals as goal
+use Rattle.strat_store.proofs.changing.log_change.Goals.{After-append}
+
+appends : (g : Over) (c : After-append g) → AppendsBatch (g.D.Disk.view c.args.disk.now) (g.D.Disk.view c.append.new.disk) c.add.new.self
+appends g c = record { images = c.append.ensures.images; time = c.append.ensures.time; each = c.append.ensures.trail }
+
+pub returns-in_err-append-clause-trail : goal.returns-in_err-append-clause-trail
+returns-in_err-append-clause-trail g c x stands of takes =
+    logged_trail _ (g.D.Disk.view c.append.new.disk) x c.args.journal.now c.add.new.self _ stands of c.requires.none c.add.ensures.ok takes
+    (appends g (goal.at.returns-in_err-append-clause-trail g c).After-append)
+
+pub returns-clause-trail : goal.returns-clause-trail
+returns-clause-trail g c x stands of takes =
+    logged_trail _ (g.D.Disk.view c.append.new.disk) x c.args.journal.now c.add.new.self _ stands of c.requires.none c.add.ensures.ok takes
+    (appends g (goal.at.returns-clause-trail g c).After-append)
+
+pub returns-clause-kept : goal.returns-clause-kept
+returns-clause-kept g c x stands of takes =
+    logged_stands _ (g.D.Disk.view c.append.new.disk) x c.args.journal.now c.add.new.self _ stands of c.requires.none c.add.ensures.ok takes
+    (appends g (goal.at.returns-clause-kept g c).After-append) c.append.new.self c.in_ok-append.ensures.ok c.in_ok-append.ensures.kept
+    (g.met.D.Disk.leaves_content c.append.new.disk)
+
+pub returns-clause-content : goal.returns-clause-content
+returns-clause-content g c x stands of =
+    logged_agrees _ (g.D.Disk.view c.append.new.disk) x c.args.journal.now c.add.new.self _ stands of c.requires.none c.add.ensures.ok
+    c.requires.fits c.requires.room c.in_ok-append.ensures.durable

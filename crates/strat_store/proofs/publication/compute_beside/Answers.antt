@@ -1,0 +1,42 @@
+use Rattle.std.proofs.Common.{refl, arith, []}
+use Rattle.strat_array.proofs.SearchLemmas.{if_ok_then}
+use Rattle.strat_manifest.specs.ManifestView.{manifest_of}
+use Rattle.strat_store.specs.Recovering.{held_of, empty_cache}
+use Rattle.strat_store.proofs.SettlingLemmas.{unwritten, written_free, blames_held, readied}
+use Rattle.strat_store.proofs.WholeLemmas.{whole_promotes}
+use Rattle.strat_store.proofs.WritingLemmas.{ok_and}
+use Rattle.strat_store.proofs.publication.compute_beside.Goals as goal
+
+pub used_space-requires : goal.used_space-requires
+used_space-requires g c = record { kept = (c.requires.kept (empty_cache 0)).lawful }
+
+pub returns-in_err-space-clause-images : goal.returns-in_err-space-clause-images
+returns-in_err-space-clause-images g c = λ cached. unwritten (g.D.Disk.view c.args.disk.now) (held_of c.args.held.now cached)
+
+pub compute_next-requires-clause-kept : goal.compute_next-requires-clause-kept
+compute_next-requires-clause-kept g c = whole_promotes (held_of c.args.held.now (empty_cache 0)) (c.requires.kept (empty_cache 0))
+
+pub compute_next-requires-clause-fits : goal.compute_next-requires-clause-fits
+compute_next-requires-clause-fits g c =
+    let lawful = (c.requires.kept (empty_cache 0)).lawful in
+    (lawful.mem_least, lawful.mem_most, let first = (c.in_ok-space.ensures.ok (empty_cache 0) []).first in omega (arith, first))
+
+pub returns-clause-ok : goal.returns-clause-ok
+returns-clause-ok g c =
+    ok_and c.compute_next.result _ _ _ (λ r computed found x cached stands.
+    readied (g.D.Disk.view c.args.disk.now) (g.D.Disk.view c.compute_next.new.disk) (held_of c.args.held.now cached) x c.in_ok-space.space c.compute_next.new.space
+    c.args.held.now.published.chain r.made.target r.made.level r.first r.length r.chain (manifest_of r.manifest) (c.requires.kept cached) stands c.requires.logged refl (c.in_ok-space.ensures.ok cached) computed found)
+    c.compute_next.ensures.ok c.compute_next.ensures.found
+
+pub returns-clause-fits : goal.returns-clause-fits
+returns-clause-fits g c = if_ok_then c.compute_next.result c.compute_next.ensures.fits (λ r fits.
+    (let first = (c.in_ok-space.ensures.ok (empty_cache 0) []).first in omega (arith, first, fits.2), fits.3, fits.4, fits.5))
+
+pub returns-clause-images : goal.returns-clause-images
+returns-clause-images g c = λ cached.
+    written_free _ _ (held_of c.args.held.now cached) c.in_ok-space.space (c.in_ok-space.ensures.ok cached []) c.compute_next.ensures.images
+
+pub returns-clause-damaged : goal.returns-clause-damaged
+returns-clause-damaged g c = λ b torn.
+    blames_held (g.D.Disk.view c.args.disk.now) (held_of c.args.held.now (empty_cache 0)) c.in_ok-space.space b (c.in_ok-space.ensures.ok (empty_cache 0) [])
+    (c.requires.kept (empty_cache 0)).placed (c.compute_next.ensures.damaged b torn)

@@ -1,0 +1,124 @@
+use Rattle.std.proofs.Common.{◌∙◌, ℕ, Some, None, sym, ap, subst, arith}
+use Rattle.std.proofs.lemmas.Result.{err_from_is_err_and}
+use Rattle.strat_array.specs.Kept.{Blocks}
+use Rattle.strat_crash.proofs.MomentLemmas.{passes_trans}
+use Rattle.strat_crash.specs.Blocks.{TearsBlocks}
+use Rattle.strat_gate.specs.SuperView.{super_of}
+use Rattle.strat_journal.proofs.ReadLemmas.{same_err}
+use Rattle.strat_standing.specs.Standing.{ShowsTable}
+use Rattle.strat_store.specs.Applying.{IsPublishedAs}
+use Rattle.strat_store.specs.Held.{Held, IsConsistent}
+use Rattle.strat_store.specs.Memory.{Memory, emptied}
+use Rattle.strat_store.specs.Publishing.{is_in_front}
+use Rattle.strat_store.specs.Recovering.{held_of, empty_cache, chained_of}
+use Rattle.strat_store.proofs.SettlingLemmas.{unwritten}
+use Rattle.strat_store.proofs.SettledLemmas.{consistent_ready, stands_ready, damaged_ready, trail_beside, stands_beside, arrays_kept, one_trail, published_as, consistent_next, none_damaged}
+use Rattle.strat_store.proofs.publication.publish.Goals as goal
+
+pub prepare-requires : goal.prepare-requires
+prepare-requires g c = let lawful = (c.requires.kept (empty_cache 0)).lawful in record { fits = (lawful.mem_least, lawful.mem_most) }
+
+pub returns-in_err-prepare-clause-none : goal.returns-in_err-prepare-clause-none
+returns-in_err-prepare-clause-none g c = λ short x cached stands. stands_ready (g.D.Disk.view c.args.disk.now) (held_of c.args.held.now cached) x c.prepare.new.self stands
+
+pub returns-in_err-prepare-clause-trail : goal.returns-in_err-prepare-clause-trail
+returns-in_err-prepare-clause-trail g c = λ x cached stands.
+    let v = g.D.Disk.view c.args.disk.now in
+    trail_beside v v (held_of c.args.held.now cached) x stands (unwritten v (held_of c.args.held.now cached))
+
+pub returns-in_err-prepare-clause-kept : goal.returns-in_err-prepare-clause-kept
+returns-in_err-prepare-clause-kept g c = λ short cached. consistent_ready (held_of c.args.held.now cached) None c.prepare.new.self c.in_err-prepare.ensures.err (c.requires.kept cached)
+
+pub prepare_next-requires-clause-kept : goal.prepare_next-requires-clause-kept
+prepare_next-requires-clause-kept g c = λ cached. consistent_ready (held_of c.args.held.now cached) (Some c.args.held.now.sb.mem) c.prepare.new.self c.in_ok-prepare.ensures.ok (c.requires.kept cached)
+
+pub returns-in_err-next-clause-none : goal.returns-in_err-next-clause-none
+returns-in_err-next-clause-none g c = λ short x cached stands.
+    let v = g.D.Disk.view c.args.disk.now in
+    let mid = record c.args.held.now { memory = c.prepare.new.self } in
+    stands_beside v (g.D.Disk.view c.prepare_next.new.disk) (held_of mid cached) x (stands_ready v (held_of c.args.held.now cached) x c.prepare.new.self stands) (c.prepare_next.ensures.images cached)
+    (g.met.D.Disk.leaves_content c.prepare_next.new.disk)
+
+pub returns-in_err-next-clause-trail : goal.returns-in_err-next-clause-trail
+returns-in_err-next-clause-trail g c = λ x cached stands.
+    let v = g.D.Disk.view c.args.disk.now in
+    let mid = record c.args.held.now { memory = c.prepare.new.self } in
+    trail_beside v (g.D.Disk.view c.prepare_next.new.disk) (held_of mid cached) x (stands_ready v (held_of c.args.held.now cached) x c.prepare.new.self stands) (c.prepare_next.ensures.images cached)
+
+pub returns-in_err-next-clause-kept : goal.returns-in_err-next-clause-kept
+returns-in_err-next-clause-kept g c = λ short cached. consistent_ready (held_of c.args.held.now cached) (Some c.args.held.now.sb.mem) c.prepare.new.self c.in_ok-prepare.ensures.ok (c.requires.kept cached)
+
+pub returns-in_err-next-clause-time : goal.returns-in_err-next-clause-time
+returns-in_err-next-clause-time g c = (c.prepare_next.ensures.images (empty_cache 0)).tears.time
+
+pub returns-in_err-next-clause-damaged : goal.returns-in_err-next-clause-damaged
+returns-in_err-next-clause-damaged g c = λ b torn.
+    let v = g.D.Disk.view c.args.disk.now in
+    let mid = record c.args.held.now { memory = c.prepare.new.self } in
+    let p = err_from_is_err_and c.from_residual-in_err-next.result c.from_residual-in_err-next.ensures.1 in
+    let bad = c.in_err-next.ensures.damaged b (same_err c.from_residual-in_err-next.result p.0 _ _ p.1 p.2 torn) in
+    let whole : (cached : Blocks) → IsConsistent (held_of mid cached) = λ cached.
+    consistent_ready (held_of c.args.held.now cached) (Some c.args.held.now.sb.mem) c.prepare.new.self c.in_ok-prepare.ensures.ok (c.requires.kept cached) in (
+      damaged_ready v.content c.args.held.now.memory c.prepare.new.self (Some c.args.held.now.sb.mem) c.args.held.now.published.levels b c.in_ok-prepare.ensures.ok bad,
+      λ x cached stands. none_damaged v (held_of mid cached) x b (whole cached) (stands_ready v (held_of c.args.held.now cached) x c.prepare.new.self stands) bad,
+      arrays_kept v (g.D.Disk.view c.prepare_next.new.disk) (held_of mid (empty_cache 0)) (c.prepare_next.ensures.images (empty_cache 0)) (whole (empty_cache 0)).placed,
+    )
+
+pub settle-requires-clause-fits : goal.settle-requires-clause-fits
+settle-requires-clause-fits g c =
+    let whole = c.requires.kept (empty_cache 0) in
+    (whole.slot, let active = whole.log.active in let most = whole.lawful.region_most in omega (arith, active, most), (c.in_ok-next.ensures.found (empty_cache 0)).lawful)
+
+pub settle-requires-clause-same : goal.settle-requires-clause-same
+settle-requires-clause-same g c = (c.in_ok-next.ensures.found (empty_cache 0)).mem
+
+pub returns-in_err-settle-clause-trail : goal.returns-in_err-settle-clause-trail
+returns-in_err-settle-clause-trail g c = λ x cached stands.
+    let v = g.D.Disk.view c.args.disk.now in
+    let mid = record c.args.held.now { memory = c.prepare.new.self } in
+    let here = stands_ready v (held_of c.args.held.now cached) x c.prepare.new.self stands in
+    let ready = c.in_ok-next.ensures.ok x cached here in
+    one_trail ShowsTable (g.D.Disk.view c.prepare_next.new.disk) (g.D.Disk.view c.settle.new.disk) _ _ c.settle.ensures.time
+    (trail_beside v (g.D.Disk.view c.prepare_next.new.disk) (held_of mid cached) x here (c.prepare_next.ensures.images cached)) (c.settle.ensures.trail x _ ready.computed)
+
+pub returns-in_err-settle-clause-time : goal.returns-in_err-settle-clause-time
+returns-in_err-settle-clause-time g c = passes_trans (c.prepare_next.ensures.images (empty_cache 0)).tears.time c.settle.ensures.time
+
+pub returns-clause-ok : goal.returns-clause-ok
+returns-clause-ok g c = λ x cached stands.
+    let v = g.D.Disk.view c.args.disk.now in
+    let mid = record c.args.held.now { memory = c.prepare.new.self } in
+    let here = stands_ready v (held_of c.args.held.now cached) x c.prepare.new.self stands in
+    let whole = consistent_ready (held_of c.args.held.now cached) (Some c.args.held.now.sb.mem) c.prepare.new.self c.in_ok-prepare.ensures.ok (c.requires.kept cached) in
+    let ready = c.in_ok-next.ensures.ok x cached here in
+    let next = c.in_ok-next.next in
+    let front = subst (λ (n : ℕ). TearsBlocks (is_in_front n) (g.D.Disk.view c.prepare_next.new.disk) (g.D.Disk.view c.settle.new.disk)) whole.log.mem c.settle.ensures.images in
+    subst (λ (h : Held). IsPublishedAs (g.D.Disk.view c.settle.new.disk) x h) (sym (c.in_ok-settle.ensures.ok cached))
+    (published_as v (g.D.Disk.view c.prepare_next.new.disk) (g.D.Disk.view c.settle.new.disk) (held_of mid cached) x (super_of next.sb) (chained_of next.published) next.published.levels
+    whole here (c.prepare_next.ensures.images cached) ready front (c.in_ok-settle.ensures.kept x _ ready.computed))
+
+pub returns-clause-trail : goal.returns-clause-trail
+returns-clause-trail g c = λ x cached stands.
+    let v = g.D.Disk.view c.args.disk.now in
+    let mid = record c.args.held.now { memory = c.prepare.new.self } in
+    let here = stands_ready v (held_of c.args.held.now cached) x c.prepare.new.self stands in
+    let ready = c.in_ok-next.ensures.ok x cached here in
+    one_trail ShowsTable (g.D.Disk.view c.prepare_next.new.disk) (g.D.Disk.view c.settle.new.disk) _ _ c.settle.ensures.time
+    (trail_beside v (g.D.Disk.view c.prepare_next.new.disk) (held_of mid cached) x here (c.prepare_next.ensures.images cached)) (c.settle.ensures.trail x _ ready.computed)
+
+pub returns-clause-kept : goal.returns-clause-kept
+returns-clause-kept g c = λ _ cached.
+    let mid = record c.args.held.now { memory = c.prepare.new.self } in
+    let whole = consistent_ready (held_of c.args.held.now cached) (Some c.args.held.now.sb.mem) c.prepare.new.self c.in_ok-prepare.ensures.ok (c.requires.kept cached) in
+    let next = c.in_ok-next.next in
+    let admitted = c.in_ok-next.ensures.kept in
+    subst IsConsistent (sym (c.in_ok-settle.ensures.ok cached))
+    (consistent_next (held_of mid cached) (super_of next.sb) (chained_of next.published) next.published.levels whole (c.in_ok-next.ensures.found cached) admitted.spelled admitted.belonging admitted.placed)
+
+pub returns-clause-room : goal.returns-clause-room
+returns-clause-room g c =
+    let all = c.in_ok-settle.ensures.ok (empty_cache 0) in
+    (ap (λ (h : Held). h.log.list) all, ap (λ (h : Held). h.memory) all ∙ ap (λ (m : Memory). emptied c.args.held.now.sb.mem m) c.in_ok-prepare.ensures.ok)
+
+pub returns-clause-time : goal.returns-clause-time
+returns-clause-time g c = passes_trans (c.prepare_next.ensures.images (empty_cache 0)).tears.time c.settle.ensures.time

@@ -1,0 +1,4 @@
+use Rattle.strat_store.proofs.publication.settle.Goals as goal
+
+pub returns-clause-kept : goal.returns-clause-kept
+returns-clause-kept g c = λ x y computed. (c.in_ok-lay_next.ensures.kept x y computed).0

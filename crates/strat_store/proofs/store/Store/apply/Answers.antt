@@ -1,0 +1,19 @@
+use Rattle.std.proofs.Common.{sym, ◌∙◌}
+use Rattle.strat_store.specs.Recovering.{held_of}
+use Rattle.strat_store.proofs.ApplyLemmas.{spent_consistent}
+use Rattle.strat_store.proofs.store.Store.apply.Goals as goal
+
+pub answer-told-requires-clause-kept : goal.answer-told-requires-clause-kept
+answer-told-requires-clause-kept g c =
+    let going = rw (← c.self.view_is) at c.requires.kept in
+    c.self.invariant going
+
+pub invariant_of-self : goal.invariant_of-self
+invariant_of-self g c calm = c.answer-told.ensures.kept (sym c.is_fault-self-inside.ensures.ok ∙ calm)
+
+pub returns-clause-spent : goal.returns-clause-spent
+returns-clause-spent g c = (
+  c.is_fault-self-inside.ensures.ok,
+  λ calm. spent_consistent (held_of c.answer-told.new.held c.answer-told.new.cache) c.is_fault-self-inside.result
+      (c.answer-told.ensures.kept (sym c.is_fault-self-inside.ensures.ok ∙ calm) c.answer-told.new.cache),
+)

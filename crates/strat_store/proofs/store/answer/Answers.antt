@@ -1,0 +1,34 @@
+use Rattle.std.proofs.Common.{refl, sym, subst}
+use Rattle.strat_model.specs.Answer.{as_told, plain}
+use Rattle.strat_model.specs.Command.{request_of}
+use Rattle.strat_model.specs.Pairs.{Pairs}
+use Rattle.strat_model.specs.Request.{Request}
+use Rattle.strat_store.specs.Applying.{IsAppliedTo, FollowsStep, is_fault}
+use Rattle.strat_store.specs.Recovering.{held_of, held_after}
+use Rattle.strat_store.proofs.ApplyLemmas.{wanted_for, look_applied, look_follows}
+use Rattle.strat_store.proofs.store.answer.Goals as goal
+
+pub returns-in-Some-clause-ok : goal.returns-in-Some-clause-ok
+returns-in-Some-clause-ok g c = λ x w.
+    let now = g.D.Disk.view c.change.new.disk in
+    let old = held_of c.args.held.now c.args.cache.now in
+    let new = held_after c.change.new.held c.args.cache.now c.change.result in
+    subst (λ (pairs : Pairs). IsAppliedTo now old x (request_of c.args.command.now) (as_told c.change.result pairs) new) (sym c.requires.room)
+    (subst (λ (r : Request). IsAppliedTo now old x r (plain c.change.result) new) (wanted_for (request_of c.args.command.now) _ c.in-Some.ensures) (c.change.ensures.ok x c.args.cache.now w))
+
+pub returns-in-Some-clause-trail : goal.returns-in-Some-clause-trail
+returns-in-Some-clause-trail g c = λ x w.
+    let before = g.D.Disk.view c.args.disk.now in
+    let now = g.D.Disk.view c.change.new.disk in
+    subst (λ (r : Request). FollowsStep before now x r (plain c.change.result)) (wanted_for (request_of c.args.command.now) _ c.in-Some.ensures) (c.change.ensures.trail x c.args.cache.now w)
+
+pub returns-in-Some-clause-len : goal.returns-in-Some-clause-len
+returns-in-Some-clause-len g c = (λ found. absurd (c.change.ensures.same.1 found), c.change.ensures.same.0)
+
+pub returns-in-None-clause-ok : goal.returns-in-None-clause-ok
+returns-in-None-clause-ok g c = λ x w.
+    look_applied (g.D.Disk.view c.look.new.disk) (held_of c.args.held.now c.args.cache.now) (held_of c.args.held.now c.look.new.cache) x _ _ (is_fault c.look.result) c.requires.fits.0 c.in-None.ensures refl refl (c.look.ensures.ok x w)
+
+pub returns-in-None-clause-trail : goal.returns-in-None-clause-trail
+returns-in-None-clause-trail g c = λ x w.
+    look_follows (g.D.Disk.view c.args.disk.now) (g.D.Disk.view c.look.new.disk) (held_of c.args.held.now c.args.cache.now) x _ (as_told c.look.result c.look.new.out) c.requires.fits.0 c.in-None.ensures c.look.ensures.same.disk w

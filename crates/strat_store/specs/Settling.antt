@@ -1,0 +1,72 @@
+-- A publication of a store: what takes the place of what the store holds.
+use Rattle.std.specs.Prelude.{◌≡◌, ℕ, ◌+◌, ◌-◌, Bool, false, List, [], Option}
+use Rattle.strat_base.specs.declared.descriptors.LevelDesc.{LevelDesc}
+use Rattle.strat_crash.specs.Blocks.{TearsBlocks}
+use Rattle.strat_crash.specs.Moments.{DiskView}
+use Rattle.strat_format.specs.Chained.{Chained}
+use Rattle.strat_format.specs.Layout.{other_region}
+use Rattle.strat_format.specs.SuperBlock.{Super, IsLawful}
+use Rattle.strat_journal.specs.Log.{region_begun}
+use Rattle.strat_recovery.specs.Head.{parent_numbers}
+use Rattle.strat_standing.specs.Contents.{Contents}
+use Rattle.strat_standing.specs.Standing.{AreFree}
+use Rattle.strat_state.specs.Level.{Level}
+use Rattle.strat_store.specs.Held.{Held, contents_held}
+use Rattle.strat_store.specs.Memory.{emptied}
+use Rattle.strat_store.specs.Publishing.{IsComputed}
+
+-- the superblock after one, whose manifest begins in this block and is of so many bytes
+abbrev pub super_after : Super → ℕ → ℕ → Super
+super_after sb first size = record sb {
+  generation = sb.generation + 1;
+  manifest = first;
+  length = size;
+  region = other_region sb.region;
+}
+
+-- what a store holds after a publication of this superblock, manifest and levels: memory and the journal are emptied
+abbrev pub held_next : Held → Super → Chained → List (Option LevelDesc) → Held
+held_next s sb chained levels = record {
+  slot = 1 - s.slot;
+  sb = sb;
+  chained = chained;
+  log = region_begun s.log;
+  memory = emptied s.sb.mem s.memory;
+  levels = levels;
+  cached = s.cached;
+  spent = false;
+}
+
+-- the contents that it then has, with these levels
+abbrev pub contents_next : Held → Super → Chained → List Level → Contents
+contents_next s sb chained levels = record {
+  slot = 1 - s.slot;
+  sb = sb;
+  chained = chained;
+  journal = [];
+  levels = levels;
+}
+
+-- a superblock and a manifest may follow those that a store holds: the limits are the same, and all that memory counts is
+-- behind the manifest
+pub record MayFollow (s : Held) (sb : Super) (chained : Chained) : Type 0 where
+  pub lawful : IsLawful sb
+  pub region : sb.region ≡ other_region s.sb.region
+  pub mem : sb.mem ≡ s.sb.mem
+  pub changes_max : sb.changes_max ≡ s.sb.changes_max
+  pub versions_max : sb.versions_max ≡ s.sb.versions_max
+  pub changes : chained.manifest.changes ≡ s.memory.changes
+  pub updates : chained.manifest.updates ≡ s.memory.updates
+  pub parents : chained.manifest.parents ≡ parent_numbers s.memory.parents
+
+-- a disk changed in blocks alone that are free beside what a store holds, whatever its levels say
+pub record WritesBeside (old new : DiskView) (s : Held) : Type 0 where
+  pub free : ℕ → Bool
+  pub beside : AreFree free (contents_held s [])
+  pub tears : TearsBlocks free old new
+
+-- the next contents of a store, of this superblock and manifest, are written beside those that it stands on
+pub record IsReadied (v : DiskView) (s : Held) (x : Contents) (sb : Super) (chained : Chained)
+    : Type 0 where
+  pub levels : List Level
+  pub computed : IsComputed v (1 - s.slot) sb s.log x (contents_next s sb chained levels)

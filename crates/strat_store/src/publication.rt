@@ -1,0 +1,250 @@
+//! A publication of a store, whole: its journal is emptied into its levels.
+
+ghost use Rattle.std.specs.Prelude.{◌≡◌, ◌<◌, ◌≤◌, ℕ, ◌-◌, List, [], ◌∷◌, length, Some, IfOk, OnOk, IsErrOf, IsTrue};
+ghost use Rattle.strat_array.specs.Kept.{Blocks};
+ghost use Rattle.strat_base.specs.declared.failures.Trouble.TheVariants as trouble;
+ghost use Rattle.strat_base.specs.declared.failures.Trouble.TheVariants.{Device, Damaged};
+ghost use Rattle.strat_crash.specs.Blocks.{TearsBlocks, AgreeOn};
+ghost use Rattle.strat_crash.specs.Faults.{CountsFaults, HasCause};
+ghost use Rattle.strat_crash.specs.Image.{Image};
+ghost use Rattle.strat_crash.specs.Moments.{Exposes, Passes};
+ghost use Rattle.strat_crash.specs.Trail.{Trail};
+ghost use Rattle.strat_format.specs.Arrays.{blocks_of};
+ghost use Rattle.strat_format.specs.Layout as places;
+ghost use Rattle.strat_format.specs.Manifest.{is_lawful_manifest};
+ghost use Rattle.strat_format.specs.SuperBlock.{IsLawful};
+ghost use Rattle.strat_gate.specs.SuperView.{super_of};
+ghost use Rattle.strat_manifest.specs.ManifestView.{manifest_of};
+ghost use Rattle.strat_promote.specs.Job.{blocks_listed};
+ghost use Rattle.strat_recovery.specs.StateTable.{table_of};
+ghost use Rattle.strat_standing.specs.Contents.{Contents, contents_state};
+ghost use Rattle.strat_standing.specs.Occupied.{IsSpaceOf};
+ghost use Rattle.strat_standing.specs.Standing.{ShowsTable, ContentsStand};
+ghost use Rattle.strat_state.specs.Level.{Level};
+ghost use Rattle.strat_store.specs.Applying.{IsDamagedIn, IsPublishedAs, IsOkOrShort};
+ghost use Rattle.strat_store.specs.Held.{IsConsistent, StandsWith, contents_held};
+ghost use Rattle.strat_store.specs.Looking.{arrays_there};
+ghost use Rattle.strat_store.specs.Memory.{emptied};
+ghost use Rattle.strat_store.specs.Publishing.{IsComputed, is_in_front, manifest_after};
+ghost use Rattle.strat_store.specs.Recovering.{chained_of, held_of, IsAdmitted};
+ghost use Rattle.strat_store.specs.Settling.{super_after, held_next, MayFollow, WritesBeside, IsReadied};
+
+use crate::admitting::{Published, admit};
+use crate::belonging::own_blocks;
+use crate::computing::{Computed, compute_next};
+use crate::publishing::lay_next;
+use crate::recovering::Recovered;
+use std::alloc::Global;
+use strat_base::{Extents, Failed, NoMemory, Trouble};
+use strat_disk::Disk;
+use strat_extent::Space;
+use strat_gate::SuperBlock;
+use strat_manifest::Manifest;
+
+/// The superblock after one, with this manifest. `NoMemory` stands for a generation that no store reaches.
+fn next_super(old: &SuperBlock, first: u32, length: u32) -> Result<SuperBlock, NoMemory>
+    requires kept { IsLawful (super_of old.now) }
+    requires fits { (places.first_free old.now.mem ≤ first) × (first < 4294967295) × (29 ≤ length) }
+    ensures ok { IfOk result (λ sb. super_of sb ≡ super_after (super_of old.now) first length) }
+    ensures kept { IfOk result (λ sb. IsLawful (super_of sb)) }
+{
+    let Some(generation) = old.generation.checked_add(1) else {
+        return Err(NoMemory);
+    };
+    Ok(SuperBlock {
+        generation,
+        manifest: first,
+        length,
+        region: 1 - old.region,
+        mem: old.mem,
+        changes_max: old.changes_max,
+        versions_max: old.versions_max,
+    })
+}
+
+/// The space in which just the blocks of a store are used. `NoMemory` also stands for blocks that stand twice.
+fn used_space(alloc: Global, held: &Recovered) -> Result<Space, NoMemory>
+    requires kept { IsLawful (super_of held.now.sb) }
+    ensures ok { IfOk result (λ space. (cached : Blocks) (levels : List Level)
+        → IsSpaceOf space (contents_held (held_of held.now cached) levels) []) }
+{
+    let levels = held.published.manifest.levels.as_slice();
+    match own_blocks(alloc, held.sb.mem, &held.published.chain, levels)? {
+        Some(space) => Ok(space),
+        None => Err(NoMemory),
+    }
+}
+
+/// Computes the next contents of a store but for their superblock: nothing is written but blocks that are free beside what it
+/// holds. Errors are those of `compute_next`, and want of memory for the blocks that are used.
+fn compute_beside<D: Disk>(
+    alloc: Global,
+    held: &Recovered,
+    disk: &mut D,
+) -> Result<Computed, Trouble>
+    requires kept { (cached : Blocks) → IsConsistent (held_of held.now cached) }
+    requires logged { 0 < length held.now.journal.list }
+    ensures ok { IfOk result (λ r. (x : Contents) (cached : Blocks)
+        → StandsWith (D.view disk.old) (held_of held.now cached) x
+        → IsReadied (D.view disk.new) (held_of held.now cached) x
+        (super_after (super_of held.now.sb) r.first r.length)
+        (record { manifest = manifest_of r.manifest; blocks = blocks_of r.chain })) }
+    ensures found { IfOk result (λ r. manifest_of r.manifest ≡ manifest_after
+        (manifest_of held.now.published.manifest) held.now.memory r.made.target r.made.level) }
+    ensures fits { IfOk result (λ r. (places.first_free held.now.sb.mem ≤ r.first)
+        × (r.first < 4294967295) × (29 ≤ r.length)
+        × IsTrue (is_lawful_manifest (manifest_of r.manifest))) }
+    ensures images { (cached : Blocks)
+        → WritesBeside (D.view disk.old) (D.view disk.new) (held_of held.now cached) }
+    ensures cause { HasCause Device (D.faults disk.old) (D.faults disk.new) result }
+    ensures damaged { (b : ℕ) → IsErrOf result (Damaged b) → IsDamagedIn
+        (D.view disk.old).content held.now.memory held.now.published.levels b }
+{
+    let mut space = used_space(alloc, held)?;
+    compute_next(
+        alloc,
+        &held.published.manifest,
+        &held.memory,
+        &held.published.levels,
+        held.sb.mem,
+        &mut space,
+        disk,
+    )
+}
+
+/// What takes the place of a store's superblock and of what its last publication left.
+#[derive(Drop)]
+struct Next {
+    sb: SuperBlock,
+    published: Published,
+}
+
+/// The next superblock, and the manifest that it leads to, tested as an opening tests them. `NoMemory` also stands for what an
+/// opening would refuse.
+fn admit_next(
+    alloc: Global,
+    old: &SuperBlock,
+    manifest: Manifest,
+    first: u32,
+    length: u32,
+    chain: Extents,
+) -> Result<Next, NoMemory>
+    requires kept { IsLawful (super_of old.now) × IsTrue (is_lawful_manifest (manifest_of manifest)) }
+    requires fits { (places.first_free old.now.mem ≤ first) × (first < 4294967295) × (29 ≤ length) }
+    ensures ok { IfOk result (λ next. (super_of next.sb ≡ super_after (super_of old.now) first length)
+        × IsLawful (super_of next.sb)) }
+    ensures found { IfOk result (λ next. chained_of next.published
+        ≡ record { manifest = manifest_of manifest; blocks = blocks_of chain }) }
+    ensures kept { IfOk result (λ next. IsAdmitted (super_of next.sb) next.published) }
+{
+    let sb = next_super(old, first, length)?;
+    match admit(alloc, &sb, manifest, chain)? {
+        Some(published) => Ok(Next { sb, published }),
+        None => Err(NoMemory),
+    }
+}
+
+/// Writes the next contents of a store but for their superblock beside what it holds, and tests what their manifest says. Errors
+/// are those of `compute_beside`, and want of memory.
+fn prepare_next<D: Disk>(
+    alloc: Global,
+    held: &Recovered,
+    disk: &mut D,
+) -> Result<Next, Trouble>
+    requires kept { (cached : Blocks) → IsConsistent (held_of held.now cached) }
+    requires logged { 0 < length held.now.journal.list }
+    ensures ok { IfOk result (λ next. (x : Contents) (cached : Blocks)
+        → StandsWith (D.view disk.old) (held_of held.now cached) x
+        → IsReadied (D.view disk.new) (held_of held.now cached) x (super_of next.sb)
+        (chained_of next.published)) }
+    ensures found { IfOk result (λ next. (cached : Blocks)
+        → MayFollow (held_of held.now cached) (super_of next.sb) (chained_of next.published)) }
+    ensures kept { IfOk result (λ next. IsAdmitted (super_of next.sb) next.published) }
+    ensures images { (cached : Blocks)
+        → WritesBeside (D.view disk.old) (D.view disk.new) (held_of held.now cached) }
+    ensures cause { HasCause Device (D.faults disk.old) (D.faults disk.new) result }
+    ensures damaged { (b : ℕ) → IsErrOf result (Damaged b) → IsDamagedIn
+        (D.view disk.old).content held.now.memory held.now.published.levels b }
+{
+    let computed = compute_beside(alloc, held, disk)?;
+    let next = admit_next(
+        alloc,
+        &held.sb,
+        computed.manifest,
+        computed.first,
+        computed.length,
+        computed.chain,
+    )?;
+    Ok(next)
+}
+
+/// Lays the superblock of what a store made ready, which then takes the place of what it holds. At most five syncs, and no memory.
+fn settle<D: Disk>(held: &mut Recovered, next: Next, disk: &mut D) -> Result<(), Failed>
+    requires fits { (held.old.slot ≤ 1) × (held.old.journal.active ≤ 1) × IsLawful (super_of next.sb) }
+    requires room { held.old.memory.ready ≡ Some held.old.sb.mem }
+    requires same { next.sb.mem ≡ held.old.sb.mem }
+    ensures ok { OnOk result ((cached : Blocks) → held_of held.new cached
+        ≡ held_next (held_of held.old cached) (super_of next.sb) (chained_of next.published)
+        next.published.levels) }
+    ensures kept { OnOk result ((x y : Contents) → IsComputed (D.view disk.old) (1 - held.old.slot)
+        (super_of next.sb) held.old.journal x y → ContentsStand (D.view disk.new) y) }
+    ensures trail { (x y : Contents) → IsComputed (D.view disk.old) (1 - held.old.slot)
+        (super_of next.sb) held.old.journal x y → Trail ShowsTable (D.view disk.new)
+        (D.view disk.old).moment (table_of (contents_state x) ∷ []) 0 }
+    ensures same { held.new.sb.mem ≡ held.old.sb.mem }
+    ensures images { TearsBlocks (is_in_front held.old.journal.mem)
+        (D.view disk.old) (D.view disk.new) }
+    ensures time { Passes (D.view disk.old) (D.view disk.new) }
+    ensures cause { CountsFaults (D.faults disk.old) (D.faults disk.new) result }
+{
+    lay_next(disk, 1 - held.slot, &next.sb, &mut held.journal)?;
+    held.slot = 1 - held.slot;
+    held.sb = next.sb;
+    held.published = next.published;
+    held.memory.restart();
+    Ok(())
+}
+
+/// Empties the journal into the levels: level 0 and the shallow levels become one new level, and the manifest after that takes
+/// the place of the last one. Memory is taken before the superblock is laid: where it runs out the store is as it was.
+/// `NoMemory` also stands for a disk with too few free blocks. `Damaged` names a block of the store's arrays that is no block
+/// of entries, or is out of order: it comes of no store that stands on its disk. After `Device` only another opening can tell
+/// which contents the disk holds: they mean the same table. It reads each block of the arrays twice at most, writes the new
+/// arrays' blocks and those of the manifest once each, and takes five syncs at most.
+pub(crate) fn publish<D: Disk>(
+    alloc: Global,
+    held: &mut Recovered,
+    disk: &mut D,
+) -> Result<(), Trouble>
+    requires kept { (cached : Blocks) → IsConsistent (held_of held.old cached) }
+    requires logged { 0 < length held.old.journal.list }
+    ensures ok { OnOk result ((x : Contents) (cached : Blocks)
+        → StandsWith (D.view disk.old) (held_of held.old cached) x
+        → IsPublishedAs (D.view disk.new) x (held_of held.new cached)) }
+    ensures none { IsErrOf result trouble.NoMemory → (x : Contents) (cached : Blocks)
+        → StandsWith (D.view disk.old) (held_of held.old cached) x
+        → StandsWith (D.view disk.new) (held_of held.new cached) x }
+    ensures trail { (x : Contents) (cached : Blocks)
+        → StandsWith (D.view disk.old) (held_of held.old cached) x
+        → Trail ShowsTable (D.view disk.new) (D.view disk.old).moment
+        (table_of (contents_state x) ∷ []) 0 }
+    ensures kept { IsOkOrShort result → (cached : Blocks)
+        → IsConsistent (held_of held.new cached) }
+    ensures room { OnOk result ((held.new.journal.list ≡ [])
+        × (held.new.memory ≡ emptied held.old.sb.mem held.old.memory)) }
+    ensures same { (held.new.sb.mem ≡ held.old.sb.mem)
+        × (IsErrOf result trouble.NoMemory → held.new.journal ≡ held.old.journal) }
+    ensures time { Passes (D.view disk.old) (D.view disk.new) }
+    ensures cause { HasCause Device (D.faults disk.old) (D.faults disk.new) result }
+    ensures damaged { (b : ℕ) → IsErrOf result (Damaged b)
+        → IsDamagedIn (D.view disk.old).content held.old.memory held.old.published.levels b
+        × ((x : Contents) (cached : Blocks)
+        → StandsWith (D.view disk.old) (held_of held.old cached) x → ⊥)
+        × ((f g : Image) → Exposes (D.view disk.old) f → Exposes (D.view disk.new) g
+        → AgreeOn (blocks_listed (arrays_there held.old.published.levels)) f g) }
+{
+    held.memory.prepare(alloc, held.sb.mem)?;
+    let next = prepare_next(alloc, held, disk)?;
+    settle(held, next, disk)?;
+    Ok(())
+}
