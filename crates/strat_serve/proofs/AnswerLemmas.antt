@@ -28,7 +28,7 @@ use Rattle.strat_recovery.specs.StateTable.{table_of}
 use Rattle.strat_standing.specs.Contents.{Contents, contents_state}
 use Rattle.strat_standing.specs.Standing.{ShowsTable}
 use Rattle.strat_standing.proofs.FreeLemmas.{shows_contents}
-use Rattle.strat_store.specs.Applying.{is_fault, IsAnsweredBy, IsShortOf, IsBrokenBy, IsAppliedTo, FollowsStep, FailsAsTold, IsDamagedIn}
+use Rattle.strat_store.specs.Applying.{is_fault, is_short, IsAnsweredBy, IsShortOf, IsBrokenBy, IsAppliedTo, FollowsStep, FailsAsTold, IsDamagedIn}
 use Rattle.strat_store.specs.Held.{Held, StandsWith, IsConsistent, position_with}
 use Rattle.strat_store.specs.Looking.{arrays_there}
 use Rattle.strat_serve.specs.Session.{IsAnswered, ContinuesWith, StopsWith, FailsAsMet, IsFoundDamaged, fault_told}
@@ -128,10 +128,11 @@ either x y zero P h = inl h
 either x y (suc zero) P h = inr h
 either x y (suc (suc i)) P h = absurd h
 
--- the one element
-only : (x : Table) (i : ℕ) (P : Table → Type 0) → At (x ∷ []) i P → P x
-only x zero P h = h
-only x (suc i) P h = absurd h
+-- an element of two that are the same
+twice : (x : Table) (i : ℕ) (P : Table → Type 0) → At (x ∷ x ∷ []) i P → P x
+twice x zero P h = h
+twice x (suc zero) P h = h
+twice x (suc (suc i)) P h = absurd h
 
 -- a trail ends no earlier than it begins
 trail_later : (v : DiskView) (start : ℕ) (tables : List Table) (n : ℕ) → Trail ShowsTable v start tables n → start ≤ v.moment
@@ -156,11 +157,13 @@ reaches v start x y n t at_end =
     trail_of_two ShowsTable v start x y [] (trail_later v start (x ∷ y ∷ []) n t)
     (λ c since. let p = trail_since v start (x ∷ y ∷ []) n t c since in either x y p.0 (ShowsTable c) p.1) at_end
 
--- and one of one table stays at it
-remains : (v : DiskView) (start : ℕ) (x : Table) → Trail ShowsTable v start (x ∷ []) 0 → ((c : Image) → Images v c → ShowsTable c x) → Trail ShowsTable v start (x ∷ x ∷ []) 1
-remains v start x t at_end =
-    trail_of_two ShowsTable v start x x [] (trail_later v start (x ∷ []) 0 t)
-    (λ c since. let p = trail_since v start (x ∷ []) 0 t c since in inl (only x p.0 (ShowsTable c) p.1)) at_end
+-- and where its second table may also be the first
+either_reaches : (b : Bool) (v : DiskView) (start : ℕ) (x u y : Table) (n : ℕ) → u ≡ y → Trail ShowsTable v start (x ∷ (if b then x else u) ∷ []) n → ((c : Image) → Images v c → ShowsTable c y)
+    → Trail ShowsTable v start (x ∷ y ∷ []) 1
+either_reaches false v start x u y n same t at_end = reaches v start x y n (subst (λ (z : Table). Trail ShowsTable v start (x ∷ z ∷ []) n) same t) at_end
+either_reaches true v start x u y n same t at_end =
+    trail_of_two ShowsTable v start x y [] (trail_later v start (x ∷ x ∷ []) n t)
+    (λ c since. let p = trail_since v start (x ∷ x ∷ []) n t c since in inl (twice x p.0 (ShowsTable c) p.1)) at_end
 
 -- a command, answered
 module _ (before now : DiskView) (old new : Held) (bytes : List ℕ) (tag : ℕ) (request : Request) (r : Reply) (pairs : Pairs) (spelled : Spells bytes tag request) where
@@ -176,19 +179,18 @@ module _ (before now : DiskView) (old new : Held) (bytes : List ℕ) (tag : ℕ)
         after = is.after;
         stands = is.stands;
         answers = inr (inl (record { request = request; spelled = spelled; answer = is.told; place = is.place }));
-        trail = reaches now before.moment (table_of (contents_state x)) (table_of (contents_state is.after)) n
-            (subst (λ (u : Table). Trail ShowsTable now before.moment (table_of (contents_state x) ∷ u ∷ []) n) next trail)
-            (stands_table now new is.after is.stands);
+        trail = either_reaches (is_short r) now before.moment (table_of (contents_state x)) (bare (step (table_of (contents_state x)) request).table) (table_of (contents_state is.after)) n
+            next trail (stands_table now new is.after is.stands);
       }
 
-  falls_short : (x : Contents) → IsShortOf now old x request (as_told r pairs) new
-      → (r ≡ reply.Refused why.NoMemory → Trail ShowsTable now before.moment (table_of (contents_state x) ∷ []) 0) → ContinuesWith before now old x bytes told new
-  falls_short x is still = record {
+  falls_short : (x : Contents) → IsShortOf now old x request (as_told r pairs) new → FollowsStep before now x request (as_told r pairs) → ContinuesWith before now old x bytes told new
+  falls_short x is trail = record {
     going = is.going;
     after = x;
     stands = is.stands;
     answers = inr (inr (record { request = request; spelled = spelled; takes = change_takes request is.changes; accepted = is.acceptable; full = λ _. is.full; answer = is.told; same = is.place }));
-    trail = remains now before.moment (table_of (contents_state x)) (still (ap (λ (a : Answer). a.reply) is.told)) (stands_table now new x is.stands);
+    trail = reaches now before.moment (table_of (contents_state x)) (table_of (contents_state x)) 0
+        (subst (λ (a : Answer). FollowsStep before now x request a) is.told trail) (stands_table now new x is.stands);
   }
 
   breaks : (x : Contents) → IsBrokenBy old x request (as_told r pairs) new → FollowsStep before now x request (as_told r pairs) → StopsWith before now old x bytes told
@@ -196,28 +198,26 @@ module _ (before now : DiskView) (old new : Held) (bytes : List ℕ) (tag : ℕ)
     done = position_after old.log.mem (position_with old x) request;
     fault = record { request = request; spelled = spelled; reaches = is.reached; accepted = is.acceptable; answer = inl is.told; place = refl };
     answer = is.told;
-    trail = subst (λ (a : Answer). Trail ShowsTable now before.moment (table_of (contents_state x) ∷ bare (step (table_of (contents_state x)) request).table ∷ []) (if accepts a.reply then 1 else 0)) is.told trail;
+    trail = subst (λ (a : Answer). FollowsStep before now x request a) is.told trail;
   }
 
   applied : (x : Contents) → IsAppliedTo now old x request (as_told r pairs) new → FollowsStep before now x request (as_told r pairs)
-      → (r ≡ reply.Refused why.NoMemory → Trail ShowsTable now before.moment (table_of (contents_state x) ∷ []) 0)
       → ContinuesWith before now old x bytes told new ⊎ StopsWith before now old x bytes told
-  applied x (inl is) trail still = inl (goes_on x is trail)
-  applied x (inr (inl is)) trail still = inl (falls_short x is still)
-  applied x (inr (inr is)) trail still = inr (breaks x is trail)
+  applied x (inl is) trail = inl (goes_on x is trail)
+  applied x (inr (inl is)) trail = inl (falls_short x is trail)
+  applied x (inr (inr is)) trail = inr (breaks x is trail)
 
   -- a command that the store answered
   pub answered : (met : Option Fault) (out : List ℕ) → met ≡ fault_told r → out ≡ frame (reply_body tag (as_told r pairs))
       → ((x : Contents) → StandsWith before old x → IsAppliedTo now old x request (as_told r pairs) new)
       → ((x : Contents) → StandsWith before old x → FollowsStep before now x request (as_told r pairs))
-      → (r ≡ reply.Refused why.NoMemory → (x : Contents) → StandsWith before old x → Trail ShowsTable now before.moment (table_of (contents_state x) ∷ []) 0)
       → IsAnswered before now old bytes met new out
-  answered met out is sent_bytes ok trail short = record {
+  answered met out is sent_bytes ok trail = record {
     response = told;
     spelled = sent_bytes;
     responds = inr (record { request = request; spelled = spelled });
     tells = is;
-    run = λ x stands. applied x (ok x stands) (trail x stands) (λ e. short e x stands);
+    run = λ x stands. applied x (ok x stands) (trail x stands);
   }
 
 -- a body that is no command

@@ -31,7 +31,7 @@ returns-in-Err-clause-found g c =
 pub loop-store-init : goal.loop-store-init
 loop-store-init g c = record {
   progress = begins c.in-Ok-attach.store c.in-Ok.buffers.frames.held (shown g c.args.source.now c.args.sink.now c.args.disk.now) (g.D.Disk.view c.attach.new.disk) (g.D.Disk.faults c.attach.new.disk)
-      c.in-Ok.ensures.ok c.in-Ok-attach.ensures.cause.ok c.in-Ok-attach.ensures.ok.0 c.in-Ok-attach.ensures.kept;
+      c.in-Ok.ensures.ok c.in-Ok-attach.ensures.cause.ok c.in-Ok-attach.ensures.ok.0 c.in-Ok-attach.ensures.ok.2;
   time = c.in-Ok-attach.ensures.time;
   within = omega arith;
   source_same = refl;
