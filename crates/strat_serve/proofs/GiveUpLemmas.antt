@@ -17,7 +17,7 @@ use Rattle.strat_store.specs.declared.opening.AttachFault.{AttachFault}
 use Rattle.strat_store.specs.declared.opening.AttachFault.TheVariants as fault
 use Rattle.strat_store.specs.Causes.{ended_for}
 use Rattle.strat_store.specs.Following.{IsUnchanged, LeavesOpening}
-use Rattle.strat_serve.specs.Session.{IsGivenUp, GaveUp, RefusesFor, EndHasCause, IsFoundDamaged, ExposesDamage, IsEarlyEnd, broken_by}
+use Rattle.strat_serve.specs.Session.{IsGivenUp, GaveUp, RefusesFor, EndHasCause, EndsFor, Served, IsEarlyEnd, broken_by}
 use Rattle.strat_serve.specs.World.{World}
 
 -- an opening that gave up ends a run so
@@ -85,29 +85,61 @@ gave_up_for how f before now is none damaged = record {
   damaged = λ b e g exposed. inl (damaged b (damaged_is f b (sym is ∙ e)) g exposed);
 }
 
--- a run that ended with its input says nothing of the opening
-pub ends_by_input : (how : Ended) (held : List ℕ) (before now : DiskView) → (length held ≡ 0 → how ≡ ended.Done) → (length held ≢ 0 → how ≡ ended.Truncated) → RefusesFor how before now
-ends_by_input how held before now done truncated = elim (cases_eq (length held) 0) [
+-- what the disk's bytes say where a run that opened the store found a damaged block
+pub served_refuses : (budget : ℕ) (how : Ended) (before now : World) → Served budget how before now → RefusesFor how before.disk now.disk
+served_refuses budget how before now served = record {
+  none = λ e. absurd (subst (λ (x : Ended). EndsFor x budget served.session now.left) e served.ends);
+  damaged = λ b e f exposed. inr (served.damaged b (subst (λ (x : Ended). EndsFor x budget served.session now.left) e served.ends));
+}
+
+-- such a run did not end early
+pub served_late : (budget : ℕ) (how : Ended) (before now : World) → Served budget how before now → IsEarlyEnd how before.disk → ⊥
+served_late budget ended.NotAStore before now served early = served.ends
+served_late budget ended.NoMemory before now served early = served.ends
+served_late budget (ended.Damaged block) before now served early =
+    let x : ◌≡◌ {A = Read (Option Head)} (Ok (Some served.head)) (Err early.block) = sym (served.found early.content early.exposed) ∙ early.damaged in cc
+served_late budget ended.Done before now served early = early
+served_late budget ended.Usage before now served early = early
+served_late budget ended.FrameTooLong before now served early = early
+served_late budget ended.Truncated before now served early = early
+served_late budget ended.Device before now served early = early
+served_late budget ended.Source before now served early = early
+served_late budget ended.Sink before now served early = early
+served_late budget ended.Budget before now served early = early
+served_late budget ended.Unsound before now served early = early
+
+-- its end has its cause since before the opening
+pub caused_since : (how : Ended) (before mid now : World) → mid.source_faults ≡ before.source_faults → mid.sink_faults ≡ before.sink_faults → mid.disk_faults ≡ before.disk_faults → EndHasCause how mid now → EndHasCause how before now
+caused_since how before mid now source sink disk cause = record {
+  source = λ e. subst (λ (n : ℕ). Rose n now.source_faults) source (cause.source e);
+  sink = λ e. subst (λ (n : ℕ). Rose n now.sink_faults) sink (cause.sink e);
+  device = λ e. subst (λ (n : ℕ). Rose n now.disk_faults) disk (cause.device e);
+  source_same = λ other. cause.source_same other ∙ source;
+  sink_same = λ other. cause.sink_same other ∙ sink;
+  disk_same = λ other and. cause.disk_same other and ∙ disk;
+}
+
+-- a run that ended with its input has no cause
+pub caused_by_none : (how : Ended) (held : ℕ) (before now : World) → (held ≡ 0 → how ≡ ended.Done) → (held ≢ 0 → how ≡ ended.Truncated)
+    → now.source_faults ≡ before.source_faults → now.sink_faults ≡ before.sink_faults → now.disk_faults ≡ before.disk_faults → EndHasCause how before now
+caused_by_none how held before now done truncated source sink disk = elim (cases_eq held 0) [
   | inl none ↦ let is : how ≡ ended.Done = done none in record {
-    none = λ e. absurd (let f : ended.Done ≡ ended.NotAStore = sym is ∙ e in cc);
-    damaged = λ block e. absurd (let f : ended.Done ≡ ended.Damaged block = sym is ∙ e in cc);
+    source = λ e. absurd (let x : ended.Done ≡ ended.Source = sym is ∙ e in cc);
+    sink = λ e. absurd (let x : ended.Done ≡ ended.Sink = sym is ∙ e in cc);
+    device = λ e. absurd (let x : ended.Done ≡ ended.Device = sym is ∙ e in cc);
+    source_same = λ _. source;
+    sink_same = λ _. sink;
+    disk_same = λ _ _. disk;
   }
   | inr some ↦ let is : how ≡ ended.Truncated = truncated some in record {
-    none = λ e. absurd (let f : ended.Truncated ≡ ended.NotAStore = sym is ∙ e in cc);
-    damaged = λ block e. absurd (let f : ended.Truncated ≡ ended.Damaged block = sym is ∙ e in cc);
+    source = λ e. absurd (let x : ended.Truncated ≡ ended.Source = sym is ∙ e in cc);
+    sink = λ e. absurd (let x : ended.Truncated ≡ ended.Sink = sym is ∙ e in cc);
+    device = λ e. absurd (let x : ended.Truncated ≡ ended.Device = sym is ∙ e in cc);
+    source_same = λ _. source;
+    sink_same = λ _. sink;
+    disk_same = λ _ _. disk;
   }
 ]
-
--- one that met a damaged block found it so
-pub ends_by_fault : (how : Ended) (f : Fault) (before now : DiskView) → how ≡ broken_by f → ((b : ℕ) → f ≡ broken.Damaged b → IsFoundDamaged before now b) → RefusesFor how before now
-ends_by_fault how broken.Device before now is found = record {
-  none = λ e. absurd (let x : ended.Device ≡ ended.NotAStore = sym is ∙ e in cc);
-  damaged = λ b e. absurd (let x : ended.Device ≡ ended.Damaged b = sym is ∙ e in cc);
-}
-ends_by_fault how (broken.Damaged block) before now is found = record {
-  none = λ e. absurd (let x : ended.Damaged block ≡ ended.NotAStore = sym is ∙ e in cc);
-  damaged = λ b e. let x : ended.Damaged block ≡ ended.Damaged b = sym is ∙ e in let same : block ≡ b = cc in λ g exposed. inr (found b (ap (λ (n : ℕ). broken.Damaged n) same));
-}
 
 -- and its cause is the device's alone
 pub caused_by_fault : (how : Ended) (f : Fault) (before now : World) → how ≡ broken_by f → (f ≡ broken.Device → Rose before.disk_faults now.disk_faults)
@@ -128,10 +160,3 @@ caused_by_fault how (broken.Damaged block) before now is rose same source sink =
   sink_same = λ _. sink;
   disk_same = λ _ _. same (λ e. let x : broken.Damaged block ≡ broken.Device = e in cc);
 }
-
--- where the store was opened it did not end early
-pub not_early : (how : Ended) (f : Fault) (before : DiskView) (h : Head) → how ≡ broken_by f → ((g : Image) → before.content ≡ Some g → recover g ≡ Ok (Some h)) → IsEarlyEnd how before → ⊥
-not_early how broken.Device before h is found early = subst (λ (x : Ended). IsEarlyEnd x before) is early
-not_early how (broken.Damaged block) before h is found early =
-    let there : ExposesDamage before = subst (λ (x : Ended). IsEarlyEnd x before) is early in
-    let x : ◌≡◌ {A = Read (Option Head)} (Ok (Some h)) (Err there.block) = sym (found there.content there.exposed) ∙ there.damaged in cc

@@ -7,7 +7,7 @@ use Rattle.strat_base.specs.declared.failures.Fault.TheVariants as fault
 use Rattle.strat_crash.specs.Blocks.{AgreeOn}
 use Rattle.strat_crash.specs.Faults.{Rose}
 use Rattle.strat_crash.specs.Image.{Image}
-use Rattle.strat_crash.specs.Moments.{DiskView, Exposes}
+use Rattle.strat_crash.specs.Moments.{DiskView, Exposes, Passes}
 use Rattle.strat_crash.specs.Trail.{Trail}
 use Rattle.strat_format.specs.SuperBlock.{newest_in}
 use Rattle.strat_io.specs.Streams.{Appends}
@@ -30,7 +30,7 @@ use Rattle.strat_recovery.specs.StateTable.{table_of}
 use Rattle.strat_standing.specs.Contents.{Contents, contents_state}
 use Rattle.strat_standing.specs.Standing.{ShowsTable}
 use Rattle.strat_store.specs.Applying.{IsDamagedIn}
-use Rattle.strat_store.specs.Following.{FollowsFrom, IsUnchanged, LeavesOpening}
+use Rattle.strat_store.specs.Following.{FollowsFrom, IsOpenedAs, IsUnchanged, LeavesOpening}
 use Rattle.strat_store.specs.Held.{Held, IsConsistent, StandsWith, position_with}
 use Rattle.strat_store.specs.Looking.{arrays_there}
 use Rattle.strat_serve.specs.World.{World}
@@ -269,6 +269,13 @@ pub record Served (budget : ℕ) (how : Ended) (before now : World) : Type 0 whe
 abbrev pub broken_by : Fault → Ended
 broken_by fault.Device = ended.Device
 broken_by (fault.Damaged block) = ended.Damaged block
+
+-- a store was opened, on a disk that did not fail
+pub record HasOpened (before : DiskView) (before_faults : ℕ) (now : DiskView) (now_faults : ℕ)
+    (s : Held) : Type 0 where
+  pub opened : IsOpenedAs before now s
+  pub passes : Passes before now
+  pub calm : now_faults ≡ before_faults
 
 -- how a run may end whose opening gave up
 abbrev pub IsGivenUp : Ended → Type 0

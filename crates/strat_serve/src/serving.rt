@@ -5,7 +5,8 @@ ghost use Rattle.strat_crash.specs.Faults.{CountsFaults};
 ghost use Rattle.strat_crash.specs.Moments.{Passes};
 ghost use Rattle.strat_io.specs.Streams.{Appends};
 ghost use Rattle.strat_store.specs.Causes.{ended_for};
-ghost use Rattle.strat_serve.specs.Session.{Took, IsAtEnd, SendsPrefix, RunOutcome, RefusesFor, IsEarlyEnd, EndHasCause, broken_by};
+ghost use Rattle.strat_store.specs.Held.{IsConsistent};
+ghost use Rattle.strat_serve.specs.Session.{Took, IsAtEnd, SendsPrefix, RunOutcome, RefusesFor, IsEarlyEnd, EndHasCause, HasOpened, Served, broken_by};
 ghost use Rattle.strat_serve.specs.World.{world};
 
 use crate::answering::{Buffers, answer, refuse_long};
@@ -91,6 +92,75 @@ fn at_end(held: usize) -> Ended
     }
 }
 
+/// Serves frames from a source to a sink over an open store, as `serve` does.
+#[tactic(auto, using(strat_crash::proofs::MomentLemmas::passes_trans))]
+fn serve_frames<S: Source, K: Sink, D: Disk>(
+    store: &mut Store,
+    buffers: &mut Buffers,
+    source: &mut S,
+    sink: &mut K,
+    disk: &mut D,
+    budget: u64,
+) -> Ended
+    requires none { buffers.old.frames.held ≡ [] }
+    requires going { store.old.spent ≡ false }
+    requires lawful { IsConsistent store.old }
+    ensures ok { (d : D) → HasOpened (D.view d) (D.faults d)
+        (D.view disk.old) (D.faults disk.old) store.old
+        → Served budget result
+        (world (S.left source.old) (S.faults source.old) (K.held sink.old) (K.faults sink.old)
+        (D.view d) (D.faults d))
+        (world (S.left source.new) (S.faults source.new) (K.held sink.new) (K.faults sink.new)
+        (D.view disk.new) (D.faults disk.new)) }
+    ensures time { Passes (D.view disk.old) (D.view disk.new) }
+    ensures cause { EndHasCause result
+        (world (S.left source.old) (S.faults source.old) (K.held sink.old) (K.faults sink.old)
+        (D.view disk.old) (D.faults disk.old))
+        (world (S.left source.new) (S.faults source.new) (K.held sink.new) (K.faults sink.new)
+        (D.view disk.new) (D.faults disk.new)) }
+{
+    let mut piece = [0; PIECE];
+    let mut taken = 0;
+    loop {
+        match buffers.frames.next() {
+            Next::Frame => {
+                let met = answer(
+                    store,
+                    disk,
+                    buffers.frames.body(),
+                    &mut buffers.pairs,
+                    &mut buffers.out,
+                );
+                let Ok(()) = send(sink, &buffers.out) else {
+                    return Ended::Sink;
+                };
+                if let Some(fault) = met {
+                    return broken_by(fault);
+                }
+            }
+            Next::NotYet => {
+                let Some(most) = most_next(budget, taken) else {
+                    return Ended::Budget;
+                };
+                let Ok(n) = read_piece(source, &mut piece, most) else {
+                    return Ended::Source;
+                };
+                if n == 0 {
+                    return at_end(buffers.frames.held());
+                }
+                taken += n as u64;
+                buffers.frames.feed(&piece[..n]);
+            }
+            Next::TooLong { .. } => {
+                return match refuse_long(sink, &mut buffers.pairs, &mut buffers.out) {
+                    Ok(()) => Ended::FrameTooLong,
+                    Err(Failed) => Ended::Sink,
+                };
+            }
+        }
+    }
+}
+
 /// Opens the store on a disk and serves frames from a source to a sink, until the source ends or as
 /// many bytes were read as the budget has. It takes the memory for frames, pairs and replies before
 /// it touches the disk, and reads at most 4,096 bytes at a time. Each whole frame among them is
@@ -126,44 +196,5 @@ pub fn serve<S: Source, K: Sink, D: Disk>(
         Ok(store) => store,
         Err(fault) => return ended_for(fault),
     };
-    let mut piece = [0; PIECE];
-    let mut taken = 0;
-    loop {
-        match buffers.frames.next() {
-            Next::Frame => {
-                let met = answer(
-                    &mut store,
-                    disk,
-                    buffers.frames.body(),
-                    &mut buffers.pairs,
-                    &mut buffers.out,
-                );
-                let Ok(()) = send(sink, &buffers.out) else {
-                    return Ended::Sink;
-                };
-                if let Some(fault) = met {
-                    return broken_by(fault);
-                }
-            }
-            Next::NotYet => {
-                let Some(most) = most_next(budget, taken) else {
-                    return Ended::Budget;
-                };
-                let Ok(n) = read_piece(source, &mut piece, most) else {
-                    return Ended::Source;
-                };
-                if n == 0 {
-                    return at_end(buffers.frames.held());
-                }
-                taken += n as u64;
-                buffers.frames.feed(&piece[..n]);
-            }
-            Next::TooLong { .. } => {
-                return match refuse_long(sink, &mut buffers.pairs, &mut buffers.out) {
-                    Ok(()) => Ended::FrameTooLong,
-                    Err(Failed) => Ended::Sink,
-                };
-            }
-        }
-    }
+    serve_frames(&mut store, &mut buffers, source, sink, disk, budget)
 }

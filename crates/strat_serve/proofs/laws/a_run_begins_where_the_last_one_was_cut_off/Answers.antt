@@ -1,4 +1,4 @@
-use Rattle.strat_serve.proofs.GiveUpLemmas.{gave_up, gave_up_for, ends_by_fault, caused_by_fault, not_early}
+use Rattle.strat_serve.proofs.GiveUpLemmas.{gave_up, gave_up_for, served_refuses, served_late, caused_since, caused_by_none, caused_by_fault}
 use Rattle.strat_serve.proofs.AnswerLemmas.{answered, told_faulty, found_damaged, fails_as_met, spent_by}
 use Rattle.strat_serve.proofs.ProgressLemmas.{begins, reads, reads_none, answers}
 use Rattle.strat_serve.proofs.SessionLemmas.{goes_on, ends_unsent, ends_broken}
