@@ -2,39 +2,43 @@
 use Rattle.std.specs.Prelude.{◌≡◌, ◌≢◌, ◌⊎◌, ℕ, ◌==◌, if◌then◌else◌, List, [], ◌∷◌, ◌++◌, Option, Some, None, Ok, Err, codes}
 use Rattle.strat_format.specs.Damage.{Read}
 use Rattle.strat_crash.specs.Image.{Image}
-use Rattle.strat_crash.specs.Moments.{Exposes, Since}
+use Rattle.strat_crash.specs.Moments.{DiskView, Exposes, Since}
 use Rattle.strat_io.specs.Streams.{Appends}
 use Rattle.strat_model.specs.declared.ended.Ended.{Ended}
 use Rattle.strat_model.specs.declared.ended.Ended.TheVariants as ended
 use Rattle.strat_model.specs.Ended.{status_of}
+use Rattle.strat_model.specs.Table.{Table}
 use Rattle.strat_recovery.specs.Head.{Head}
+use Rattle.strat_recovery.specs.Opening.{recover}
+use Rattle.strat_standing.specs.Standing.{ShowsTable}
 use Rattle.strat_recovery.specs.Texts as texts
 use Rattle.strat_store.specs.Format.{IsNewDisk, IsBlank, IsNoneOrNew, KeepsOthers}
-use Rattle.strat_serve.specs.Session.{SendsPrefix, RunOutcome, RefusesFor, EndHasCause}
+use Rattle.strat_serve.specs.Session.{SendsPrefix, RunOutcome, RefusesFor, EndHasCause, ExposesDamage}
 use Rattle.strat_serve.specs.World.{World, IsCalm}
 use Rattle.strat_crash.specs.Faults.{Rose}
-use Rattle.strat_store.specs.Opened.{recover_now}
 use Rattle.castle.specs.Arguments.{Subcommand, Serve, Format}
 
 -- a run ended as its input does, or at the budget, or before it began for want of memory
 abbrev pub EndsAsInput : ℕ → Type 0
 EndsAsInput status = (status ≡ 0) ⊎ (status ≡ 3) ⊎ (status ≡ 4) ⊎ (status ≡ 8) ⊎ (status ≡ 10)
 
--- where nothing failed, a serving run ends as what an opening finds says: as its input does, as
--- no store, or as damaged; or out of memory
+-- where nothing failed, a serving run ends as what an opening finds says: as its input does or at a
+-- block of an array that is damaged, as no store, or as damaged; or out of memory
 abbrev pub EndsAsFound : Read (Option Head) → ℕ → Type 0
-EndsAsFound (Ok (Some head)) status = EndsAsInput status
+EndsAsFound (Ok (Some head)) status = EndsAsInput status ⊎ (status ≡ 9)
 EndsAsFound (Ok None) status = (status ≡ 2) ⊎ (status ≡ 8)
 EndsAsFound (Err block) status = (status ≡ 9) ⊎ (status ≡ 8)
 
 -- a run that serves ended so: it served the store on the disk, or gave up before it read; where
--- nothing failed it ended as the content says
+-- nothing failed it ended as the content says, and as its input does where that shows a table
 pub record ServesFrames (budget : ℕ) (how : Ended) (before now : World) : Type 0 where
   pub outcome : RunOutcome budget how before now
-  pub refuses : RefusesFor how before.disk
+  pub refuses : RefusesFor how before.disk now.disk
   pub cause : EndHasCause how before now
   pub complete : IsCalm before now → (f : Image) → Exposes before.disk f
-      → EndsAsFound (recover_now f) (status_of how)
+      → EndsAsFound (recover f) (status_of how)
+  pub sound : IsCalm before now → (f : Image) (t : Table) → Exposes before.disk f
+      → ShowsTable f t → EndsAsInput (status_of how)
 
 -- the line that formatting prints, with its line feed
 abbrev pub format_text : ℕ → ℕ → ℕ → List ℕ
@@ -84,18 +88,21 @@ Runs (Some (Format path mem changes_max versions_max)) budget status before now 
     (how : Ended) × (status ≡ status_of how)
     × FormatsDisk mem changes_max versions_max how before now
 
--- a run ended before it read or wrote anything but the disk: with no store, out of memory, or
--- with a damaged block
-abbrev pub IsEarly : ℕ → Type 0
-IsEarly status = (status ≡ 2) ⊎ (status ≡ 8) ⊎ (status ≡ 9)
+-- a run on this disk ended before it read or wrote anything but the disk: with no store, out of
+-- memory, or with a damaged block where recovery finds one
+abbrev pub IsEarly : DiskView → ℕ → Type 0
+IsEarly before status =
+    (status ≡ 2) ⊎ (status ≡ 8) ⊎ ((status ≡ 9) × ExposesDamage before)
 
 -- what a run leaves as it was, of a source, a sink and a disk: all of it where the arguments name
 -- no subcommand
-abbrev pub LeavesAlone : Option Subcommand → ℕ → Type 0 → Type 0 → Type 0 → Type 0
-LeavesAlone None status source sink disk = source × sink × disk
-LeavesAlone (Some (Serve path)) status source sink disk = IsEarly status → source × sink
-LeavesAlone (Some (Format path mem changes_max versions_max)) status source sink disk =
-    source × (IsEarly status → sink) × (status ≡ 8 → disk)
+abbrev pub LeavesAlone :
+    Option Subcommand → DiskView → ℕ → Type 0 → Type 0 → Type 0 → Type 0
+LeavesAlone None before status source sink disk = source × sink × disk
+LeavesAlone (Some (Serve path)) before status source sink disk =
+    IsEarly before status → source × sink
+LeavesAlone (Some (Format path mem changes_max versions_max)) before status source sink disk =
+    source × ((status ≡ 2) ⊎ (status ≡ 8) ⊎ (status ≡ 9) → sink) × (status ≡ 8 → disk)
 
 -- the forms of the program's arguments
 abbrev pub usage_text : List ℕ

@@ -20,10 +20,10 @@ const BUDGET: u64 = 1_099_511_627_776;
 /// Runs the subcommand that the program's arguments name, these without the program's own name, and
 /// answers its exit status. Nothing is read or written where they name none.
 ///
-/// Serving takes all its memory at its start: 0.7 MB, 3.9 KB for each change that a journal region
-/// takes and 70 bytes for each version (0.3 MB and 2.6 KB for each change more while it recovers).
-/// A change makes two writes and two syncs and one insertion into level 0, a get a binary search
-/// there.
+/// Serving takes the memory for its buffers, versions, journal and level 0 at its start. A change
+/// makes two writes and two syncs and one insertion into level 0; where the journal is full it is
+/// emptied into the levels first, which takes memory for that time. A get asks level 0 and then, until
+/// one says something, the levels, of each one array at most.
 pub fn run<S: Source, K: Sink, D: Disk>(
     alloc: Global,
     words: &[String],
@@ -36,8 +36,8 @@ pub fn run<S: Source, K: Sink, D: Disk>(
         (D.view disk.old) (D.faults disk.old))
         (world (S.left source.new) (S.faults source.new) (K.held sink.new) (K.faults sink.new)
         (D.view disk.new) (D.faults disk.new)) }
-    ensures same { LeavesAlone (subcommand_in (map string_bytes words.now)) result
-        (source.new ≡ source.old) (sink.new ≡ sink.old) (disk.new ≡ disk.old) }
+    ensures same { LeavesAlone (subcommand_in (map string_bytes words.now)) (D.view disk.old)
+        result (source.new ≡ source.old) (sink.new ≡ sink.old) (disk.new ≡ disk.old) }
     ensures time { Passes (D.view disk.old) (D.view disk.new) }
 {
     match subcommand_of(words) {

@@ -1,49 +1,243 @@
 -- One body, answered.
-use Rattle.std.proofs.Common.{◌≡◌, ℕ, false, List, [], refl, sym, inl, inr}
+use Rattle.std.proofs.Common.{◌≡◌, ◌≢◌, ◌≤◌, ℕ, zero, suc, ◌+◌, Bool, true, false, List, [], ◌∷◌, Option, Some, None, refl, sym, ap, subst, ◌∙◌, ◌⊎◌, inl, inr, arith}
+use Rattle.std.specs.Prelude.{if◌then◌else◌, IsSome, is_some}
+use Rattle.strat_base.specs.declared.failures.Fault.{Fault}
+use Rattle.strat_base.specs.declared.failures.Fault.TheVariants as fault
+use Rattle.strat_crash.specs.Blocks.{AgreeOn}
+use Rattle.strat_crash.specs.Image.{Image}
+use Rattle.strat_crash.specs.Moments.{DiskView, Images, Since}
+use Rattle.strat_crash.specs.Trail.{At, Trail}
+use Rattle.strat_crash.proofs.MomentLemmas.{since_now}
+use Rattle.strat_crash.proofs.TrailLemmas.{trail_of_two, marks_in_order}
 use Rattle.strat_frame.specs.declared.commands.BodyFault.{BodyFault}
+use Rattle.strat_frame.specs.declared.commands.BodyFault.TheVariants as body
 use Rattle.strat_frame.specs.Faults.{refusal_for}
-use Rattle.strat_model.specs.Answer.{as_told}
+use Rattle.strat_model.specs.Answer.{Answer, as_told, refusal, accepts}
+use Rattle.strat_model.specs.declared.replies.Refusal.TheVariants as why
 use Rattle.strat_model.specs.declared.replies.Reply.{Reply}
 use Rattle.strat_model.specs.declared.replies.Reply.TheVariants as reply
 use Rattle.strat_model.specs.Pairs.{Pairs}
-use Rattle.strat_model.specs.Request.{Request}
+use Rattle.strat_model.specs.Request.{Request, Put, Delete, Get, Clone, Scan, Info, OpenCursor, NextPairs, CloseCursor, Stat}
 use Rattle.strat_model.specs.Spelling.{Spells, IsRefusedAs, reply_body}
+use Rattle.strat_model.specs.Step.{step}
 use Rattle.strat_model.specs.Stream.{frame}
-use Rattle.strat_model.specs.Run.{position_after}
-use Rattle.strat_serve.specs.Session.{IsAnswered}
-use Rattle.strat_store.specs.Store.{Attached, position_of, IsApplied}
+use Rattle.strat_model.specs.Table.{Table, bare}
+use Rattle.strat_model.specs.Run.{Position, Response, position_after, is_change, takes_memory}
+use Rattle.strat_promote.specs.Job.{blocks_listed}
+use Rattle.strat_recovery.specs.StateTable.{table_of}
+use Rattle.strat_standing.specs.Contents.{Contents, contents_state}
+use Rattle.strat_standing.specs.Standing.{ShowsTable}
+use Rattle.strat_standing.proofs.FreeLemmas.{shows_contents}
+use Rattle.strat_store.specs.Applying.{is_fault, is_short, IsAnsweredBy, IsShortOf, IsBrokenBy, IsAppliedTo, FollowsStep, FailsAsTold, IsDamagedIn}
+use Rattle.strat_store.specs.Held.{Held, StandsWith, IsConsistent, position_with}
+use Rattle.strat_store.specs.Looking.{arrays_there}
+use Rattle.strat_serve.specs.Session.{IsAnswered, ContinuesWith, StopsWith, FailsAsMet, IsFoundDamaged, fault_told}
 
--- a command that the store answered
-pub answered : (old new : Attached) (body : List ℕ) (tag : ℕ) (request : Request) (r : Reply) (pairs : Pairs) (bytes : List ℕ)
-    → Spells body tag request → IsApplied old request (as_told r pairs) new → bytes ≡ frame (reply_body tag (as_told r pairs)) → IsAnswered old body new bytes
-answered old new body tag request r pairs bytes spelled (inl is) sent_bytes = record {
-  response = record { tag = tag; answer = as_told r pairs };
-  spelled = sent_bytes;
-  how = inl (record {
-    answers = inr (inl (record { request = request; spelled = spelled; answer = is.answer_is; place = is.place }));
+-- what a reply tells of faults
+pub record Tells (r : Reply) : Type 0 where
+  pub spent : is_fault r ≡ is_some (fault_told r)
+  pub device : fault_told r ≡ Some fault.Device → r ≡ reply.Refused why.DeviceFault
+  pub damaged : (block : ℕ) → fault_told r ≡ Some (fault.Damaged block) → r ≡ reply.Refused (why.Damaged block)
+
+tells_none : (r : Reply) → fault_told r ≡ None → is_fault r ≡ false → Tells r
+tells_none r none calm = record {
+  spent = calm ∙ ap is_some (sym none);
+  device = λ e. absurd (let f : ◌≡◌ {A = Option Fault} None (Some fault.Device) = sym none ∙ e in cc);
+  damaged = λ block e. absurd (let f : ◌≡◌ {A = Option Fault} None (Some (fault.Damaged block)) = sym none ∙ e in cc);
+}
+
+pub tells : (r : Reply) → Tells r
+tells reply.Done = tells_none reply.Done refl refl
+tells reply.Found = tells_none reply.Found refl refl
+tells reply.Absent = tells_none reply.Absent refl refl
+tells (reply.Pairs more) = tells_none (reply.Pairs more) refl refl
+tells (reply.Made version) = tells_none (reply.Made version) refl refl
+tells (reply.Info parent depth frozen) = tells_none (reply.Info parent depth frozen) refl refl
+tells (reply.Opened cursor) = tells_none (reply.Opened cursor) refl refl
+tells (reply.Stat versions updates changes cursors) = tells_none (reply.Stat versions updates changes cursors) refl refl
+tells (reply.Refused why.UnknownVersion) = tells_none (reply.Refused why.UnknownVersion) refl refl
+tells (reply.Refused why.Frozen) = tells_none (reply.Refused why.Frozen) refl refl
+tells (reply.Refused why.UnknownCursor) = tells_none (reply.Refused why.UnknownCursor) refl refl
+tells (reply.Refused why.VersionLimit) = tells_none (reply.Refused why.VersionLimit) refl refl
+tells (reply.Refused why.ChangeLimit) = tells_none (reply.Refused why.ChangeLimit) refl refl
+tells (reply.Refused why.CursorLimit) = tells_none (reply.Refused why.CursorLimit) refl refl
+tells (reply.Refused why.Malformed) = tells_none (reply.Refused why.Malformed) refl refl
+tells (reply.Refused why.KeySize) = tells_none (reply.Refused why.KeySize) refl refl
+tells (reply.Refused why.ValueSize) = tells_none (reply.Refused why.ValueSize) refl refl
+tells (reply.Refused why.ScanSize) = tells_none (reply.Refused why.ScanSize) refl refl
+tells (reply.Refused why.FrameTooLong) = tells_none (reply.Refused why.FrameTooLong) refl refl
+tells (reply.Refused why.NoMemory) = tells_none (reply.Refused why.NoMemory) refl refl
+tells (reply.Refused why.DeviceFault) = record {
+  spent = refl;
+  device = λ _. refl;
+  damaged = λ block e. absurd (let f : ◌≡◌ {A = Option Fault} (Some fault.Device) (Some (fault.Damaged block)) = e in cc);
+}
+tells (reply.Refused (why.Damaged b)) = record {
+  spent = refl;
+  device = λ e. absurd (let f : ◌≡◌ {A = Option Fault} (Some (fault.Damaged b)) (Some fault.Device) = e in cc);
+  damaged = λ block e. let f : ◌≡◌ {A = Option Fault} (Some (fault.Damaged b)) (Some (fault.Damaged block)) = e in let same : b ≡ block = cc in ap (λ (x : ℕ). reply.Refused (why.Damaged x)) same;
+}
+
+-- a store is spent where it met a fault
+pub spent_by : (r : Reply) (met : Option Fault) (spent : Bool) → met ≡ fault_told r → spent ≡ is_fault r → spent ≡ is_some met
+spent_by r met spent is s = s ∙ (tells r).spent ∙ ap is_some (sym is)
+
+-- a count of faults rises for the device's fault alone
+pub fails_as_met : (r : Reply) (met : Option Fault) (before now : ℕ) → met ≡ fault_told r → FailsAsTold before now r → FailsAsMet before now met
+fails_as_met r met before now is told = record {
+  rose = λ e. told.rose ((tells r).device (sym is ∙ e));
+  same = λ other. told.same (λ e. other (is ∙ ap fault_told e));
+}
+
+-- a block that a command found damaged is one of the store's arrays
+pub found_damaged : (r : Reply) (met : Option Fault) (before now : DiskView) (s : Held) → met ≡ fault_told r → IsConsistent s
+    → ((b : ℕ) → r ≡ reply.Refused (why.Damaged b) → IsDamagedIn before.content s.memory s.levels b
+    × ((f g : Image) → before.content ≡ Some f → now.content ≡ Some g → AgreeOn (blocks_listed (arrays_there s.levels)) f g))
+    → (b : ℕ) → met ≡ Some (fault.Damaged b) → IsFoundDamaged before now b
+found_damaged r met before now s is lawful damaged b e =
+    let found = damaged b ((tells r).damaged b (sym is ∙ e)) in
+    record { store = s; lawful = lawful; content = before.content; exposed = λ f there. some before.content f there; bad = found.0; kept = found.1 }
+  where
+    some : (o : Option Image) (f : Image) → o ≡ Some f → IsSome o
+    some (Some g) f e = refl
+    some None f e = absurd (let x : ◌≡◌ {A = Option Image} None (Some f) = e in cc)
+
+-- no body is refused for a fault
+pub none_told : (f : BodyFault) → fault_told (reply.Refused (refusal_for f)) ≡ None
+none_told body.Malformed = refl
+none_told body.KeySize = refl
+none_told body.ValueSize = refl
+none_told body.ScanSize = refl
+
+-- a change takes memory
+change_takes : (r : Request) → is_change r ≡ true → takes_memory r ≡ true
+change_takes (Put version key value) e = e
+change_takes (Delete version key) e = e
+change_takes (Get version key) e = e
+change_takes (Clone version) e = e
+change_takes (Scan version lo hi limit) e = e
+change_takes (Info version) e = e
+change_takes (OpenCursor version lo hi) e = refl
+change_takes (NextPairs cursor limit) e = e
+change_takes (CloseCursor cursor) e = e
+change_takes Stat e = e
+
+-- an element of two
+either : (x y : Table) (i : ℕ) (P : Table → Type 0) → At (x ∷ y ∷ []) i P → P x ⊎ P y
+either x y zero P h = inl h
+either x y (suc zero) P h = inr h
+either x y (suc (suc i)) P h = absurd h
+
+-- an element of two that are the same
+twice : (x : Table) (i : ℕ) (P : Table → Type 0) → At (x ∷ x ∷ []) i P → P x
+twice x zero P h = h
+twice x (suc zero) P h = h
+twice x (suc (suc i)) P h = absurd h
+
+-- a trail ends no earlier than it begins
+trail_later : (v : DiskView) (start : ℕ) (tables : List Table) (n : ℕ) → Trail ShowsTable v start tables n → start ≤ v.moment
+trail_later v start tables n t =
+    let order : t.mark 0 ≤ t.mark n = marks_in_order t.mark n t.rise 0 n (omega arith) (omega arith) in
+    omega (arith, t.first, t.last)
+
+-- each image since a trail's start is in its list
+trail_since : (v : DiskView) (start : ℕ) (tables : List Table) (n : ℕ) → Trail ShowsTable v start tables n → (c : Image) → Since v start c → (i : ℕ) × At tables i (ShowsTable c)
+trail_since v start tables n t c since =
+    let from : start ≤ since.at = since.from in
+    let low : t.mark 0 ≤ since.at = omega (arith, t.first, from) in
+    let p = t.each 0 since.at c (omega arith) low since.till since.left in (p.0, p.2)
+
+-- each image of the disk that contents stand on shows their table
+stands_table : (v : DiskView) (s : Held) (x : Contents) → StandsWith v s x → (c : Image) → Images v c → ShowsTable c (table_of (contents_state x))
+stands_table v s x stands c left = shows_contents c x stands.stands.sound (stands.stands.reads c left)
+
+-- a trail of two tables reaches the second where contents stand that mean it
+reaches : (v : DiskView) (start : ℕ) (x y : Table) (n : ℕ) → Trail ShowsTable v start (x ∷ y ∷ []) n → ((c : Image) → Images v c → ShowsTable c y) → Trail ShowsTable v start (x ∷ y ∷ []) 1
+reaches v start x y n t at_end =
+    trail_of_two ShowsTable v start x y [] (trail_later v start (x ∷ y ∷ []) n t)
+    (λ c since. let p = trail_since v start (x ∷ y ∷ []) n t c since in either x y p.0 (ShowsTable c) p.1) at_end
+
+-- and where its second table may also be the first
+either_reaches : (b : Bool) (v : DiskView) (start : ℕ) (x u y : Table) (n : ℕ) → u ≡ y → Trail ShowsTable v start (x ∷ (if b then x else u) ∷ []) n → ((c : Image) → Images v c → ShowsTable c y)
+    → Trail ShowsTable v start (x ∷ y ∷ []) 1
+either_reaches false v start x u y n same t at_end = reaches v start x y n (subst (λ (z : Table). Trail ShowsTable v start (x ∷ z ∷ []) n) same t) at_end
+either_reaches true v start x u y n same t at_end =
+    trail_of_two ShowsTable v start x y [] (trail_later v start (x ∷ x ∷ []) n t)
+    (λ c since. let p = trail_since v start (x ∷ x ∷ []) n t c since in inl (twice x p.0 (ShowsTable c) p.1)) at_end
+
+-- a command, answered
+module _ (before now : DiskView) (old new : Held) (bytes : List ℕ) (tag : ℕ) (request : Request) (r : Reply) (pairs : Pairs) (spelled : Spells bytes tag request) where
+  abbrev told : Response
+  told = record { tag = tag; answer = as_told r pairs }
+
+  goes_on : (x : Contents) → IsAnsweredBy now old x request (as_told r pairs) new → FollowsStep before now x request (as_told r pairs) → ContinuesWith before now old x bytes told new
+  goes_on x is trail =
+      let next : bare (step (table_of (contents_state x)) request).table ≡ table_of (contents_state is.after) = ap (λ (p : Position). bare p.table) (sym is.place) in
+      let n : ℕ = if accepts r then 1 else 0 in
+      record {
+        going = is.going;
+        after = is.after;
+        stands = is.stands;
+        answers = inr (inl (record { request = request; spelled = spelled; answer = is.told; place = is.place }));
+        trail = either_reaches (is_short r) now before.moment (table_of (contents_state x)) (bare (step (table_of (contents_state x)) request).table) (table_of (contents_state is.after)) n
+            next trail (stands_table now new is.after is.stands);
+      }
+
+  falls_short : (x : Contents) → IsShortOf now old x request (as_told r pairs) new → FollowsStep before now x request (as_told r pairs) → ContinuesWith before now old x bytes told new
+  falls_short x is trail = record {
     going = is.going;
-  });
-}
-answered old new body tag request r pairs bytes spelled (inr is) sent_bytes = record {
-  response = record { tag = tag; answer = as_told r pairs };
-  spelled = sent_bytes;
-  how = inr (record {
-    done = position_after old.log.mem (position_of old) request;
-    fault = record { request = request; spelled = spelled; reaches = is.reaches; accepted = is.accepted; answer = inl is.answer_is; place = refl };
-    answer = is.answer_is;
-    table = sym is.table;
-    spent = is.spent;
-  });
-}
+    after = x;
+    stands = is.stands;
+    answers = inr (inr (record { request = request; spelled = spelled; takes = change_takes request is.changes; accepted = is.acceptable; full = λ _. is.full; answer = is.told; same = is.place }));
+    trail = reaches now before.moment (table_of (contents_state x)) (table_of (contents_state x)) 0
+        (subst (λ (a : Answer). FollowsStep before now x request a) is.told trail) (stands_table now new x is.stands);
+  }
+
+  breaks : (x : Contents) → IsBrokenBy old x request (as_told r pairs) new → FollowsStep before now x request (as_told r pairs) → StopsWith before now old x bytes told
+  breaks x is trail = record {
+    done = position_after old.log.mem (position_with old x) request;
+    fault = record { request = request; spelled = spelled; reaches = is.reached; accepted = is.acceptable; answer = inl is.told; place = refl };
+    answer = is.told;
+    trail = subst (λ (a : Answer). FollowsStep before now x request a) is.told trail;
+  }
+
+  applied : (x : Contents) → IsAppliedTo now old x request (as_told r pairs) new → FollowsStep before now x request (as_told r pairs)
+      → ContinuesWith before now old x bytes told new ⊎ StopsWith before now old x bytes told
+  applied x (inl is) trail = inl (goes_on x is trail)
+  applied x (inr (inl is)) trail = inl (falls_short x is trail)
+  applied x (inr (inr is)) trail = inr (breaks x is trail)
+
+  -- a command that the store answered
+  pub answered : (met : Option Fault) (out : List ℕ) → met ≡ fault_told r → out ≡ frame (reply_body tag (as_told r pairs))
+      → ((x : Contents) → StandsWith before old x → IsAppliedTo now old x request (as_told r pairs) new)
+      → ((x : Contents) → StandsWith before old x → FollowsStep before now x request (as_told r pairs))
+      → IsAnswered before now old bytes met new out
+  answered met out is sent_bytes ok trail = record {
+    response = told;
+    spelled = sent_bytes;
+    responds = inr (record { request = request; spelled = spelled });
+    tells = is;
+    run = λ x stands. applied x (ok x stands) (trail x stands);
+  }
 
 -- a body that is no command
-pub told_faulty : (s : Attached) (body : List ℕ) (tag : ℕ) (f : BodyFault) (pairs : Pairs) (bytes : List ℕ) → s.spent ≡ false
-    → IsRefusedAs body tag (refusal_for f) → pairs ≡ [] → bytes ≡ frame (reply_body tag (as_told (reply.Refused (refusal_for f)) pairs)) → IsAnswered s body s bytes
-told_faulty s body tag f pairs bytes going is none sent_bytes = record {
-  response = record { tag = tag; answer = as_told (reply.Refused (refusal_for f)) pairs };
-  spelled = sent_bytes;
-  how = inl (record {
-    answers = inl (record { cause = refusal_for f; refused = is; answer = λ j. as_told (reply.Refused (refusal_for f)) (none j); same = refl });
-    going = going;
-  });
-}
+pub told_faulty : (v : DiskView) (s : Held) (bytes : List ℕ) (tag : ℕ) (f : BodyFault) (pairs : Pairs) (out : List ℕ) → s.spent ≡ false
+    → IsRefusedAs bytes tag (refusal_for f) → pairs ≡ [] → out ≡ frame (reply_body tag (as_told (reply.Refused (refusal_for f)) pairs)) → IsAnswered v v s bytes None s out
+told_faulty v s bytes tag f pairs out going is none sent_bytes =
+    let response : Response = record { tag = tag; answer = as_told (reply.Refused (refusal_for f)) pairs } in
+    let said : response.answer ≡ refusal (refusal_for f) = ap (λ (p : Pairs). as_told (reply.Refused (refusal_for f)) p) none in
+    record {
+      response = response;
+      spelled = sent_bytes;
+      responds = inl (record { cause = refusal_for f; refused = is; answer = said });
+      tells = sym (none_told f);
+      run = λ x stands.
+          let at_end = stands_table v s x stands in
+          inl (record {
+            going = going;
+            after = x;
+            stands = stands;
+            answers = inl (record { cause = refusal_for f; refused = is; answer = said; same = refl });
+            trail = trail_of_two ShowsTable v v.moment (table_of (contents_state x)) (table_of (contents_state x)) [] (omega arith) (λ c since. inl (at_end c (since_now v c since))) at_end;
+          });
+    }

@@ -1,20 +1,35 @@
 -- Where a run begins.
-use Rattle.std.proofs.Common.{◌≡◌, ℕ, Some, sym, ap, ◌∙◌}
+use Rattle.std.proofs.Common.{◌≡◌, ℕ, Option, Some, length, refl, sym, ap, ◌∙◌}
+use Rattle.std.specs.Prelude.{Ok}
 use Rattle.strat_crash.specs.Image.{Image}
+use Rattle.strat_crash.specs.Moments.{DiskView}
+use Rattle.strat_format.specs.Damage.{Read}
 use Rattle.strat_model.specs.Run.{Position}
 use Rattle.strat_model.specs.Table.{Table}
+use Rattle.strat_recovery.specs.Head.{Head}
 use Rattle.strat_recovery.specs.StateTable.{table_of}
+use Rattle.strat_standing.specs.Contents.{Contents, contents_head, contents_state}
+use Rattle.strat_standing.specs.Standing.{ShowsTable}
+use Rattle.strat_standing.proofs.FreeLemmas.{one_table}
+use Rattle.strat_standing.proofs.PartsLemmas.{reads_head, state_parts}
 use Rattle.strat_state.specs.State.{State}
-use Rattle.strat_store.specs.Opened.{Shows, limited}
+use Rattle.strat_store.specs.Following.{IsOpenedAs}
+use Rattle.strat_store.specs.Held.{Held, head_held, position_with}
 use Rattle.strat_serve.specs.Session.{Begins}
 
--- an image shows one table
-pub one_table : (c : Image) (t other : Table) → Shows c t → Shows c other → t ≡ other
-one_table c t other a b =
-    let both : Some a.state ≡ Some b.state = sym a.reads ∙ b.reads in
-    let same : a.state ≡ b.state = cc in
-    sym a.table ∙ ap (λ (s : State). table_of (limited s)) same ∙ b.table
-
--- a run that is served from it begins there
-pub begins_there : (c : Image) (t : Table) (mem : ℕ) (start : Position) → Shows c t → Begins c mem start → start.table ≡ t
+-- a run that is served from an image begins at the table that it shows
+pub begins_there : (c : Image) (t : Table) (mem : ℕ) (start : Position) → ShowsTable c t → Begins c mem start → start.table ≡ t
 begins_there c t mem start shows begins = one_table c start.table t begins.shows shows
+
+-- a run that opened its store from an image begins there
+pub opens_begins : (before now : DiskView) (s : Held) (f : Image) (t : Table) (x : Contents) → IsOpenedAs before now s → s.log.mem ≡ s.sb.mem
+    → before.content ≡ Some f → ShowsTable f t → table_of (contents_state x) ≡ t → Begins f s.log.mem (position_with s x)
+opens_begins before now s f t x opened mem exposed shows table =
+    let parts = state_parts f shows.state shows.reads in
+    let both : ◌≡◌ {A = Read (Option Head)} (Ok (Some (contents_head parts.contents))) (Ok (Some (head_held s))) = sym (reads_head f parts.contents parts.reads) ∙ opened.found f exposed in
+    let same : contents_head parts.contents ≡ head_held s = cc in
+    record {
+      shows = record { state = shows.state; reads = shows.reads; sound = shows.sound; table = shows.table ∙ sym table };
+      fill = ap (λ (h : Head). length h.journal) (sym same) ∙ ap (λ (u : State). length u.journal) parts.state;
+      mem_is = mem ∙ ap (λ (h : Head). h.sb.mem) (sym same) ∙ ap (λ (u : State). u.mem) parts.state;
+    }

@@ -1,56 +1,67 @@
 -- A serving run while it goes on.
-use Rattle.std.proofs.Common.{◌≡◌, ◌≤◌, ◌<◌, ℕ, ◌+◌, false, List, [], ◌∷◌, ◌++◌, length, take, drop, map, Option, Some, None, refl, sym, ap, subst, ◌∙◌, append_assoc, length-append, arith}
-use Rattle.std.specs.Prelude.{if◌then◌else◌}
+use Rattle.std.proofs.Common.{◌≡◌, ◌≤◌, ◌<◌, ℕ, ◌+◌, Bool, true, false, List, [], ◌∷◌, ◌++◌, length, take, drop, map, Option, Some, None, refl, sym, ap, subst, ◌∙◌, ◌⊎◌, inl, inr, append_assoc, length-append, arith}
+use Rattle.std.specs.Prelude.{Ok, is_some}
 use Rattle.std.specs.List.{flat_map, AllByRecursion}
 use Rattle.std.proofs.lemmas.List.{append-nil, length-map, map-append, take-append-drop, take-append-le}
 use Rattle.std.proofs.lemmas.List.Concat.{flat_map-append}
+use Rattle.strat_base.specs.declared.failures.Fault.{Fault}
+use Rattle.strat_base.specs.declared.failures.Fault.TheVariants as fault
 use Rattle.strat_crash.specs.Image.{Image}
-use Rattle.strat_crash.specs.Moments.{DiskView, Images, Since, Passes, KeepsImages}
-use Rattle.strat_crash.specs.Trail.{Trail}
+use Rattle.strat_crash.specs.Moments.{DiskView, Images, Passes}
+use Rattle.strat_crash.specs.Trail.{At, Trail}
+use Rattle.strat_crash.proofs.TrailLemmas.{trail_join}
 use Rattle.strat_io.specs.Streams.{Appends, Gives}
 use Rattle.strat_io.proofs.StreamLemmas.{appends_then}
+use Rattle.strat_model.specs.Answer.{Answer}
 use Rattle.strat_model.specs.Stream.{frame, IsBody}
 use Rattle.strat_model.specs.Table.{Table, bare}
 use Rattle.strat_model.specs.Run.{Position, Response, response_bytes, Exchange, Answers, IsRun, sent_bytes}
-use Rattle.strat_store.specs.Opened.{state_now, Shows, SameButJournal, Follows}
-use Rattle.strat_store.specs.Store.{Attached, position_of, StandsOn, OpensFrom, Moves, BreaksByFault, IsAttached}
-use Rattle.strat_serve.specs.Session.{Took, IsAtEnd, Begins, ContinuesWith}
+use Rattle.strat_recovery.specs.Opening.{recover}
+use Rattle.strat_recovery.specs.StateTable.{table_of}
+use Rattle.strat_standing.specs.Contents.{Contents, contents_state}
+use Rattle.strat_standing.specs.Standing.{ShowsTable}
+use Rattle.strat_store.specs.Following.{FollowsFrom, IsOpenedAs}
+use Rattle.strat_store.specs.Held.{Held, IsConsistent, StandsWith, head_held, position_with}
+use Rattle.strat_serve.specs.Session.{Took, IsAtEnd, Begins, RespondsTo, AreAnsweredBy, IsAnswered, ContinuesWith, StopsWith, FailsAsMet, IsFoundDamaged, fault_told}
 use Rattle.strat_serve.specs.World.{World}
-use Rattle.strat_store.proofs.FollowLemmas.{follows_on}
-use Rattle.strat_store.proofs.OpenedLemmas.{reads_now, sound_now}
+use Rattle.strat_serve.proofs.BeginLemmas.{opens_begins}
+
+-- the tables at which bodies were answered
+abbrev pub tables_before : List Exchange → List Table
+tables_before xs = map (λ (x : Exchange). bare x.at.table) xs
+
+-- a serving run so far, where the disk exposes a content that shows a table: these bodies were answered so by the table, and the store stands where
+-- that leads
+pub record RunSoFar (start current : Held) (before now : DiskView) (f : Image) (t : Table) (bodies : List (List ℕ)) (answers : List Response) : Type 0 where
+  pub from : Position
+  pub begins : Begins f start.log.mem from
+  pub table : from.table ≡ t
+  pub contents : Contents
+  pub exchanges : List Exchange
+  pub run : IsRun start.log.mem from exchanges (position_with current contents)
+  pub bodies_are : map (λ (x : Exchange). x.body) exchanges ≡ bodies
+  pub answers_are : map (λ (x : Exchange). x.response) exchanges ≡ answers
+  pub stands : StandsWith now current contents
+  pub follows : FollowsFrom before now f (tables_before exchanges ++ table_of (contents_state contents) ∷ []) (length exchanges)
 
 -- a serving run so far: all whole frames in front of the bytes held were answered, the replies sent, and the changes kept
-pub record Progress (start current : Attached) (count : ℕ) (held : List ℕ) (before now : World) : Type 0 where
+pub record Progress (start current : Held) (count : ℕ) (held : List ℕ) (before now : World) : Type 0 where
   pub taken : List ℕ
   pub counted : length taken ≡ count
   pub took : Took before.left now.left taken
-  pub exchanges : List Exchange
-  pub run : IsRun start.log.mem (position_of start) exchanges (position_of current)
-  pub parts : taken ≡ flat_map (λ x. frame x.body) exchanges ++ held
-  pub each : AllByRecursion (λ x. IsBody x.body) exchanges
-  pub sent : Appends before.held now.held (sent_bytes (map (λ x. x.response) exchanges))
+  pub bodies : List (List ℕ)
+  pub answers : List Response
+  pub answered : AreAnsweredBy bodies answers
+  pub quiet : AllByRecursion (λ (r : Response). fault_told r.answer.reply ≡ None) answers
+  pub parts : taken ≡ flat_map frame bodies ++ held
+  pub each : AllByRecursion IsBody bodies
+  pub sent : Appends before.held now.held (sent_bytes answers)
+  pub found : (f : Image) → before.disk.content ≡ Some f → recover f ≡ Ok (Some (head_held start))
   pub mem : current.log.mem ≡ start.log.mem
+  pub lawful : IsConsistent current
   pub going : current.spent ≡ false
   pub calm : now.disk_faults ≡ before.disk_faults
-  pub begins : (f : Image) → before.disk.content ≡ Some f → Begins f start.log.mem (position_of start)
-  pub stands : (f : Image) → before.disk.content ≡ Some f → StandsOn now.disk current
-  pub follows : (f : Image) → before.disk.content ≡ Some f
-      → Follows before.disk now.disk f start.log.mem (map (λ x. bare x.at.table) exchanges ++ bare current.table ∷ []) (length exchanges)
-
--- a run that opened its store from an image begins there
-pub opens_begins : (f : Image) (s : Attached) → OpensFrom f s → Begins f s.log.mem (position_of s)
-opens_begins f s opens = record {
-  shows = record {
-    head = opens.head;
-    found = opens.found;
-    state = state_now opens.head;
-    reads = reads_now f opens.head opens.found;
-    sound = sound_now f opens.head opens.found;
-    table = opens.table;
-  };
-  fill = ap length opens.list;
-  mem_is = opens.mem;
-}
+  pub runs : (f : Image) (t : Table) → before.disk.content ≡ Some f → ShowsTable f t → RunSoFar start current before.disk now.disk f t bodies answers
 
 -- what was read was taken from the source
 pub took_piece : (before now : Option (List ℕ)) (into more : List ℕ) (n : ℕ) → Gives before now into n → n ≤ length into → Took before now (take n (into ++ more))
@@ -95,150 +106,226 @@ run_more mem p q r [] body response run answers = (run, (r, subst (λ (x : Posit
 run_more mem p q r (x ∷ xs) body response run answers = (run.0, (run.1.0, run.1.1, run_more mem run.1.0 q r xs body response run.1.2 answers))
 
 -- one more body that fits
-pub each_more : (xs : List Exchange) (x : Exchange) → AllByRecursion (λ y. IsBody y.body) xs → IsBody x.body → AllByRecursion (λ y. IsBody y.body) (xs ++ x ∷ [])
+pub each_more : (xs : List (List ℕ)) (x : List ℕ) → AllByRecursion IsBody xs → IsBody x → AllByRecursion IsBody (xs ++ x ∷ [])
 each_more [] x each fits = (fits, tt)
 each_more (y ∷ ys) x each fits = (each.0, each_more ys x each.1 fits)
 
+-- one more response that tells of no fault
+quiet_more : (xs : List Response) (x : Response) → AllByRecursion (λ (r : Response). fault_told r.answer.reply ≡ None) xs → fault_told x.answer.reply ≡ None
+    → AllByRecursion (λ (r : Response). fault_told r.answer.reply ≡ None) (xs ++ x ∷ [])
+quiet_more [] x each calm = (calm, tt)
+quiet_more (y ∷ ys) x each calm = (each.0, quiet_more ys x each.1 calm)
+
+-- one more body with its response
+pub answered_more : (bodies : List (List ℕ)) (answers : List Response) (body : List ℕ) (response : Response) → AreAnsweredBy bodies answers → RespondsTo body response
+    → AreAnsweredBy (bodies ++ body ∷ []) (answers ++ response ∷ [])
+answered_more [] [] body response all is = (is, tt)
+answered_more [] (r ∷ rs) body response all is = absurd all
+answered_more (b ∷ bs) [] body response all is = absurd all
+answered_more (b ∷ bs) (r ∷ rs) body response all is = (all.0, answered_more bs rs body response all.1 is)
+
 -- a run begins with the store that was opened
-pub begins : (s : Attached) (held : List ℕ) (before : World) (disk : DiskView) (faults : ℕ) → held ≡ [] → faults ≡ before.disk_faults
-    → IsAttached before.disk disk s → Progress s s 0 held before (record before { disk = disk; disk_faults = faults })
-begins s held before disk faults empty calm attached = record {
+pub begins : (s : Held) (held : List ℕ) (before : World) (disk : DiskView) (faults : ℕ) → held ≡ [] → faults ≡ before.disk_faults
+    → IsOpenedAs before.disk disk s → IsConsistent s → Progress s s 0 held before (record before { disk = disk; disk_faults = faults })
+begins s held before disk faults empty calm opened lawful = record {
   taken = [];
   counted = refl;
   took = took_none before.left;
-  exchanges = [];
-  run = refl;
+  bodies = [];
+  answers = [];
+  answered = tt;
+  quiet = tt;
   parts = sym empty;
   each = tt;
   sent = sent_none before.held;
+  found = opened.found;
   mem = refl;
-  going = attached.going;
+  lawful = lawful;
+  going = opened.going;
   calm = calm;
-  begins = λ f exposed. opens_begins f s (attached.found f exposed);
-  stands = attached.stands;
-  follows = λ f exposed. (attached.opens f exposed).follows;
+  runs = λ f t exposed shows.
+      let there = opened.stands f t exposed shows in
+      record {
+        from = position_with s there.0;
+        begins = opens_begins before.disk disk s f t there.0 opened lawful.log.mem exposed shows there.2;
+        table = there.2;
+        contents = there.0;
+        exchanges = [];
+        run = refl;
+        bodies_are = refl;
+        answers_are = refl;
+        stands = there.1;
+        follows = subst (λ (u : Table). FollowsFrom before.disk disk f (u ∷ []) 0) (sym there.2) (opened.follows f t exposed shows);
+      };
 }
 
 -- more bytes were taken and are held
-pub reads : (start current : Attached) (count n : ℕ) (held piece fed : List ℕ) (before now : World) (left : Option (List ℕ)) (faults : ℕ)
+pub reads : (start current : Held) (count n : ℕ) (held piece fed : List ℕ) (before now : World) (left : Option (List ℕ)) (faults : ℕ)
     → Progress start current count held before now → Took now.left left piece → length piece ≡ n → fed ≡ held ++ piece
     → Progress start current (count + n) fed before (record now { left = left; source_faults = faults })
 reads start current count n held piece fed before now left faults p took len feeds = record {
   taken = p.taken ++ piece;
   counted = length-append p.taken piece ∙ omega (arith, p.counted);
   took = took_then before.left now.left left p.taken piece p.took took;
-  exchanges = p.exchanges;
-  run = p.run;
-  parts = ap (λ (x : List ℕ). x ++ piece) p.parts ∙ append_assoc (flat_map (λ (x : Exchange). frame x.body) p.exchanges) held piece
-      ∙ ap (λ (x : List ℕ). flat_map (λ (y : Exchange). frame y.body) p.exchanges ++ x) (sym feeds);
+  bodies = p.bodies;
+  answers = p.answers;
+  answered = p.answered;
+  quiet = p.quiet;
+  parts = ap (λ (x : List ℕ). x ++ piece) p.parts ∙ append_assoc (flat_map frame p.bodies) held piece ∙ ap (λ (x : List ℕ). flat_map frame p.bodies ++ x) (sym feeds);
   each = p.each;
   sent = p.sent;
+  found = p.found;
   mem = p.mem;
+  lawful = p.lawful;
   going = p.going;
   calm = p.calm;
-  begins = p.begins;
-  stands = p.stands;
-  follows = p.follows;
+  runs = p.runs;
 }
 
 -- nothing more was taken
-pub reads_none : (start current : Attached) (count : ℕ) (held : List ℕ) (before now : World) (left : Option (List ℕ)) (faults : ℕ)
+pub reads_none : (start current : Held) (count : ℕ) (held : List ℕ) (before now : World) (left : Option (List ℕ)) (faults : ℕ)
     → Progress start current count held before now → Took now.left left [] → Progress start current count held before (record now { left = left; source_faults = faults })
 reads_none start current count held before now left faults p took = record {
   taken = p.taken;
   counted = p.counted;
   took = subst (λ (x : List ℕ). Took before.left left x) (append-nil p.taken) (took_then before.left now.left left p.taken [] p.took took);
-  exchanges = p.exchanges;
-  run = p.run;
+  bodies = p.bodies;
+  answers = p.answers;
+  answered = p.answered;
+  quiet = p.quiet;
   parts = p.parts;
   each = p.each;
   sent = p.sent;
+  found = p.found;
   mem = p.mem;
+  lawful = p.lawful;
   going = p.going;
   calm = p.calm;
-  begins = p.begins;
-  stands = p.stands;
-  follows = p.follows;
+  runs = p.runs;
 }
 
--- the tables at which bodies were answered
-abbrev pub tables_before : List Exchange → List Table
-tables_before xs = map (λ (x : Exchange). bare x.at.table) xs
+-- each image at the end of a trail shows a table at its number or behind it
+at_last : (now : DiskView) (tables : List Table) (n start : ℕ) → Trail ShowsTable now start tables n → (c : Image) → Images now c → (i : ℕ) × (n ≤ i) × At tables i (ShowsTable c)
+at_last now tables n start trail c left = trail.each n now.moment c (omega arith) trail.last (omega arith) left
+
+-- a disk that followed tables up to the last of them goes on from it
+goes_from : (before mid now : DiskView) (f : Image) (xs ys : List Table) (x : Table) (n : ℕ) → Passes mid now → FollowsFrom before mid f (xs ++ x ∷ []) (length xs)
+    → Trail ShowsTable now mid.moment (x ∷ ys) n → FollowsFrom before now f (xs ++ x ∷ ys) (length xs + n)
+goes_from before mid now f xs ys x n passes so_far more =
+    let trail = trail_join ShowsTable mid now so_far.synced xs ys x n passes so_far.trail more in
+    record {
+      synced = so_far.synced;
+      from = so_far.from;
+      till = omega (arith, so_far.till, passes.later);
+      content = passes.kept so_far.synced f so_far.till so_far.content;
+      one = λ c left. so_far.one c (passes.past so_far.synced c so_far.till left);
+      until = λ m c low high left. so_far.until m c low high (passes.past m c (omega (arith, high, so_far.till)) left);
+      trail = trail;
+      left = at_last now (xs ++ x ∷ ys) (length xs + n) so_far.synced trail;
+    }
 
 -- the disk followed the tables one answer more
-pub follows_more : (before mid now : DiskView) (f : Image) (mem : ℕ) (old new : Attached) (xs : List Exchange) (n : ℕ) → Passes mid now
-    → Follows before mid f mem (tables_before xs ++ bare old.table ∷ []) (length xs) → mem ≡ old.log.mem
-    → Trail Shows now mid.moment (bare old.table ∷ bare new.table ∷ []) n → ((c : Image) → Since now mid.moment c → (d : Image) × Images mid d × SameButJournal old.log.mem d c)
-    → (bare new.table ≡ bare old.table → KeepsImages mid now) → Follows before now f mem (tables_before xs ++ bare old.table ∷ bare new.table ∷ []) (length xs + n)
-follows_more before mid now f mem old new xs n passes so_far same more journal still =
+pub follows_more : (before mid now : DiskView) (f : Image) (xs : List Exchange) (t u : Table) (n : ℕ) → Passes mid now → FollowsFrom before mid f (tables_before xs ++ t ∷ []) (length xs)
+    → Trail ShowsTable now mid.moment (t ∷ u ∷ []) n → FollowsFrom before now f (tables_before xs ++ t ∷ u ∷ []) (length xs + n)
+follows_more before mid now f xs t u n passes so_far more =
     let len : length (tables_before xs) ≡ length xs = length-map xs (λ (x : Exchange). bare x.at.table) in
-    subst (λ (k : ℕ). Follows before now f mem (tables_before xs ++ bare old.table ∷ bare new.table ∷ []) (k + n)) len
-    (follows_on before mid now f mem (tables_before xs) (bare new.table ∷ []) (bare old.table) n passes
-    (subst (λ (k : ℕ). Follows before mid f mem (tables_before xs ++ bare old.table ∷ []) k) (sym len) so_far) more
-    (subst (λ (m : ℕ). (c : Image) → Since now mid.moment c → (d : Image) × Images mid d × SameButJournal m d c) (sym same) journal)
-    (λ alike. still alike.0))
+    subst (λ (k : ℕ). FollowsFrom before now f (tables_before xs ++ t ∷ u ∷ []) (k + n)) len
+    (goes_from before mid now f (tables_before xs) (u ∷ []) t n passes
+    (subst (λ (k : ℕ). FollowsFrom before mid f (tables_before xs ++ t ∷ []) k) (sym len) so_far) more)
 
--- where a store goes on the images show its table after the answer
-moves_on : (before now : DiskView) (old new : Attached) → new.spent ≡ false → Moves before now old new → Trail Shows now before.moment (bare old.table ∷ bare new.table ∷ []) 1
-moves_on before now old new going moves =
-    subst (λ b. Trail Shows now before.moment (bare old.table ∷ bare new.table ∷ []) (if b then 0 else 1)) going moves.trail
+-- and that answer is the last of all so far
+follows_one : (before mid now : DiskView) (f : Image) (xs : List Exchange) (x : Exchange) (t u : Table) → bare x.at.table ≡ t → Passes mid now
+    → FollowsFrom before mid f (tables_before xs ++ t ∷ []) (length xs) → Trail ShowsTable now mid.moment (t ∷ u ∷ []) 1
+    → FollowsFrom before now f (tables_before (xs ++ x ∷ []) ++ u ∷ []) (length (xs ++ x ∷ []))
+follows_one before mid now f xs x t u at passes so_far more =
+    let joined = follows_more before mid now f xs t u 1 passes so_far more in
+    let len : length xs + 1 ≡ length (xs ++ x ∷ []) = sym (length-append xs (x ∷ [])) in
+    let earlier : tables_before (xs ++ x ∷ []) ≡ tables_before xs ++ t ∷ [] = map-append (λ (y : Exchange). bare y.at.table) xs (x ∷ []) ∙ ap (λ (v : Table). tables_before xs ++ v ∷ []) at in
+    let list : tables_before xs ++ t ∷ u ∷ [] ≡ tables_before (xs ++ x ∷ []) ++ u ∷ [] =
+    sym (append_assoc (tables_before xs) (t ∷ []) (u ∷ [])) ∙ ap (λ (l : List Table). l ++ u ∷ []) (sym earlier) in
+    subst (λ (n : ℕ). FollowsFrom before now f (tables_before (xs ++ x ∷ []) ++ u ∷ []) n) len
+    (subst (λ (l : List Table). FollowsFrom before now f l (length xs + 1)) list joined)
 
 -- the world after one answer more
-pub record Answered (old new : Attached) (mid now : World) : Type 0 where
-  pub mem : new.log.mem ≡ old.log.mem
+pub record Answered (old new : Held) (mid now : World) (body : List ℕ) (met : Option Fault) (out : List ℕ) : Type 0 where
   pub left : now.left ≡ mid.left
-  pub moves : StandsOn mid.disk old → Moves mid.disk now.disk old new
+  pub is : IsAnswered mid.disk now.disk old body met new out
   pub passes : Passes mid.disk now.disk
-  pub breaks : BreaksByFault mid.disk_faults now.disk_faults new
+  pub cause : FailsAsMet mid.disk_faults now.disk_faults met
+  pub spent : new.spent ≡ is_some met
+  pub kept : met ≡ None → IsConsistent new
+  pub same : new.sb.mem ≡ old.sb.mem
+  pub damaged : (b : ℕ) → met ≡ Some (fault.Damaged b) → IsFoundDamaged mid.disk now.disk b
 
-module _ (start old new : Attached) (count : ℕ) (held rest body : List ℕ) (response : Response) (before mid now : World) (p : Progress start old count held before mid) where
-  abbrev pub latest : Exchange
-  latest = record { body = body; response = response; at = position_of old }
+-- a reply that the device failed tells of a fault
+tells_device : (r : Response) (met : Option Fault) → met ≡ fault_told r.answer.reply → (a : Answer) → r.answer ≡ a → fault_told a.reply ≡ Some fault.Device → met ≡ None → ⊥
+tells_device r met tells a is told none =
+    let f : ◌≡◌ {A = Option Fault} None (Some fault.Device) = sym none ∙ tells ∙ ap (λ (x : Answer). fault_told x.reply) is ∙ told in cc
+
+module _ (start old new : Held) (count : ℕ) (held rest body : List ℕ) (met : Option Fault) (out : List ℕ) (before mid now : World)
+    (p : Progress start old count held before mid) (done : Answered old new mid now body met out) (none : met ≡ None) where
+  abbrev response : Response
+  response = done.is.response
 
   -- the frames taken, with one more
-  pub parts_more : held ≡ frame body ++ rest → p.taken ≡ flat_map (λ (x : Exchange). frame x.body) (p.exchanges ++ latest ∷ []) ++ rest
+  pub parts_more : held ≡ frame body ++ rest → p.taken ≡ flat_map frame (p.bodies ++ body ∷ []) ++ rest
   parts_more front =
-      let frames : List Exchange → List ℕ = λ xs. flat_map (λ (x : Exchange). frame x.body) xs in
-      p.parts ∙ ap (λ (x : List ℕ). frames p.exchanges ++ x) front
-      ∙ sym (append_assoc (frames p.exchanges) (frame body) rest)
-      ∙ ap (λ (x : List ℕ). (frames p.exchanges ++ x) ++ rest) (sym (append-nil (frame body)))
-      ∙ ap (λ (x : List ℕ). x ++ rest) (sym (flat_map-append (λ (x : Exchange). frame x.body) p.exchanges (latest ∷ [])))
+      p.parts ∙ ap (λ (x : List ℕ). flat_map frame p.bodies ++ x) front
+      ∙ sym (append_assoc (flat_map frame p.bodies) (frame body) rest)
+      ∙ ap (λ (x : List ℕ). (flat_map frame p.bodies ++ x) ++ rest) (sym (append-nil (frame body)))
+      ∙ ap (λ (x : List ℕ). x ++ rest) (sym (flat_map-append frame p.bodies (body ∷ [])))
+
+  -- the run of the table goes on
+  run_on : (f : Image) (t : Table) (so_far : RunSoFar start old before.disk mid.disk f t p.bodies p.answers)
+      → ContinuesWith mid.disk now.disk old so_far.contents body response new ⊎ StopsWith mid.disk now.disk old so_far.contents body response
+      → RunSoFar start new before.disk now.disk f t (p.bodies ++ body ∷ []) (p.answers ++ response ∷ [])
+  run_on f t so_far (inr stops) = absurd (tells_device response met done.is.tells _ stops.answer refl none)
+  run_on f t so_far (inl is) =
+      let at = position_with old so_far.contents in
+      let latest : Exchange = record { body = body; response = response; at = at } in
+      record {
+        from = so_far.from;
+        begins = so_far.begins;
+        table = so_far.table;
+        contents = is.after;
+        exchanges = so_far.exchanges ++ latest ∷ [];
+        run = run_more start.log.mem so_far.from at (position_with new is.after) so_far.exchanges body response so_far.run
+            (subst (λ (m : ℕ). Answers m at body response (position_with new is.after)) p.mem is.answers);
+        bodies_are = map-append (λ (x : Exchange). x.body) so_far.exchanges (latest ∷ []) ∙ ap (λ (l : List (List ℕ)). l ++ body ∷ []) so_far.bodies_are;
+        answers_are = map-append (λ (x : Exchange). x.response) so_far.exchanges (latest ∷ []) ∙ ap (λ (l : List Response). l ++ response ∷ []) so_far.answers_are;
+        stands = is.stands;
+        follows = follows_one before.disk mid.disk now.disk f so_far.exchanges latest (table_of (contents_state so_far.contents)) (table_of (contents_state is.after)) refl
+            done.passes so_far.follows is.trail;
+      }
 
   -- the answers, with one more
-  pub text_more : sent_bytes (map (λ (x : Exchange). x.response) (p.exchanges ++ latest ∷ [])) ≡ sent_bytes (map (λ (x : Exchange). x.response) p.exchanges) ++ response_bytes response
+  pub text_more : sent_bytes (p.answers ++ response ∷ []) ≡ sent_bytes p.answers ++ response_bytes response
   text_more =
-      ap sent_bytes (map-append (λ (x : Exchange). x.response) p.exchanges (latest ∷ []))
-      ∙ flat_map-append response_bytes (map (λ (x : Exchange). x.response) p.exchanges) (response ∷ [])
-      ∙ ap (λ (x : List ℕ). sent_bytes (map (λ (y : Exchange). y.response) p.exchanges) ++ x) (append-nil (response_bytes response))
+      flat_map-append response_bytes p.answers (response ∷ [])
+      ∙ ap (λ (x : List ℕ). sent_bytes p.answers ++ x) (append-nil (response_bytes response))
 
   -- one more body was answered, sent and kept, and is the last of those answered
-  pub answers : ContinuesWith old body response new → Answered old new mid now → held ≡ frame body ++ rest → IsBody body → Appends mid.held now.held (response_bytes response)
-      → (q : Progress start new count rest before now) × (q.exchanges ≡ p.exchanges ++ latest ∷ [])
-  answers is done front fits sent = (
-    record {
-      taken = p.taken;
-      counted = p.counted;
-      took = subst (λ (x : Option (List ℕ)). Took before.left x p.taken) (sym done.left) p.took;
-      exchanges = p.exchanges ++ latest ∷ [];
-      run = run_more start.log.mem (position_of start) (position_of old) (position_of new) p.exchanges body response p.run
-          (subst (λ (m : ℕ). Answers m (position_of old) body response (position_of new)) p.mem is.answers);
-      parts = parts_more front;
-      each = each_more p.exchanges latest p.each fits;
-      sent = subst (λ (x : List ℕ). Appends before.held now.held x) (sym text_more) (appends_then before.held mid.held now.held (sent_bytes (map (λ (x : Exchange). x.response) p.exchanges)) (response_bytes response) p.sent sent);
-      mem = done.mem ∙ p.mem;
-      going = is.going;
-      calm = done.breaks.same is.going ∙ p.calm;
-      begins = p.begins;
-      stands = λ f e. (done.moves (p.stands f e)).stands is.going;
-      follows = λ f e.
-          let moves = done.moves (p.stands f e) in
-          let joined = follows_more before.disk mid.disk now.disk f start.log.mem old new p.exchanges 1 done.passes (p.follows f e) (sym p.mem) (moves_on mid.disk now.disk old new is.going moves) moves.journal moves.quiet in
-          let len : length p.exchanges + 1 ≡ length (p.exchanges ++ latest ∷ []) = sym (length-append p.exchanges (latest ∷ [])) in
-          let earlier : tables_before (p.exchanges ++ latest ∷ []) ≡ tables_before p.exchanges ++ bare old.table ∷ [] = map-append (λ (x : Exchange). bare x.at.table) p.exchanges (latest ∷ []) in
-          let list : tables_before p.exchanges ++ bare old.table ∷ bare new.table ∷ [] ≡ tables_before (p.exchanges ++ latest ∷ []) ++ bare new.table ∷ [] =
-          sym (append_assoc (tables_before p.exchanges) (bare old.table ∷ []) (bare new.table ∷ [])) ∙ ap (λ (l : List Table). l ++ bare new.table ∷ []) (sym earlier) in
-          subst (λ (n : ℕ). Follows before.disk now.disk f start.log.mem (tables_before (p.exchanges ++ latest ∷ []) ++ bare new.table ∷ []) n) len
-          (subst (λ (l : List Table). Follows before.disk now.disk f start.log.mem l (length p.exchanges + 1)) list joined);
-    },
-    refl,
-  )
+  pub answers : held ≡ frame body ++ rest → IsBody body → Appends mid.held now.held (response_bytes response)
+      → (q : Progress start new count rest before now) × (q.answers ≡ p.answers ++ response ∷ [])
+  answers front fits sent =
+      let lawful : IsConsistent new = done.kept none in (
+        record {
+          taken = p.taken;
+          counted = p.counted;
+          took = subst (λ (x : Option (List ℕ)). Took before.left x p.taken) (sym done.left) p.took;
+          bodies = p.bodies ++ body ∷ [];
+          answers = p.answers ++ response ∷ [];
+          answered = answered_more p.bodies p.answers body response p.answered done.is.responds;
+          quiet = quiet_more p.answers response p.quiet (sym done.is.tells ∙ none);
+          parts = parts_more front;
+          each = each_more p.bodies body p.each fits;
+          sent = subst (λ (x : List ℕ). Appends before.held now.held x) (sym text_more) (appends_then before.held mid.held now.held (sent_bytes p.answers) (response_bytes response) p.sent sent);
+          found = p.found;
+          mem = lawful.log.mem ∙ done.same ∙ sym p.lawful.log.mem ∙ p.mem;
+          lawful = lawful;
+          going = done.spent ∙ ap is_some none;
+          calm = done.cause.same (λ e. let f : ◌≡◌ {A = Option Fault} None (Some fault.Device) = sym none ∙ e in cc) ∙ p.calm;
+          runs = λ f t e shows. let so_far = p.runs f t e shows in run_on f t so_far (done.is.run so_far.contents so_far.stands);
+        },
+        refl,
+      )

@@ -1,26 +1,31 @@
 -- How a serving run ends.
-use Rattle.std.proofs.Common.{◌≡◌, ◌≢◌, ℕ, ◌+◌, ◌<◌, ◌≤◌, ◌-◌, true, false, cond, eqb, List, [], ◌∷◌, ◌++◌, length, take, drop, map, Option, Some, None, refl, sym, ap, subst, ◌∙◌, append_assoc, length-append, inl, inr, arith}
-use Rattle.std.specs.Prelude.{if◌then◌else◌}
+use Rattle.std.proofs.Common.{◌≡◌, ◌≢◌, ℕ, ◌+◌, ◌<◌, ◌≤◌, ◌-◌, true, false, cond, eqb, suc, List, [], ◌∷◌, ◌++◌, length, take, drop, map, Option, Some, None, refl, sym, ap, subst, ◌∙◌, ◌⊎◌, append_assoc, length-append, inl, inr, arith}
+use Rattle.std.specs.Prelude.{IsSome, is_some}
 use Rattle.std.specs.List.{flat_map, AllByRecursion}
 use Rattle.std.proofs.lemmas.Bool.{and_right, or_left, or_right, eq-eqb, ne_eqb, cases_eq}
-use Rattle.std.proofs.lemmas.List.{append-nil, length-map, map-append, take-append-drop, take_at}
+use Rattle.std.proofs.lemmas.List.{append-nil, take-append-drop, take_at}
 use Rattle.std.proofs.lemmas.List.Concat.{flat_map-append}
+use Rattle.strat_base.specs.declared.failures.Fault.{Fault}
+use Rattle.strat_base.specs.declared.failures.Fault.TheVariants as fault
+use Rattle.strat_base.specs.Numbers.{AreBytes}
 use Rattle.strat_crash.specs.Faults.{Rose}
 use Rattle.strat_crash.specs.Image.{Image}
-use Rattle.strat_base.specs.Numbers.{AreBytes}
-use Rattle.strat_crash.specs.Trail.{Trail}
+use Rattle.strat_crash.specs.Moments.{DiskView, Passes}
 use Rattle.strat_io.specs.Streams.{Appends}
 use Rattle.strat_io.proofs.StreamLemmas.{appends_then}
 use Rattle.strat_model.specs.declared.ended.Ended.{Ended}
 use Rattle.strat_model.specs.declared.ended.Ended.TheVariants as ended
 use Rattle.strat_model.specs.Stream.{frame, IsBody, is_partial, is_too_long, Splits, Whole, Rest, Long, ending_of}
 use Rattle.strat_model.specs.Table.{Table, bare}
-use Rattle.strat_model.specs.Run.{Response, response_bytes, AnswersFault, Exchange, Interruption, Transcript, bodies_of, responses_of, tables_of, sent_bytes}
-use Rattle.strat_store.specs.Opened.{Shows, IsAtRest, Follows}
-use Rattle.strat_store.specs.Store.{Attached, position_of}
-use Rattle.strat_serve.specs.Session.{Took, IsAtEnd, SendsPrefix, too_long_bytes, ContinuesWith, StopsWith, IsAnswered, Session, IsSession, AnswersAll, output, last_output, earlier_bytes, Sends, EndsFor, Served}
+use Rattle.strat_model.specs.Run.{Response, response_bytes, AnswersFault, Exchange, Interruption, Transcript, bodies_of, tables_of, sent_bytes}
+use Rattle.strat_recovery.specs.StateTable.{table_of}
+use Rattle.strat_standing.specs.Contents.{contents_state}
+use Rattle.strat_standing.specs.Standing.{ShowsTable}
+use Rattle.strat_store.specs.Following.{FollowsFrom}
+use Rattle.strat_store.specs.Held.{Held, head_held, position_with}
+use Rattle.strat_serve.specs.Session.{Took, IsAtEnd, SendsPrefix, too_long_bytes, AreAnsweredBy, ContinuesWith, StopsWith, IsFoundDamaged, fault_told, broken_by, Session, IsSession, AnswersAll, all_responses, output, last_output, earlier_bytes, Sends, EndsWithFault, EndsFor, FollowsRun, Served}
 use Rattle.strat_serve.specs.World.{World}
-use Rattle.strat_serve.proofs.ProgressLemmas.{Progress, Answered, tables_before, follows_more, text_more, answers}
+use Rattle.strat_serve.proofs.ProgressLemmas.{Progress, RunSoFar, Answered, tables_before, follows_more, text_more, answered_more, answers}
 use Rattle.strat_serve.proofs.StreamLemmas.{partial_not_long, frames_of}
 
 -- bodies one after the other that fit
@@ -28,73 +33,85 @@ each_then : (xs : List (List ℕ)) (ys : List (List ℕ)) → AllByRecursion IsB
 each_then [] ys first second = second
 each_then (x ∷ xs) ys first second = (first.0, each_then xs ys first.1 second)
 
--- the bodies of answers fit
-bodies_fit : (xs : List Exchange) → AllByRecursion (λ x. IsBody x.body) xs → AllByRecursion IsBody (map (λ (x : Exchange). x.body) xs)
-bodies_fit [] each = tt
-bodies_fit (x ∷ xs) each = (each.0, bodies_fit xs each.1)
+-- the responses to the first of some bodies
+answered_front : (bodies others : List (List ℕ)) (answers : List Response) → AreAnsweredBy bodies answers → AreAnsweredBy (take (length answers) (bodies ++ others)) answers
+answered_front [] others [] all = tt
+answered_front [] others (r ∷ rs) all = absurd all
+answered_front (b ∷ bs) others [] all = absurd all
+answered_front (b ∷ bs) others (r ∷ rs) all = (all.0, answered_front bs others rs all.1)
 
--- the frames of answers are those of their bodies
-frames_same : (xs : List Exchange) → flat_map (λ (x : Exchange). frame x.body) xs ≡ flat_map frame (map (λ (x : Exchange). x.body) xs)
-frames_same [] = refl
-frames_same (x ∷ xs) = ap (λ (y : List ℕ). frame x.body ++ y) (frames_same xs)
+-- there are as many responses as bodies
+as_many : (bodies : List (List ℕ)) (answers : List Response) → AreAnsweredBy bodies answers → length answers ≡ length bodies
+as_many [] [] all = refl
+as_many [] (r ∷ rs) all = absurd all
+as_many (b ∷ bs) [] all = absurd all
+as_many (b ∷ bs) (r ∷ rs) all = ap suc (as_many bs rs all.1)
 
 -- the replies to all bodies but the last are the first of those to all
-earlier_first : (xs : List Exchange) → (rest : List ℕ)
-    × (sent_bytes (map (λ (x : Exchange). x.response) xs) ≡ sent_bytes (map (λ (x : Exchange). x.response) (take (length xs - 1) xs)) ++ rest)
+earlier_first : (xs : List Response) → (rest : List ℕ) × (sent_bytes xs ≡ sent_bytes (take (length xs - 1) xs) ++ rest)
 earlier_first xs =
     let n = length xs - 1 in (
-      sent_bytes (map (λ (x : Exchange). x.response) (drop n xs)),
-      ap (λ (ys : List Exchange). sent_bytes (map (λ (x : Exchange). x.response) ys)) (sym (take-append-drop n xs))
-          ∙ ap sent_bytes (map-append (λ (x : Exchange). x.response) (take n xs) (drop n xs))
-          ∙ flat_map-append response_bytes (map (λ (x : Exchange). x.response) (take n xs)) (map (λ (x : Exchange). x.response) (drop n xs)),
+      sent_bytes (drop n xs),
+      ap sent_bytes (sym (take-append-drop n xs)) ∙ flat_map-append response_bytes (take n xs) (drop n xs),
     )
 
 -- all but the last of a list with one more
-all_but_last : (xs : List Exchange) (x : Exchange) → take (length (xs ++ x ∷ []) - 1) (xs ++ x ∷ []) ≡ xs
+all_but_last : (xs : List Response) (x : Response) → take (length (xs ++ x ∷ []) - 1) (xs ++ x ∷ []) ≡ xs
 all_but_last xs x = take_at xs (x ∷ []) (length (xs ++ x ∷ []) - 1) (omega (arith, length-append xs (x ∷ [])))
 
+-- frames taken, and the frames and the rest of what was held
+whole_taken : (taken held rest : List ℕ) (bodies others : List (List ℕ)) → taken ≡ flat_map frame bodies ++ held → held ≡ flat_map frame others ++ rest → taken ≡ flat_map frame (bodies ++ others) ++ rest
+whole_taken taken held rest bodies others front back =
+    front ∙ ap (λ (x : List ℕ). flat_map frame bodies ++ x) back
+    ∙ sym (append_assoc (flat_map frame bodies) (flat_map frame others) rest)
+    ∙ ap (λ (x : List ℕ). x ++ rest) (sym (flat_map-append frame bodies others))
+
 -- a run that was not broken, over the bodies answered and others behind them
-module _ (start current : Attached) (count budget : ℕ) (held : List ℕ) (before now : World) (p : Progress start current count held before now) (within : count ≤ budget) where
-  abbrev transcript : Transcript
-  transcript = record { exchanges = p.exchanges; after = position_of current; interruption = None }
-
+module _ (start current : Held) (count budget : ℕ) (held : List ℕ) (before now : World) (p : Progress start current count held before now) (within : count ≤ budget) where
   abbrev session : List (List ℕ) → List ℕ → Session
-  session others rest = record { taken = p.taken; bodies = map (λ (x : Exchange). x.body) p.exchanges ++ others; rest = rest; transcript = transcript }
+  session others rest = record { taken = p.taken; bodies = p.bodies ++ others; rest = rest; answers = p.answers; broken = None }
 
-  bodies_all : bodies_of transcript ≡ map (λ (x : Exchange). x.body) p.exchanges
-  bodies_all = append-nil (map (λ (x : Exchange). x.body) p.exchanges)
+  tolds_all : all_responses (session [] held) ≡ p.answers
+  tolds_all = append-nil p.answers
 
-  tolds_all : responses_of transcript ≡ map (λ (x : Exchange). x.response) p.exchanges
-  tolds_all = append-nil (map (λ (x : Exchange). x.response) p.exchanges)
-
-  is_session : (others : List (List ℕ)) (rest : List ℕ) → Splits held others rest → IsSession start.log.mem budget (position_of start) (session others rest)
-  is_session others rest splits =
-      let bodies = map (λ (x : Exchange). x.body) p.exchanges in
-      record {
-        splits = record {
-          whole = p.parts ∙ ap (λ (x : List ℕ). x ++ held) (frames_same p.exchanges) ∙ ap (λ (x : List ℕ). flat_map frame bodies ++ x) splits.whole
-              ∙ sym (append_assoc (flat_map frame bodies) (flat_map frame others) rest)
-              ∙ ap (λ (x : List ℕ). x ++ rest) (sym (flat_map-append frame bodies others));
-          each = each_then bodies others (bodies_fit p.exchanges p.each) splits.each;
-          last = splits.last;
-        };
-        transcript = record { run = p.run; interrupted = tt };
-        front = ap (λ (x : List (List ℕ)). take (length x) (bodies ++ others)) bodies_all ∙ take_at bodies others (length bodies) refl ∙ sym bodies_all;
-        within = omega (arith, p.counted);
-      }
-
-  is_whole : AnswersAll (session [] held)
-  is_whole = record {
-    all = sym (length-map p.exchanges (λ (x : Exchange). x.body)) ∙ ap length (sym (append-nil (map (λ (x : Exchange). x.body) p.exchanges)));
-    unbroken = refl;
+  is_session : (others : List (List ℕ)) (rest : List ℕ) → Splits held others rest → IsSession budget (session others rest)
+  is_session others rest splits = record {
+    splits = record {
+      whole = whole_taken p.taken held rest p.bodies others p.parts splits.whole;
+      each = each_then p.bodies others p.each splits.each;
+      last = splits.last;
+    };
+    answered = subst (λ (l : List Response). AreAnsweredBy (take (length l) (p.bodies ++ others)) l) (sym tolds_all) (answered_front p.bodies others p.answers p.answered);
+    calm = p.quiet;
+    fault = tt;
+    within = omega (arith, p.counted);
   }
 
-  -- a crash leaves one image, as after each answer
-  one_image : (f : Image) → before.disk.content ≡ Some f → IsAtRest now.disk
-  one_image f e = let stands = p.stands f e in record { content = stands.holds.content; exposed = stands.holds.exposed; alone = stands.holds.settled }
+  is_whole : AnswersAll (session [] held)
+  is_whole = record { all = as_many p.bodies p.answers p.answered ∙ ap length (sym (append-nil p.bodies)); unbroken = refl }
+
+  -- the session is a run of the table
+  follows_unbroken : (others : List (List ℕ)) (rest : List ℕ) (f : Image) (t : Table) → before.disk.content ≡ Some f → ShowsTable f t → FollowsRun before.disk now.disk f t (session others rest)
+  follows_unbroken others rest f t exposed shows =
+      let so_far = p.runs f t exposed shows in
+      let transcript : Transcript = record { exchanges = so_far.exchanges; after = position_with current so_far.contents; interruption = None } in
+      let bodies_all : bodies_of transcript ≡ p.bodies = append-nil (map (λ (x : Exchange). x.body) so_far.exchanges) ∙ so_far.bodies_are in
+      record {
+        mem = start.log.mem;
+        start = so_far.from;
+        begins = so_far.begins;
+        table = so_far.table;
+        transcript = transcript;
+        is = record { run = so_far.run; interrupted = tt };
+        front = take_at p.bodies others (length (bodies_of transcript)) (sym (ap length bodies_all)) ∙ sym bodies_all;
+        answers_are = sym so_far.answers_are;
+        broken_is = refl;
+        device = tt;
+        follows = so_far.follows;
+      }
 
   -- all that was said so far
-  sent_so_far : Appends before.held now.held (sent_bytes (responses_of transcript))
+  sent_so_far : Appends before.held now.held (sent_bytes (all_responses (session [] held)))
   sent_so_far = subst (λ (x : List Response). Appends before.held now.held (sent_bytes x)) (sym tolds_all) p.sent
 
   -- the run ended so, with these bytes sent
@@ -102,27 +119,26 @@ module _ (start current : Attached) (count budget : ℕ) (held : List ℕ) (befo
       → Sends how before.held sent (session others rest) → EndsFor how budget (session others rest) now.left
       → Served budget how before (record now { held = sent; sink_faults = faults })
   served how others rest splits sent faults sends ends = record {
-    mem = start.log.mem;
-    start = position_of start;
+    head = head_held start;
+    found = p.found;
     session = session others rest;
     is = is_session others rest splits;
     took = p.took;
     sends = sends;
     ends = ends;
-    faulted = λ some. absurd (some refl);
-    calm = λ none. p.calm;
-    begins = p.begins;
-    follows = p.follows;
-    one_image = λ f e none. one_image f e;
+    faulted = λ told. absurd told;
+    calm = λ _. p.calm;
+    damaged = λ block told. absurd told;
+    follows = follows_unbroken others rest;
   }
 
   -- the sink failed at the reply that went before
-  pub ends_cut : (sent : Option (List ℕ)) (faults : ℕ) → AreBytes held → (front : SendsPrefix before.held sent (sent_bytes (map (λ (x : Exchange). x.response) p.exchanges)))
-      → ((part : List ℕ) × (front.sent ≡ sent_bytes (map (λ (x : Exchange). x.response) (take (length p.exchanges - 1) p.exchanges)) ++ part))
+  pub ends_cut : (sent : Option (List ℕ)) (faults : ℕ) → AreBytes held → (front : SendsPrefix before.held sent (sent_bytes p.answers))
+      → ((part : List ℕ) × (front.sent ≡ sent_bytes (take (length p.answers - 1) p.answers) ++ part))
       → Served budget ended.Sink before (record now { held = sent; sink_faults = faults })
   ends_cut sent faults fits front replied =
       let f = frames_of held fits in
-      let last = last_output None (eqb (length p.exchanges) (length (session f.bodies f.rest).bodies)) (is_too_long f.rest) in
+      let last = last_output None (eqb (length p.answers) (length (session f.bodies f.rest).bodies)) (is_too_long f.rest) in
       served ended.Sink f.bodies f.rest f.splits sent faults
       (record {
         cut = record {
@@ -142,28 +158,28 @@ module _ (start current : Attached) (count budget : ℕ) (held : List ℕ) (befo
     splits_long : Splits held [] held
     splits_long = record { whole = refl; each = tt; last = or_left (is_too_long held) (is_partial held) long }
 
-    said_long : output (session [] held) ≡ sent_bytes (responses_of transcript) ++ too_long_bytes
-    said_long = let all : eqb (length p.exchanges) (length (session [] held).bodies) ≡ true = eq-eqb _ _ is_whole.all in rw (all, long) refl
+    said_long : output (session [] held) ≡ sent_bytes (all_responses (session [] held)) ++ too_long_bytes
+    said_long = let all : eqb (length p.answers) (length (session [] held).bodies) ≡ true = eq-eqb _ _ is_whole.all in rw (all, long) refl
 
     pub ends_long : (sent : Option (List ℕ)) (faults : ℕ) → Appends now.held sent too_long_bytes → Served budget ended.FrameTooLong before (record now { held = sent; sink_faults = faults })
     ends_long sent faults more =
         served ended.FrameTooLong [] held splits_long sent faults
-        (subst (λ (x : List ℕ). Appends before.held sent x) (sym said_long) (appends_then before.held now.held sent (sent_bytes (responses_of transcript)) too_long_bytes sent_so_far more))
+        (subst (λ (x : List ℕ). Appends before.held sent x) (sym said_long) (appends_then before.held now.held sent (sent_bytes (all_responses (session [] held))) too_long_bytes sent_so_far more))
         (is_whole, let e : ending_of held ≡ Long = rw long refl in e)
 
     pub ends_long_cut : (sent : Option (List ℕ)) (faults : ℕ) → SendsPrefix now.held sent too_long_bytes → Served budget ended.Sink before (record now { held = sent; sink_faults = faults })
     ends_long_cut sent faults front =
         served ended.Sink [] held splits_long sent faults
-        (let first = earlier_first p.exchanges in record {
+        (let first = earlier_first p.answers in record {
           cut = record {
-            sent = sent_bytes (responses_of transcript) ++ front.sent;
+            sent = sent_bytes (all_responses (session [] held)) ++ front.sent;
             later = front.later;
-            parts = said_long ∙ ap (λ (x : List ℕ). sent_bytes (responses_of transcript) ++ x) front.parts ∙ sym (append_assoc (sent_bytes (responses_of transcript)) front.sent front.later);
+            parts = said_long ∙ ap (λ (x : List ℕ). sent_bytes (all_responses (session [] held)) ++ x) front.parts ∙ sym (append_assoc (sent_bytes (all_responses (session [] held))) front.sent front.later);
             some = front.some;
-            appends = appends_then before.held now.held sent (sent_bytes (responses_of transcript)) front.sent sent_so_far front.appends;
+            appends = appends_then before.held now.held sent (sent_bytes (all_responses (session [] held))) front.sent sent_so_far front.appends;
           };
           part = first.0 ++ front.sent;
-          replied = ap (λ (x : List ℕ). x ++ front.sent) (ap sent_bytes tolds_all ∙ first.1) ∙ append_assoc (earlier_bytes transcript) first.0 front.sent;
+          replied = ap (λ (x : List ℕ). x ++ front.sent) (ap sent_bytes tolds_all ∙ first.1) ∙ append_assoc (earlier_bytes (session [] held)) first.0 front.sent;
         })
         tt
 
@@ -172,8 +188,8 @@ module _ (start current : Attached) (count budget : ℕ) (held : List ℕ) (befo
     splits_part : Splits held [] held
     splits_part = record { whole = refl; each = tt; last = or_right (is_too_long held) (is_partial held) part }
 
-    said_all : output (session [] held) ≡ sent_bytes (responses_of transcript)
-    said_all = rw (partial_not_long held part) (rw (and_right (eqb (length p.exchanges) (length (session [] held).bodies)) false refl) (append-nil (sent_bytes (responses_of transcript))))
+    said_all : output (session [] held) ≡ sent_bytes (all_responses (session [] held))
+    said_all = rw (partial_not_long held part) (rw (and_right (eqb (length p.answers) (length (session [] held).bodies)) false refl) (append-nil (sent_bytes (all_responses (session [] held)))))
 
     not_long : ending_of held ≢ Long
     not_long e = let f : cond (eqb (length held) 0) Whole Rest ≡ Long = rw (partial_not_long held part) at e in
@@ -215,150 +231,176 @@ took_all (Some held) bytes = record {
   hidden = λ e. absurd (let f : ◌≡◌ {A = Option (List ℕ)} (Some held) None = e in cc);
 }
 
--- the next body was answered and kept, and the sink failed at its reply
-pub answers_cut : (start old new : Attached) (count budget : ℕ) (held rest body : List ℕ) (response : Response) (before mid now : World) → Progress start old count held before mid → count ≤ budget
-    → ContinuesWith old body response new → Answered old new mid now → held ≡ frame body ++ rest → IsBody body → AreBytes rest → SendsPrefix mid.held now.held (response_bytes response)
-    → Served budget ended.Sink before now
-answers_cut start old new count budget held rest body response before mid now p within is done front fits bytes cut =
-    let all = with_bytes mid.held (response_bytes response) in
-    let sent : World = record now { held = all } in
-    let q = answers start old new count held rest body response before mid sent p is (record { mem = done.mem; left = done.left; moves = done.moves; passes = done.passes; breaks = done.breaks }) front fits
-    (took_all mid.held (response_bytes response)) in
-    let earlier = sent_bytes (map (λ (x : Exchange). x.response) p.exchanges) in
-    ends_cut start new count budget rest before sent q.0 within now.held now.sink_faults bytes (record {
-      sent = earlier ++ cut.sent;
-      later = cut.later;
-      parts = ap (λ (xs : List Exchange). sent_bytes (map (λ (x : Exchange). x.response) xs)) q.1
-          ∙ text_more start old new count held rest body response before mid now p
-          ∙ ap (λ (x : List ℕ). earlier ++ x) cut.parts ∙ sym (append_assoc earlier cut.sent cut.later);
-      some = cut.some;
-      appends = appends_then before.held mid.held now.held earlier cut.sent p.sent cut.appends;
-    }) (
-      cut.sent,
-      ap (λ (xs : List Exchange). sent_bytes (map (λ (x : Exchange). x.response) xs) ++ cut.sent)
-          (sym (ap (λ (xs : List Exchange). take (length xs - 1) xs) q.1 ∙ all_but_last p.exchanges (record { body = body; response = response; at = position_of old }))),
-    )
+-- a content that was exposed before is exposed still
+still_some : (before mid : DiskView) (f : Image) → Passes before mid → before.content ≡ Some f → (g : Image) × (mid.content ≡ Some g)
+still_some before mid f passes e = go mid.content refl (passes.exposed (some before.content e))
+  where
+    some : (o : Option Image) → o ≡ Some f → IsSome o
+    some (Some g) e = refl
+    some None e = absurd (let x : ◌≡◌ {A = Option Image} None (Some f) = e in cc)
 
--- the next body met a fault
-module _ (start old new : Attached) (count budget : ℕ) (held rest body : List ℕ) (response : Response) (before mid now : World) (p : Progress start old count held before mid) (within : count ≤ budget)
-    (is : StopsWith old body response new) (done : Answered old new mid now) (front : held ≡ frame body ++ rest) (fits : IsBody body) (bytes : AreBytes rest) where
-  abbrev interruption : Interruption
-  interruption = record { body = body; response = response; done = is.done }
+    go : (o : Option Image) → mid.content ≡ o → IsSome o → (g : Image) × (mid.content ≡ Some g)
+    go (Some g) is there = (g, is)
+    go None is there = absurd cc
 
-  abbrev interrupted : Transcript
-  interrupted = record { exchanges = p.exchanges; after = position_of old; interruption = Some interruption }
-
-  abbrev broken : Session
-  broken =
-      let f = frames_of rest bytes in
-      record { taken = p.taken; bodies = bodies_of interrupted ++ f.bodies; rest = f.rest; transcript = interrupted }
-
-  is_broken : IsSession start.log.mem budget (position_of start) broken
-  is_broken =
-      let f = frames_of rest bytes in
-      let bodies = map (λ (x : Exchange). x.body) p.exchanges in
-      let frames : flat_map frame (bodies ++ body ∷ []) ≡ flat_map frame bodies ++ frame body =
-      flat_map-append frame bodies (body ∷ []) ∙ ap (λ (x : List ℕ). flat_map frame bodies ++ x) (append-nil (frame body)) in
-      record {
-        splits = record {
-          whole = p.parts ∙ ap (λ (x : List ℕ). x ++ held) (frames_same p.exchanges) ∙ ap (λ (x : List ℕ). flat_map frame bodies ++ x) front
-              ∙ sym (append_assoc (flat_map frame bodies) (frame body) rest)
-              ∙ ap (λ (x : List ℕ). x ++ rest) (sym frames)
-              ∙ ap (λ (x : List ℕ). flat_map frame (bodies ++ body ∷ []) ++ x) f.splits.whole
-              ∙ sym (append_assoc (flat_map frame (bodies ++ body ∷ [])) (flat_map frame f.bodies) f.rest)
-              ∙ ap (λ (x : List ℕ). x ++ f.rest) (sym (flat_map-append frame (bodies ++ body ∷ []) f.bodies));
-          each = each_then (bodies ++ body ∷ []) f.bodies (each_then bodies (body ∷ []) (bodies_fit p.exchanges p.each) (fits, tt)) f.splits.each;
-          last = f.splits.last;
-        };
-        transcript = record { run = p.run; interrupted = subst (λ (m : ℕ). AnswersFault m (position_of old) body response is.done) p.mem is.fault };
-        front = take_at (bodies ++ body ∷ []) f.bodies (length (bodies ++ body ∷ [])) refl;
-        within = omega (arith, p.counted);
-      }
-
-  output_broken : output broken ≡ sent_bytes (map (λ (x : Exchange). x.response) p.exchanges) ++ response_bytes response
-  output_broken =
-      append-nil (sent_bytes (responses_of interrupted))
-      ∙ flat_map-append response_bytes (map (λ (x : Exchange). x.response) p.exchanges) (response ∷ [])
-      ∙ ap (λ (x : List ℕ). sent_bytes (map (λ (y : Exchange). y.response) p.exchanges) ++ x) (append-nil (response_bytes response))
-
-  -- the disk followed the run, whether the body was carried out or not
-  follows_broken : (f : Image) → before.disk.content ≡ Some f → Follows before.disk now.disk f start.log.mem (tables_of interrupted) (length p.exchanges)
-  follows_broken f e =
-      let moves = done.moves (p.stands f e) in
-      let last : Trail Shows now.disk mid.disk.moment (bare old.table ∷ bare new.table ∷ []) 0 =
-      subst (λ b. Trail Shows now.disk mid.disk.moment (bare old.table ∷ bare new.table ∷ []) (if b then 0 else 1)) is.spent moves.trail in
-      let joined = follows_more before.disk mid.disk now.disk f start.log.mem old new p.exchanges 0 done.passes (p.follows f e) (sym p.mem) last moves.journal moves.quiet in
-      let same : length p.exchanges + 0 ≡ length p.exchanges = omega arith in
-      subst (λ (t : Table). Follows before.disk now.disk f start.log.mem (tables_before p.exchanges ++ bare old.table ∷ bare t ∷ []) (length p.exchanges)) (sym is.table)
-      (subst (λ (n : ℕ). Follows before.disk now.disk f start.log.mem (tables_before p.exchanges ++ bare old.table ∷ bare new.table ∷ []) n) same joined)
-
-  -- the run ended so, with the device's fault told or not
-  halts : (how : Ended) → Sends how before.held now.held broken → EndsFor how budget broken now.left → Served budget how before now
-  halts how sends ends = record {
-    mem = start.log.mem;
-    start = position_of start;
-    session = broken;
-    is = is_broken;
-    took = subst (λ (x : Option (List ℕ)). Took before.left x p.taken) (sym done.left) p.took;
-    sends = sends;
-    ends = ends;
-    faulted = λ some. subst (λ (n : ℕ). Rose n now.disk_faults) p.calm (done.breaks.rose is.spent);
-    calm = λ none. absurd (let x : ◌≡◌ {A = Option Interruption} (Some interruption) None = none in cc);
-    begins = p.begins;
-    follows = follows_broken;
-    one_image = λ f e none. absurd (let x : ◌≡◌ {A = Option Interruption} (Some interruption) None = none in cc);
-  }
-
-  -- its reply was sent
-  pub ends_device : Appends mid.held now.held (response_bytes response) → Served budget ended.Device before now
-  ends_device more =
-      halts ended.Device
-      (subst (λ (x : List ℕ). Appends before.held now.held x) (sym output_broken) (appends_then before.held mid.held now.held (sent_bytes (map (λ (x : Exchange). x.response) p.exchanges)) (response_bytes response) p.sent more))
-      is.answer
-
-  -- the sink failed at its reply
-  pub ends_device_cut : SendsPrefix mid.held now.held (response_bytes response) → Served budget ended.Sink before now
-  ends_device_cut cut =
-      halts ended.Sink
-      (record {
-        cut = record {
-          sent = sent_bytes (map (λ (x : Exchange). x.response) p.exchanges) ++ cut.sent;
-          later = cut.later;
-          parts = output_broken ∙ ap (λ (x : List ℕ). sent_bytes (map (λ (y : Exchange). y.response) p.exchanges) ++ x) cut.parts
-              ∙ sym (append_assoc (sent_bytes (map (λ (x : Exchange). x.response) p.exchanges)) cut.sent cut.later);
-          some = cut.some;
-          appends = appends_then before.held mid.held now.held (sent_bytes (map (λ (x : Exchange). x.response) p.exchanges)) cut.sent p.sent cut.appends;
-        };
-        part = cut.sent;
-        replied = refl;
-      })
-      tt
+-- a block found damaged by a later command
+pub found_since : (before mid now : DiskView) (b : ℕ) → Passes before mid → IsFoundDamaged mid now b → IsFoundDamaged before now b
+found_since before mid now b passes is = record {
+  store = is.store;
+  lawful = is.lawful;
+  content = is.content;
+  exposed = λ f e. let there = still_some before mid f passes e in is.exposed there.0 there.1;
+  bad = is.bad;
+  kept = is.kept;
+}
 
 -- the next body was answered
-module _ (start old new : Attached) (count budget : ℕ) (held rest body out : List ℕ) (before mid now : World) (p : Progress start old count held before mid) (within : count ≤ budget)
-    (is : IsAnswered old body new out) (done : Answered old new mid now) (front : held ≡ frame body ++ rest) (fits : IsBody body) (bytes : AreBytes rest) where
+module _ (start old new : Held) (count budget : ℕ) (held rest body : List ℕ) (met : Option Fault) (out : List ℕ) (before mid now : World)
+    (p : Progress start old count held before mid) (within : count ≤ budget) (done : Answered old new mid now body met out)
+    (front : held ≡ frame body ++ rest) (fits : IsBody body) (bytes : AreBytes rest) where
+  abbrev response : Response
+  response = done.is.response
+
+  -- it met no fault, and its reply was sent
+  pub goes_on : met ≡ None → Appends mid.held now.held out → Progress start new count rest before now
+  goes_on none sent =
+      (answers start old new count held rest body met out before mid now p done none front fits (subst (λ (x : List ℕ). Appends mid.held now.held x) done.is.spelled sent)).0
+
+  -- it met no fault, and the sink failed at its reply
+  answers_cut : met ≡ None → SendsPrefix mid.held now.held (response_bytes response) → Served budget ended.Sink before now
+  answers_cut none cut =
+      let all = with_bytes mid.held (response_bytes response) in
+      let sent : World = record now { held = all } in
+      let told : Answered old new mid sent body met out = record {
+        left = done.left; is = done.is; passes = done.passes; cause = done.cause; spent = done.spent; kept = done.kept; same = done.same; damaged = done.damaged;
+      } in
+      let q = answers start old new count held rest body met out before mid sent p told none front fits (took_all mid.held (response_bytes response)) in
+      let earlier = sent_bytes p.answers in
+      ends_cut start new count budget rest before sent q.0 within now.held now.sink_faults bytes (record {
+        sent = earlier ++ cut.sent;
+        later = cut.later;
+        parts = ap sent_bytes q.1
+            ∙ text_more start old new count held rest body met out before mid now p done none
+            ∙ ap (λ (x : List ℕ). earlier ++ x) cut.parts ∙ sym (append_assoc earlier cut.sent cut.later);
+        some = cut.some;
+        appends = appends_then before.held mid.held now.held earlier cut.sent p.sent cut.appends;
+      }) (
+        cut.sent,
+        ap (λ (xs : List Response). sent_bytes xs ++ cut.sent) (sym (ap (λ (xs : List Response). take (length xs - 1) xs) q.1 ∙ all_but_last p.answers response)),
+      )
+
+  -- it met a fault
+  module _ (f : Fault) (some : met ≡ Some f) where
+    tells : fault_told response.answer.reply ≡ Some f
+    tells = sym done.is.tells ∙ some
+
+    abbrev broken : Session
+    broken =
+        let s = frames_of rest bytes in
+        record { taken = p.taken; bodies = (p.bodies ++ body ∷ []) ++ s.bodies; rest = s.rest; answers = p.answers; broken = Some response }
+
+    is_broken : IsSession budget broken
+    is_broken =
+        let s = frames_of rest bytes in
+        let one : held ≡ flat_map frame (body ∷ []) ++ rest = front ∙ ap (λ (x : List ℕ). x ++ rest) (sym (append-nil (frame body))) in
+        record {
+          splits = record {
+            whole = whole_taken p.taken rest s.rest (p.bodies ++ body ∷ []) s.bodies (whole_taken p.taken held rest p.bodies (body ∷ []) p.parts one) s.splits.whole;
+            each = each_then (p.bodies ++ body ∷ []) s.bodies (each_then p.bodies (body ∷ []) p.each (fits, tt)) s.splits.each;
+            last = s.splits.last;
+          };
+          answered = answered_front (p.bodies ++ body ∷ []) s.bodies (p.answers ++ response ∷ []) (answered_more p.bodies p.answers body response p.answered done.is.responds);
+          calm = p.quiet;
+          fault = let there : IsSome (Some f) = refl in subst (λ (o : Option Fault). IsSome o) (sym tells) there;
+          within = omega (arith, p.counted);
+        }
+
+    output_broken : output broken ≡ sent_bytes p.answers ++ response_bytes response
+    output_broken =
+        append-nil (sent_bytes (p.answers ++ response ∷ []))
+        ∙ flat_map-append response_bytes p.answers (response ∷ [])
+        ∙ ap (λ (x : List ℕ). sent_bytes p.answers ++ x) (append-nil (response_bytes response))
+
+    -- the session is a run of the table, broken off by the device
+    run_broken : (g : Image) (t : Table) (so_far : RunSoFar start old before.disk mid.disk g t p.bodies p.answers)
+        → ContinuesWith mid.disk now.disk old so_far.contents body response new ⊎ StopsWith mid.disk now.disk old so_far.contents body response
+        → FollowsRun before.disk now.disk g t broken
+    run_broken g t so_far (inl goes) = absurd (let x : false ≡ true = sym goes.going ∙ done.spent ∙ ap is_some some in cc)
+    run_broken g t so_far (inr stops) =
+        let s = frames_of rest bytes in
+        let interruption : Interruption = record { body = body; response = response; done = stops.done } in
+        let transcript : Transcript = record { exchanges = so_far.exchanges; after = position_with old so_far.contents; interruption = Some interruption } in
+        let bodies_all : bodies_of transcript ≡ p.bodies ++ body ∷ [] = ap (λ (l : List (List ℕ)). l ++ body ∷ []) so_far.bodies_are in
+        let same : length so_far.exchanges + 0 ≡ length so_far.exchanges = omega arith in
+        record {
+          mem = start.log.mem;
+          start = so_far.from;
+          begins = so_far.begins;
+          table = so_far.table;
+          transcript = transcript;
+          is = record { run = so_far.run; interrupted = subst (λ (m : ℕ). AnswersFault m (position_with old so_far.contents) body response stops.done) p.mem stops.fault };
+          front = take_at (p.bodies ++ body ∷ []) s.bodies (length (bodies_of transcript)) (sym (ap length bodies_all)) ∙ sym bodies_all;
+          answers_are = sym so_far.answers_are;
+          broken_is = refl;
+          device = stops.answer;
+          follows = subst (λ (n : ℕ). FollowsFrom before.disk now.disk g (tables_before so_far.exchanges ++ table_of (contents_state so_far.contents) ∷ bare stops.done.table ∷ []) n) same
+              (follows_more before.disk mid.disk now.disk g so_far.exchanges (table_of (contents_state so_far.contents)) (bare stops.done.table) 0 done.passes so_far.follows stops.trail);
+        }
+
+    -- the run ended so, with the fault told or not
+    halts : Passes before.disk mid.disk → (how : Ended) → Sends how before.held now.held broken → EndsFor how budget broken now.left → Served budget how before now
+    halts passes how sends ends = record {
+      head = head_held start;
+      found = p.found;
+      session = broken;
+      is = is_broken;
+      took = subst (λ (x : Option (List ℕ)). Took before.left x p.taken) (sym done.left) p.took;
+      sends = sends;
+      ends = ends;
+      faulted = λ told. subst (λ (n : ℕ). Rose n now.disk_faults) p.calm (done.cause.rose (done.is.tells ∙ told));
+      calm = λ other. done.cause.same (λ e. other (sym done.is.tells ∙ e)) ∙ p.calm;
+      damaged = λ b told. found_since before.disk mid.disk now.disk b passes (done.damaged b (done.is.tells ∙ told));
+      follows = λ g t e shows. let so_far = p.runs g t e shows in run_broken g t so_far (done.is.run so_far.contents so_far.stands);
+    }
+
+    -- the sink failed at its reply
+    fault_cut : Passes before.disk mid.disk → SendsPrefix mid.held now.held (response_bytes response) → Served budget ended.Sink before now
+    fault_cut passes cut =
+        halts passes ended.Sink
+        (record {
+          cut = record {
+            sent = sent_bytes p.answers ++ cut.sent;
+            later = cut.later;
+            parts = output_broken ∙ ap (λ (x : List ℕ). sent_bytes p.answers ++ x) cut.parts ∙ sym (append_assoc (sent_bytes p.answers) cut.sent cut.later);
+            some = cut.some;
+            appends = appends_then before.held mid.held now.held (sent_bytes p.answers) cut.sent p.sent cut.appends;
+          };
+          part = cut.sent;
+          replied = refl;
+        })
+        tt
+
+    -- all of it was sent
+    sends_broken : Appends mid.held now.held out → Appends before.held now.held (output broken)
+    sends_broken sent =
+        subst (λ (x : List ℕ). Appends before.held now.held x) (sym output_broken)
+        (appends_then before.held mid.held now.held (sent_bytes p.answers) (response_bytes response) p.sent (subst (λ (x : List ℕ). Appends mid.held now.held x) done.is.spelled sent))
+
+    -- its reply was sent
+    pub ends_broken : Passes before.disk mid.disk → Appends mid.held now.held out → (how : Ended) → how ≡ broken_by f → Served budget how before now
+    ends_broken passes sent how is = subst (λ (x : Ended). Served budget x before now) (sym is) (ends f refl)
+      where
+        ends : (g : Fault) → f ≡ g → Served budget (broken_by g) before now
+        ends fault.Device same = halts passes ended.Device (sends_broken sent) (tells ∙ ap (λ (x : Fault). Some x) same)
+        ends (fault.Damaged b) same = halts passes (ended.Damaged b) (sends_broken sent) (tells ∙ ap (λ (x : Fault). Some x) same)
+
   -- the sink failed at its reply, whether it met a fault or not
-  pub ends_unsent : SendsPrefix mid.held now.held out → Served budget ended.Sink before now
-  ends_unsent cut =
-      let unsent : SendsPrefix mid.held now.held (response_bytes is.response) = subst (λ (x : List ℕ). SendsPrefix mid.held now.held x) is.spelled cut in
-      elim is.how [
-        | inl response ↦ answers_cut start old new count budget held rest body is.response before mid now p within response done front fits bytes unsent
-        | inr interrupted ↦ ends_device_cut start old new count budget held rest body is.response before mid now p within interrupted done front fits bytes unsent
-      ]
+  pub ends_unsent : Passes before.disk mid.disk → SendsPrefix mid.held now.held out → Served budget ended.Sink before now
+  ends_unsent passes cut = go met refl
+    where
+      unsent : SendsPrefix mid.held now.held (response_bytes response)
+      unsent = subst (λ (x : List ℕ). SendsPrefix mid.held now.held x) done.is.spelled cut
 
-  -- it met a fault, and its reply was sent
-  pub ends_broken : new.spent ≡ true → Appends mid.held now.held out → Served budget ended.Device before now
-  ends_broken spent sent =
-      elim is.how [
-        | inl response ↦ absurd (let f : true ≡ false = sym spent ∙ response.going in cc)
-        | inr interrupted ↦ ends_device start old new count budget held rest body is.response before mid now p within interrupted done front fits bytes
-            (subst (λ (x : List ℕ). Appends mid.held now.held x) is.spelled sent)
-      ]
-
-  -- its reply was sent, and the run goes on
-  pub goes_on : new.spent ≡ false → Appends mid.held now.held out → Progress start new count rest before now
-  goes_on going sent =
-      elim is.how [
-        | inl response ↦ (answers start old new count held rest body is.response before mid now p response done front fits (subst (λ (x : List ℕ). Appends mid.held now.held x) is.spelled sent)).0
-        | inr interrupted ↦ absurd (let f : true ≡ false = sym interrupted.spent ∙ going in cc)
-      ]
+      go : (o : Option Fault) → met ≡ o → Served budget ended.Sink before now
+      go None none = answers_cut none unsent
+      go (Some f) some = fault_cut f some passes unsent

@@ -1,20 +1,38 @@
 -- A serving run: what it took, what it answered, what it sent, what it left on the disk, and why
 -- it ended.
-use Rattle.std.specs.Prelude.{◌≡◌, ◌≢◌, ◌≤◌, ◌<◌, ◌⊎◌, ℕ, ◌==◌, ◌&&◌, Bool, true, false, if◌then◌else◌, List, [], ◌++◌, ◌-◌, length, take, map, Option, Some, None, Ok, Err}
+use Rattle.std.specs.Prelude.{◌≡◌, ◌≢◌, ◌≤◌, ◌<◌, ◌⊎◌, ℕ, ◌==◌, ◌&&◌, Bool, true, false, if◌then◌else◌, List, [], ◌∷◌, ◌++◌, ◌-◌, length, take, map, Option, Some, None, IfSome, IsSome, option_map, Ok, Err}
+use Rattle.std.specs.List.{AllByRecursion}
+use Rattle.strat_base.specs.declared.failures.Fault.{Fault}
+use Rattle.strat_base.specs.declared.failures.Fault.TheVariants as fault
+use Rattle.strat_crash.specs.Blocks.{AgreeOn}
 use Rattle.strat_crash.specs.Faults.{Rose}
 use Rattle.strat_crash.specs.Image.{Image}
-use Rattle.strat_crash.specs.Moments.{DiskView, Exposes}
+use Rattle.strat_crash.specs.Moments.{DiskView, Exposes, Passes}
+use Rattle.strat_crash.specs.Trail.{Trail}
 use Rattle.strat_format.specs.SuperBlock.{newest_in}
 use Rattle.strat_io.specs.Streams.{Appends}
 use Rattle.strat_model.specs.declared.ended.Ended.{Ended}
 use Rattle.strat_model.specs.declared.ended.Ended.TheVariants as ended
+use Rattle.strat_model.specs.declared.replies.Refusal.{Refusal}
 use Rattle.strat_model.specs.declared.replies.Refusal.TheVariants as why
-use Rattle.strat_model.specs.Answer.{Answer, refusal}
-use Rattle.strat_model.specs.Spelling.{reply_body}
+use Rattle.strat_model.specs.declared.replies.Reply.{Reply}
+use Rattle.strat_model.specs.declared.replies.Reply.TheVariants as reply
+use Rattle.strat_model.specs.Answer.{refusal}
+use Rattle.strat_model.specs.Request.{Request}
+use Rattle.strat_model.specs.Spelling.{Spells, IsRefusedAs, reply_body}
 use Rattle.strat_model.specs.Stream.{frame, Splits, Whole, Rest, Long, ending_of, is_too_long}
-use Rattle.strat_model.specs.Run.{Position, Response, Exchange, response_bytes, Answers, AnswersFault, Interruption, Transcript, IsTranscript, bodies_of, responses_of, tables_of, sent_bytes}
-use Rattle.strat_store.specs.Opened.{recover_now, Shows, IsAtRest, Follows, IsUnchanged, FailsToOpen}
-use Rattle.strat_store.specs.Store.{Attached, position_of}
+use Rattle.strat_model.specs.Table.{Table, bare}
+use Rattle.strat_model.specs.Run.{Position, Response, response_bytes, Answers, AnswersFault, Transcript, IsTranscript, bodies_of, tables_of, sent_bytes}
+use Rattle.strat_promote.specs.Job.{blocks_listed}
+use Rattle.strat_recovery.specs.Head.{Head}
+use Rattle.strat_recovery.specs.Opening.{recover}
+use Rattle.strat_recovery.specs.StateTable.{table_of}
+use Rattle.strat_standing.specs.Contents.{Contents, contents_state}
+use Rattle.strat_standing.specs.Standing.{ShowsTable}
+use Rattle.strat_store.specs.Applying.{IsDamagedIn}
+use Rattle.strat_store.specs.Following.{FollowsFrom, IsOpenedAs, IsUnchanged, LeavesOpening}
+use Rattle.strat_store.specs.Held.{Held, IsConsistent, StandsWith, position_with}
+use Rattle.strat_store.specs.Looking.{arrays_there}
 use Rattle.strat_serve.specs.World.{World}
 
 -- these bytes were taken from the front of a source
@@ -39,93 +57,156 @@ pub record SendsPrefix (before now : Option (List ℕ)) (all : List ℕ) : Type 
 abbrev pub too_long_bytes : List ℕ
 too_long_bytes = frame (reply_body 0 (refusal why.FrameTooLong))
 
--- a body was answered, and the run goes on
-pub record ContinuesWith (old : Attached) (body : List ℕ) (response : Response) (new : Attached)
-    : Type 0 where
-  pub answers : Answers old.log.mem (position_of old) body response (position_of new)
+-- a body that is no command is refused for what is wrong with it
+pub record IsRefusedFor (body : List ℕ) (response : Response) : Type 0 where
+  pub cause : Refusal
+  pub refused : IsRefusedAs body response.tag cause
+  pub answer : response.answer ≡ refusal cause
+
+-- a body is a command, and the response has its tag
+pub record IsTaggedFor (body : List ℕ) (response : Response) : Type 0 where
+  pub request : Request
+  pub spelled : Spells body response.tag request
+
+-- a response may be that to a body, whatever a store says
+abbrev pub RespondsTo : List ℕ → Response → Type 0
+RespondsTo body response = IsRefusedFor body response ⊎ IsTaggedFor body response
+
+-- there is one response for each body, in order
+abbrev pub AreAnsweredBy : List (List ℕ) → List Response → Type 0
+AreAnsweredBy [] [] = Unit {0}
+AreAnsweredBy (body ∷ bodies) (response ∷ responses) =
+    RespondsTo body response × AreAnsweredBy bodies responses
+AreAnsweredBy _ _ = ⊥
+
+-- the fault that a reply tells of, if it tells of one: the device failed, or a block is damaged
+abbrev pub fault_told : Reply → Option Fault
+fault_told (reply.Refused why.DeviceFault) = Some fault.Device
+fault_told (reply.Refused (why.Damaged block)) = Some (fault.Damaged block)
+fault_told _ = None
+
+-- over a command a count of faults rises where it met a fault of the device, and stays elsewhere
+pub record FailsAsMet (before now : ℕ) (met : Option Fault) : Type 0 where
+  pub rose : met ≡ Some fault.Device → Rose before now
+  pub same : met ≢ Some fault.Device → now ≡ before
+
+-- a body was answered, and a store that stood with these contents goes on
+pub record ContinuesWith (before now : DiskView) (old : Held) (x : Contents) (body : List ℕ)
+    (response : Response) (new : Held) : Type 0 where
   pub going : new.spent ≡ false
+  pub after : Contents
+  pub stands : StandsWith now new after
+  pub answers : Answers old.log.mem (position_with old x) body response (position_with new after)
+  pub trail : Trail ShowsTable now before.moment
+      (table_of (contents_state x) ∷ table_of (contents_state after) ∷ []) 1
 
 -- a body met a fault of the device, and the run ends with it
-pub record StopsWith (old : Attached) (body : List ℕ) (response : Response) (new : Attached)
-    : Type 0 where
+pub record StopsWith (before now : DiskView) (old : Held) (x : Contents) (body : List ℕ)
+    (response : Response) : Type 0 where
   pub done : Position
-  pub fault : AnswersFault old.log.mem (position_of old) body response done
+  pub fault : AnswersFault old.log.mem (position_with old x) body response done
   pub answer : response.answer ≡ refusal why.DeviceFault
-  pub table : done.table ≡ new.table
-  pub spent : new.spent ≡ true
+  pub trail : Trail ShowsTable now before.moment
+      (table_of (contents_state x) ∷ bare done.table ∷ []) 0
 
--- a body was answered by these bytes
-pub record IsAnswered (old : Attached) (body : List ℕ) (new : Attached) (bytes : List ℕ)
-    : Type 0 where
+-- a body was answered by these bytes, and that says which fault the store met, if it met one; where
+-- the store stood on the disk it was answered as the table says
+pub record IsAnswered (before now : DiskView) (old : Held) (body : List ℕ) (met : Option Fault)
+    (new : Held) (bytes : List ℕ) : Type 0 where
   pub response : Response
   pub spelled : bytes ≡ response_bytes response
-  pub how : ContinuesWith old body response new ⊎ StopsWith old body response new
+  pub responds : RespondsTo body response
+  pub tells : met ≡ fault_told response.answer.reply
+  pub run : (x : Contents) → StandsWith before old x
+      → ContinuesWith before now old x body response new
+      ⊎ StopsWith before now old x body response
+
+-- a block is one of the arrays of a store as an opening may find it, and bad in the content that a
+-- disk had, where it exposed that; and what it exposes now is the same in all blocks of these arrays
+pub record IsFoundDamaged (before now : DiskView) (block : ℕ) : Type 0 where
+  pub store : Held
+  pub lawful : IsConsistent store
+  pub content : Option Image
+  pub exposed : (f : Image) → Exposes before f → IsSome content
+  pub bad : IsDamagedIn content store.memory store.levels block
+  pub kept : (f g : Image) → content ≡ Some f → Exposes now g
+      → AgreeOn (blocks_listed (arrays_there store.levels)) f g
 
 -- a run begins where this image leads: at the table that it shows, with as many changes as its
 -- journal has, of which a region takes so many
 pub record Begins (f : Image) (mem : ℕ) (start : Position) : Type 0 where
-  pub shows : Shows f start.table
+  pub shows : ShowsTable f start.table
   pub fill : start.fill ≡ length shows.state.journal
   pub mem_is : mem ≡ shows.state.mem
 
--- the bytes that a serving run took, the bodies and the rest in them, and the transcript of the
--- first of the bodies
+-- the bytes that a serving run took, the bodies and the rest in them, the answers to the first of
+-- the bodies, and the answer to the next one where that tells of a fault
 pub record Session : Type 0 where
   pub taken : List ℕ
   pub bodies : List (List ℕ)
   pub rest : List ℕ
-  pub transcript : Transcript
+  pub answers : List Response
+  pub broken : Option Response
 
--- the answers are those of a run of the table over the first bodies of the bytes taken
-pub record IsSession (mem budget : ℕ) (start : Position) (s : Session) : Type 0 where
+-- a response in a list of its own, if there is one
+abbrev pub listed_response : Option Response → List Response
+listed_response None = []
+listed_response (Some response) = response ∷ []
+
+-- all responses of a session, that to a fault the last
+abbrev pub all_responses : Session → List Response
+all_responses s = s.answers ++ listed_response s.broken
+
+-- the first bodies of the bytes taken were answered, one response for each, and a fault is told in
+-- the last response alone
+pub record IsSession (budget : ℕ) (s : Session) : Type 0 where
   pub splits : Splits s.taken s.bodies s.rest
-  pub transcript : IsTranscript mem start s.transcript
-  pub front : take (length (bodies_of s.transcript)) s.bodies ≡ bodies_of s.transcript
+  pub answered : AreAnsweredBy (take (length (all_responses s)) s.bodies) (all_responses s)
+  pub calm : AllByRecursion (λ r. fault_told r.answer.reply ≡ None) s.answers
+  pub fault : IfSome s.broken (λ r. IsSome (fault_told r.answer.reply))
   pub within : length s.taken ≤ budget
 
 -- every body was answered, and none of them met a fault
 pub record AnswersAll (s : Session) : Type 0 where
-  pub all : length s.transcript.exchanges ≡ length s.bodies
-  pub unbroken : s.transcript.interruption ≡ None
+  pub all : length s.answers ≡ length s.bodies
+  pub unbroken : s.broken ≡ None
 
 -- what is sent after the answers: where every body was answered, none met a fault and a frame too
 -- long follows, that it is
-abbrev pub last_output : Option Interruption → Bool → Bool → List ℕ
+abbrev pub last_output : Option Response → Bool → Bool → List ℕ
 last_output None all long = if all && long then too_long_bytes else []
-last_output (Some interruption) all long = []
+last_output (Some response) all long = []
 
 -- all that a session sends
 abbrev pub output : Session → List ℕ
-output s = sent_bytes (responses_of s.transcript)
-    ++ last_output s.transcript.interruption
-    (length s.transcript.exchanges == length s.bodies) (is_too_long s.rest)
+output s = sent_bytes (all_responses s)
+    ++ last_output s.broken (length s.answers == length s.bodies) (is_too_long s.rest)
 
 -- the answers before the last one
-abbrev pub before_last : Option Interruption → List Exchange → List Exchange
-before_last None exchanges = take (length exchanges - 1) exchanges
-before_last (Some interruption) exchanges = exchanges
+abbrev pub before_last : Option Response → List Response → List Response
+before_last None answers = take (length answers - 1) answers
+before_last (Some response) answers = answers
 
 -- the replies to all bodies that were answered but the last
-abbrev pub earlier_bytes : Transcript → List ℕ
-earlier_bytes t =
-    sent_bytes (map (λ x. x.response) (before_last t.interruption t.exchanges))
+abbrev pub earlier_bytes : Session → List ℕ
+earlier_bytes s = sent_bytes (before_last s.broken s.answers)
 
 -- a sink that failed took a prefix of what a session sends, with all replies but the last whole:
 -- so at most one command was carried out that no reply tells of
 pub record SendsAllButLast (before now : Option (List ℕ)) (s : Session) : Type 0 where
   pub cut : SendsPrefix before now (output s)
   pub part : List ℕ
-  pub replied : cut.sent ≡ earlier_bytes s.transcript ++ part
+  pub replied : cut.sent ≡ earlier_bytes s ++ part
 
 -- what the sink took of what a session sends: all of it, where it did not fail
 abbrev pub Sends : Ended → Option (List ℕ) → Option (List ℕ) → Session → Type 0
 Sends ended.Sink before now s = SendsAllButLast before now s
 Sends _ before now s = Appends before now (output s)
 
--- the last answer is this fault
-abbrev pub EndsWithAnswer : Option Interruption → Answer → Type 0
-EndsWithAnswer None answer = ⊥
-EndsWithAnswer (Some interruption) answer = interruption.response.answer ≡ answer
+-- there is a response, and it tells of this fault
+abbrev pub EndsWithFault : Option Response → Fault → Type 0
+EndsWithFault None f = ⊥
+EndsWithFault (Some response) f = fault_told response.answer.reply ≡ Some f
 
 -- what the bytes taken say where a run ends so
 abbrev pub EndsFor : Ended → ℕ → Session → Option (List ℕ) → Type 0
@@ -138,36 +219,63 @@ EndsFor ended.Budget budget s left =
     AnswersAll s × (ending_of s.rest ≢ Long) × (length s.taken ≡ budget)
 EndsFor ended.Source budget s left = AnswersAll s × (ending_of s.rest ≢ Long)
 EndsFor ended.Sink budget s left = Unit {0}
-EndsFor ended.Device budget s left =
-    EndsWithAnswer s.transcript.interruption (refusal why.DeviceFault)
-EndsFor (ended.Damaged block) budget s left =
-    EndsWithAnswer s.transcript.interruption (refusal (why.Damaged block))
+EndsFor ended.Device budget s left = EndsWithFault s.broken fault.Device
+EndsFor (ended.Damaged block) budget s left = EndsWithFault s.broken (fault.Damaged block)
 EndsFor _ budget s left = ⊥
+
+-- the responses of a session are those of a run of the table that a content shows, and the disk
+-- followed the run's tables up to all that was answered otherwise than by a fault
+pub record FollowsRun (before now : DiskView) (f : Image) (t : Table) (s : Session)
+    : Type 0 where
+  -- the content's journal regions take so many changes, and the run began at this position
+  pub mem : ℕ
+  pub start : Position
+  pub begins : Begins f mem start
+  pub table : start.table ≡ t
+  -- the run's bodies and answers are the session's, and its interruption is the session's fault,
+  -- which is the device's: a disk that shows a table is never found damaged
+  pub transcript : Transcript
+  pub is : IsTranscript mem start transcript
+  pub front : take (length (bodies_of transcript)) s.bodies ≡ bodies_of transcript
+  pub answers_are : s.answers ≡ map (λ x. x.response) transcript.exchanges
+  pub broken_is : s.broken ≡ option_map (λ h. h.response) transcript.interruption
+  pub device : IfSome s.broken (λ r. r.answer ≡ refusal why.DeviceFault)
+  pub follows : FollowsFrom before now f (tables_of transcript) (length transcript.exchanges)
 
 -- a serving run opened the store, and ended so
 pub record Served (budget : ℕ) (how : Ended) (before now : World) : Type 0 where
-  -- the store's journal regions take so many changes, and the run began at this position
-  pub mem : ℕ
-  pub start : Position
-  -- it took these bytes and no others, answered the bodies among them as the table does, and sent
-  -- that
+  -- recovery finds a store
+  pub head : Head
+  pub found : (f : Image) → Exposes before.disk f → recover f ≡ Ok (Some head)
+  -- it took these bytes and no others, answered the bodies among them, and sent that
   pub session : Session
-  pub is : IsSession mem budget start session
+  pub is : IsSession budget session
   pub took : Took before.left now.left session.taken
   pub sends : Sends how before.held now.held session
   pub ends : EndsFor how budget session now.left
-  -- a command met a fault exactly where the disk failed
-  pub faulted : session.transcript.interruption ≢ None → Rose before.disk_faults now.disk_faults
-  pub calm : session.transcript.interruption ≡ None → now.disk_faults ≡ before.disk_faults
-  -- where the disk exposes its content, the run began at the table that it shows, and the disk
-  -- followed the run's tables up to all that was answered otherwise than by a fault
-  pub begins : (f : Image) → Exposes before.disk f → Begins f mem start
-  pub follows : (f : Image) → Exposes before.disk f
-      → Follows before.disk now.disk f mem
-      (tables_of session.transcript) (length session.transcript.exchanges)
-  -- and where no command met a fault a crash leaves one image
-  pub one_image : (f : Image) → Exposes before.disk f
-      → session.transcript.interruption ≡ None → IsAtRest now.disk
+  -- a command was told of the device's fault exactly where the disk failed, and of a damaged block
+  -- only where that is one
+  pub faulted : EndsWithFault session.broken fault.Device
+      → Rose before.disk_faults now.disk_faults
+  pub calm : (EndsWithFault session.broken fault.Device → ⊥)
+      → now.disk_faults ≡ before.disk_faults
+  pub damaged : (block : ℕ) → EndsWithFault session.broken (fault.Damaged block)
+      → IsFoundDamaged before.disk now.disk block
+  -- where the disk exposes a content that shows a table, the session is a run of that table
+  pub follows : (f : Image) (t : Table) → Exposes before.disk f → ShowsTable f t
+      → FollowsRun before.disk now.disk f t session
+
+-- how a run ends whose store met a fault
+abbrev pub broken_by : Fault → Ended
+broken_by fault.Device = ended.Device
+broken_by (fault.Damaged block) = ended.Damaged block
+
+-- a store was opened, on a disk that did not fail
+pub record HasOpened (before : DiskView) (before_faults : ℕ) (now : DiskView) (now_faults : ℕ)
+    (s : Held) : Type 0 where
+  pub opened : IsOpenedAs before now s
+  pub passes : Passes before now
+  pub calm : now_faults ≡ before_faults
 
 -- how a run may end whose opening gave up
 abbrev pub IsGivenUp : Ended → Type 0
@@ -176,6 +284,20 @@ IsGivenUp ended.Device = Unit {0}
 IsGivenUp (ended.Damaged block) = Unit {0}
 IsGivenUp ended.NoMemory = Unit {0}
 IsGivenUp _ = ⊥
+
+-- a disk exposes a content in which recovery finds a damaged block
+pub record ExposesDamage (v : DiskView) : Type 0 where
+  pub content : Image
+  pub exposed : Exposes v content
+  pub block : ℕ
+  pub damaged : recover content ≡ Err block
+
+-- a run that ended so on this disk gave up before its first read
+abbrev pub IsEarlyEnd : Ended → DiskView → Type 0
+IsEarlyEnd ended.NotAStore before = Unit {0}
+IsEarlyEnd ended.NoMemory before = Unit {0}
+IsEarlyEnd (ended.Damaged block) before = ExposesDamage before
+IsEarlyEnd _ before = ⊥
 
 -- a serving run gave up before its first read
 pub record GaveUp (how : Ended) (before now : World) : Type 0 where
@@ -186,18 +308,21 @@ pub record GaveUp (how : Ended) (before now : World) : Type 0 where
   -- where the disk did not fail it is left as it was, and where it failed the opening did
   pub kept : how ≢ ended.Device → IsUnchanged before.disk now.disk
   pub failed : how ≡ ended.Device → (f : Image) → Exposes before.disk f
-      → FailsToOpen before.disk now.disk f
+      → LeavesOpening before.disk now.disk f
+  -- a block is called damaged where recovery finds it so
+  pub damaged : (block : ℕ) → how ≡ ended.Damaged block → (f : Image) → Exposes before.disk f
+      → recover f ≡ Err block
 
 -- what a serving run did, whether it opened the store or gave up
 abbrev pub RunOutcome : ℕ → Ended → World → World → Type 0
 RunOutcome budget how before now = GaveUp how before now ⊎ Served budget how before now
 
 -- what the disk's bytes say where a run ends so for them: no slot of a store, or this block is
--- damaged
-pub record RefusesFor (how : Ended) (before : DiskView) : Type 0 where
+-- damaged, as an opening or a command found it
+pub record RefusesFor (how : Ended) (before now : DiskView) : Type 0 where
   pub none : how ≡ ended.NotAStore → (f : Image) → Exposes before f → newest_in f ≡ Ok None
   pub damaged : (block : ℕ) → how ≡ ended.Damaged block → (f : Image) → Exposes before f
-      → recover_now f ≡ Err block
+      → (recover f ≡ Err block) ⊎ IsFoundDamaged before now block
 
 -- when a count of faults may have risen: that of the source, the sink or the disk where the end
 -- names it, and no other; where the end is that of the sink, the disk may have failed too

@@ -1,15 +1,16 @@
 //! The answer to one frame, and to one that is too long.
 
-ghost use Rattle.std.specs.Prelude.{◌≡◌, OnOk, OnErr, IfOk, [], false};
+ghost use Rattle.std.specs.Prelude.{◌≡◌, ℕ, OnOk, OnErr, IfOk, [], Some, None, is_some, false};
+ghost use Rattle.strat_base.specs.declared.failures.Fault.TheVariants as fault;
 ghost use Rattle.strat_crash.specs.Faults.{CountsFaults};
 ghost use Rattle.strat_crash.specs.Moments.{Passes};
 ghost use Rattle.strat_frame.specs.Faults.{refusal_for};
 ghost use Rattle.strat_io.specs.Streams.{Appends};
-ghost use Rattle.strat_serve.specs.Session.{IsAnswered, SendsPrefix, too_long_bytes};
-ghost use Rattle.strat_store.specs.Store.{StandsOn, Moves, BreaksByFault};
+ghost use Rattle.strat_serve.specs.Session.{IsAnswered, FailsAsMet, IsFoundDamaged, fault_told, SendsPrefix, too_long_bytes};
+ghost use Rattle.strat_store.specs.Held.{IsConsistent};
 
 use std::alloc::Global;
-use strat_base::{Failed, NoMemory, PairBuf};
+use strat_base::{Failed, Fault, NoMemory, PairBuf};
 use strat_disk::Disk;
 use strat_frame::{BodyFault, Deframer, OutBuf, parse_command, write_reply};
 use strat_io::{Sink, put_all};
@@ -49,7 +50,19 @@ fn refusal_of(fault: BodyFault) -> Refusal
     }
 }
 
-/// Answers a body, in the buffer for replies. A change that is answered is durable: its cost is
+/// The fault that a reply tells of, if it tells of one.
+fn fault_told(reply: Reply) -> Option<Fault>
+    ensures { result ≡ fault_told reply }
+{
+    match reply {
+        Reply::Refused(Refusal::DeviceFault) => Some(Fault::Device),
+        Reply::Refused(Refusal::Damaged { block }) => Some(Fault::Damaged { block }),
+        _ => None,
+    }
+}
+
+/// Answers a body, in the buffer for replies, and says which fault the store met, if it met one:
+/// then it is not to be used again. A change that is answered otherwise is durable: its cost is
 /// that of `Store::apply`.
 pub fn answer<D: Disk>(
     store: &mut Store,
@@ -57,25 +70,31 @@ pub fn answer<D: Disk>(
     body: &[u8],
     pairs: &mut PairBuf,
     out: &mut OutBuf,
-)
-    requires kept { store.old.spent ≡ false }
-    ensures ok { IsAnswered store.old body.now store.new out.new }
-    ensures trail { StandsOn (D.view disk.old) store.old
-        → Moves (D.view disk.old) (D.view disk.new) store.old store.new }
-    ensures same { store.new.log.mem ≡ store.old.log.mem }
+) -> Option<Fault>
+    requires going { store.old.spent ≡ false }
+    requires lawful { IsConsistent store.old }
+    ensures ok { IsAnswered (D.view disk.old) (D.view disk.new) store.old body.now result
+        store.new out.new }
+    ensures spent { store.new.spent ≡ is_some result }
+    ensures kept { result ≡ None → IsConsistent store.new }
+    ensures same { store.new.sb.mem ≡ store.old.sb.mem }
     ensures time { Passes (D.view disk.old) (D.view disk.new) }
-    ensures cause { BreaksByFault (D.faults disk.old) (D.faults disk.new) store.new }
+    ensures cause { FailsAsMet (D.faults disk.old) (D.faults disk.new) result }
+    ensures damaged { (b : ℕ) → result ≡ Some (fault.Damaged b)
+        → IsFoundDamaged (D.view disk.old) (D.view disk.new) b }
 {
     out.clear();
     match parse_command(body) {
         Ok((tag, command)) => {
             let reply = store.apply(disk, &command, pairs);
             write_reply(tag, &reply, pairs, out);
+            fault_told(reply)
         }
         Err((tag, fault)) => {
             pairs.clear();
             let reply = Reply::Refused(refusal_of(fault));
             write_reply(tag, &reply, pairs, out);
+            None
         }
     }
 }

@@ -5,12 +5,13 @@ ghost use Rattle.strat_crash.specs.Faults.{CountsFaults};
 ghost use Rattle.strat_crash.specs.Moments.{Passes};
 ghost use Rattle.strat_io.specs.Streams.{Appends};
 ghost use Rattle.strat_store.specs.Causes.{ended_for};
-ghost use Rattle.strat_serve.specs.Session.{Took, IsAtEnd, SendsPrefix, RunOutcome, RefusesFor, IsGivenUp, EndHasCause};
+ghost use Rattle.strat_store.specs.Held.{IsConsistent};
+ghost use Rattle.strat_serve.specs.Session.{Took, IsAtEnd, SendsPrefix, RunOutcome, RefusesFor, IsEarlyEnd, EndHasCause, HasOpened, Served, broken_by};
 ghost use Rattle.strat_serve.specs.World.{world};
 
 use crate::answering::{Buffers, answer, refuse_long};
 use std::alloc::Global;
-use strat_base::Failed;
+use strat_base::{Failed, Fault};
 use strat_disk::Disk;
 use strat_frame::{Next, OutBuf};
 use strat_io::{Sink, Source, put_all};
@@ -29,6 +30,16 @@ fn ended_for(fault: AttachFault) -> Ended
         AttachFault::Device => Ended::Device,
         AttachFault::Damaged { block } => Ended::Damaged { block },
         AttachFault::NoMemory => Ended::NoMemory,
+    }
+}
+
+/// How a run ends whose store met a fault.
+fn broken_by(fault: Fault) -> Ended
+    ensures { result ≡ broken_by fault }
+{
+    match fault {
+        Fault::Device => Ended::Device,
+        Fault::Damaged { block } => Ended::Damaged { block },
     }
 }
 
@@ -81,48 +92,40 @@ fn at_end(held: usize) -> Ended
     }
 }
 
-/// Opens the store on a disk and serves frames from a source to a sink, until the source ends or as
-/// many bytes were read as the budget has. It takes the memory for frames, pairs and replies before
-/// it touches the disk, and reads at most 4,096 bytes at a time. Each whole frame among them is
-/// answered before it reads on, which no clause says, since source and sink have no common clock; a
-/// reply goes out when the change that it answers is durable.
+/// Serves frames from a source to a sink over an open store, as `serve` does.
 #[tactic(auto, using(strat_crash::proofs::MomentLemmas::passes_trans))]
-pub fn serve<S: Source, K: Sink, D: Disk>(
-    alloc: Global,
+fn serve_frames<S: Source, K: Sink, D: Disk>(
+    store: &mut Store,
+    buffers: &mut Buffers,
     source: &mut S,
     sink: &mut K,
     disk: &mut D,
     budget: u64,
 ) -> Ended
-    ensures ok { RunOutcome budget result
+    requires none { buffers.old.frames.held ≡ [] }
+    requires going { store.old.spent ≡ false }
+    requires lawful { IsConsistent store.old }
+    ensures ok { (d : D) → HasOpened (D.view d) (D.faults d)
+        (D.view disk.old) (D.faults disk.old) store.old
+        → Served budget result
         (world (S.left source.old) (S.faults source.old) (K.held sink.old) (K.faults sink.old)
-        (D.view disk.old) (D.faults disk.old))
+        (D.view d) (D.faults d))
         (world (S.left source.new) (S.faults source.new) (K.held sink.new) (K.faults sink.new)
         (D.view disk.new) (D.faults disk.new)) }
-    ensures found { RefusesFor result (D.view disk.old) }
     ensures time { Passes (D.view disk.old) (D.view disk.new) }
     ensures cause { EndHasCause result
         (world (S.left source.old) (S.faults source.old) (K.held sink.old) (K.faults sink.old)
         (D.view disk.old) (D.faults disk.old))
         (world (S.left source.new) (S.faults source.new) (K.held sink.new) (K.faults sink.new)
         (D.view disk.new) (D.faults disk.new)) }
-    ensures same { IsGivenUp result → result ≢ Ended.Device
-        → (source.new ≡ source.old) × (sink.new ≡ sink.old) }
 {
-    let Ok(mut buffers) = Buffers::new(alloc) else {
-        return Ended::NoMemory;
-    };
-    let mut store = match Store::attach(alloc, disk) {
-        Ok(store) => store,
-        Err(fault) => return ended_for(fault),
-    };
     let mut piece = [0; PIECE];
     let mut taken = 0;
     loop {
         match buffers.frames.next() {
             Next::Frame => {
-                answer(
-                    &mut store,
+                let met = answer(
+                    store,
                     disk,
                     buffers.frames.body(),
                     &mut buffers.pairs,
@@ -131,8 +134,8 @@ pub fn serve<S: Source, K: Sink, D: Disk>(
                 let Ok(()) = send(sink, &buffers.out) else {
                     return Ended::Sink;
                 };
-                if store.is_spent() {
-                    return Ended::Device;
+                if let Some(fault) = met {
+                    return broken_by(fault);
                 }
             }
             Next::NotYet => {
@@ -156,4 +159,42 @@ pub fn serve<S: Source, K: Sink, D: Disk>(
             }
         }
     }
+}
+
+/// Opens the store on a disk and serves frames from a source to a sink, until the source ends or as
+/// many bytes were read as the budget has. It takes the memory for frames, pairs and replies before
+/// it touches the disk, and reads at most 4,096 bytes at a time. Each whole frame among them is
+/// answered before it reads on, which no clause says, since source and sink have no common clock; a
+/// reply goes out when the change that it answers is durable.
+#[tactic(auto, using(strat_crash::proofs::MomentLemmas::passes_trans))]
+pub fn serve<S: Source, K: Sink, D: Disk>(
+    alloc: Global,
+    source: &mut S,
+    sink: &mut K,
+    disk: &mut D,
+    budget: u64,
+) -> Ended
+    ensures ok { RunOutcome budget result
+        (world (S.left source.old) (S.faults source.old) (K.held sink.old) (K.faults sink.old)
+        (D.view disk.old) (D.faults disk.old))
+        (world (S.left source.new) (S.faults source.new) (K.held sink.new) (K.faults sink.new)
+        (D.view disk.new) (D.faults disk.new)) }
+    ensures found { RefusesFor result (D.view disk.old) (D.view disk.new) }
+    ensures time { Passes (D.view disk.old) (D.view disk.new) }
+    ensures cause { EndHasCause result
+        (world (S.left source.old) (S.faults source.old) (K.held sink.old) (K.faults sink.old)
+        (D.view disk.old) (D.faults disk.old))
+        (world (S.left source.new) (S.faults source.new) (K.held sink.new) (K.faults sink.new)
+        (D.view disk.new) (D.faults disk.new)) }
+    ensures same { IsEarlyEnd result (D.view disk.old)
+        → (source.new ≡ source.old) × (sink.new ≡ sink.old) }
+{
+    let Ok(mut buffers) = Buffers::new(alloc) else {
+        return Ended::NoMemory;
+    };
+    let mut store = match Store::attach(alloc, disk) {
+        Ok(store) => store,
+        Err(fault) => return ended_for(fault),
+    };
+    serve_frames(&mut store, &mut buffers, source, sink, disk, budget)
 }

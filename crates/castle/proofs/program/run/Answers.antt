@@ -1,10 +1,10 @@
-use Rattle.std.proofs.Common.{◌≡◌, Option, sym, ap, subst, ◌∙◌, refl, map, inl, inr}
+use Rattle.std.proofs.Common.{◌≡◌, ◌⊎◌, ℕ, Option, sym, ap, subst, ◌∙◌, refl, map, inl, inr}
 use Rattle.std.specs.Prelude.{string_bytes, Some}
 use Rattle.castle.specs.Arguments.{Subcommand, subcommand_seen}
 use Rattle.castle.specs.Outcomes.{IsEarly, Runs, LeavesAlone}
 use Rattle.castle.specs.declared.arguments.Subcommand.{Subcommand as Borrowed}
 use Rattle.strat_serve.specs.World.{World, world}
-use Rattle.castle.proofs.CompleteLemmas.{completes, gave_up_by}
+use Rattle.castle.proofs.CompleteLemmas.{completes, completes_sound, gave_up_by}
 use Rattle.castle.proofs.FormattedLemmas.{formatted_ends, formatting_gave_up}
 use Rattle.castle.proofs.SizeLemmas.{limits_of}
 use Rattle.castle.proofs.program.run.Given.{Over}
@@ -33,14 +33,16 @@ returns-in-Some-Serve-clause-ok g c =
         refuses = c.serve.ensures.found;
         cause = c.serve.ensures.cause;
         complete = λ calm f exposed. completes 1099511627776 c.serve.result before now f c.serve.ensures.ok c.serve.ensures.found c.serve.ensures.cause calm.source calm.sink calm.disk exposed;
+        sound = λ calm f t exposed shows. completes_sound 1099511627776 c.serve.result before now f t c.serve.ensures.ok c.serve.ensures.found c.serve.ensures.cause calm.source calm.sink calm.disk exposed shows;
       },
     )
 
 pub returns-in-Some-Serve-clause-same : goal.returns-in-Some-Serve-clause-same
 returns-in-Some-Serve-clause-same g c =
+    let view = g.D.Disk.view c.args.disk.now in
     let named = c.in-Some-Serve.ensures ∙ ap (λ (j : Borrowed). Some (subcommand_seen j)) c.in-Some-Serve.field-0-is in
-    subst (λ (s : Option Subcommand). LeavesAlone s c.status-in-Some-Serve.result (c.serve.new.source ≡ c.args.source.now) (c.serve.new.sink ≡ c.args.sink.now) (c.serve.new.disk ≡ c.args.disk.now)) (sym named)
-    (λ is. let gave = gave_up_by c.serve.result (subst IsEarly c.status-in-Some-Serve.ensures is) in c.serve.ensures.same gave.0 gave.1)
+    subst (λ (s : Option Subcommand). LeavesAlone s view c.status-in-Some-Serve.result (c.serve.new.source ≡ c.args.source.now) (c.serve.new.sink ≡ c.args.sink.now) (c.serve.new.disk ≡ c.args.disk.now)) (sym named)
+    (λ is. c.serve.ensures.same (gave_up_by c.serve.result view (subst (λ (n : ℕ). IsEarly view n) c.status-in-Some-Serve.ensures is)))
 
 pub returns-in-Some-Format-clause-ok : goal.returns-in-Some-Format-clause-ok
 returns-in-Some-Format-clause-ok g c =
@@ -65,7 +67,7 @@ returns-in-Some-Format-clause-ok g c =
 pub returns-in-Some-Format-clause-same : goal.returns-in-Some-Format-clause-same
 returns-in-Some-Format-clause-same g c =
     let named = c.in-Some-Format.ensures ∙ ap (λ (j : Borrowed). Some (subcommand_seen j)) c.in-Some-Format.field-0-is in
-    let early : IsEarly c.status-in-Some-Format.result → (c.make_store.new.sink ≡ c.args.sink.now) × (c.make_store.new.disk ≡ c.args.disk.now) =
-    λ is. c.make_store.ensures.same (formatting_gave_up c.make_store.result _ _ _ c.make_store.ensures.ok (subst IsEarly c.status-in-Some-Format.ensures is)) in
-    subst (λ (s : Option Subcommand). LeavesAlone s c.status-in-Some-Format.result (c.args.source.now ≡ c.args.source.now) (c.make_store.new.sink ≡ c.args.sink.now) (c.make_store.new.disk ≡ c.args.disk.now)) (sym named)
+    let early : (c.status-in-Some-Format.result ≡ 2) ⊎ (c.status-in-Some-Format.result ≡ 8) ⊎ (c.status-in-Some-Format.result ≡ 9) → (c.make_store.new.sink ≡ c.args.sink.now) × (c.make_store.new.disk ≡ c.args.disk.now) =
+    λ is. c.make_store.ensures.same (formatting_gave_up c.make_store.result _ _ _ c.make_store.ensures.ok (subst (λ (n : ℕ). (n ≡ 2) ⊎ (n ≡ 8) ⊎ (n ≡ 9)) c.status-in-Some-Format.ensures is)) in
+    subst (λ (s : Option Subcommand). LeavesAlone s (g.D.Disk.view c.args.disk.now) c.status-in-Some-Format.result (c.args.source.now ≡ c.args.source.now) (c.make_store.new.sink ≡ c.args.sink.now) (c.make_store.new.disk ≡ c.args.disk.now)) (sym named)
     (refl, λ is. (early is).0, λ is. (early (inr (inl is))).1)

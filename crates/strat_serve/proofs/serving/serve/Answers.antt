@@ -1,16 +1,11 @@
-use Rattle.std.proofs.Common.{◌≡◌, ◌≤◌, ◌<◌, ℕ, List, [], ◌++◌, take, length, false, Err, refl, sym, ap, subst, ◌∙◌, length-take, inl, inr, arith}
-use Rattle.strat_crash.proofs.MomentLemmas.{passes_trans}
-use Rattle.strat_model.specs.declared.ended.Ended.{Ended}
+use Rattle.std.proofs.Common.{Err, refl, ap, inl, inr}
 use Rattle.strat_store.specs.declared.opening.AttachFault.{AttachFault}
-use Rattle.strat_serve.specs.Session.{IsAnswered, Took, Served}
+use Rattle.strat_serve.specs.Session.{Served}
 use Rattle.strat_serve.specs.World.{World, world}
-use Rattle.strat_serve.proofs.GiveUpLemmas.{gave_up, ends_by_input}
-use Rattle.strat_serve.proofs.ProgressLemmas.{Answered, begins, reads, reads_none}
-use Rattle.strat_serve.proofs.SendLemmas.{frame_shrinks}
-use Rattle.strat_serve.proofs.SessionLemmas.{goes_on, ends_unsent, ends_broken, ends_long, ends_long_cut, ends_at_end, ends_budget, ends_source}
+use Rattle.strat_serve.proofs.GiveUpLemmas.{gave_up, gave_up_for, served_refuses, served_late, caused_since}
 use Rattle.strat_serve.proofs.serving.serve.Given.{Over}
 use Rattle.strat_serve.proofs.serving.serve.Goals as goal
-use Rattle.strat_serve.proofs.serving.serve.Goals.{After-send, in-Ok-refuse_long, in-Err-refuse_long}
+use Rattle.strat_serve.proofs.serving.serve.Goals.{After-serve_frames}
 
 -- what a source, a sink and a disk show
 abbrev shown : (g : Over) → g.row.S.Denot → g.row.K.Denot → g.row.D.Denot → World
@@ -19,137 +14,32 @@ shown g source sink disk = world (g.S.Source.left source) (g.S.Source.faults sou
 pub returns-in-Err-clause-ok : goal.returns-in-Err-clause-ok
 returns-in-Err-clause-ok g c =
     inl (gave_up c.ended_for.result c.in-Err.fault (shown g c.args.source.now c.args.sink.now c.args.disk.now) (g.D.Disk.view c.attach.new.disk) (g.D.Disk.faults c.attach.new.disk)
-    c.ended_for.ensures (λ e. c.in-Err.ensures.err (ap (λ (x : AttachFault). Err x) e)) c.in-Err.ensures.same)
+    c.ended_for.ensures (λ e. c.in-Err.ensures.err (ap (λ (x : AttachFault). Err x) e)) c.in-Err.ensures.same (λ b e. c.in-Err.ensures.damaged b (ap (λ (x : AttachFault). Err x) e)))
 
-pub loop-store-init : goal.loop-store-init
-loop-store-init g c = record {
-  progress = begins c.in-Ok-attach.store c.in-Ok.buffers.frames.held (shown g c.args.source.now c.args.sink.now c.args.disk.now) (g.D.Disk.view c.attach.new.disk) (g.D.Disk.faults c.attach.new.disk)
-      c.in-Ok.ensures.ok c.in-Ok-attach.ensures.cause.ok c.in-Ok-attach.ensures.ok;
-  time = c.in-Ok-attach.ensures.time;
-  within = omega arith;
-  source_same = refl;
-  sink_same = refl;
-  disk_same = c.in-Ok-attach.ensures.cause.ok;
-}
+pub returns-in-Err-clause-found : goal.returns-in-Err-clause-found
+returns-in-Err-clause-found g c =
+    gave_up_for c.ended_for.result c.in-Err.fault (g.D.Disk.view c.args.disk.now) (g.D.Disk.view c.attach.new.disk) c.ended_for.ensures
+    (λ e. c.in-Err.ensures.none (ap (λ (x : AttachFault). Err x) e)) (λ b e. c.in-Err.ensures.damaged b (ap (λ (x : AttachFault). Err x) e))
 
--- a body was answered, and its reply handed on
-answered : (g : Over) (c : After-send g) → Answered c.loop-store.store c.answer.new.store
-    (shown g c.loop-store.source c.loop-store.sink c.loop-store.disk) (shown g c.loop-store.source c.send.new.sink c.answer.new.disk)
-answered g c = record {
-  mem = c.answer.ensures.same;
-  left = refl;
-  moves = c.answer.ensures.trail;
-  passes = c.answer.ensures.time;
-  breaks = c.answer.ensures.cause;
-}
+-- what was served after the opening
+served : (g : Over) (c : After-serve_frames g) → Served c.args.budget c.serve_frames.result (shown g c.args.source.now c.args.sink.now c.args.disk.now)
+    (shown g c.serve_frames.new.source c.serve_frames.new.sink c.serve_frames.new.disk)
+served g c = c.serve_frames.ensures.ok c.args.disk.now (record { opened = c.in-Ok-attach.ensures.ok.0; passes = c.in-Ok-attach.ensures.time; calm = c.in-Ok-attach.ensures.cause.ok })
 
--- its body was answered
-body_answered : (g : Over) (c : After-send g) → IsAnswered c.loop-store.store c.next.new.self.body c.answer.new.store c.answer.new.out
-body_answered g c = subst (λ (b : List ℕ). IsAnswered c.loop-store.store b c.answer.new.store c.answer.new.out) c.body.ensures c.answer.ensures.ok
+pub returns-clause-ok : goal.returns-clause-ok
+returns-clause-ok g c = inr (served g (goal.at.returns-clause-ok g c).After-serve_frames)
 
-pub returns-in_default-send-clause-ok : goal.returns-in_default-send-clause-ok
-returns-in_default-send-clause-ok g c =
-    let s = c.loop-store in
-    let sent = (goal.at.returns-in_default-send-clause-ok g c).After-send in
-    inr (ends_unsent c.in-Ok-attach.store s.store c.answer.new.store s.taken c.args.budget s.buffers.frames.held c.next.new.self.held c.next.new.self.body c.answer.new.out
-    (shown g c.args.source.now c.args.sink.now c.args.disk.now) (shown g s.source s.sink s.disk) (shown g s.source c.send.new.sink c.answer.new.disk)
-    s.invariant.progress s.invariant.within (body_answered g sent) (answered g sent) c.in-Frame.ensures.ok.0 c.in-Frame.ensures.ok.1 c.in-Frame.ensures.fits
-    c.in_default-send.ensures.err)
+pub returns-clause-found : goal.returns-clause-found
+returns-clause-found g c =
+    served_refuses c.args.budget c.serve_frames.result (shown g c.args.source.now c.args.sink.now c.args.disk.now) (shown g c.serve_frames.new.source c.serve_frames.new.sink c.serve_frames.new.disk)
+    (served g (goal.at.returns-clause-found g c).After-serve_frames)
 
-pub returns-then-is_spent-clause-ok : goal.returns-then-is_spent-clause-ok
-returns-then-is_spent-clause-ok g c =
-    let s = c.loop-store in
-    let sent = (goal.at.returns-then-is_spent-clause-ok g c).After-send in
-    inr (ends_broken c.in-Ok-attach.store s.store c.answer.new.store s.taken c.args.budget s.buffers.frames.held c.next.new.self.held c.next.new.self.body c.answer.new.out
-    (shown g c.args.source.now c.args.sink.now c.args.disk.now) (shown g s.source s.sink s.disk) (shown g s.source c.send.new.sink c.answer.new.disk)
-    s.invariant.progress s.invariant.within (body_answered g sent) (answered g sent) c.in-Frame.ensures.ok.0 c.in-Frame.ensures.ok.1 c.in-Frame.ensures.fits
-    (sym c.is_spent.ensures ∙ c.if-is_spent.true) c.in-Ok-send.ensures.ok)
+pub returns-clause-cause : goal.returns-clause-cause
+returns-clause-cause g c =
+    caused_since c.serve_frames.result (shown g c.args.source.now c.args.sink.now c.args.disk.now) (shown g c.args.source.now c.args.sink.now c.attach.new.disk)
+    (shown g c.serve_frames.new.source c.serve_frames.new.sink c.serve_frames.new.disk) refl refl c.in-Ok-attach.ensures.cause.ok c.serve_frames.ensures.cause
 
-pub loop-store-smaller-else-is_spent : goal.loop-store-smaller-else-is_spent
-loop-store-smaller-else-is_spent g c =
-    let rest = c.next.new.self.held in
-    let fewer : length rest < length c.loop-store.buffers.frames.held = frame_shrinks c.loop-store.buffers.frames.held c.next.new.self.body rest c.in-Frame.ensures.ok.0 in
-    omega arith
-
-pub loop-store-preserved-else-is_spent : goal.loop-store-preserved-else-is_spent
-loop-store-preserved-else-is_spent g c =
-    let s = c.loop-store in
-    let sent = (goal.at.loop-store-preserved-else-is_spent g c).After-send in
-    let going : c.answer.new.store.spent ≡ false = sym c.is_spent.ensures ∙ c.if-is_spent.false in
-    record {
-      progress = goes_on c.in-Ok-attach.store s.store c.answer.new.store s.taken c.args.budget s.buffers.frames.held c.next.new.self.held c.next.new.self.body c.answer.new.out
-          (shown g c.args.source.now c.args.sink.now c.args.disk.now) (shown g s.source s.sink s.disk) (shown g s.source c.send.new.sink c.answer.new.disk)
-          s.invariant.progress s.invariant.within (body_answered g sent) (answered g sent) c.in-Frame.ensures.ok.0 c.in-Frame.ensures.ok.1 c.in-Frame.ensures.fits
-          going c.in-Ok-send.ensures.ok;
-      time = passes_trans s.invariant.time c.answer.ensures.time;
-      within = s.invariant.within;
-      source_same = s.invariant.source_same;
-      sink_same = c.in-Ok-send.ensures.cause.ok ∙ s.invariant.sink_same;
-      disk_same = c.answer.ensures.cause.same going ∙ s.invariant.disk_same;
-    }
-
-pub returns-in_default-most_next-clause-ok : goal.returns-in_default-most_next-clause-ok
-returns-in_default-most_next-clause-ok g c =
-    let s = c.loop-store in
-    inr (ends_budget c.in-Ok-attach.store s.store s.taken c.args.budget s.buffers.frames.held (shown g c.args.source.now c.args.sink.now c.args.disk.now) (shown g s.source s.sink s.disk)
-    s.invariant.progress s.invariant.within c.in-NotYet.ensures.ok.0 c.in_default-most_next.ensures.none)
-
-pub returns-in_default-read_piece-clause-ok : goal.returns-in_default-read_piece-clause-ok
-returns-in_default-read_piece-clause-ok g c =
-    let s = c.loop-store in
-    let before = shown g c.args.source.now c.args.sink.now c.args.disk.now in
-    let p = reads_none c.in-Ok-attach.store s.store s.taken s.buffers.frames.held before (shown g s.source s.sink s.disk) (g.S.Source.left c.read_piece.new.source) (g.S.Source.faults c.read_piece.new.source)
-    s.invariant.progress c.in_default-read_piece.ensures.err in
-    inr (ends_source c.in-Ok-attach.store s.store s.taken c.args.budget s.buffers.frames.held before (shown g c.read_piece.new.source s.sink s.disk) p s.invariant.within c.in-NotYet.ensures.ok.0)
-
-pub returns-then-n-eq0-clause-ok : goal.returns-then-n-eq0-clause-ok
-returns-then-n-eq0-clause-ok g c =
-    let s = c.loop-store in
-    let before = shown g c.args.source.now c.args.sink.now c.args.disk.now in
-    let none : c.in-Ok-read_piece.n ≡ 0 = c.if-n-eq0.true in
-    let took : Took (g.S.Source.left s.source) (g.S.Source.left c.read_piece.new.source) [] =
-    subst (λ (k : ℕ). Took (g.S.Source.left s.source) (g.S.Source.left c.read_piece.new.source) (take k c.read_piece.new.piece)) none c.in-Ok-read_piece.ensures.ok in
-    let p = reads_none c.in-Ok-attach.store s.store s.taken s.buffers.frames.held before (shown g s.source s.sink s.disk) (g.S.Source.left c.read_piece.new.source) (g.S.Source.faults c.read_piece.new.source)
-    s.invariant.progress took in
-    let same : length c.next.new.self.held ≡ length s.buffers.frames.held = ap length c.in-NotYet.ensures.ok.1 in
-    let within : s.taken ≤ c.args.budget = s.invariant.within in
-    let room : 0 < c.in-Some.most = c.in-Some.ensures.fits.0 in
-    let less : s.taken < c.args.budget = omega (arith, room, c.in-Some.ensures.fits.2) in
-    inr (ends_at_end c.in-Ok-attach.store s.store s.taken c.args.budget s.buffers.frames.held before (shown g c.read_piece.new.source s.sink s.disk)
-    p within c.in-NotYet.ensures.ok.0 less c.at_end.result (λ e. c.at_end.ensures.none (c.held.ensures.ok ∙ same ∙ e)) (λ e. c.at_end.ensures.end (λ f. e (sym same ∙ sym c.held.ensures.ok ∙ f)))
-    (c.in-Ok-read_piece.ensures.end none room))
-
-pub returns-then-n-eq0-clause-found : goal.returns-then-n-eq0-clause-found
-returns-then-n-eq0-clause-found g c = ends_by_input c.at_end.result c.next.new.self.held (g.D.Disk.view c.args.disk.now) (λ e. c.at_end.ensures.none (c.held.ensures.ok ∙ e)) (λ e. c.at_end.ensures.end (λ f. e (sym c.held.ensures.ok ∙ f)))
-
-pub loop-store-preserved : goal.loop-store-preserved
-loop-store-preserved g c =
-    let s = c.loop-store in
-    let n = c.in-Ok-read_piece.n in
-    let piece = take n c.read_piece.new.piece in
-    let len : length piece ≡ n = omega (arith, length-take n c.read_piece.new.piece, c.read_piece.auto.piece, c.in-Ok-read_piece.ensures.fits, c.in-Some.ensures.fits.1) in
-    let fed : c.feed.new.self.held ≡ s.buffers.frames.held ++ piece = c.feed.ensures ∙ ap (λ (x : List ℕ). x ++ piece) c.in-NotYet.ensures.ok.1 in
-    record {
-      progress = reads c.in-Ok-attach.store s.store s.taken n s.buffers.frames.held piece c.feed.new.self.held (shown g c.args.source.now c.args.sink.now c.args.disk.now) (shown g s.source s.sink s.disk)
-          (g.S.Source.left c.read_piece.new.source) (g.S.Source.faults c.read_piece.new.source) s.invariant.progress c.in-Ok-read_piece.ensures.ok len fed;
-      time = s.invariant.time;
-      within = omega (arith, c.in-Ok-read_piece.ensures.fits, c.in-Some.ensures.fits.2);
-      source_same = c.in-Ok-read_piece.ensures.cause.ok ∙ s.invariant.source_same;
-      sink_same = s.invariant.sink_same;
-      disk_same = s.invariant.disk_same;
-    }
-
-pub returns-in-TooLong-clause-ok : goal.returns-in-TooLong-clause-ok
-returns-in-TooLong-clause-ok g c =
-    let s = c.loop-store in
-    let before = shown g c.args.source.now c.args.sink.now c.args.disk.now in
-    let now = shown g s.source s.sink s.disk in
-    let goes : Ended → Type 0 = λ how. Served c.args.budget how before (shown g s.source c.refuse_long.new.sink s.disk) in
-    let held = g.K.Sink.held c.refuse_long.new.sink in
-    let faults = g.K.Sink.faults c.refuse_long.new.sink in
-    inr (elim c.match-refuse_long.branch [
-      | in-Ok-refuse_long w ↦ subst goes (sym w.result-is)
-          (ends_long c.in-Ok-attach.store s.store s.taken c.args.budget s.buffers.frames.held before now s.invariant.progress s.invariant.within c.in-TooLong.ensures.ok.0 held faults w.in-Ok-refuse_long.ensures.ok)
-      | in-Err-refuse_long w ↦ subst goes (sym w.result-is)
-          (ends_long_cut c.in-Ok-attach.store s.store s.taken c.args.budget s.buffers.frames.held before now s.invariant.progress s.invariant.within c.in-TooLong.ensures.ok.0 held faults w.in-Err-refuse_long.ensures.err)
-    ])
+pub returns-clause-same : goal.returns-clause-same
+returns-clause-same g c = λ early.
+    absurd (served_late c.args.budget c.serve_frames.result (shown g c.args.source.now c.args.sink.now c.args.disk.now) (shown g c.serve_frames.new.source c.serve_frames.new.sink c.serve_frames.new.disk)
+    (served g (goal.at.returns-clause-same g c).After-serve_frames) early)

@@ -1,14 +1,19 @@
-use Rattle.std.proofs.Common.{◌≡◌, ◌≤◌, ◌-◌, ◌+◌, ◌*◌, length}
+use Rattle.std.proofs.Common.{◌≡◌, ◌≤◌, ◌-◌, ◌+◌, ◌*◌, false, length}
 use Rattle.strat_crash.specs.Moments.{Passes}
+use Rattle.strat_store.specs.Held.{IsConsistent}
+use Rattle.strat_serve.specs.Session.{HasOpened}
 use Rattle.strat_serve.specs.World.{world}
 use Rattle.strat_serve.proofs.ProgressLemmas.{Progress}
-use Rattle.strat_serve.proofs.serving.serve.Given as goal
+use Rattle.strat_serve.proofs.serving.serve_frames.Given as goal
 
 abbrev pub invariant-loop-store : goal.invariant-loop-store
 invariant-loop-store g l = record {
-  progress : Progress l.initial.store l.store l.taken l.buffers.frames.held
-      (world (g.S.Source.left l.fn.source) (g.S.Source.faults l.fn.source) (g.K.Sink.held l.fn.sink) (g.K.Sink.faults l.fn.sink) (g.D.Disk.view l.fn.disk) (g.D.Disk.faults l.fn.disk))
+  progress : (d : g.row.D.Denot) → HasOpened (g.D.Disk.view d) (g.D.Disk.faults d) (g.D.Disk.view l.fn.disk) (g.D.Disk.faults l.fn.disk) l.fn.store
+      → Progress l.fn.store l.store l.taken l.buffers.frames.held
+      (world (g.S.Source.left l.fn.source) (g.S.Source.faults l.fn.source) (g.K.Sink.held l.fn.sink) (g.K.Sink.faults l.fn.sink) (g.D.Disk.view d) (g.D.Disk.faults d))
       (world (g.S.Source.left l.source) (g.S.Source.faults l.source) (g.K.Sink.held l.sink) (g.K.Sink.faults l.sink) (g.D.Disk.view l.disk) (g.D.Disk.faults l.disk));
+  going : l.store.spent ≡ false;
+  lawful : IsConsistent l.store;
   time : Passes (g.D.Disk.view l.fn.disk) (g.D.Disk.view l.disk);
   within : l.taken ≤ l.budget;
   source_same : g.S.Source.faults l.source ≡ g.S.Source.faults l.fn.source;
