@@ -28,7 +28,7 @@ use Rattle.strat_recovery.specs.StateTable.{table_of}
 use Rattle.strat_standing.specs.Contents.{Contents, contents_state}
 use Rattle.strat_standing.specs.Standing.{ShowsTable}
 use Rattle.strat_standing.proofs.FreeLemmas.{shows_contents}
-use Rattle.strat_store.specs.Applying.{is_fault, is_short, IsAnsweredBy, IsShortOf, IsBrokenBy, IsAppliedTo, FollowsStep, FailsAsTold, IsDamagedIn}
+use Rattle.strat_store.specs.Applying.{is_fault, ran_short, IsAnsweredBy, IsShortOf, IsBrokenBy, IsAppliedTo, FollowsStep, FailsAsTold, IsDamagedIn}
 use Rattle.strat_store.specs.Held.{Held, StandsWith, IsConsistent, position_with}
 use Rattle.strat_store.specs.Looking.{arrays_there}
 use Rattle.strat_serve.specs.Session.{IsAnswered, ContinuesWith, StopsWith, FailsAsMet, IsFoundDamaged, fault_told}
@@ -179,7 +179,7 @@ module _ (before now : DiskView) (old new : Held) (bytes : List ℕ) (tag : ℕ)
         after = is.after;
         stands = is.stands;
         answers = inr (inl (record { request = request; spelled = spelled; answer = is.told; place = is.place }));
-        trail = either_reaches (is_short r) now before.moment (table_of (contents_state x)) (bare (step (table_of (contents_state x)) request).table) (table_of (contents_state is.after)) n
+        trail = either_reaches (ran_short r) now before.moment (table_of (contents_state x)) (bare (step (table_of (contents_state x)) request).table) (table_of (contents_state is.after)) n
             next trail (stands_table now new is.after is.stands);
       }
 

@@ -71,11 +71,11 @@ pub fn answer<D: Disk>(
     pairs: &mut PairBuf,
     out: &mut OutBuf,
 ) -> Option<Fault>
-    requires going { store.old.spent ≡ false }
-    requires lawful { IsConsistent store.old }
+    requires fits { store.old.spent ≡ false }
+    requires kept { IsConsistent store.old }
     ensures ok { IsAnswered (D.view disk.old) (D.view disk.new) store.old body.now result
         store.new out.new }
-    ensures spent { store.new.spent ≡ is_some result }
+    ensures end { store.new.spent ≡ is_some result }
     ensures kept { result ≡ None → IsConsistent store.new }
     ensures same { store.new.sb.mem ≡ store.old.sb.mem }
     ensures time { Passes (D.view disk.old) (D.view disk.new) }

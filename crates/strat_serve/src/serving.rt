@@ -103,8 +103,8 @@ fn serve_frames<S: Source, K: Sink, D: Disk>(
     budget: u64,
 ) -> Ended
     requires none { buffers.old.frames.held ≡ [] }
-    requires going { store.old.spent ≡ false }
-    requires lawful { IsConsistent store.old }
+    requires fits { store.old.spent ≡ false }
+    requires kept { IsConsistent store.old }
     ensures ok { (d : D) → HasOpened (D.view d) (D.faults d)
         (D.view disk.old) (D.faults disk.old) store.old
         → Served budget result

@@ -18,8 +18,8 @@ pub returns-in-Err-clause-ok : goal.returns-in-Err-clause-ok
 returns-in-Err-clause-ok g c =
     let pairs = c.clear-in-Err.new.self in
     let sent_bytes = c.write_reply-in-Err.ensures.ok ∙ ap (λ (r : Refusal). frame (reply_body c.in-Err.tag (as_told (reply.Refused r) pairs))) c.refusal_of.ensures in
-    told_faulty (g.D.Disk.view c.args.disk.now) c.args.store.now c.args.body.now c.in-Err.tag c.in-Err.fault pairs c.write_reply-in-Err.new.out c.requires.going c.in-Err.ensures.err c.clear-in-Err.ensures.ok sent_bytes
+    told_faulty (g.D.Disk.view c.args.disk.now) c.args.store.now c.args.body.now c.in-Err.tag c.in-Err.fault pairs c.write_reply-in-Err.new.out c.requires.fits c.in-Err.ensures.err c.clear-in-Err.ensures.ok sent_bytes
 
 pub returns-in-Ok-clause-damaged : goal.returns-in-Ok-clause-damaged
 returns-in-Ok-clause-damaged g c =
-    found_damaged c.apply-reply.result c.fault_told.result (g.D.Disk.view c.args.disk.now) (g.D.Disk.view c.apply-reply.new.disk) c.args.store.now c.fault_told.ensures c.requires.lawful c.apply-reply.ensures.damaged
+    found_damaged c.apply-reply.result c.fault_told.result (g.D.Disk.view c.args.disk.now) (g.D.Disk.view c.apply-reply.new.disk) c.args.store.now c.fault_told.ensures c.requires.kept c.apply-reply.ensures.damaged

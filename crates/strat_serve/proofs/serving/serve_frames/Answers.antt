@@ -21,9 +21,9 @@ shown g source sink disk = world (g.S.Source.left source) (g.S.Source.faults sou
 pub loop-store-init : goal.loop-store-init
 loop-store-init g c = record {
   progress = λ d has. begins c.args.store.now c.args.buffers.now.frames.held (shown g c.args.source.now c.args.sink.now d) (g.D.Disk.view c.args.disk.now) (g.D.Disk.faults c.args.disk.now)
-      c.requires.none has.calm has.opened c.requires.lawful;
-  going = c.requires.going;
-  lawful = c.requires.lawful;
+      c.requires.none has.calm has.opened c.requires.kept;
+  going = c.requires.fits;
+  lawful = c.requires.kept;
   time = passes_refl (g.D.Disk.view c.args.disk.now);
   within = omega arith;
   source_same = refl;
@@ -39,7 +39,7 @@ answered g c = record {
   is = subst (λ (b : List ℕ). IsAnswered (g.D.Disk.view c.loop-store.disk) (g.D.Disk.view c.answer-met.new.disk) c.loop-store.store b c.answer-met.result c.answer-met.new.store c.answer-met.new.out) c.body.ensures c.answer-met.ensures.ok;
   passes = c.answer-met.ensures.time;
   cause = c.answer-met.ensures.cause;
-  spent = c.answer-met.ensures.spent;
+  spent = c.answer-met.ensures.end;
   kept = c.answer-met.ensures.kept;
   same = c.answer-met.ensures.same;
   damaged = c.answer-met.ensures.damaged;
@@ -93,7 +93,7 @@ loop-store-preserved-in_default-met g c =
           (shown g c.args.source.now c.args.sink.now d) (shown g s.source s.sink s.disk) (shown g s.source c.send.new.sink c.answer-met.new.disk)
           (s.invariant.progress d has) s.invariant.within (answered g sent) c.in-Frame.ensures.ok.0 c.in-Frame.ensures.ok.1 c.in-Frame.ensures.fits
           none c.in-Ok.ensures.ok;
-      going = c.answer-met.ensures.spent ∙ ap is_some none;
+      going = c.answer-met.ensures.end ∙ ap is_some none;
       lawful = c.answer-met.ensures.kept none;
       time = passes_trans s.invariant.time c.answer-met.ensures.time;
       within = s.invariant.within;
