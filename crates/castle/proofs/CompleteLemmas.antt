@@ -1,5 +1,5 @@
 -- How a run ends where nothing failed.
-use Rattle.std.proofs.Common.{◌≡◌, ◌≢◌, ◌⊎◌, ℕ, Option, Some, None, refl, sym, ap, subst, ◌∙◌, inl, inr, arith}
+use Rattle.std.proofs.Common.{◌≡◌, ◌⊎◌, ℕ, Option, Some, None, refl, sym, ap, subst, ◌∙◌, inl, inr, arith}
 use Rattle.std.specs.Prelude.{Ok, Err, IfSome}
 use Rattle.strat_format.specs.Damage.{Read, and_then}
 use Rattle.strat_base.specs.declared.failures.Fault.{Fault}

@@ -1,5 +1,5 @@
 -- A serving run whose opening gave up, and what an end says of the opening.
-use Rattle.std.proofs.Common.{◌≡◌, ◌≢◌, ℕ, List, length, Some, refl, sym, ap, subst, ◌∙◌, inl, inr}
+use Rattle.std.proofs.Common.{◌≡◌, ◌≢◌, ℕ, Some, refl, sym, ap, subst, ◌∙◌, inl, inr}
 use Rattle.std.proofs.lemmas.Bool.{cases_eq}
 use Rattle.std.specs.Prelude.{Option, None, Ok, Err}
 use Rattle.strat_base.specs.declared.failures.Fault.{Fault}

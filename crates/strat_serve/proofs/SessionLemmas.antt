@@ -17,13 +17,13 @@ use Rattle.strat_model.specs.declared.ended.Ended.{Ended}
 use Rattle.strat_model.specs.declared.ended.Ended.TheVariants as ended
 use Rattle.strat_model.specs.Stream.{frame, IsBody, is_partial, is_too_long, Splits, Whole, Rest, Long, ending_of}
 use Rattle.strat_model.specs.Table.{Table, bare}
-use Rattle.strat_model.specs.Run.{Response, response_bytes, AnswersFault, Exchange, Interruption, Transcript, bodies_of, tables_of, sent_bytes}
+use Rattle.strat_model.specs.Run.{Response, response_bytes, AnswersFault, Exchange, Interruption, Transcript, bodies_of, sent_bytes}
 use Rattle.strat_recovery.specs.StateTable.{table_of}
 use Rattle.strat_standing.specs.Contents.{contents_state}
 use Rattle.strat_standing.specs.Standing.{ShowsTable}
 use Rattle.strat_store.specs.Following.{FollowsFrom}
 use Rattle.strat_store.specs.Held.{Held, head_held, position_with}
-use Rattle.strat_serve.specs.Session.{Took, IsAtEnd, SendsPrefix, too_long_bytes, AreAnsweredBy, ContinuesWith, StopsWith, IsFoundDamaged, fault_told, broken_by, Session, IsSession, AnswersAll, all_responses, output, last_output, earlier_bytes, Sends, EndsWithFault, EndsFor, FollowsRun, Served}
+use Rattle.strat_serve.specs.Session.{Took, IsAtEnd, SendsPrefix, too_long_bytes, AreAnsweredBy, ContinuesWith, StopsWith, IsFoundDamaged, fault_told, broken_by, Session, IsSession, AnswersAll, all_responses, output, last_output, earlier_bytes, Sends, EndsFor, FollowsRun, Served}
 use Rattle.strat_serve.specs.World.{World}
 use Rattle.strat_serve.proofs.ProgressLemmas.{Progress, RunSoFar, Answered, tables_before, follows_more, text_more, answered_more, answers}
 use Rattle.strat_serve.proofs.StreamLemmas.{partial_not_long, frames_of}
@@ -272,7 +272,14 @@ module _ (start old new : Held) (count budget : ℕ) (held rest body : List ℕ)
       let all = with_bytes mid.held (response_bytes response) in
       let sent : World = record now { held = all } in
       let told : Answered old new mid sent body met out = record {
-        left = done.left; is = done.is; passes = done.passes; cause = done.cause; spent = done.spent; kept = done.kept; same = done.same; damaged = done.damaged;
+        left = done.left;
+        is = done.is;
+        passes = done.passes;
+        cause = done.cause;
+        spent = done.spent;
+        kept = done.kept;
+        same = done.same;
+        damaged = done.damaged;
       } in
       let q = answers start old new count held rest body met out before mid sent p told none front fits (took_all mid.held (response_bytes response)) in
       let earlier = sent_bytes p.answers in

@@ -1,6 +1,6 @@
 -- A serving run: what it took, what it answered, what it sent, what it left on the disk, and why
 -- it ended.
-use Rattle.std.specs.Prelude.{◌≡◌, ◌≢◌, ◌≤◌, ◌<◌, ◌⊎◌, ℕ, ◌==◌, ◌&&◌, Bool, true, false, if◌then◌else◌, List, [], ◌∷◌, ◌++◌, ◌-◌, length, take, map, Option, Some, None, IfSome, IsSome, option_map, Ok, Err}
+use Rattle.std.specs.Prelude.{◌≡◌, ◌≢◌, ◌≤◌, ◌<◌, ◌⊎◌, ℕ, ◌==◌, ◌&&◌, Bool, false, if◌then◌else◌, List, [], ◌∷◌, ◌++◌, ◌-◌, length, take, map, Option, Some, None, IfSome, IsSome, option_map, Ok, Err}
 use Rattle.std.specs.List.{AllByRecursion}
 use Rattle.strat_base.specs.declared.failures.Fault.{Fault}
 use Rattle.strat_base.specs.declared.failures.Fault.TheVariants as fault

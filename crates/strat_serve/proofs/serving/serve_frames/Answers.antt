@@ -4,7 +4,7 @@ use Rattle.strat_base.specs.declared.failures.Fault.{Fault}
 use Rattle.strat_base.specs.declared.failures.Fault.TheVariants as fault
 use Rattle.strat_crash.specs.Faults.{Rose}
 use Rattle.strat_crash.proofs.MomentLemmas.{passes_trans, passes_refl}
-use Rattle.strat_serve.specs.Session.{IsAnswered, Took, HasOpened}
+use Rattle.strat_serve.specs.Session.{IsAnswered, Took}
 use Rattle.strat_serve.specs.World.{World, world}
 use Rattle.strat_serve.proofs.GiveUpLemmas.{caused_by_none, caused_by_fault}
 use Rattle.strat_serve.proofs.ProgressLemmas.{Answered, begins, reads, reads_none}
