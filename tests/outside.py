@@ -7,6 +7,7 @@ Answers and files are compared with the model in `tests/model.py`. Run it at the
 `./test`.
 """
 
+import copy
 import fcntl
 import itertools
 import os
@@ -24,8 +25,10 @@ import termios
 import threading
 import time
 
+import formats
 import model
-from model import Store, bodies_of, clone, delete, frame, get, info, put, reply, sized, stat, tag_of
+import promotions
+from model import BLOCK, Store, bodies_of, clone, delete, frame, get, info, put, reply, sized, stat, tag_of
 
 TOP = pathlib.Path(__file__).resolve().parent.parent
 LAUNCHER = str(TOP / "castle")
@@ -136,6 +139,39 @@ def bytes_of(path):
         return file.read()
 
 
+def expect_said(name, data, store):
+    """The file opens, breaks no rule of a sound one, and says what the store has."""
+    contents = formats.read(data)
+    expect(f"{name}, broken rules", list(formats.broken_rules(data, contents)), [])
+    expect_alike(name, formats.store_of(data, contents), store)
+    expect_levels(name, data, store)
+
+
+def expect_levels(name, data, store):
+    """The file has just the levels that its changes lead to, whatever blocks they lie in."""
+    contents = formats.read(data)
+    manifest, journal = contents.manifest, [change for change, _ in contents.journal]
+    times, emptied, logged = promotions.after(store.changes, store.limits[0])
+    if len(logged) == store.limits[0] and not journal:  # a run was killed behind its publication
+        times, emptied, logged = times + 1, promotions.emptied_into(emptied, logged, store.limits[0]), []
+    expect(f"{name}, journal", journal, logged)
+    expect(f"{name}, generation, region and slot", (contents.head.generation, contents.head.region, contents.slot),
+           (times + 1, times % 2, times % 2))
+    expect(f"{name}, manifest", manifest[:5], emptied[:5])
+    expect(f"{name}, levels", [level.number for level in manifest.levels], sorted(emptied.levels))
+    for level in manifest.levels:
+        horizon, parts = emptied.levels[level.number]
+        found = [promotions.Part(array.id, array.versions, array.least, tuple(formats.entries_of(data, array)))
+                 for array in level.arrays]
+        expect(f"{name}, level {level.number}", (level.horizon, found), (horizon, parts))
+
+
+def expect_alike(name, got, store):
+    for what in ("limits", "parents", "pairs"):
+        expect(f"{name}, {what}", getattr(got, what), getattr(store, what))
+    expect(f"{name}, counts", got.counts(), store.counts())
+
+
 class StoreFile:
     """A new store in a file, made by the program, and the model of it."""
 
@@ -149,7 +185,11 @@ class StoreFile:
         self.expect_bytes("format")
 
     def expect_bytes(self, name):
-        if bytes_of(self.path) != self.model.file():
+        """The file has the bytes of the model while its journal was never emptied, and what they say from then on."""
+        data = bytes_of(self.path)
+        if len(self.model.changes) > self.model.limits[0] or self.model.emptied[0]:
+            expect_said(name, data, self.model)
+        elif data != formats.unpublished(self.model):
             raise Wrong(f"{name}: the file doesn't have the bytes of the model")
 
     def expect_served(self, name, pieces, want=None, **how):
@@ -159,6 +199,12 @@ class StoreFile:
             expect(f"{name}, the model", (out, status), want)
         expect(name, serve(self.path, pieces, **how), (out, status, complaint(status)))
         self.expect_bytes(name)
+
+
+    def expect_answers(self, name, frames):
+        """Serves the frames in one run, and compares the answers alone."""
+        out, status = self.model.serve(b"".join(frames))
+        expect(name, serve(self.path, [b"".join(frames)]), (out, status, complaint(status)))
 
 
 def hexed(text):
@@ -394,7 +440,7 @@ def a_closed_output_is_a_sink_fault(folder):
     formatted = os.path.join(folder, "formatted")
     ran = subprocess.run([PROGRAM, "format", formatted, "4", "100", "10"], **how)
     expect("closed output of format", (ran.returncode, ran.stderr), (7, complaint(7)))
-    expect("closed output of format, the file", bytes_of(formatted) == Store(4, 100, 10).file(), True)
+    expect("closed output of format, the file", bytes_of(formatted) == formats.unpublished(Store(4, 100, 10)), True)
     os.close(outside)
     if os.path.exists("/dev/full"):
         with open("/dev/full", "wb") as full:
@@ -511,7 +557,7 @@ def a_closed_stream_does_not_reach_the_store(folder):
     ran = subprocess.run(["/bin/sh", "-c", '"$0" format "$1" 4 100 10 >&-', PROGRAM, formatted], capture_output=True,
                          timeout=DEADLINE)
     expect("format >&-", (ran.returncode, ran.stderr), (7, complaint(7)))
-    expect("format >&-, the file", bytes_of(formatted) == Store(4, 100, 10).file(), True)
+    expect("format >&-, the file", bytes_of(formatted) == formats.unpublished(Store(4, 100, 10)), True)
 
 
 def a_program_that_may_open_no_file_touches_none(folder):
@@ -572,7 +618,7 @@ def the_launcher_has_a_file_at_its_largest_size_told(folder):
     # the record of the second put lies across the end of what may be written
     store = StoreFile(folder)
     puts = put(0, b"0", b"value") + put(1, b"1", b"value")
-    most = 2 * model.BLOCK + len(model.record(b"0", b"value")) + 5
+    most = 2 * BLOCK + len(formats.record_of((model.PUT, 0, b"0", b"value"))) + 5
     ran = subprocess.run([LAUNCHER, "serve", store.path], input=puts, preexec_fn=lambda: limited(most), **how)
     want = reply(0, model.DONE) + reply(1, model.DEVICE_FAULT)
     expect("serve", (ran.stdout, ran.returncode, ran.stderr), (want, 5, complaint(5)))
@@ -636,14 +682,367 @@ def a_second_run_has_what_the_first_acknowledged(folder):
         store.expect_served(f"run {turn}", [b"".join(puts + gets)])
 
 
-def a_full_store_takes_no_put(folder):
-    puts = [put(i, b"%d" % i, b"x") for i in range(6)]
-    gets = [get(i, b"%d" % i) for i in range(6)]
-    for limits, most in (((4, 2, 2), 2), ((4, 100, 10), 4), ((5, 5, 1), 5)):
+def a_store_takes_as_many_changes_as_it_was_made_for(folder):
+    for limits, most in (((4, 2, 2), 2), ((4, 100, 10), 100), ((5, 5, 1), 5)):
+        puts = [put(i, b"%d" % (i % 7), b"%d" % i) for i in range(most + 2)]
+        gets = [get(i, b"%d" % i) for i in range(8)]
         store = StoreFile(folder, *limits)
-        want = b"".join(reply(i, model.DONE if i < most else model.CHANGE_LIMIT) for i in range(6))
+        want = b"".join(reply(i, model.DONE if i < most else model.CHANGE_LIMIT) for i in range(most + 2))
         store.expect_served(f"limits {limits}", [b"".join(puts)], (want, 0))
-        store.expect_served(f"limits {limits}, again", [b"".join(gets + puts)])
+        want = b"".join(reply(i, model.CHANGE_LIMIT) for i in range(most + 2))
+        store.expect_served(f"limits {limits}, again", [b"".join(puts)], (want, 0))
+        store.expect_served(f"limits {limits}, what is there", [b"".join(gets) + stat(1)])
+
+
+# Levels
+
+# Changes, and what the job `levels` prints of a store of M 4 (or the M that is said) that took them
+PUBLISHED = [
+    (4, [clone(1), put(2, b"a", b"1", 1), clone(3, 1), clone(4, 2), put(5, b"b", b"1", 3)], """
+store generation 2 mem 4 changes 5 of 100 versions 4 of 10
+journal changes 1 updates 1
+level 1 horizon 4 leads 1 entries 1
+array 1 density 1/1 lead 1/1 versions 1-3
+stored 2 updates 2 written 1
+"""),
+    (8, [put(1, b"a", b"1"), put(2, b"b", b"1"), clone(3), clone(4), clone(5), *(put(v, b"c", b"%d" % v, v) for v in (1, 2, 3)),
+         put(9, b"d", b"1", 1)], """
+store generation 2 mem 8 changes 9 of 100 versions 4 of 10
+journal changes 1 updates 1
+level 1 horizon 4 leads 5 entries 7
+array 1 density 2/3 lead 3/3 versions 0-1
+array 2 density 3/4 lead 2/4 versions 2-3
+stored 8 updates 6 written 7
+"""),
+    (4, [put(1, b"a", b"1"), clone(2), delete(3, b"a", 1), clone(4, 1), put(5, b"z", b"1", 2)], """
+store generation 2 mem 4 changes 5 of 100 versions 3 of 10
+journal changes 1 updates 1
+level 1 horizon 3 leads 2 entries 3
+array 1 density 1/1 lead 1/1 versions 0
+array 2 density 1/2 lead 1/2 versions 1-2
+stored 4 updates 3 written 3
+"""),
+    (4, [delete(1, b"x"), *(put(2, key, b"1") for key in (b"a", b"b", b"c", b"d"))], """
+store generation 2 mem 4 changes 5 of 100 versions 1 of 10
+journal changes 1 updates 1
+level 1 horizon 1 leads 3 entries 3
+array 1 density 3/3 lead 3/3 versions 0
+stored 4 updates 5 written 3
+"""),
+    (4, [put(i, b"k%02d" % i, b"%d" % i) for i in range(1, 14)], """
+store generation 4 mem 4 changes 13 of 100 versions 1 of 10
+journal changes 1 updates 1
+level 2 horizon 1 leads 12 entries 12
+array 3 density 12/12 lead 12/12 versions 0
+stored 13 updates 13 written 24
+"""),
+    (4, [put(i, b"a", b"%d" % i) for i in range(13)], """
+store generation 4 mem 4 changes 13 of 100 versions 1 of 10
+journal changes 1 updates 1
+level 1 horizon 1 leads 1 entries 1
+array 3 density 1/1 lead 1/1 versions 0
+stored 2 updates 13 written 3
+"""),
+]
+DISTINCT = PUBLISHED[4]
+
+
+def store_after(folder, mem, frames, *limits):
+    """A store that took these changes, served one by one in a run, and what is in its file."""
+    store = StoreFile(folder, mem, *(limits or (100, 10)))
+    store.expect_served("changes", frames)
+    return store, formats.read(bytes_of(store.path))
+
+
+def publications_stand_where_they_should(folder):
+    for number, (mem, frames, text) in enumerate(PUBLISHED):
+        for pieces in ([b"".join(frames)], frames):
+            store, contents = store_after(folder, mem, pieces)
+            expect(f"publication {number}", "\n".join(formats.levels_text(contents)), text.strip())
+            store.expect_served("a look", [b"".join(get(v, key, v) for v in range(5) for key in (b"a", b"b", b"c", b"k07"))])
+    _, contents = store_after(folder, DISTINCT[0], [b"".join(DISTINCT[1])])
+    arrays = [(array.id, array.extents) for array in formats.arrays_of(contents.manifest)]
+    expect("distinct keys", (contents.head.generation, arrays, contents.chain), (4, [(3, ((7, 1),))], (8,)))
+    # the largest pairs, of which three fit into a block
+    largest = [put(i, bytes([i]) + bytes(254), bytes(1024)) for i in range(1, 6)]
+    store, contents = store_after(folder, 4, [b"".join(largest)])
+    arrays = [(array.id, array.extents) for array in formats.arrays_of(contents.manifest)]
+    expect("the largest pairs", (arrays, contents.chain), ([(1, ((7, 2),))], (9,)))
+    sizes = [len(formats.entries_in(formats.block_at(bytes_of(store.path), block))) for block in (7, 8)]
+    expect("entries of the blocks", sizes, [3, 1])
+
+
+def drawn_changes(chance, count, versions, keys, clones):
+    """Puts, deletes and clones over a store with so many versions; most are accepted."""
+    frames = []
+    for tag in range(count):
+        version = chance.randrange(versions) if chance.random() < 0.4 else max(0, versions - 1 - chance.randrange(4))
+        if chance.random() < clones:
+            frames.append(clone(tag, version))
+            versions += 1
+        elif chance.random() < 0.3:
+            frames.append(delete(tag, b"%d" % chance.randrange(keys), version))
+        else:
+            frames.append(put(tag, b"%d" % chance.randrange(keys), chance.randbytes(chance.randrange(6)), version))
+    return frames
+
+
+def every_array_is_a_third_live(folder):
+    chance = random.Random(21)
+    seen = set()
+    for turn in range(24):
+        mem = chance.choice((4, 8))
+        store = StoreFile(folder, mem, 100000, 16384)
+        keys, clones, count = chance.choice((1, 4, 30)), chance.choice((0.05, 0.3, 0.7)), chance.choice((100, 500))
+        store.expect_served(f"turn {turn}", [b"".join(drawn_changes(chance, count, 1, keys, clones))])
+        data = bytes_of(store.path)
+        contents = formats.read(data)
+        stored = 0
+        for level in contents.manifest.levels:
+            for array in level.arrays:
+                entries = formats.entries_of(data, array)
+                live = formats.live_in(entries, contents.manifest.parents)
+                stored += len(entries)
+                leads = sum(entry.version in array.versions for entry in entries)
+                fine = all(3 * len(live[version]) >= len(entries) for version in array.versions)
+                expect(f"turn {turn}, array {array.id}", (fine, len(entries) <= 2 * leads), (True, True))
+                seen.add((len(level.arrays) > 1, len(array.versions) > 1, leads < len(entries), level.number))
+        expect(f"turn {turn}, stored", stored <= 2 * contents.manifest.updates, True)
+    several, tags, copies, levels = map(set, zip(*seen))
+    expect("what was seen", (several, tags, copies, max(levels) > 3), ({False, True}, {False, True}, {False, True}, True))
+
+
+def drawn_frames(chance, count, versions, keys, clones):
+    """All commands, and bodies that are none."""
+    frames = drawn_changes(chance, count, versions, keys, clones)
+    for tag in range(count):
+        version, key = chance.randrange(versions + count // 8), b"%d" % chance.randrange(keys)
+        other = chance.choice((get(tag, key, version), get(tag, key, version), info(tag, version), stat(tag)))
+        if chance.random() < 0.1:
+            body = bytearray(chance.choice((other, frames[0]))[4:])
+            body[chance.randrange(4, len(body))] = chance.randrange(256)
+            other = frame(bytes(body[:chance.choice((len(body), chance.randrange(len(body))))]))
+        frames.insert(chance.randrange(len(frames) + 1), other)
+    return frames
+
+
+def random_streams_are_answered_over_several_runs(folder):
+    chance = random.Random(22)
+    for turn in range(25):
+        store = StoreFile(folder, chance.choice((4, 5, 8, 30)), chance.choice((200, 100000)), chance.choice((3, 60, 16384)))
+        keys, clones = chance.choice((1, 8, 100)), chance.choice((0.02, 0.2, 0.5))
+        for number in range(chance.choice((1, 2, 5))):
+            frames = drawn_frames(chance, chance.choice((20, 200)), len(store.model.parents), keys, clones)
+            data = b"".join(frames)
+            cuts = sorted(chance.sample(range(len(data)), chance.choice((0, 1, 10))))
+            pieces = [data[i:j] for i, j in zip([0, *cuts], [*cuts, len(data)])]
+            store.expect_served(f"turn {turn}, run {number}", pieces)
+
+
+def expect_prefix(name, path, store, frames, answered):
+    """The file has what the store has after a prefix of the frames, which holds those that were answered: that store."""
+    status, got = formats.opened(bytes_of(path))
+    expect(f"{name}, the file", status, 0)
+    for sent, piece in enumerate(frames):
+        if sent >= answered and store.counts()[2] == got.counts()[2]:
+            break
+        store.serve(piece)
+    expect_said(name, bytes_of(path), store)
+    return store
+
+
+def kills_amid_promotions_lose_nothing(folder):
+    chance = random.Random(23)
+    for turn in range(200):
+        if turn % 8 == 0:
+            store = StoreFile(folder, 4, 100000, 16384)
+            keys, clones = chance.choice((3, 30)), chance.choice((0.1, 0.4))
+        frames = drawn_changes(chance, 80, len(store.model.parents), keys, clones)
+        got = killed(store.path, frames, chance.randrange(9 * 60), chance.random() / 300)
+        want = copy.deepcopy(store.model).serve(b"".join(frames))[0]
+        answered = len(bodies_of(got))
+        expect(f"turn {turn}, replies", got == want[:len(got)], True)
+        store.model = expect_prefix(f"turn {turn}", store.path, store.model, frames, answered)
+        if turn % 4 == 3:
+            store.expect_served(f"turn {turn}, again", drawn_frames(chance, 15, len(store.model.parents), keys, clones))
+
+
+def expect_damaged(name, store, frames, block):
+    """All frames but the last are answered as by the model, and the last with the damaged block; the same in the next run."""
+    for turn in range(2):
+        out, _ = store.model.serve(b"".join(frames[:-1]))
+        want = out + reply(tag_of(frames[-1][4:]), model.DAMAGED_BLOCK, struct.pack(">I", block))
+        expect(f"{name}, {turn}", serve(store.path, [b"".join(frames) + get(99, b"a")]), (want, 9, complaint(9)))
+
+
+def altered(path, place, piece):
+    with open(path, "r+b") as file:
+        file.seek(place)
+        file.write(piece)
+
+
+def damaged_arrays_are_named(folder):
+    wrong = [(0, b"\0\0"), (2, b"\xff"), (2, b"\0\0"), (4095, b"\1"), (0, b"\xff\xff")]
+    for place, piece in wrong:
+        # level 2 has its 12 keys in block 7, and the journal the last
+        store, _ = store_after(folder, *DISTINCT[:2])
+        altered(store.path, 7 * BLOCK + place, piece)
+        fine = [get(1, b"k13"), stat(2), info(3), get(4, b"k01", 1)]
+        store.expect_answers("before", fine)
+        expect_damaged("a get", store, [*fine, get(1, b"k01")], 7)
+        # four more keys are published without a look at level 2, and eight more with one
+        store.expect_answers("a publication of others", [put(i, b"n%02d" % i, b"1") for i in range(4)])
+        store.expect_answers("what it has", [get(i, b"n%02d" % i) for i in range(4)])
+        expect_damaged("a get after it", store, [get(1, b"k01")], 7)
+        store.expect_answers("more", [put(i, b"n%02d" % i, b"1") for i in range(4, 11)])
+        expect_damaged("a publication", store, [get(1, b"n00"), put(2, b"n11", b"1")], 7)
+        store.expect_answers("after it", [get(i, b"n%02d" % i) for i in range(11)])
+    # two arrays of a level: only the versions of one are damaged
+    store, contents = store_after(folder, *PUBLISHED[1][:2])
+    first, second = formats.arrays_of(contents.manifest)
+    block = second.extents[0][0]
+    altered(store.path, block * BLOCK, b"\0\0")
+    fine = [get(v, key, v) for v in (0, 1) for key in (b"a", b"b", b"c")]
+    for version in (2, 3):
+        expect_damaged(f"version {version}", store, [*fine, get(1, b"a", version)], block)
+
+
+# A file with two levels for the refusals of its manifest, written by the model
+
+MEM = 4
+ENTRIES = {block: [formats.Entry(b"%d" % key, version, b"v") for key in range(2)] for block, version in ((7, 0), (8, 1), (10, 0))}
+HEAD = formats.new_head(MEM, 12, 4)._replace(generation=3, region=1)
+TREE = formats.Manifest(12, 6, 6, 6, (0, 1, 1), (
+    formats.Level(1, 4, (formats.Array(4, 2, 2, 2, ((7, 1),), (0,)), formats.Array(5, 2, 2, 2, ((8, 1),), (1, 2, 3)))),
+    formats.Level(3, 1, (formats.Array(1, 2, 2, 2, ((10, 1),), (0,)),))))
+FIRST, NEXT, DEEP = (0, 0), (0, 1), (1, 0)  # the arrays, by level and place
+
+
+def with_level(tree, place, **changes):
+    levels = list(tree.levels)
+    levels[place] = levels[place]._replace(**changes)
+    return tree._replace(levels=tuple(levels))
+
+
+def with_array(place, tree=TREE, **changes):
+    number, within = place
+    arrays = list(tree.levels[number].arrays)
+    arrays[within] = arrays[within]._replace(**changes)
+    return with_level(tree, number, arrays=tuple(arrays))
+
+
+def at_the_bounds():
+    """Manifests that an opening takes, each at a bound or beside one."""
+    yield "as it is", HEAD, TREE
+    yield "the generation", HEAD._replace(generation=13), TREE
+    yield "the next array", HEAD, TREE._replace(next_array=16384 * 12 + 1)
+    yield "what was written", HEAD, TREE._replace(written=33554432 * 12)
+    yield "what was written, nothing", HEAD, TREE._replace(written=0)
+    yield "twice the leads", HEAD, with_array(FIRST, leads=1, least=1)
+    yield "no entries live", HEAD, with_array(NEXT, least=0)
+    yield "as many blocks as entries", HEAD, with_array(FIRST, extents=((7, 1), (11, 1)))
+    yield "descending extents", HEAD, with_array(FIRST, extents=((11, 1), (7, 1)))
+    yield "far blocks", HEAD, with_array(FIRST, extents=((2 ** 32 - 2, 1), (7, 1)))
+    yield "an array in front of the first", HEAD, with_array(FIRST, id=1, tree=with_array(DEEP, id=4))
+    yield "the deepest level", HEAD, with_level(TREE, 1, number=22)
+    yield "no level", HEAD, TREE._replace(levels=())
+    yield "one version", HEAD, formats.EMPTY._replace(changes=2)
+
+
+def refused_spellings():
+    """Bytes that are of no manifest, each by one fault."""
+    yield "more updates than changes", TREE._replace(updates=13)
+    yield "no next array", TREE._replace(next_array=0, levels=())
+    yield "a parent that is its child", TREE._replace(parents=(0, 2, 1))
+    yield "a parent that comes later", TREE._replace(parents=(0, 3, 1))
+    yield "level 0", with_level(TREE, 0, number=0)
+    yield "level 23", with_level(TREE, 1, number=23)
+    yield "a level twice", with_level(TREE, 1, number=1)
+    yield "levels that descend", TREE._replace(levels=TREE.levels[::-1])
+    yield "no horizon", with_level(TREE, 1, horizon=0)
+    yield "a horizon past the versions", with_level(TREE, 0, horizon=5)
+    yield "a level without arrays", with_level(TREE, 1, arrays=())
+    yield "tags that descend", with_level(TREE, 0, arrays=TREE.levels[0].arrays[::-1])
+    yield "an array 0", with_array(DEEP, id=0)
+    yield "an array that comes next", with_array(NEXT, id=6)
+    yield "no entries", with_array(DEEP, entries=0, leads=0, least=0)
+    yield "more leads than entries", with_array(FIRST, entries=1, leads=2, least=1)
+    yield "more live than entries", with_array(FIRST, least=3)
+    yield "no extents", with_array(DEEP, extents=())
+    yield "an empty extent", with_array(DEEP, extents=((10, 0),))
+    yield "an extent past the last block", with_array(DEEP, extents=((2 ** 32 - 1, 1),))
+    yield "a long extent past the last block", with_array(DEEP, extents=((10, 2 ** 32 - 10),))
+    yield "extents that touch", with_array(FIRST, extents=((11, 1), (12, 1)))
+    yield "no tag", with_array(DEEP, versions=())
+    yield "a tag with a version twice", with_array(NEXT, versions=(1, 1, 2))
+    yield "a tag that descends", with_array(NEXT, versions=(1, 3, 2))
+
+
+def refused_openings():
+    """Manifests that are spelled right and break one rule of an opening."""
+    for name, tree in (
+        ("arrays that meet", with_array(NEXT, extents=((7, 1),))), ("an array and the chain", with_array(NEXT, extents=((9, 1),))),
+        ("an array that meets itself", with_array(FIRST, extents=((7, 1), (11, 1), (7, 1)), entries=3, tree=TREE)),
+        ("a block of the journal", with_array(NEXT, extents=((5, 1),))), ("a superblock", with_array(DEEP, extents=((0, 1),))),
+        ("two arrays with one number", with_array(DEEP, id=4)), ("tags that meet", with_array(FIRST, versions=(0, 2))),
+        ("a tag past the horizon", with_array(DEEP, versions=(0, 1))), ("leads", TREE._replace(updates=5)),
+        ("entries", with_array(FIRST, leads=0, least=0)), ("blocks", with_array(FIRST, extents=((7, 1), (11, 2)))),
+        ("the next array", TREE._replace(next_array=16384 * 12 + 2)), ("what was written", TREE._replace(written=33554432 * 12 + 1)),
+        ("what was written, all", TREE._replace(written=2 ** 64 - 1)),
+    ):
+        yield name, HEAD, tree
+    yield "versions", HEAD._replace(versions_max=3), TREE
+    yield "changes", HEAD._replace(changes_max=11), TREE
+    yield "the generation", HEAD._replace(generation=14), TREE
+
+
+def expect_refused(name, path, data, block):
+    """The model names the block, and the program refuses the file and leaves it as it is."""
+    try:
+        formats.read(data)
+    except formats.Damaged as damaged:
+        expect(f"{name}, the model", damaged.block, block)
+    else:
+        raise Wrong(f"{name}: the model takes it")
+    expect_opened(name, path, data)
+
+
+def each_refusal_of_a_manifest_has_a_file(folder):
+    path, blocks = os.path.join(folder, "a.store"), {block: formats.block_of(entries) for block, entries in ENTRIES.items()}
+    for name, head, tree in at_the_bounds():
+        expect(name, expect_opened(name, path, formats.file_of(1, head, tree, [9], blocks)), 0)
+    for name, tree in refused_spellings():
+        expect_refused(name, path, formats.file_of(1, HEAD, tree, [9], blocks), 9)
+    for name, head, tree in refused_openings():
+        expect_refused(name, path, formats.file_of(1, head, tree, [9], blocks), 9)
+    spelling = formats.spelled(TREE)
+    # numbers of levels, versions and arrays, and the length
+    for name, place, piece in (("no versions", 24, bytes(4)), ("versions", 24, struct.pack(">I", 16385)),
+                               ("levels", 40, b"\x17"), ("levels, too few", 40, b"\1"), ("levels, too many", 40, b"\3")):
+        wrong = spelling[:place] + piece + spelling[place + len(piece):]
+        data = formats.file_with(1, HEAD, wrong, [9], blocks)
+        expect_refused(name, path, data, 9)
+    for name, wrong in (("a byte behind it", spelling + b"\0"), ("a byte less", spelling[:-1]), ("cut short", spelling[:29])):
+        expect_refused(name, path, formats.file_with(1, HEAD, wrong, [9], blocks), 9)
+
+
+def chains_of_a_manifest_are_followed(folder):
+    path = os.path.join(folder, "a.store")
+    head = formats.new_head(MEM, 100000, 16384)
+    tree = formats.EMPTY._replace(changes=4000, parents=tuple(version // 2 for version in range(3000)))
+    chain = [12, 7, 20]
+    data = formats.file_of(0, head, tree, chain)
+    expect("a chain", expect_opened("a chain", path, data), 0)
+    for name, block, link in (("an end before the last", 7, 0), ("a last that goes on", 20, 30), ("a circle", 7, 12), ("itself", 7, 7),
+                              ("no block", 7, 2 ** 32 - 1), ("the first itself", 12, 12)):
+        wrong = bytearray(data)
+        wrong[block * BLOCK:block * BLOCK + 4] = struct.pack(">I", link)
+        expect_refused(name, path, bytes(wrong), block)
+    for block in (1, 5):
+        expect_refused(f"over block {block}", path, formats.file_of(0, head, tree, [12, block, 20]), 12)
+    left = 20 * BLOCK + 4 + len(formats.spelled(tree)) - 2 * formats.CHAINED
+    for place in (left, 21 * BLOCK - 1):
+        expect_refused(f"filled at {place}", path, (data[:place] + b"\1" + data[place + 1:]).ljust(21 * BLOCK, b"\0"), 12)
 
 
 def thousands_of_puts_are_kept(folder):
@@ -654,12 +1053,21 @@ def thousands_of_puts_are_kept(folder):
     store.expect_served("4,000 puts, again", [b"".join(get(i, b"key/%d" % i) for i in range(1600))], deadline=120)
 
 
+def send(child, pieces):
+    """Writes pieces to a run until it ends."""
+    try:
+        for piece in pieces:
+            child.stdin.write(piece)
+    except OSError:
+        pass  # it was killed
+
+
 def peak_of(path, data, replies):
     """Most bytes of memory that a serving run had until so many replies to these frames were read."""
     child = start(path)
-    guard = threading.Timer(DEADLINE, child.kill)
+    guard = threading.Timer(3 * DEADLINE, child.kill)
     guard.start()
-    writer = threading.Thread(target=lambda: [child.stdin.write(data[i:i + 4096]) for i in range(0, len(data), 4096)])
+    writer = threading.Thread(target=send, args=(child, [data[i:i + 4096] for i in range(0, len(data), 4096)]))
     writer.start()
     try:
         for _ in range(replies):
@@ -690,18 +1098,10 @@ def a_served_store_takes_the_memory_that_is_said(folder):
         raise Wrong(f"a full store takes {recovering:,} bytes, said are {said:,}")
 
 
-def kill_amid_puts(path, frames, replies, pause):
-    """Sends the frames to a run that is killed after so many bytes of replies and a pause; how many it answered."""
+def killed(path, frames, replies, pause):
+    """Sends the frames to a run that is killed after so many bytes of replies and a pause; its whole replies."""
     child = start(path)
-
-    def send():
-        try:
-            for piece in frames:
-                child.stdin.write(piece)
-        except OSError:
-            pass  # it was killed
-
-    writer = threading.Thread(target=send)
+    writer = threading.Thread(target=send, args=(child, frames))
     writer.start()
     got = read_exactly(child.stdout, replies)
     time.sleep(pause)
@@ -710,9 +1110,7 @@ def kill_amid_puts(path, frames, replies, pause):
     got += child.stdout.read()
     writer.join()
     close(child)
-    answered = len(got) // 9
-    expect("replies", got[:9 * answered], b"".join(reply(tag, model.DONE) for tag in range(answered)))
-    return answered
+    return got
 
 
 def a_killed_run_loses_nothing_that_it_acknowledged(folder):
@@ -722,8 +1120,10 @@ def a_killed_run_loses_nothing_that_it_acknowledged(folder):
                  for _ in range(400)]
         store = StoreFile(folder, 400, 1000, 10)
         frames = [put(tag, key, value) for tag, (key, value) in enumerate(pairs)]
-        answered = kill_amid_puts(store.path, frames, chance.randrange(9 * 300), chance.random() / 500)
-        status, store.model = model.opened(bytes_of(store.path))
+        got = killed(store.path, frames, chance.randrange(9 * 300), chance.random() / 500)
+        answered = len(got) // 9
+        expect(f"turn {turn}, replies", got[:9 * answered], b"".join(reply(tag, model.DONE) for tag in range(answered)))
+        status, store.model = formats.opened(bytes_of(store.path))
         expect(f"turn {turn}, the file", status, 0)
         kept = [change[2:] for change in store.model.changes]
         if kept != pairs[:len(kept)] or len(kept) < answered:
@@ -739,12 +1139,14 @@ def expect_opened(name, path, data):
     """Serves a file with these bytes: as the model does, or with a named status and every byte as it was."""
     with open(path, "wb") as file:
         file.write(data)
-    status, store = model.opened(data)
+    status, store = formats.opened(data)
     if store is None:
         expect(name, serve(path, [GET_A]), (b"", status, complaint(status)))
         expect(f"{name}, the file's bytes are the same", bytes_of(path) == data, True)
     else:
-        sent = b"".join(get(i, b"%d" % i) for i in range(10))
+        # an array with a damaged block is found when it is asked, and not at the opening
+        versions = [version for version in range(min(6, len(store.parents))) if version not in store.unread]
+        sent = stat(99) + b"".join(get(i, b"%d" % i, version) + info(i, version) for version in versions for i in range(10))
         out, status = store.serve(sent)
         expect(name, serve(path, [sent]), (out, status, complaint(status)))
     return status
@@ -766,18 +1168,23 @@ def a_store_cut_short_is_refused_by_name(folder):
         expect_opened(f"cut at {place}", path, data[:place])
 
 
-def a_store_overwritten_with_noise_is_refused_by_name(folder):
-    path, data = used_store(folder)
-    chance = random.Random(8)
+def noise_over(path, data, chance, turns, places):
+    """Serves the file with noise at some of the places, and gives the statuses that were met."""
     seen = set()
-    # superblock slots, the first records of both regions, and the manifest's block
-    places = [0, 0, 0, 4096, 8192, 8192, 8192, 16384, 24576]
-    for turn in range(200):
+    for turn in range(turns):
         noisy = bytearray(data)
         at = chance.choice(places) + chance.randrange(50)
         noise = chance.randbytes(chance.choice((1, 1, 2, 8, 40)))
         noisy[at:at + len(noise)] = noise
         seen.add(expect_opened(f"noise {turn}, {len(noise)} bytes at {at}", path, bytes(noisy)))
+    return seen
+
+
+def a_store_overwritten_with_noise_is_refused_by_name(folder):
+    path, data = used_store(folder)
+    chance = random.Random(8)
+    # superblock slots, the first records of both regions, and the manifest's block
+    seen = noise_over(path, data, chance, 200, [0, 0, 0, 4096, 8192, 8192, 8192, 16384, 24576])
     for turn in range(10):
         seen.add(expect_opened(f"all noise {turn}", path, chance.randbytes(chance.randrange(40000))))
     expect("statuses", seen, {0, 2, 9})
@@ -785,6 +1192,19 @@ def a_store_overwritten_with_noise_is_refused_by_name(folder):
     for at in (0, 4096, 8192, 8203, 8236, 16384):
         for gate in (0, 0xa6, 0xa7):
             expect_opened(f"gate {gate} at {at}", path, data[:at] + bytes([gate]) + data[at + 1:])
+
+
+def a_published_store_overwritten_with_noise_is_refused_by_name(folder):
+    chance = random.Random(9)
+    for frames in (PUBLISHED[0][1], PUBLISHED[2][1], DISTINCT[1]):
+        store, contents = store_after(folder, 4, frames)
+        data, blocks = bytes_of(store.path), [block for array in formats.arrays_of(contents.manifest)
+                                              for block in formats.blocks_of(array)]
+        # both slots, both regions, the manifest from its start and from the middle of it, and the arrays' first entries
+        places = [0, 4096, 8192, 16384, *(3 * [BLOCK * contents.chain[0], BLOCK * contents.chain[0] + 33]),
+                  *(BLOCK * block for block in blocks)]
+        seen = noise_over(store.path, data, chance, 80, places)
+        expect("statuses", seen, {0, 9})
 
 
 def what_is_no_file_is_refused_by_name(folder):
@@ -818,11 +1238,11 @@ def a_file_is_reached_by_symbolic_links(folder):
     os.symlink(link, other)
     made = Store(4, 100, 10)
     expect("format by a link to no file", run(["format", other, "4", "100", "10"]), (made.line(), 0, b""))
-    expect("the file", bytes_of(file) == made.file(), True)
+    expect("the file", bytes_of(file) == formats.unpublished(made), True)
     for path in (link, other, file):
         out, status = made.serve(PUT_A + GET_A)
         expect(f"serve {path}", serve(path, [PUT_A + GET_A]), (out, status, b""))
-        expect(f"serve {path}, the file", bytes_of(file) == made.file(), True)
+        expect(f"serve {path}, the file", bytes_of(file) == formats.unpublished(made), True)
     expect("what is there", (sorted(os.listdir(links)), os.listdir(files)), (["link", "other"], ["a.store"]))
     expect("links are links", (os.path.islink(link), os.path.islink(other)), (True, True))
 
@@ -895,6 +1315,115 @@ def a_sync_that_fails_is_a_device_fault(folder):
         expect(f"serve, sync {call}", (got, len(syncs)), ((done, 5, complaint(5)), call + (call > 1)))
 
 
+def a_fault_amid_a_publication_leaves_the_store_before_or_after(folder):
+    puts = [put(tag, b"%d" % tag, b"v") for tag in range(6)]
+    seen = set()
+    for call, most in (("fdatasync", 17), ("write", 23)):
+        for number in range(1, most + 1):
+            store = StoreFile(folder, 4, 100, 10)
+            how = f"trace=fsync,fdatasync,{call}", f"inject={call}:error=ENOSPC:when={number}"
+            got, _ = traced(folder, ["serve", store.path], *how, data=b"".join(puts))
+            statuses = [body[4] for body in bodies_of(got[0])]
+            answered = statuses.count(model.DONE)
+            if got[1] == model.SINK:
+                continue  # it was the write of a reply
+            expect(f"{call} {number}", (got[1], got[2]), (5, complaint(5)))
+            store.model = expect_prefix(f"{call} {number}", store.path, store.model, puts, answered)
+            expect(f"{call} {number}, acknowledged", store.model.counts()[2] in (answered, answered + 1), True)
+            seen.add((call, answered, formats.read(bytes_of(store.path)).head.generation))
+            store.expect_answers(f"{call} {number}, again", [*puts, *(get(tag, b"%d" % tag) for tag in range(6))])
+    expect("what was seen", seen >= {(call, 4, generation) for call in ("fdatasync", "write") for generation in (1, 2)}, True)
+
+
+def calls_of(folder, path, data):
+    """What a serving run asks of the system, in order: a write into the file with its place, a sync, or replies."""
+    if not shutil.which("strace"):
+        raise Skipped("strace is not here")
+    log = os.path.join(folder, "log")
+    ran = subprocess.run(["strace", "-xx", "-s", "8192", "-o", log, "-e", "trace=lseek,write,fdatasync", PROGRAM, "serve", path],
+                         input=data, capture_output=True, timeout=DEADLINE)
+    if not os.path.exists(log) or b"exited with" not in bytes_of(log):
+        raise Skipped(f"strace cannot run a program: {ran.stderr.decode().strip()}")
+    place, calls = 0, []
+    for name, fields in re.findall(r"^(lseek|write|fdatasync)\((.*)\) += \d+$", bytes_of(log).decode(), re.M):
+        number, *fields = fields.split(", ")
+        if name == "lseek":
+            place = int(fields[0])
+        elif name == "fdatasync":
+            calls.append(("sync", None, None))
+        else:
+            piece = bytes.fromhex(fields[0].strip('"').replace("\\x", ""))
+            calls.append(("replies" if number == "1" else "write", place, piece))
+    return ran.stdout, calls
+
+
+def images_of(synced, pending, chance):
+    """What a cut of power may leave: pending ranges as they were, as they were written, with gates, with noise, and a mix."""
+    def image(choose):
+        data = bytearray(synced)
+        for place, piece in pending:
+            old = formats.bytes_at(bytes(data), place, len(piece))
+            data.extend(bytes(max(0, place + len(piece) - len(data))))
+            data[place:place + len(piece)] = choose(old, piece)
+        return bytes(data)
+
+    yield image(lambda old, piece: piece)
+    if pending:
+        yield image(lambda old, piece: old)
+        yield image(lambda old, piece: bytes([formats.OPEN]) * len(piece))
+        yield image(lambda old, piece: chance.randbytes(len(piece)))
+        yield image(lambda old, piece: bytes(chance.choice(pair) for pair in zip(old, piece)))
+
+
+def after_prefixes(store, frames):
+    """What the store has after each prefix of the frames, the empty one first."""
+    stores = [copy.deepcopy(store)]
+    for piece in frames:
+        store.serve(piece)
+        stores.append(copy.deepcopy(store))
+    return stores
+
+
+def a_cut_of_power_loses_nothing_acknowledged(folder):
+    chance = random.Random(24)
+    seen = set()
+    for turn in range(3):
+        store, again = StoreFile(folder, 4, 1000, 100), StoreFile(folder, 4, 1000, 100)
+        frames = drawn_changes(chance, 50, 1, 6, 0.2)
+        synced = bytearray(bytes_of(store.path))
+        out, calls = calls_of(folder, store.path, b"".join(frames))
+        expect(f"turn {turn}", out == copy.deepcopy(store.model).serve(b"".join(frames))[0], True)
+        prefixes = after_prefixes(store.model, frames)
+        # how many changes are made once so many frames are answered
+        made = [stored.counts()[2] for stored in prefixes]
+        prefixes = dict(zip(made, prefixes))
+        replies, pending = b"", []
+        for number, (call, place, piece) in enumerate(calls):
+            if call == "replies":
+                replies += piece
+                continue
+            if call == "write":
+                pending.append((place, piece))
+            answered = len(bodies_of(replies))
+            for choice, data in enumerate(images_of(bytes(synced), pending, chance)):
+                name = f"turn {turn}, call {number}, choice {choice}"
+                status, got = formats.opened(data)
+                expect(f"{name}, the file", status, 0)
+                changes = got.counts()[2]
+                if not made[answered] <= changes <= made[min(answered + 1, len(frames))]:
+                    raise Wrong(f"{name}: {changes} changes are there, and {made[answered]} are acknowledged")
+                expect_alike(name, got, prefixes[changes])
+                expect(f"{name}, unread", got.unread, set())
+                seen.add((choice, changes - made[answered]))
+                if chance.random() < 0.01:
+                    expect_opened(f"{name}, the program", again.path, data)
+            if call == "sync":
+                synced, pending = bytearray(next(iter(images_of(bytes(synced), pending, chance)))), []
+        expect(f"turn {turn}, the file at last", bytes(synced) == bytes_of(store.path), True)
+    wanted = {(0, 0), (0, 1), (1, 0), (2, 0), (2, 1), (3, 0), (4, 0), (4, 1)}
+    expect("what was seen", sorted(wanted - seen), [])
+
+
 def a_folder_or_file_without_leave_is_a_device_fault(folder):
     nobody = {}
     program, inner = os.path.join(folder, "program"), os.path.join(folder, "inner")
@@ -927,7 +1456,7 @@ def a_folder_or_file_without_leave_is_a_device_fault(folder):
     os.chmod(path, 0o400)
     expect("serve, the file not to be written", run_there("serve", path), fault)
     os.chmod(path, 0o600)
-    expect("the file", bytes_of(path) == made.file(), True)
+    expect("the file", bytes_of(path) == formats.unpublished(made), True)
     out, status = made.serve(PUT_A)
     expect("serve, with leave", run_there("serve", path), (out, status, b""))
 
@@ -950,18 +1479,18 @@ def a_full_device_is_a_device_fault(folder):
     store = StoreFile(folder)
     puts = [put(tag, b"%d" % tag, b"value") for tag in range(5)]
     want = reply(0, model.DONE) + reply(1, model.DONE) + reply(2, model.DEVICE_FAULT)
-    most = 2 * model.BLOCK + 2 * len(model.record(b"0", b"value")) + 5
+    most = 2 * BLOCK + 2 * len(formats.record_of((model.PUT, 0, b"0", b"value"))) + 5
     got = run(["serve", store.path], input=b"".join(puts), preexec_fn=lambda: limited(most))
     expect("puts", got, (want, 5, complaint(5)))
-    status, store.model = model.opened(bytes_of(store.path))
+    status, store.model = formats.opened(bytes_of(store.path))
     expect("kept", (status, store.model.changes), (0, [(model.PUT, 0, key, b"value") for key in (b"0", b"1")]))
     out, status = store.model.serve(b"".join(puts))
     expect("again", serve(store.path, [b"".join(puts)]), (out, status, b""))
 
 
 def the_bench_finds_both_stores_alike(folder):
-    ran = subprocess.run([sys.executable, str(TOP / "bench" / "run"), "--counts", "40,80", "--gets", "20", "--disk", folder],
-                         capture_output=True, timeout=60)
+    ran = subprocess.run([sys.executable, str(TOP / "bench" / "run"), "--counts", "40,80", "--gets", "20", "--mem", "16",
+                          "--disk", folder], capture_output=True, timeout=60)
     expect("its status", (ran.returncode, ran.stderr.count(b"\n")), (0, 8))
     titles = re.findall(rb"^### `(\w+)`", ran.stdout, re.MULTILINE)
     expect("its tables", titles, [b"puts", b"chain", b"sparse", b"star"])
@@ -1005,17 +1534,27 @@ CHECKS = [
     the_examples_of_the_protocol_are_frames,
     formatting_writes_the_bytes_of_a_new_store,
     a_second_run_has_what_the_first_acknowledged,
-    a_full_store_takes_no_put,
+    a_store_takes_as_many_changes_as_it_was_made_for,
+    publications_stand_where_they_should,
+    every_array_is_a_third_live,
+    random_streams_are_answered_over_several_runs,
+    kills_amid_promotions_lose_nothing,
+    damaged_arrays_are_named,
+    each_refusal_of_a_manifest_has_a_file,
+    chains_of_a_manifest_are_followed,
     thousands_of_puts_are_kept,
     a_served_store_takes_the_memory_that_is_said,
     a_killed_run_loses_nothing_that_it_acknowledged,
     a_store_cut_short_is_refused_by_name,
     a_store_overwritten_with_noise_is_refused_by_name,
+    a_published_store_overwritten_with_noise_is_refused_by_name,
     what_is_no_file_is_refused_by_name,
     a_file_is_reached_by_symbolic_links,
     a_link_that_leads_to_no_name_is_a_device_fault,
     the_file_is_synced_at_each_sync_and_its_folder_once,
     a_sync_that_fails_is_a_device_fault,
+    a_fault_amid_a_publication_leaves_the_store_before_or_after,
+    a_cut_of_power_loses_nothing_acknowledged,
     a_folder_or_file_without_leave_is_a_device_fault,
     a_full_device_is_a_device_fault,
     the_bench_finds_both_stores_alike,

@@ -1,0 +1,109 @@
+"""What a store's levels should hold, in plain Python: how a full journal is emptied, and how a level is split into arrays.
+
+It is written from docs/DEFINITIONS.md and shares no line with the program. Where blocks lie is not said here.
+"""
+
+import collections
+
+from formats import Entry, live_in, order
+from model import CLONE, PUT
+
+# An array is its number, its versions, how many entries are live in that version of it which has the fewest, and its entries
+Part = collections.namedtuple("Part", "id versions least entries")
+# What was emptied into levels: by the number of a level its horizon and its arrays
+Emptied = collections.namedtuple("Emptied", "changes updates written next_array parents levels")
+
+NOTHING = Emptied(0, 0, 0, 1, (), {})
+
+
+def last_updates(changes):
+    """The last update of each key and version."""
+    updates = {}
+    for kind, version, *fields in changes:
+        if kind != CLONE:
+            updates[fields[0], version] = Entry(fields[0], version, fields[1] if kind == PUT else None)
+    return updates
+
+
+def leads_of(parts):
+    return {(entry.key, entry.version): entry for part in parts for entry in part.entries if entry.version in part.versions}
+
+
+def target_of(counts, mem):
+    """The first level from 1 on that may hold the leads of all levels down to it."""
+    level = 1
+    while sum(counts[:level + 1]) > mem << level:
+        level += 1
+    return level
+
+
+def purged(leads, parents):
+    """The leads without each Gone that hides no put."""
+    live = live_in(leads.values(), parents)
+    return {place: entry for place, entry in leads.items()
+            if entry.value is not None or (entry.version and is_put(live[parents[entry.version - 1]], entry.key))}
+
+
+def is_put(live, key):
+    return key in live and live[key].value is not None
+
+
+def groups_of(leads, parents):
+    """The versions of each array of a level, with the version from whose live entries it has copies."""
+    live = [len(entries) for entries in live_in(leads.values(), parents)]
+    own = collections.Counter(version for _, version in leads)
+    waiting, sums, groups = collections.defaultdict(list), collections.Counter(), []
+    for version in range(len(parents), 0, -1):
+        parent = parents[version - 1]
+        weight, versions = own[version] + sums[version], [version, *waiting[version]]
+        if weight and weight >= live[parent]:
+            groups.append((parent, versions))
+            continue
+        waiting[parent] += versions
+        sums[parent] += weight
+        if sums[parent] and sums[parent] >= live[parent]:
+            groups.append((parent, waiting.pop(parent)))
+            sums[parent] = 0
+    return [*groups, (None, [0, *waiting[0]])]
+
+
+def split(leads, parents, next_array):
+    """The arrays of a level with these leads."""
+    live, parts = live_in(leads.values(), parents), []
+    for above, versions in sorted(groups_of(leads, parents), key=lambda group: min(group[1])):
+        copies = live[above].values() if above is not None else ()
+        entries = {*copies, *(entry for entry in leads.values() if entry.version in versions)}
+        if entries:
+            least = min(len(live[version]) for version in versions)
+            parts.append(Part(next_array + len(parts), tuple(sorted(versions)), least, tuple(sorted(entries, key=order))))
+    return parts
+
+
+def emptied_into(emptied, changes, mem):
+    """What is in levels once a journal with these changes was emptied."""
+    parents = (*emptied.parents, *(version for kind, version, *_ in changes if kind == CLONE))
+    zero = last_updates(changes)
+    leads = [zero, *(leads_of(emptied.levels.get(number, (0, ()))[1]) for number in range(1, 23))]
+    target = target_of([len(found) for found in leads], mem)
+    merged = {}
+    for found in reversed(leads[:target + 1]):
+        merged.update(found)
+    levels = {number: level for number, level in emptied.levels.items() if number > target}
+    if not levels:
+        merged = purged(merged, parents)
+    parts = split(merged, parents, emptied.next_array)
+    if parts:
+        levels[target] = (len(parents) + 1, parts)
+    return Emptied(
+        emptied.changes + len(changes), emptied.updates + sum(change[0] != CLONE for change in changes),
+        emptied.written + sum(len(part.entries) for part in parts), emptied.next_array + len(parts), parents, levels)
+
+
+def after(changes, mem):
+    """How often the journal was emptied by these changes, what is in levels, and what is in the journal."""
+    times, emptied, journal = 0, NOTHING, []
+    for change in changes:
+        if len(journal) == mem:
+            times, emptied, journal = times + 1, emptied_into(emptied, journal, mem), []
+        journal.append(change)
+    return times, emptied, journal
