@@ -1,4 +1,4 @@
-"""The bytes of a store's file in plain Python: what an opening makes of them, what they say of each version, and how to write them.
+"""The bytes of a store's file in plain Python: how they are opened, what they say of each version, and how they are written.
 
 It is written from docs/FORMATS.md and shares no line with the program. Where a file is damaged, the block that is
 named is told as well.
@@ -537,7 +537,7 @@ def broken_rules(data, contents):
 # Writing a file
 
 def file_with(slot, head, spelling, chain, blocks=(), journal=()):
-    """A file whose slot leads to these bytes of a manifest in this chain of blocks, with these blocks of arrays and these changes."""
+    """A file whose slot leads to these bytes of a manifest in this chain, with these blocks of arrays and these changes."""
     head = head._replace(first=chain[0], length=len(spelling))
     pieces = {slot * BLOCK: head_bytes(head)}
     for number, block in {**chained(spelling, chain), **dict(blocks)}.items():

@@ -868,7 +868,7 @@ def kills_amid_promotions_lose_nothing(folder):
 
 
 def expect_damaged(name, store, frames, block):
-    """All frames but the last are answered as by the model, and the last with the damaged block; the same in the next run."""
+    """All frames but the last are answered as by the model, the last with the damaged block; the same in the next run."""
     for turn in range(2):
         out, _ = store.model.serve(b"".join(frames[:-1]))
         want = out + reply(tag_of(frames[-1][4:]), model.DAMAGED_BLOCK, struct.pack(">I", block))
@@ -1096,6 +1096,10 @@ def a_served_store_takes_the_memory_that_is_said(folder):
     recovering = peak_of(store.path, get(1, bytes(255)), 1)
     if abs(recovering - said) > said // 10:
         raise Wrong(f"a full store takes {recovering:,} bytes, said are {said:,}")
+    # emptying the journal takes another level 0, and the promotion
+    publishing, most = peak_of(store.path, puts[:len(puts) // mem], 1), said + 4_000_000 + 4_000 * mem
+    if publishing > most:
+        raise Wrong(f"a store that empties its journal takes {publishing:,} bytes, said are {most:,}")
 
 
 def killed(path, frames, replies, pause):
@@ -1358,7 +1362,7 @@ def calls_of(folder, path, data):
 
 
 def images_of(synced, pending, chance):
-    """What a cut of power may leave: pending ranges as they were, as they were written, with gates, with noise, and a mix."""
+    """What a cut of power may leave of pending ranges: the new bytes, the old ones, gates, noise, or a mix."""
     def image(choose):
         data = bytearray(synced)
         for place, piece in pending:
