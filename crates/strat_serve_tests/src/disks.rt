@@ -22,15 +22,15 @@ fn takes(store: Option<MemDisk>, alloc: Global, puts: &[u8], fifth: &[u8]) -> bo
     }
 }
 
-// As many changes as a region of the journal has room for, or as the store may have.
+// A fifth put finds the region of the journal full, or with room for it, or the store has as many changes as it may.
 #[test]
-fn a_full_store_takes_no_put(rt: HostRuntime) {
+fn a_full_store_takes_no_put_and_a_full_journal_is_emptied(rt: HostRuntime) {
     assert!(rt;
         takes(
             new_store(rt.alloc(), 4, 100, 10),
             rt.alloc(),
             b"\x00\x00\x00\x05\x00\x00\x00\x01\x00\x00\x00\x00\x05\x00\x00\x00\x02\x00\x00\x00\x00\x05\x00\x00\x00\x03\x00\x00\x00\x00\x05\x00\x00\x00\x04\x00",
-            b"\x00\x00\x00\x05\x00\x00\x00\x05\x14"
+            b"\x00\x00\x00\x05\x00\x00\x00\x05\x00"
         )
     );
     assert!(rt;
@@ -224,15 +224,17 @@ fn altered_slots_are_named_and_left(rt: HostRuntime) {
     }
 }
 
-// A generation and a length that are not those of a new store, bytes of the manifest's block, and an open gate with no
-// change after it.
+// A generation and a length that are not those of a new store, a block that says there is another, changes as many as
+// may be and one more, updates without changes, a byte behind the manifest, and an open gate with no change after it.
 #[test]
 fn altered_manifests_are_named_and_left(rt: HostRuntime) {
     for (at, byte, ended) in [
         (18, 0x2, Ended::Damaged { block: 6 }),
         (26, 0x1e, Ended::Damaged { block: 6 }),
         (24579, 0x1, Ended::Damaged { block: 6 }),
-        (24583, 0x1, Ended::Damaged { block: 6 }),
+        (24583, 0x64, Ended::Done),
+        (24583, 0x65, Ended::Damaged { block: 6 }),
+        (24587, 0x1, Ended::Damaged { block: 6 }),
         (28671, 0x1, Ended::Damaged { block: 6 }),
         (8192, 0xa7, Ended::Damaged { block: 2 }),
     ] {

@@ -5,9 +5,21 @@
 #[cfg(test)]
 mod beside;
 #[cfg(test)]
+mod chains;
+#[cfg(test)]
+mod damaged;
+#[cfg(test)]
 mod disks;
 #[cfg(test)]
 mod formatting;
+#[cfg(test)]
+mod refusals;
+#[cfg(test)]
+mod rows;
+#[cfg(test)]
+mod scripts;
+#[cfg(test)]
+mod stops;
 #[cfg(test)]
 mod streams;
 #[cfg(test)]

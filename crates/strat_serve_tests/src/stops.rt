@@ -1,0 +1,191 @@
+//! Runs over several publications, stopped at each call of their disk, crashed, opened again, and gone on with.
+
+ghost use Rattle.std.specs.Prelude.{◌≤◌, ◌+◌, ◌^◌};
+
+use crate::rows::THIRTEEN_PUTS;
+use crate::scripts::{
+    Beside, CHANGES, LOOKS, Script, all_accepted, changes_of, count_accepted, fresh_beside,
+    stay_alike,
+};
+use crate::support::{new_store, run, small_store};
+use std::alloc::Global;
+use strat_base::PairBuf;
+use strat_disk::{Disk, FuseDisk, MemDisk};
+use strat_store::{AttachFault, Store};
+
+/// A list of changes, how many they are, and those that look up what they set.
+#[derive(Clone, Copy)]
+struct Plan {
+    script: Script,
+    most: u32,
+    look: Script,
+    looks: u32,
+}
+
+/// How many commands a store on a disk acknowledges: none where the disk fails as it is opened.
+fn acknowledged<D: Disk>(alloc: Global, disk: &mut D, plan: Plan) -> Option<u32> {
+    let mut out = PairBuf::new(alloc).ok()?;
+    match Store::attach(alloc, disk) {
+        Ok(mut store) => Some(count_accepted(&mut store, disk, &mut out, plan.script, plan.most)),
+        Err(AttachFault::Device) => Some(0),
+        Err(_) => None,
+    }
+}
+
+/// Whether a store has what the plain table has after the first so many commands.
+fn has_same<D: Disk>(
+    store: &mut Store,
+    disk: &mut D,
+    beside: &mut Beside,
+    plan: Plan,
+    has: u32,
+) -> bool
+    requires room { beside.old.plain.next_cursor ≤ 1 }
+    ensures room { beside.new.plain.next_cursor ≤ 2 ^ 34 }
+{
+    all_accepted(beside, plan.script, has)
+        && stay_alike(store, disk, beside, plan.look, 0, plan.looks)
+}
+
+/// Whether both have the same after the rest of the commands, too.
+fn goes_on<D: Disk>(
+    store: &mut Store,
+    disk: &mut D,
+    beside: &mut Beside,
+    plan: Plan,
+    has: u32,
+) -> bool
+    requires room { beside.old.plain.next_cursor ≤ 2 ^ 34 }
+{
+    stay_alike(store, disk, beside, plan.script, has, plan.most)
+        && stay_alike(store, disk, beside, plan.look, 0, plan.looks)
+}
+
+/// Whether a store has the table after a prefix of the commands, with all that were acknowledged and at most one more,
+/// and, where it is to, goes on from there.
+fn has_prefix<D: Disk>(
+    alloc: Global,
+    disk: &mut D,
+    plan: Plan,
+    done: u32,
+    going: bool,
+) -> Option<bool> {
+    let mut store = Store::attach(alloc, disk).ok()?;
+    let mut beside = fresh_beside(alloc).ok()?;
+    let has = changes_of(&mut store, disk, &mut beside.told)?;
+    Some(
+        done <= has
+            && has <= done.saturating_add(1)
+            && has_same(&mut store, disk, &mut beside, plan, has)
+            && (!going || goes_on(&mut store, disk, &mut beside, plan, has)),
+    )
+}
+
+/// A disk that crashed, after an opening that was stopped after so many calls and crashed as well.
+fn reopened(alloc: Global, disk: &MemDisk, choice: u8, calls: u64) -> Option<MemDisk> {
+    let mut fuse = FuseDisk::new(disk.crash(choice).ok()?, calls);
+    let opened = Store::attach(alloc, &mut fuse).is_ok();
+    let disk = fuse.into_inner();
+    if opened && calls < 3 {
+        return None;
+    }
+    disk.crash(choice).ok()
+}
+
+/// Whether a crash of this choice leaves such a store, after an opening that was stopped, too.
+fn survives(alloc: Global, disk: &MemDisk, choice: u8, plan: Plan, done: u32, calls: u64) -> bool {
+    match reopened(alloc, disk, choice, calls % 16) {
+        Some(mut after) => {
+            let going = calls % 3 == u64::from(choice);
+            has_prefix(alloc, &mut after, plan, done, going) == Some(true)
+        }
+        None => false,
+    }
+}
+
+/// Whether each crash does.
+fn survives_each(alloc: Global, disk: &MemDisk, plan: Plan, done: u32, calls: u64) -> bool {
+    for choice in 0..3 {
+        if !survives(alloc, disk, choice, plan, done, calls) {
+            return false;
+        }
+    }
+    true
+}
+
+/// How many commands are acknowledged on a disk that fails after so many calls, where each crash then leaves such a store.
+fn stopped(alloc: Global, store: &MemDisk, plan: Plan, calls: u64) -> Option<u32> {
+    let mut fuse = FuseDisk::new(store.crash(0).ok()?, calls);
+    let done = acknowledged(alloc, &mut fuse, plan)?;
+    let disk = fuse.into_inner();
+    survives_each(alloc, &disk, plan, done, calls).then_some(done)
+}
+
+/// After how many calls all are acknowledged, where each stop leaves such a store.
+fn stops(alloc: Global, store: &MemDisk, plan: Plan) -> Option<u64> {
+    for calls in 0..1000 {
+        if stopped(alloc, store, plan, calls)? == plan.most {
+            return Some(calls);
+        }
+    }
+    None
+}
+
+#[test]
+fn a_crash_leaves_a_prefix_of_changes_over_levels(rt: HostRuntime) {
+    let Some(store) = new_store(rt.alloc(), 4, 300, 40) else {
+        assert!(rt; false);
+        return;
+    };
+    let plan = Plan {
+        script: Script::Changes,
+        most: 7,
+        look: Script::Look,
+        looks: LOOKS,
+    };
+    assert!(rt; stops(rt.alloc(), &store, plan).is_some_and(|calls| calls > 20));
+}
+
+/// How many of the thirteen puts a run on a disk that fails after so many calls answers as done, where each crash then
+/// leaves such a store.
+fn served(alloc: Global, store: &MemDisk, plan: Plan, calls: u64) -> Option<u32> {
+    let mut fuse = FuseDisk::new(store.crash(0).ok()?, calls);
+    let (_, sink) = run(alloc, &mut fuse, THIRTEEN_PUTS)?;
+    let done = done_in(sink.bytes());
+    let disk = fuse.into_inner();
+    survives_each(alloc, &disk, plan, done, calls).then_some(done)
+}
+
+/// How many of the replies to puts say that one was done.
+fn done_in(replies: &[u8]) -> u32 {
+    let done = replies
+        .chunks(9)
+        .filter(|reply| reply.last() == Some(&0))
+        .count();
+    done.min(13) as u32
+}
+
+/// After how many calls a run answers each of the thirteen as done, where each stop leaves such a store.
+fn served_stops(alloc: Global, store: &MemDisk, plan: Plan) -> Option<u64> {
+    for calls in 0..1000 {
+        if served(alloc, store, plan, calls)? == 13 {
+            return Some(calls);
+        }
+    }
+    None
+}
+
+#[test]
+fn a_crash_leaves_every_put_that_was_acknowledged(rt: HostRuntime) {
+    let Some(store) = small_store(rt.alloc()) else {
+        assert!(rt; false);
+        return;
+    };
+    let plan = Plan {
+        script: Script::Thirteen,
+        most: 13,
+        look: Script::LookThirteen,
+        looks: 13,
+    };
+    assert!(rt; served_stops(rt.alloc(), &store, plan).is_some_and(|calls| calls > 80));
+}
