@@ -815,11 +815,12 @@ def every_array_is_a_third_live(folder):
 def drawn_frames(chance, count, versions, keys, clones):
     """All commands, and bodies that are none."""
     frames = drawn_changes(chance, count, versions, keys, clones)
+    first = frames[0]
     for tag in range(count):
         version, key = chance.randrange(versions + count // 8), b"%d" % chance.randrange(keys)
         other = chance.choice((get(tag, key, version), get(tag, key, version), info(tag, version), stat(tag)))
         if chance.random() < 0.1:
-            body = bytearray(chance.choice((other, frames[0]))[4:])
+            body = bytearray(chance.choice((other, first))[4:])
             body[chance.randrange(4, len(body))] = chance.randrange(256)
             other = frame(bytes(body[:chance.choice((len(body), chance.randrange(len(body))))]))
         frames.insert(chance.randrange(len(frames) + 1), other)
