@@ -52,8 +52,7 @@ pub enum Refusal {
     UnknownCursor,
     /// The store has all the versions that it was made for.
     VersionLimit,
-    /// The store has taken all the changes that it was made for, or, as long as there are no levels, as
-    /// many as its journal has room for.
+    /// The store has taken all the changes that it was made for.
     ChangeLimit,
     /// All cursors are in use.
     CursorLimit,

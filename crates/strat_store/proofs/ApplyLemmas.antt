@@ -17,7 +17,7 @@ use Rattle.strat_model.specs.declared.replies.Refusal.TheVariants as why
 use Rattle.strat_model.specs.Answer.{Answer, plain, accepts}
 use Rattle.strat_model.specs.Pairs.{value_of}
 use Rattle.strat_model.specs.Request.{Request, Put, Delete, Get, Clone, Info, Stat}
-use Rattle.strat_model.specs.Run.{Position, is_change, position_after, fill_after}
+use Rattle.strat_model.specs.Run.{Position, is_change, reaches_disk, position_after, fill_after}
 use Rattle.strat_model.specs.Spelling.{is_built}
 use Rattle.strat_model.specs.Step.{step, replies_with, refuses, has_row, pairs_at, found}
 use Rattle.strat_model.specs.Table.{Table, bare}
@@ -29,9 +29,9 @@ use Rattle.strat_standing.proofs.PartsLemmas.{reads_head, reads_state}
 use Rattle.strat_standing.specs.Contents.{Contents, contents_head, contents_state}
 use Rattle.strat_standing.specs.Standing.{ShowsTable}
 use Rattle.strat_store.proofs.MemoryLawLemmas.{version_told, store_told, version_unknown}
-use Rattle.strat_store.specs.Applying.{IsAppliedTo, IsLookedUp, FollowsStep, change_wanted, is_fault, ran_short, table_left}
+use Rattle.strat_store.specs.Applying.{IsAppliedTo, IsLookedUp, FollowsStep, TellsFaultOf, change_wanted, is_fault, ran_short, table_left}
 use Rattle.strat_store.specs.Held.{Held, position_with, IsConsistent, StandsWith}
-use Rattle.strat_store.specs.Memory.{info_told, stat_told, IsMemoryOf}
+use Rattle.strat_store.specs.Memory.{Memory, info_told, stat_told, IsMemoryOf}
 
 -- the request of a change that is wanted
 pub wanted_for : (r : Request) (c : Change) → change_wanted r ≡ Some c → request_for c ≡ r
@@ -39,6 +39,35 @@ wanted_for (Put v key value) c wanted = let same : change.Put v key value ≡ c 
 wanted_for (Delete v key) c wanted = let same : change.Delete v key ≡ c = cc in ap request_for (sym same)
 wanted_for (Clone v) c wanted = let same : change.Clone v ≡ c = cc in ap request_for (sym same)
 wanted_for _ c wanted = absurd (cc)
+
+-- it reaches the disk, and so a fault may be told of it
+reaches_wanted : (r : Request) (c : Change) → change_wanted r ≡ Some c → reaches_disk r ≡ true
+reaches_wanted (Put v key value) c wanted = refl
+reaches_wanted (Delete v key) c wanted = refl
+reaches_wanted (Clone v) c wanted = refl
+reaches_wanted _ c wanted = absurd (cc)
+
+pub tells_of_change : (before : DiskView) (r : Request) (c : Change) (told : Reply) → change_wanted r ≡ Some c → TellsFaultOf before r told
+tells_of_change before r c told wanted = record {
+  reached = λ failed. reaches_wanted r c wanted;
+  none = λ none. absurd (let x : Some c ≡ None = sym wanted ∙ none in cc);
+}
+
+-- a reply that tells no fault
+pub tells_calm : (before : DiskView) (r : Request) (told : Reply) → is_fault told ≡ false → TellsFaultOf before r told
+tells_calm before r told calm = record {
+  reached = λ failed. absurd (true≢false (sym (ap is_fault failed) ∙ calm));
+  none = λ none b torn. absurd (true≢false (sym (ap is_fault torn) ∙ calm));
+}
+
+-- as what is told of a version
+pub info_calm : (m : Memory) (version : ℕ) (told : Reply) → (is_known m.parents version ≡ true → told ≡ info_told m version) → (is_known m.parents version ≡ false → told ≡ reply.Refused why.UnknownVersion)
+    → is_fault told ≡ false
+info_calm m version told known unknown = by_test (is_known m.parents version) refl
+  where
+    by_test : (b : Bool) → is_known m.parents version ≡ b → is_fault told ≡ false
+    by_test true is = ap is_fault (known is)
+    by_test false is = ap is_fault (unknown is)
 
 -- what reads a version leaves the table as it was
 says_kept : (k : Bool) (t : Table) (a : Answer) (r : Refusal) → (if k then replies_with t a else refuses t r).table ≡ t

@@ -100,6 +100,18 @@ damaged_told content m levels (Err (fault.Damaged block)) b names told =
       bad = λ f exposed few. inl (is.none.1 f exposed);
     }
 
+-- which has no entries
+pub none_told : (content : Option Image) (arrays : List ArrayDesc) (r : Result Seen Fault) (b : ℕ) → ((block : ℕ) → IsErrOf r (fault.Damaged block) → NamesNoBlock content arrays block)
+    → reply_of_get r ≡ reply.Refused (why.Damaged b) → (f : Image) → content ≡ Some f → block_on f b ≡ None
+none_told content arrays (Ok seen.Put) b names told = absurd (cc)
+none_told content arrays (Ok seen.Gone) b names told = absurd (cc)
+none_told content arrays (Ok seen.None) b names told = absurd (cc)
+none_told content arrays (Err fault.Device) b names told = absurd (cc)
+none_told content arrays (Err (fault.Damaged block)) b names told =
+    let same : block ≡ b = cc in
+    let is = subst (λ (n : ℕ). NamesNoBlock content arrays n) same (names block refl) in
+    is.none.1
+
 -- where blocks have entries each of them is a block
 block_read : (f : Image) (blocks : List ℕ) (entries : List Entry) (b : ℕ) → entries_on f blocks ≡ Some entries → Among b blocks → (es : List Entry) × (block_on f b ≡ Some es)
 unfolding entries_on

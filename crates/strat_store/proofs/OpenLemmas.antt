@@ -1,12 +1,12 @@
 -- A disk on which a store was recovered, while the region that is not active is shut.
-use Rattle.std.proofs.Common.{◌≡◌, ◌≢◌, ◌<◌, ℕ, Bool, true, false, inr, List, [], ◌∷◌, length, Some, Result, Ok, Err, refl, sym, ap, ◌∙◌, subst, arith, true≢false}
+use Rattle.std.proofs.Common.{◌≡◌, ◌≢◌, ◌<◌, ◌⊎◌, ℕ, Bool, true, false, inl, inr, List, [], ◌∷◌, length, Some, Result, Ok, Err, refl, sym, ap, ◌∙◌, subst, arith, true≢false}
 use Rattle.std.specs.Prelude.{IsTrue, IfErr, ◌↔◌}
 use Rattle.strat_base.specs.declared.descriptors.ArrayDesc.{ArrayDesc}
 use Rattle.strat_array.specs.Kept.{Blocks}
-use Rattle.strat_crash.specs.Image.{Image}
+use Rattle.strat_crash.specs.Image.{Image, Outside}
 use Rattle.strat_crash.specs.Moments.{DiskView, Exposes, Images, Since, Passes, TearsOnly, IsDurable, KeepsImages, OnlyReads}
 use Rattle.strat_crash.specs.Trail.{Trail}
-use Rattle.strat_crash.proofs.MomentLemmas.{each_then, passes_trans, settled_at, since_now, at_told, reads_keep_durable}
+use Rattle.strat_crash.proofs.MomentLemmas.{each_then, leaves_refl, leaves_tears, passes_trans, reads_trans, settled_at, since_now, at_told, reads_keep_durable}
 use Rattle.strat_crash.proofs.TrailLemmas.{trail_of_one}
 use Rattle.strat_format.specs.Chained.{manifest_at}
 use Rattle.strat_format.specs.Layout.{region_at, other_region}
@@ -26,7 +26,7 @@ use Rattle.strat_standing.proofs.PlaceLemmas.{one_super}
 use Rattle.strat_state.specs.Sound.{IsSound}
 use Rattle.strat_store.specs.declared.opening.AttachFault.{AttachFault}
 use Rattle.strat_store.specs.declared.opening.AttachFault.TheVariants.{Device}
-use Rattle.strat_store.specs.Following.{FollowsFrom, IsOpenedAs, LeavesOpening}
+use Rattle.strat_store.specs.Following.{ChangesGateAlone, FollowsFrom, IsOpenedAs, LeavesOpening}
 use Rattle.strat_store.specs.Held.{contents_held, StandsWith}
 use Rattle.strat_store.specs.Looking.{AreCachedFrom}
 use Rattle.strat_store.specs.Recovering.{chained_of, head_recovered, held_of, empty_cache, IsRecoveredFrom, ReadsAsSound}
@@ -58,6 +58,10 @@ module _ (old : DiskView) (f : Image) (x : Contents) (sb : Super) (stale : Bool)
     shut_stands time leaves shut =
         gate_stands old new x few each_reads torn_there is.sound time f exposed durable leaves
         (subst (λ (s : Super). (c : Image) → Images new c → c (region_at s.mem (other_region s.region)) ≢ 0xa7) (sym same) shut)
+
+-- where nothing was written no byte was torn
+pub quiet_tears : (v : DiskView) (at n : ℕ) → TearsOnly v v at n
+quiet_tears v at n = leaves_tears v v at n (leaves_refl v)
 
 -- a cache that has no block
 none_cached : (g : Image) (next cap : ℕ) (arrays : List ArrayDesc) → AreCachedFrom g next arrays (record { entries = []; cap = cap })
@@ -145,7 +149,21 @@ module _ (f : Image) (r : Recovered) (is : IsRecoveredFrom f r) (t : Table) (sho
 -- a disk was synced, a store was recovered from it, and the other region was shut
 module _ (before synced read now : DiskView) (r : Recovered) (syncs : OnlyReads before synced) (settled : IsDurable synced) (leaves : LeavesContent synced) (looks : OnlyReads synced read) (passes : Passes read now)
     (found : (f : Image) → Exposes before f → IsRecoveredFrom f r)
-    (images : (f : Image) (x : Contents) → Exposes read f → IsDurable read → x.sb ≡ super_of r.sb → ReadsAsSound f r.journal.stale x → (c : Image) → Since now read.moment c → ReadsAs c x) where
+    (images : (f : Image) (x : Contents) → Exposes read f → IsDurable read → x.sb ≡ super_of r.sb → ReadsAsSound f r.journal.stale x → (c : Image) → Since now read.moment c → ReadsAs c x)
+    (torn : TearsOnly read now (region_at r.sb.mem (other_region r.sb.region)) 1) where
+  at_gate : (f : Image) → Exposes before f → (c : Image) → Since now before.moment c → Images before c ⊎ Outside (region_at r.sb.mem (other_region r.sb.region)) 1 f c
+  at_gate f exposed =
+      let all : OnlyReads before read = reads_trans syncs looks in
+      each_then read now before.moment (λ c. Images before c ⊎ Outside (region_at r.sb.mem (other_region r.sb.region)) 1 f c) passes
+      (λ c since. inl (all.images.each c since))
+      (λ c since.
+          let t = torn.each c since in
+          let is : t.0 ≡ f = settled_at read f (all.same ∙ exposed) (reads_keep_durable synced read looks settled) t.0 t.1 in
+          inr (subst (λ (d : Image). Outside (region_at r.sb.mem (other_region r.sb.region)) 1 d c) is t.2))
+
+  gate_alone : (f : Image) → Exposes before f → ChangesGateAlone before now f r.slot (super_of r.sb)
+  gate_alone f exposed = record { newest = (found f exposed).newest; images = at_gate f exposed }
+
   from_opening : (f : Image) (t : Table) → Exposes before f → ShowsTable f t → FollowsFrom before now f (t ∷ []) 0
   from_opening f t exposed shows =
       let there : synced.content ≡ Some f = syncs.same ∙ exposed in
@@ -154,13 +172,20 @@ module _ (before synced read now : DiskView) (r : Recovered) (syncs : OnlyReads 
       (images f (opened_contents f r is t shows) (looks.same ∙ there) (reads_keep_durable synced read looks settled) (opened_super f r is t shows) (opened_sound f r is t shows))
 
   pub leaves_follows : (f : Image) → Exposes before f → LeavesOpening before now f
-  leaves_follows f exposed = inr (λ t shows. from_opening f t exposed shows)
+  leaves_follows f exposed = inr (record {
+    slot = r.slot;
+    sb = super_of r.sb;
+    gate = gate_alone f exposed;
+    follows = λ t shows. from_opening f t exposed shows;
+  })
 
   pub opened_as : ((f : Image) (x : Contents) → Exposes read f → IsDurable read → x.sb ≡ super_of r.sb → ReadsAsSound f r.journal.stale x → ContentsStand now x)
       → (cap : ℕ) → IsOpenedAs before now (held_of r (empty_cache cap))
   opened_as stands cap = record {
     going = refl;
     found = λ f exposed. (found f exposed).head;
+    chain = λ f exposed. (found f exposed).chain;
+    gate = gate_alone;
     stands = λ f t exposed shows.
         let is = found f exposed in (
           opened_contents f r is t shows,

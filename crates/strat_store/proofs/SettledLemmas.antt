@@ -23,7 +23,7 @@ use Rattle.strat_format.specs.Arrays.{all_some, blocks_of, block_on, entries_on}
 use Rattle.strat_format.specs.Block.{block_in}
 use Rattle.strat_format.specs.Chained.{Chained}
 use Rattle.strat_format.specs.Layout.{first_free, other_region}
-use Rattle.strat_format.specs.Manifest.{is_lawful_manifest}
+use Rattle.strat_format.specs.Manifest.{Manifest, is_lawful_manifest}
 use Rattle.strat_format.specs.SuperBlock.{Super}
 use Rattle.strat_format.proofs.ManifestLemmas.{pass_at}
 use Rattle.strat_plan.proofs.ListLemmas.{among_map}
@@ -56,8 +56,8 @@ use Rattle.strat_store.specs.Held.{Held, ArePlaced, IsConsistent, StandsWith, co
 use Rattle.strat_store.specs.Looking.{AreCachedFrom, arrays_there}
 use Rattle.strat_store.specs.Memory.{Memory, IsMemoryOf, emptied}
 use Rattle.strat_store.specs.Promoting.{HaveFewLeads}
-use Rattle.strat_store.specs.Publishing.{is_in_front}
-use Rattle.strat_store.specs.Settling.{held_next, contents_next, MayFollow, WritesBeside, IsReadied}
+use Rattle.strat_store.specs.Publishing.{is_in_front, manifest_after}
+use Rattle.strat_store.specs.Settling.{held_next, contents_next, MayFollow, WritesBeside, IsReadied, ArePublishedAfter}
 
 -- memory in which the next level 0 stands ready, or none does
 pub consistent_ready : (s : Held) (o : Option ℕ) (m : Memory) → m ≡ record s.memory { ready = o } → IsConsistent s → IsConsistent (record s { memory = m })
@@ -89,6 +89,18 @@ pub damaged_ready : (content : Option Image) (m k : Memory) (o : Option ℕ) (le
 damaged_ready content m k o levels b is bad =
     let here : IsDamagedIn content (record m { ready = o }) levels b = subst (λ (n : Memory). IsDamagedIn content n levels b) is bad in
     record { listed = here.listed; bad = λ f exposed few. here.bad f exposed few }
+
+-- what a promotion leaves, with memory prepared
+pub published_after : (s sb here : Super) (m next there : Manifest) (memory ready : Memory) (o : Option ℕ) → ready ≡ record memory { ready = o } → here ≡ sb → there ≡ next
+    → ArePublishedAfter s m ready sb next → ArePublishedAfter s m memory here there
+published_after s sb here m next there memory ready o same sb_is next_is is = record {
+  target = is.target;
+  made = is.made;
+  first = is.first;
+  size = is.size;
+  manifest_is = next_is ∙ is.manifest_is ∙ ap (λ (k : Memory). manifest_after m k is.target is.made) same;
+  sb_is = sb_is ∙ is.sb_is;
+}
 
 -- while free blocks are written
 module _ (v w : DiskView) (s : Held) (x : Contents) (stands : StandsWith v s x) (beside : WritesBeside v w s) where

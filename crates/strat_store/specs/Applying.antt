@@ -2,7 +2,7 @@
 use Rattle.std.specs.Prelude.{◌≡◌, ◌≢◌, ◌≤◌, ◌⊎◌, ℕ, if◌then◌else◌, Bool, true, false, List, [], ◌∷◌, length, Contains, Option, Some, None, Result, IfErr}
 use Rattle.strat_crash.specs.Faults.{Rose}
 use Rattle.strat_crash.specs.Image.{Image}
-use Rattle.strat_crash.specs.Moments.{DiskView, OnlyReads}
+use Rattle.strat_crash.specs.Moments.{DiskView, Exposes, OnlyReads}
 use Rattle.strat_crash.specs.Trail.{Trail}
 use Rattle.strat_base.specs.Change.{Change}
 use Rattle.strat_base.specs.Change as change
@@ -108,6 +108,13 @@ pub record FailsAsTold (before now : ℕ) (told : Reply) : Type 0 where
   pub later : before ≤ now
   pub rose : told ≡ reply.Refused why.DeviceFault → Rose before now
   pub same : told ≢ reply.Refused why.DeviceFault → now ≡ before
+
+-- a fault is told of a command alone that reaches the disk, and where it asks for no change a damaged block has no entries
+-- in what is exposed
+pub record TellsFaultOf (before : DiskView) (request : Request) (told : Reply) : Type 0 where
+  pub reached : told ≡ reply.Refused why.DeviceFault → reaches_disk request ≡ true
+  pub none : change_wanted request ≡ None → (b : ℕ) → told ≡ reply.Refused (why.Damaged b)
+      → (f : Image) → Exposes before f → block_on f b ≡ None
 
 -- a block is one of these levels' arrays, and where a content is exposed it is bad: it holds no entries, or
 -- none that come after those before it

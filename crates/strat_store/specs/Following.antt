@@ -1,8 +1,11 @@
 -- What a crash leaves of a disk on which a store was opened and carried out commands.
 use Rattle.std.specs.Prelude.{◌≡◌, ◌≤◌, ◌⊎◌, ℕ, List, [], ◌∷◌, Some, false, Ok}
-use Rattle.strat_crash.specs.Image.{Image}
-use Rattle.strat_crash.specs.Moments.{DiskView, Exposes, Images, KeepsImages}
+use Rattle.strat_crash.specs.Image.{Image, Outside}
+use Rattle.strat_crash.specs.Moments.{DiskView, Exposes, Images, Since, KeepsImages}
 use Rattle.strat_crash.specs.Trail.{At, Trail}
+use Rattle.strat_format.specs.Chained.{manifest_at}
+use Rattle.strat_format.specs.Layout.{region_at, other_region}
+use Rattle.strat_format.specs.SuperBlock.{Super, newest_in}
 use Rattle.strat_model.specs.Table.{Table}
 use Rattle.strat_recovery.specs.Opening.{recover}
 use Rattle.strat_recovery.specs.StateTable.{table_of}
@@ -32,19 +35,35 @@ pub record FollowsFrom (before now : DiskView) (f : Image) (tables : List Table)
 abbrev pub IsUnchanged : DiskView → DiskView → Type 0
 IsUnchanged before now = (now.content ≡ before.content) × KeepsImages before now
 
+-- this superblock is the newest of a content, and each image since is one of those before, or differs from the content in
+-- the first gate alone of the region that is not active
+pub record ChangesGateAlone (before now : DiskView) (f : Image) (slot : ℕ) (sb : Super)
+    : Type 0 where
+  pub newest : newest_in f ≡ Ok (Some (slot, sb))
+  pub images : (c : Image) → Since now before.moment c
+      → Images before c ⊎ Outside (region_at sb.mem (other_region sb.region)) 1 f c
+
 -- a store was opened: it holds what recovery finds in the content, and where that shows a table the store stands on the
 -- disk with contents that mean it, and a crash leaves that table from the opening's sync on
 pub record IsOpenedAs (before now : DiskView) (s : Held) : Type 0 where
   pub going : s.spent ≡ false
   pub found : (f : Image) → Exposes before f → recover f ≡ Ok (Some (head_held s))
+  pub chain : (f : Image) → Exposes before f
+      → manifest_at f s.sb.manifest s.sb.length ≡ Ok s.chained
+  pub gate : (f : Image) → Exposes before f → ChangesGateAlone before now f s.slot s.sb
   pub stands : (f : Image) (t : Table) → Exposes before f → ShowsTable f t
       → (x : Contents) × StandsWith now s x × (table_of (contents_state x) ≡ t)
   pub follows : (f : Image) (t : Table) → Exposes before f → ShowsTable f t
       → FollowsFrom before now f (t ∷ []) 0
 
+-- an opening's last step failed, which shuts a gate: no image differs in more
+pub record StopsAtGate (before now : DiskView) (f : Image) : Type 0 where
+  pub slot : ℕ
+  pub sb : Super
+  pub gate : ChangesGateAlone before now f slot sb
+  pub follows : (t : Table) → ShowsTable f t → FollowsFrom before now f (t ∷ []) 0
+
 -- an opening of a disk with this content failed: the disk is left as it was, or its sync succeeded and the last step failed,
 -- which shuts a gate
 abbrev pub LeavesOpening : DiskView → DiskView → Image → Type 0
-LeavesOpening before now f =
-    IsUnchanged before now
-    ⊎ ((t : Table) → ShowsTable f t → FollowsFrom before now f (t ∷ []) 0)
+LeavesOpening before now f = IsUnchanged before now ⊎ StopsAtGate before now f

@@ -5,6 +5,7 @@ use Rattle.strat_crash.specs.Blocks.{TearsBlocks}
 use Rattle.strat_crash.specs.Moments.{DiskView}
 use Rattle.strat_format.specs.Chained.{Chained}
 use Rattle.strat_format.specs.Layout.{other_region}
+use Rattle.strat_format.specs.Manifest.{Manifest}
 use Rattle.strat_format.specs.SuperBlock.{Super, IsLawful}
 use Rattle.strat_journal.specs.Log.{region_begun}
 use Rattle.strat_recovery.specs.Head.{parent_numbers}
@@ -12,8 +13,8 @@ use Rattle.strat_standing.specs.Contents.{Contents}
 use Rattle.strat_standing.specs.Standing.{AreFree}
 use Rattle.strat_state.specs.Level.{Level}
 use Rattle.strat_store.specs.Held.{Held, contents_held}
-use Rattle.strat_store.specs.Memory.{emptied}
-use Rattle.strat_store.specs.Publishing.{IsComputed}
+use Rattle.strat_store.specs.Memory.{Memory, emptied}
+use Rattle.strat_store.specs.Publishing.{IsComputed, manifest_after}
 
 -- the superblock after one, whose manifest begins in this block and is of so many bytes
 abbrev pub super_after : Super → ℕ → ℕ → Super
@@ -70,3 +71,14 @@ pub record IsReadied (v : DiskView) (s : Held) (x : Contents) (sb : Super) (chai
     : Type 0 where
   pub levels : List Level
   pub computed : IsComputed v (1 - s.slot) sb s.log x (contents_next s sb chained levels)
+
+-- after a superblock, a manifest and what is in memory come these that one promotion leaves: of a level down to some target,
+-- and of a manifest in some blocks
+pub record ArePublishedAfter (sb : Super) (m : Manifest) (memory : Memory) (next_sb : Super)
+    (next : Manifest) : Type 0 where
+  pub target : ℕ
+  pub made : Option LevelDesc
+  pub first : ℕ
+  pub size : ℕ
+  pub manifest_is : next ≡ manifest_after m memory target made
+  pub sb_is : next_sb ≡ super_after sb first size

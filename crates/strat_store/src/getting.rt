@@ -1,6 +1,6 @@
 //! What a store over levels says of a key at a version.
 
-ghost use Rattle.std.specs.Prelude.{◌≡◌, ◌≢◌, ◌<◌, ◌^◌, ℕ, [], ◌∷◌, length, true, false, Contains, IfOk, OnErr, IsErrOf};
+ghost use Rattle.std.specs.Prelude.{◌≡◌, ◌≢◌, ◌<◌, ◌^◌, ℕ, [], ◌∷◌, length, true, false, None, Contains, IfOk, OnErr, IsErrOf};
 ghost use Rattle.strat_array.specs.Kept.{Blocks};
 ghost use Rattle.strat_array.specs.Told.{TellsFound, AddsPair};
 ghost use Rattle.strat_base.specs.Tree.{is_known};
@@ -9,7 +9,7 @@ ghost use Rattle.strat_base.specs.declared.failures.Fault.TheVariants.{Damaged, 
 ghost use Rattle.strat_crash.specs.Faults.{HasCause, ReadsAtMost};
 ghost use Rattle.strat_crash.specs.Image.{Image};
 ghost use Rattle.strat_crash.specs.Moments.{Exposes};
-ghost use Rattle.strat_format.specs.Arrays.{blocks_of};
+ghost use Rattle.strat_format.specs.Arrays.{blocks_of, block_on};
 ghost use Rattle.strat_model.specs.Answer.{as_told};
 ghost use Rattle.strat_model.specs.Request.{Get};
 ghost use Rattle.strat_model.specs.Step.{found as answer_found};
@@ -125,6 +125,8 @@ pub(crate) fn get<D: Disk>(
     ensures cause { FailsAsTold (D.faults disk.old) (D.faults disk.new) result }
     ensures damaged { (b : ℕ) → result ≡ reply.Refused (why.Damaged b)
         → IsDamagedIn (D.view disk.old).content held.now.memory held.now.published.levels b }
+    ensures err { (b : ℕ) → result ≡ reply.Refused (why.Damaged b) → (f : Image)
+        → Exposes (D.view disk.old) f → block_on f b ≡ None }
     ensures end { MayTellOfKey result }
     ensures len { (result ≡ reply.Found → length out.new ≡ 1)
         × (result ≢ reply.Found → out.new ≡ []) }

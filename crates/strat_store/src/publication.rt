@@ -27,7 +27,7 @@ ghost use Rattle.strat_store.specs.Looking.{arrays_there};
 ghost use Rattle.strat_store.specs.Memory.{emptied};
 ghost use Rattle.strat_store.specs.Publishing.{IsComputed, is_in_front, manifest_after};
 ghost use Rattle.strat_store.specs.Recovering.{chained_of, held_of, IsAdmitted};
-ghost use Rattle.strat_store.specs.Settling.{super_after, held_next, MayFollow, WritesBeside, IsReadied};
+ghost use Rattle.strat_store.specs.Settling.{super_after, held_next, ArePublishedAfter, MayFollow, WritesBeside, IsReadied};
 
 use crate::admitting::{Published, admit};
 use crate::belonging::own_blocks;
@@ -156,8 +156,11 @@ fn prepare_next<D: Disk>(alloc: Global, held: &Recovered, disk: &mut D) -> Resul
         → StandsWith (D.view disk.old) (held_of held.now cached) x
         → IsReadied (D.view disk.new) (held_of held.now cached) x (super_of next.sb)
         (chained_of next.published)) }
-    ensures found { IfOk result (λ next. (cached : Blocks)
+    ensures fits { IfOk result (λ next. (cached : Blocks)
         → MayFollow (held_of held.now cached) (super_of next.sb) (chained_of next.published)) }
+    ensures found { IfOk result (λ next. ArePublishedAfter (super_of held.now.sb)
+        (manifest_of held.now.published.manifest) held.now.memory (super_of next.sb)
+        (manifest_of next.published.manifest)) }
     ensures kept { IfOk result (λ next. IsAdmitted (super_of next.sb) next.published) }
     ensures images { (cached : Blocks)
         → WritesBeside (D.view disk.old) (D.view disk.new) (held_of held.now cached) }
@@ -222,6 +225,9 @@ pub(crate) fn publish<D: Disk>(
     ensures ok { OnOk result ((x : Contents) (cached : Blocks)
         → StandsWith (D.view disk.old) (held_of held.old cached) x
         → IsPublishedAs (D.view disk.new) x (held_of held.new cached)) }
+    ensures found { OnOk result ((held.new.slot ≡ 1 - held.old.slot)
+        × ArePublishedAfter (super_of held.old.sb) (manifest_of held.old.published.manifest)
+        held.old.memory (super_of held.new.sb) (manifest_of held.new.published.manifest)) }
     ensures none { IsErrOf result trouble.NoMemory → (x : Contents) (cached : Blocks)
         → StandsWith (D.view disk.old) (held_of held.old cached) x
         → StandsWith (D.view disk.new) (held_of held.new cached) x }

@@ -5,10 +5,10 @@ ghost use Rattle.strat_array.specs.Kept.{Blocks};
 ghost use Rattle.strat_base.specs.declared.failures.Trouble.TheVariants.{Damaged, Device};
 ghost use Rattle.strat_crash.specs.Faults.{CountsFaults, HasCause, ReadsAtMost};
 ghost use Rattle.strat_crash.specs.Image.{Image};
-ghost use Rattle.strat_crash.specs.Moments.{Exposes, Since, Passes, IsDurable, OnlyReads};
+ghost use Rattle.strat_crash.specs.Moments.{Exposes, Since, Passes, TearsOnly, IsDurable, OnlyReads};
 ghost use Rattle.strat_format.specs.Chain.{chain_length};
 ghost use Rattle.strat_format.specs.Chained.{manifest_at};
-ghost use Rattle.strat_format.specs.Layout.{region_blocks};
+ghost use Rattle.strat_format.specs.Layout.{region_blocks, region_at, other_region};
 ghost use Rattle.strat_format.specs.SuperBlock.{IsLawful, newest_in};
 ghost use Rattle.strat_gate.specs.SuperView.{super_of};
 ghost use Rattle.strat_journal.specs.Log.{IsStale};
@@ -253,12 +253,14 @@ pub(crate) fn recover_store<D: Disk>(alloc: Global, disk: &mut D) -> Result<Reco
 /// one read, one write and one sync. Meanwhile every crash leaves the same contents.
 fn shut_other<D: Disk>(disk: &mut D, sb: &SuperBlock, journal: &Journal) -> Result<(), Failed>
     requires fits { IsLawful (super_of sb.now) }
-    ensures images { (f : Image) (x : Contents) → Exposes (D.view disk.old) f
+    ensures trail { (f : Image) (x : Contents) → Exposes (D.view disk.old) f
         → IsDurable (D.view disk.old) → x.sb ≡ super_of sb.now → ReadsAsSound f journal.now.stale x
         → (c : Image) → Since (D.view disk.new) (D.view disk.old).moment c → ReadsAs c x }
     ensures kept { OnOk result ((f : Image) (x : Contents) → Exposes (D.view disk.old) f
         → IsDurable (D.view disk.old) → x.sb ≡ super_of sb.now → ReadsAsSound f journal.now.stale x
         → ContentsStand (D.view disk.new) x) }
+    ensures images { TearsOnly (D.view disk.old) (D.view disk.new)
+        (region_at sb.now.mem (other_region sb.now.region)) 1 }
     ensures same { journal.now.stale ≡ false → disk.new ≡ disk.old }
     ensures time { Passes (D.view disk.old) (D.view disk.new) }
     ensures cause { CountsFaults (D.faults disk.old) (D.faults disk.new) result }

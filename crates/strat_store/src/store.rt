@@ -22,7 +22,7 @@ ghost use Rattle.strat_promote.specs.Job.{blocks_listed};
 ghost use Rattle.strat_recovery.specs.Asked.{asked};
 ghost use Rattle.strat_recovery.specs.Opening.{recover};
 ghost use Rattle.strat_standing.specs.Contents.{Contents};
-ghost use Rattle.strat_store.specs.Applying.{IsAppliedTo, FollowsStep, FailsAsTold, IsDamagedIn, IsLookedUp, IsUntouched, change_wanted, is_fault};
+ghost use Rattle.strat_store.specs.Applying.{IsAppliedTo, FollowsStep, FailsAsTold, IsDamagedIn, IsLookedUp, IsUntouched, TellsFaultOf, change_wanted, is_fault};
 ghost use Rattle.strat_store.specs.Following.{IsOpenedAs, IsUnchanged, LeavesOpening};
 ghost use Rattle.strat_store.specs.Held.{IsConsistent, StandsWith};
 ghost use Rattle.strat_store.specs.Memory.{info_told};
@@ -140,6 +140,7 @@ fn look<D: Disk>(
     ensures same { LooksThrough (D.view disk.old) (D.view disk.new)
         (arrays_there held.now.published.levels) cache.old cache.new }
     ensures cause { FailsAsTold (D.faults disk.old) (D.faults disk.new) result }
+    ensures err { TellsFaultOf (D.view disk.old) (request_of command.now) result }
     ensures damaged { (b : ℕ) → result ≡ reply.Refused (why.Damaged b)
         → IsDamagedIn (D.view disk.old).content held.now.memory held.now.published.levels b }
 {
@@ -187,7 +188,8 @@ fn answer<D: Disk>(
     ensures same { IsUntouched (D.view disk.old) (D.view disk.new) (request_of command.now)
         (held_of held.old cache.old) result (held_after held.new cache.new result) }
     ensures time { Passes (D.view disk.old) (D.view disk.new) }
-    ensures cause { FailsAsTold (D.faults disk.old) (D.faults disk.new) result }
+    ensures cause { FailsAsTold (D.faults disk.old) (D.faults disk.new) result
+        × TellsFaultOf (D.view disk.old) (request_of command.now) result }
     ensures damaged { (b : ℕ) → result ≡ reply.Refused (why.Damaged b)
         → IsDamagedIn (D.view disk.old).content held.old.memory held.old.published.levels b
         × ((f g : Image) → Exposes (D.view disk.old) f → Exposes (D.view disk.new) g
@@ -246,6 +248,7 @@ impl Store {
             self.old result self.new }
         ensures time { Passes (D.view disk.old) (D.view disk.new) }
         ensures cause { FailsAsTold (D.faults disk.old) (D.faults disk.new) result }
+        ensures err { TellsFaultOf (D.view disk.old) (request_of command.now) result }
         ensures damaged { (b : ℕ) → result ≡ reply.Refused (why.Damaged b)
             → IsDamagedIn (D.view disk.old).content self.old.memory self.old.levels b
             × ((f g : Image) → Exposes (D.view disk.old) f → Exposes (D.view disk.new) g

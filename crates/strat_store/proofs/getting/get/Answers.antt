@@ -5,7 +5,7 @@ use Rattle.strat_model.specs.declared.replies.Reply.{Reply}
 use Rattle.strat_store.specs.Applying.{IsLookedUp, is_fault}
 use Rattle.strat_store.specs.Recovering.{held_of}
 use Rattle.strat_store.proofs.LookLemmas.{through_refl}
-use Rattle.strat_store.proofs.GettingLemmas.{whole_read, answer_told, damaged_told, unknown_looked_up, known_looked_up}
+use Rattle.strat_store.proofs.GettingLemmas.{whole_read, answer_told, damaged_told, none_told, unknown_looked_up, known_looked_up}
 use Rattle.strat_store.proofs.getting.get.Goals as goal
 
 pub returns-then-not-has-clause-ok : goal.returns-then-not-has-clause-ok
@@ -34,3 +34,7 @@ returns-clause-found g c = λ f exposed ordered cached none is.
 pub returns-clause-damaged : goal.returns-clause-damaged
 returns-clause-damaged g c = λ b told.
     damaged_told _ c.args.held.now.memory c.args.held.now.published.levels c.look_through-found.result b c.look_through-found.ensures.damaged (sym c.reply_of_get.ensures.ok ∙ told)
+
+pub returns-clause-err : goal.returns-clause-err
+returns-clause-err g c = λ b told.
+    none_told _ _ c.look_through-found.result b c.look_through-found.ensures.damaged (sym c.reply_of_get.ensures.ok ∙ told)

@@ -5,6 +5,7 @@ use Rattle.strat_crash.proofs.MomentLemmas.{passes_trans}
 use Rattle.strat_crash.specs.Blocks.{TearsBlocks}
 use Rattle.strat_gate.specs.SuperView.{super_of}
 use Rattle.strat_journal.proofs.ReadLemmas.{same_err}
+use Rattle.strat_manifest.specs.ManifestView.{manifest_of}
 use Rattle.strat_standing.specs.Standing.{ShowsTable}
 use Rattle.strat_store.specs.Applying.{IsPublishedAs}
 use Rattle.strat_store.specs.Held.{Held, IsConsistent}
@@ -12,7 +13,7 @@ use Rattle.strat_store.specs.Memory.{Memory, emptied}
 use Rattle.strat_store.specs.Publishing.{is_in_front}
 use Rattle.strat_store.specs.Recovering.{held_of, empty_cache, chained_of}
 use Rattle.strat_store.proofs.SettlingLemmas.{unwritten}
-use Rattle.strat_store.proofs.SettledLemmas.{consistent_ready, stands_ready, damaged_ready, trail_beside, stands_beside, arrays_kept, one_trail, published_as, consistent_next, none_damaged}
+use Rattle.strat_store.proofs.SettledLemmas.{consistent_ready, stands_ready, damaged_ready, trail_beside, stands_beside, arrays_kept, one_trail, published_after, published_as, consistent_next, none_damaged}
 use Rattle.strat_store.proofs.publication.publish.Goals as goal
 
 pub prepare-requires : goal.prepare-requires
@@ -67,10 +68,10 @@ returns-in_err-next-clause-damaged g c = λ b torn.
 pub settle-requires-clause-fits : goal.settle-requires-clause-fits
 settle-requires-clause-fits g c =
     let whole = c.requires.kept (empty_cache 0) in
-    (whole.slot, let active = whole.log.active in let most = whole.lawful.region_most in omega (arith, active, most), (c.in_ok-next.ensures.found (empty_cache 0)).lawful)
+    (whole.slot, let active = whole.log.active in let most = whole.lawful.region_most in omega (arith, active, most), (c.in_ok-next.ensures.fits (empty_cache 0)).lawful)
 
 pub settle-requires-clause-same : goal.settle-requires-clause-same
-settle-requires-clause-same g c = (c.in_ok-next.ensures.found (empty_cache 0)).mem
+settle-requires-clause-same g c = (c.in_ok-next.ensures.fits (empty_cache 0)).mem
 
 pub returns-in_err-settle-clause-trail : goal.returns-in_err-settle-clause-trail
 returns-in_err-settle-clause-trail g c = λ x cached stands.
@@ -113,7 +114,7 @@ returns-clause-kept g c = λ _ cached.
     let next = c.in_ok-next.next in
     let admitted = c.in_ok-next.ensures.kept in
     subst IsConsistent (sym (c.in_ok-settle.ensures.ok cached))
-    (consistent_next (held_of mid cached) (super_of next.sb) (chained_of next.published) next.published.levels whole (c.in_ok-next.ensures.found cached) admitted.spelled admitted.belonging admitted.placed)
+    (consistent_next (held_of mid cached) (super_of next.sb) (chained_of next.published) next.published.levels whole (c.in_ok-next.ensures.fits cached) admitted.spelled admitted.belonging admitted.placed)
 
 pub returns-clause-room : goal.returns-clause-room
 returns-clause-room g c =
@@ -122,3 +123,11 @@ returns-clause-room g c =
 
 pub returns-clause-time : goal.returns-clause-time
 returns-clause-time g c = passes_trans (c.prepare_next.ensures.images (empty_cache 0)).tears.time c.settle.ensures.time
+
+pub returns-clause-found : goal.returns-clause-found
+returns-clause-found g c =
+    let all = c.in_ok-settle.ensures.ok (empty_cache 0) in (
+      ap (λ (h : Held). h.slot) all,
+      published_after (super_of c.args.held.now.sb) _ _ (manifest_of c.args.held.now.published.manifest) _ _ c.args.held.now.memory c.prepare.new.self (Some c.args.held.now.sb.mem)
+          c.in_ok-prepare.ensures.ok (ap (λ (h : Held). h.sb) all) (ap (λ (h : Held). h.chained.manifest) all) c.in_ok-next.ensures.found,
+    )

@@ -5,7 +5,7 @@ use Rattle.strat_model.specs.Pairs.{Pairs}
 use Rattle.strat_model.specs.Request.{Request}
 use Rattle.strat_store.specs.Applying.{IsAppliedTo, FollowsStep, is_fault}
 use Rattle.strat_store.specs.Recovering.{held_of, held_after}
-use Rattle.strat_store.proofs.ApplyLemmas.{wanted_for, look_applied, look_follows}
+use Rattle.strat_store.proofs.ApplyLemmas.{wanted_for, tells_of_change, look_applied, look_follows}
 use Rattle.strat_store.proofs.store.answer.Goals as goal
 
 pub returns-in-Some-clause-ok : goal.returns-in-Some-clause-ok
@@ -32,3 +32,6 @@ returns-in-None-clause-ok g c = λ x w.
 pub returns-in-None-clause-trail : goal.returns-in-None-clause-trail
 returns-in-None-clause-trail g c = λ x w.
     look_follows (g.D.Disk.view c.args.disk.now) (g.D.Disk.view c.look.new.disk) (held_of c.args.held.now c.args.cache.now) x _ (as_told c.look.result c.look.new.out) c.requires.fits.0 c.in-None.ensures c.look.ensures.same.disk w
+
+pub returns-in-Some-clause-cause : goal.returns-in-Some-clause-cause
+returns-in-Some-clause-cause g c = (c.change.ensures.cause, tells_of_change (g.D.Disk.view c.args.disk.now) _ _ c.change.result c.in-Some.ensures)

@@ -1,6 +1,7 @@
-use Rattle.std.proofs.Common.{inl}
+use Rattle.std.proofs.Common.{inl, refl, ap}
+use Rattle.strat_store.specs.Applying.{is_fault}
 use Rattle.strat_store.specs.Recovering.{held_of}
-use Rattle.strat_store.proofs.ApplyLemmas.{info_here, stat_here}
+use Rattle.strat_store.proofs.ApplyLemmas.{info_here, stat_here, info_calm, tells_calm}
 use Rattle.strat_store.proofs.store.look.Goals as goal
 
 pub returns-in-Info-clause-ok : goal.returns-in-Info-clause-ok
@@ -12,3 +13,16 @@ pub returns-in-Stat-clause-ok : goal.returns-in-Stat-clause-ok
 returns-in-Stat-clause-ok g c = λ x w.
     let told = stat_here (g.D.Disk.view c.args.disk.now) (held_of c.args.held.now c.args.cache.now) x (c.requires.kept c.args.cache.now) w in
     rw (c.in-Stat.is, c.requires.room, c.stat.ensures.ok) (inl (told, w))
+
+pub returns-in-Get-clause-err : goal.returns-in-Get-clause-err
+returns-in-Get-clause-err g c = rw (c.in-Get.is) (record { reached = λ failed. refl; none = λ none. c.get.ensures.err })
+
+pub returns-in-Info-clause-err : goal.returns-in-Info-clause-err
+returns-in-Info-clause-err g c =
+    tells_calm (g.D.Disk.view c.args.disk.now) _ c.info.result (info_calm c.args.held.now.memory c.in-Info.version c.info.result c.info.ensures.found c.info.ensures.none)
+
+pub returns-in-Stat-clause-err : goal.returns-in-Stat-clause-err
+returns-in-Stat-clause-err g c = tells_calm (g.D.Disk.view c.args.disk.now) _ c.stat.result (ap is_fault c.stat.ensures.ok)
+
+pub returns-in_default-clause-err : goal.returns-in_default-clause-err
+returns-in_default-clause-err g c = tells_calm (g.D.Disk.view c.args.disk.now) _ _ refl
