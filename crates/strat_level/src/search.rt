@@ -53,7 +53,13 @@ pub(crate) fn place_of(
 }
 
 /// How many items are less than a key and a version.
-fn start_of(pool: &ArenaPool, arena: u32, items: &[Item], key: &[u8], version: Version) -> usize
+pub(crate) fn start_of(
+    pool: &ArenaPool,
+    arena: u32,
+    items: &[Item],
+    key: &[u8],
+    version: Version,
+) -> usize
     requires found { 0 < shares_at pool.now arena }
     requires fits { IsTrue (have_pairs (arena_at pool.now arena).pairs items.now) }
     requires kept { IsTrue (is_ascending (entries_of (arena_at pool.now arena).pairs items.now)) }

@@ -2,19 +2,20 @@
 
 ghost use Rattle.std.specs.List.{find, insert, slice_get};
 ghost use Rattle.std.specs.Option.{option_copied};
-ghost use Rattle.std.specs.Prelude.{◌≡◌, ◌<◌, ◌≤◌, ◌+◌, length, slice_set, slice_index_or, option_and_then, IfSome, IfOk, IfErr, IsTrue, MatchResult, vec_capacity, if◌then◌else◌, ◌==◌};
+ghost use Rattle.std.specs.Prelude.{◌≡◌, ◌<◌, ◌≤◌, ◌+◌, length, slice_set, slice_index_or, option_and_then, ◌-◌, ◌^◌, IfSome, IfOk, IfErr, OnOk, OnErr, IsTrue, MatchResult, vec_capacity, if◌then◌else◌, ◌==◌};
 ghost use Rattle.strat_arena.specs.ArenaView.{no_arena};
 ghost use Rattle.strat_arena.specs.PoolView.{arena_at, shares_at, count_shared, SameBeside};
 ghost use Rattle.strat_base.specs.Entries.{Entry as KeyEntry, is_of};
 ghost use Rattle.strat_base.specs.EntryBytes.{fits_fields};
 ghost use Rattle.strat_base.specs.EntryView.{entry_of};
 ghost use Rattle.strat_level.specs.Memtable.{entries_held, ListStands};
+ghost use Rattle.strat_level.specs.Places.{IsStart};
 ghost use Rattle.strat_state.specs.Live.{live};
 
-use crate::search::key_range;
+use crate::search::{key_range, start_of};
 use std::marker::Model;
 use strat_arena::{ArenaPool, Item};
-use strat_base::{Entry, Version};
+use strat_base::{Entry, NoMemory, Version};
 use strat_live::live_in;
 use strat_tree::Tree;
 
@@ -75,6 +76,15 @@ impl ZeroView {
         Some(from + place)
     }
 
+    /// The place of the first item of a key or of one after it, or how many items there are. O(log items)
+    /// comparisons of keys.
+    pub fn seek(&self, pool: &ArenaPool, key: &[u8]) -> usize
+        requires kept { ListStands pool.now self.now }
+        ensures ok { IsStart (entries_held pool.now self.now) key.now 4294967295 result }
+    {
+        start_of(pool, self.arena, &self.items, key, u32::MAX)
+    }
+
     /// What the item at a place says of its key: its value, or `None` where the key is gone. O(1).
     pub fn value<'a>(&self, pool: &'a ArenaPool, place: usize) -> Option<&'a [u8]>
         requires kept { ListStands pool.now self.now }
@@ -99,6 +109,25 @@ impl ZeroView {
         ensures fits { IsTrue (fits_fields (entry_of result)) }
     {
         pool.entry(self.arena, self.items[place])
+    }
+
+    /// An equal list that shares the arena. After want of memory all is as before. O(items), 12 bytes for
+    /// each.
+    pub fn snapshot(&self, pool: &mut ArenaPool) -> Result<ZeroView, NoMemory>
+        requires kept { ListStands pool.old self.now }
+        requires room { shares_at pool.old self.now.arena < 2 ^ 32 - 1 }
+        ensures ok { IfOk result (λ v. (v.arena ≡ self.now.arena) × (v.items ≡ self.now.items)) }
+        ensures found { OnOk result (shares_at pool.new self.now.arena
+            ≡ shares_at pool.old self.now.arena + 1) }
+        ensures kept { OnOk result (arena_at pool.new self.now.arena
+            ≡ arena_at pool.old self.now.arena) }
+        ensures same { OnOk result (SameBeside pool.old pool.new self.now.arena) }
+        ensures len { count_shared pool.new ≡ count_shared pool.old }
+        ensures err { OnErr result (pool.new ≡ pool.old) }
+    {
+        let items = Vec::from_slice(*self.items.allocator(), &self.items)?;
+        pool.share(self.arena);
+        Ok(ZeroView::new(self.arena, items))
     }
 
     /// Gives the share in the arena back.

@@ -164,6 +164,24 @@ impl Zero {
         &self.list
     }
 
+    /// The items as they are now, for a reader of this moment: they share the arena, and later puts leave
+    /// them as they are. After want of memory all is as before. O(items), 12 bytes for each.
+    pub fn snapshot(&self, pool: &mut ArenaPool) -> Result<ZeroView, NoMemory>
+        requires kept { ListStands pool.old self.now.list }
+        requires room { shares_at pool.old self.now.list.arena < 2 ^ 32 - 1 }
+        ensures ok { IfOk result (λ v. (v.arena ≡ self.now.list.arena)
+            × (v.items ≡ self.now.list.items)) }
+        ensures found { OnOk result (shares_at pool.new self.now.list.arena
+            ≡ shares_at pool.old self.now.list.arena + 1) }
+        ensures kept { OnOk result (arena_at pool.new self.now.list.arena
+            ≡ arena_at pool.old self.now.list.arena) }
+        ensures same { OnOk result (SameBeside pool.old pool.new self.now.list.arena) }
+        ensures len { count_shared pool.new ≡ count_shared pool.old }
+        ensures err { OnErr result (pool.new ≡ pool.old) }
+    {
+        self.list.snapshot(pool)
+    }
+
     /// Gives the share in the arena back.
     pub fn release(self, pool: &mut ArenaPool)
         requires { ListStands pool.old self.list }

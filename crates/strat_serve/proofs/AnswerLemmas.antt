@@ -30,7 +30,7 @@ use Rattle.strat_standing.specs.Standing.{ShowsTable}
 use Rattle.strat_standing.proofs.FreeLemmas.{shows_contents}
 use Rattle.strat_store.specs.Applying.{is_fault, ran_short, IsAnsweredBy, IsShortOf, IsBrokenBy, IsAppliedTo, FollowsStep, FailsAsTold, IsDamagedIn}
 use Rattle.strat_store.specs.Held.{Held, StandsWith, IsConsistent, position_with}
-use Rattle.strat_store.specs.Looking.{arrays_there}
+use Rattle.strat_cursor.specs.Looking.{arrays_there}
 use Rattle.strat_serve.specs.Session.{IsAnswered, ContinuesWith, StopsWith, FailsAsMet, IsFoundDamaged, fault_told}
 
 -- what a reply tells of faults

@@ -32,7 +32,7 @@ use Rattle.strat_standing.specs.Standing.{ShowsTable}
 use Rattle.strat_store.specs.Applying.{IsDamagedIn}
 use Rattle.strat_store.specs.Following.{FollowsFrom, IsOpenedAs, IsUnchanged, LeavesOpening}
 use Rattle.strat_store.specs.Held.{Held, IsConsistent, StandsWith, position_with}
-use Rattle.strat_store.specs.Looking.{arrays_there}
+use Rattle.strat_cursor.specs.Looking.{arrays_there}
 use Rattle.strat_serve.specs.World.{World}
 
 -- these bytes were taken from the front of a source

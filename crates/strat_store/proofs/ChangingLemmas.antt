@@ -40,7 +40,7 @@ use Rattle.strat_state.specs.Sound.{is_accepted, are_accepted, accepts_change, T
 use Rattle.strat_state.specs.State.{tree_after}
 use Rattle.strat_store.specs.Applying.{IsAppliedTo, FollowsStep, is_fault, ran_short, table_left}
 use Rattle.strat_store.specs.Held.{head_held, contents_held, IsConsistent, StandsWith, position_with}
-use Rattle.strat_store.specs.Looking.{AreCachedFrom}
+use Rattle.strat_cursor.specs.Looking.{AreCachedFrom}
 use Rattle.strat_store.specs.Memory.{Memory, refusal_of_change, memory_after, reply_to, IsMemoryOf}
 use Rattle.strat_store.specs.Recovering.{chained_of, held_of, held_after}
 use Rattle.strat_store.specs.declared.recovering.Recovered.{Recovered}

@@ -32,7 +32,7 @@ use Rattle.strat_standing.specs.Occupied.{IsSpaceOf, UsesMore, extents_of, array
 use Rattle.strat_standing.specs.Standing.{ReadsAs, LeavesContent}
 use Rattle.strat_state.specs.Sound.{IsSound}
 use Rattle.strat_state.specs.State.{State, IsPaid}
-use Rattle.strat_store.specs.Looking.{arrays_there}
+use Rattle.strat_cursor.specs.Looking.{arrays_there}
 use Rattle.strat_store.specs.Memory.{Memory}
 use Rattle.strat_store.specs.Promoting.{HoldInMemory, IsPromotedTo}
 use Rattle.strat_store.specs.Publishing.{MayCompute, IsComputedBy, IsWrittenBeside, IsWrittenTo, manifest_after, contents_after, descs_to, descs_behind}

@@ -50,7 +50,7 @@ use Rattle.strat_store.proofs.WholeLemmas.{whole_promotes, array_lawful}
 use Rattle.strat_store.specs.Applying.{is_fault, IsLookedUp, IsDamagedIn}
 use Rattle.strat_store.specs.Getting.{reply_of_get}
 use Rattle.strat_store.specs.Held.{Held, IsConsistent, StandsWith, contents_held, head_held}
-use Rattle.strat_store.specs.Looking.{levels_there, arrays_there, MayBeFound, AreInOrder, AreCachedFrom, LooksThrough, NamesNoBlock, HaveOwnIds}
+use Rattle.strat_cursor.specs.Looking.{levels_there, arrays_there, MayBeFound, AreInOrder, AreCachedFrom, LooksThrough, NamesNoBlock, HaveOwnIds}
 use Rattle.strat_store.specs.Memory.{Memory}
 
 -- what is told of what was found is the answer

@@ -15,7 +15,7 @@ use Rattle.strat_recovery.specs.Opening.{state_of}
 use Rattle.strat_state.specs.Level.{TaggedArray, Level}
 use Rattle.strat_state.specs.Sound.{IsSound, has_ascending_entries}
 use Rattle.strat_state.specs.State.{State}
-use Rattle.strat_store.specs.Looking.{AreInOrder}
+use Rattle.strat_cursor.specs.Looking.{AreInOrder}
 
 -- what an image makes of an item of a list is in the list that it makes
 pub made_of : {A B : Type 0} (h : A → Option B) (xs : List A) (ys : List B) (x : A) → all_some h xs ≡ Some ys → Among x xs → (y : B) × (h x ≡ Some y) × Among y ys

@@ -29,7 +29,7 @@ use Rattle.strat_state.specs.Level.{is_distinct}
 use Rattle.strat_state.specs.LookUp.{looked_up, first_live}
 use Rattle.strat_state.specs.Reading.{live_of}
 use Rattle.strat_base.specs.Tree.{below}
-use Rattle.strat_store.specs.Looking.{levels_there, arrays_there, AreInOrder, AreCachedFrom, LooksThrough, NamesNoBlock, HaveOwnIds, MayBeAsked, asked_of_level, array_says, decides, reads_of_array, reads_in}
+use Rattle.strat_cursor.specs.Looking.{levels_there, arrays_there, AreInOrder, AreCachedFrom, LooksThrough, NamesNoBlock, HaveOwnIds, MayBeAsked, asked_of_level, array_says, decides, reads_of_array, reads_in}
 
 -- the number of an array among others names it
 id_among : (arrays : List ArrayDesc) (b : ArrayDesc) → Among b arrays → Among b.id (map (λ a. a.id) arrays)

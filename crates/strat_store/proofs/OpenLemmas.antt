@@ -28,7 +28,7 @@ use Rattle.strat_store.specs.declared.opening.AttachFault.{AttachFault}
 use Rattle.strat_store.specs.declared.opening.AttachFault.TheVariants.{Device}
 use Rattle.strat_store.specs.Following.{ChangesGateAlone, FollowsFrom, IsOpenedAs, LeavesOpening}
 use Rattle.strat_store.specs.Held.{contents_held, StandsWith}
-use Rattle.strat_store.specs.Looking.{AreCachedFrom}
+use Rattle.strat_cursor.specs.Looking.{AreCachedFrom}
 use Rattle.strat_store.specs.Recovering.{chained_of, head_recovered, held_of, empty_cache, IsRecoveredFrom, ReadsAsSound}
 use Rattle.strat_store.specs.declared.recovering.Recovered.{Recovered}
 

@@ -11,7 +11,7 @@ use Rattle.strat_level.specs.Levels.{level_numbered}
 use Rattle.strat_recovery.specs.Opening.{has_own_versions}
 use Rattle.strat_standing.proofs.ListLemmas.{among_contained}
 use Rattle.strat_store.specs.Held.{ArePlaced}
-use Rattle.strat_store.specs.Looking.{levels_there}
+use Rattle.strat_cursor.specs.Looking.{levels_there}
 use Rattle.strat_store.specs.Recovering.{FitsInMemory, MayBePlaced}
 use Rattle.strat_store.proofs.LookLemmas.{level_next}
 use Rattle.strat_store.proofs.TagLemmas.{rising_parts}

@@ -43,7 +43,7 @@ use Rattle.strat_standing.specs.Next.{AreArraysOf, arrays_made}
 use Rattle.strat_standing.specs.Occupied.{UsesMore, extents_of}
 use Rattle.strat_state.specs.Sound.{IsSound}
 use Rattle.strat_state.specs.State.{State, versions_of}
-use Rattle.strat_store.specs.Looking.{arrays_there}
+use Rattle.strat_cursor.specs.Looking.{arrays_there}
 use Rattle.strat_store.specs.Memory.{Memory}
 use Rattle.strat_store.specs.Promoting.{MayPromote, HoldInMemory, HaveFewLeads, IsPromotedTo}
 

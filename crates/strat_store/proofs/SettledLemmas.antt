@@ -53,7 +53,7 @@ use Rattle.strat_store.proofs.SettlingLemmas.{listed_arrays, named_there}
 use Rattle.strat_store.proofs.WholeLemmas.{leads_summed, whole_promotes}
 use Rattle.strat_store.specs.Applying.{IsDamagedIn, IsPublishedAs}
 use Rattle.strat_store.specs.Held.{Held, ArePlaced, IsConsistent, StandsWith, contents_held, head_held}
-use Rattle.strat_store.specs.Looking.{AreCachedFrom, arrays_there}
+use Rattle.strat_cursor.specs.Looking.{AreCachedFrom, arrays_there}
 use Rattle.strat_store.specs.Memory.{Memory, IsMemoryOf, emptied}
 use Rattle.strat_store.specs.Promoting.{HaveFewLeads}
 use Rattle.strat_store.specs.Publishing.{is_in_front, manifest_after}

@@ -24,7 +24,7 @@ use Rattle.strat_standing.specs.Occupied.{IsSpaceOf}
 use Rattle.strat_state.specs.Level.{Level}
 use Rattle.strat_store.specs.Applying.{IsDamagedIn}
 use Rattle.strat_store.specs.Held.{Held, ArePlaced, IsConsistent, StandsWith, contents_held}
-use Rattle.strat_store.specs.Looking.{arrays_there}
+use Rattle.strat_cursor.specs.Looking.{arrays_there}
 use Rattle.strat_store.specs.Promoting.{HaveFewLeads}
 use Rattle.strat_store.specs.Publishing.{IsComputed, IsComputedBy, MayCompute, contents_after, manifest_after}
 use Rattle.strat_store.specs.Settling.{super_after, contents_next, WritesBeside, IsReadied}

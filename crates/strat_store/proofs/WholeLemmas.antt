@@ -43,7 +43,7 @@ use Rattle.strat_state.specs.Sound.{is_accepted, are_accepted}
 use Rattle.strat_state.specs.State.{tree_after, update_of}
 use Rattle.strat_store.specs.Held.{Held, IsConsistent, StandsWith, contents_held}
 use Rattle.strat_store.specs.Publishing.{MayCompute}
-use Rattle.strat_store.specs.Looking.{arrays_there}
+use Rattle.strat_cursor.specs.Looking.{arrays_there}
 use Rattle.strat_store.specs.Promoting.{MayPromote}
 
 -- an update that was accepted is at a version that is there

@@ -24,7 +24,7 @@ use Rattle.strat_recovery.specs.StateTable.{table_of}
 use Rattle.strat_standing.specs.Contents.{Contents, contents_state}
 use Rattle.strat_standing.specs.Standing.{ShowsTable}
 use Rattle.strat_store.specs.Held.{Held, StandsWith, position_with}
-use Rattle.strat_store.specs.Looking.{LooksThrough, arrays_there}
+use Rattle.strat_cursor.specs.Looking.{LooksThrough, arrays_there}
 use Rattle.strat_store.specs.Memory.{Memory, refusal_of_change}
 use Rattle.strat_store.specs.Promoting.{HaveFewLeads}
 

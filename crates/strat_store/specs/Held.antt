@@ -17,7 +17,7 @@ use Rattle.strat_standing.specs.Contents.{Contents, contents_state}
 use Rattle.strat_standing.specs.Standing.{ContentsStand}
 use Rattle.strat_state.specs.Level.{Level}
 use Rattle.strat_state.specs.Sound.{are_accepted}
-use Rattle.strat_store.specs.Looking.{AreCachedFrom, levels_there}
+use Rattle.strat_cursor.specs.Looking.{AreCachedFrom, levels_there}
 use Rattle.strat_store.specs.Memory.{Memory, IsMemoryOf}
 
 -- a store as its callers see it: the newest superblock and its slot, the manifest with the blocks of its

@@ -2,7 +2,6 @@ pub mod Causes
 pub mod Format
 pub mod Memory
 pub mod MemoryFields
-pub mod Looking
 pub mod Belonging
 pub mod Getting
 pub mod Held

@@ -15,7 +15,7 @@ use Rattle.strat_recovery.specs.Opened.{level_on}
 use Rattle.strat_standing.specs.Next.{AreNewArrays, arrays_made}
 use Rattle.strat_state.specs.Setting.{set_all}
 use Rattle.strat_state.specs.State.{State, IsPaid, versions_of, journal_updates}
-use Rattle.strat_store.specs.Looking.{levels_there, arrays_there}
+use Rattle.strat_cursor.specs.Looking.{levels_there, arrays_there}
 use Rattle.strat_store.specs.Memory.{Memory}
 
 -- how many leads level 0 has, and then levels 1 to 22

@@ -21,7 +21,7 @@ ghost use Rattle.strat_standing.specs.Standing.{ShowsTable, ContentsStand};
 ghost use Rattle.strat_state.specs.Sound.{Takes};
 ghost use Rattle.strat_store.specs.Applying.{IsAppliedTo, FollowsStep, FailsAsTold, IsDamagedIn, is_fault, refusal_of_trouble};
 ghost use Rattle.strat_store.specs.Held.{IsConsistent, StandsWith};
-ghost use Rattle.strat_store.specs.Looking.{arrays_there};
+ghost use Rattle.strat_cursor.specs.Looking.{arrays_there};
 ghost use Rattle.strat_store.specs.Memory.{refusal_of_change};
 ghost use Rattle.strat_store.specs.Recovering.{held_of, held_after};
 

@@ -19,7 +19,7 @@ ghost use Rattle.strat_recovery.specs.Head.{parent_numbers};
 ghost use Rattle.strat_standing.specs.Contents.{Contents};
 ghost use Rattle.strat_standing.specs.Next.{HasManifest, arrays_made};
 ghost use Rattle.strat_standing.specs.Occupied.{UsesMore, extents_of};
-ghost use Rattle.strat_store.specs.Looking.{arrays_there};
+ghost use Rattle.strat_cursor.specs.Looking.{arrays_there};
 ghost use Rattle.strat_store.specs.Promoting.{MayPromote, HaveFewLeads};
 ghost use Rattle.strat_store.specs.Publishing.{IsWrittenTo, MayCompute, IsComputedBy, manifest_after};
 

@@ -11,7 +11,7 @@ ghost use Rattle.strat_crash.specs.Moments.{Exposes};
 ghost use Rattle.strat_format.specs.Arrays.{blocks_of};
 ghost use Rattle.strat_recovery.specs.Asked.{on_disk};
 ghost use Rattle.strat_state.specs.LookUp.{looked_up};
-ghost use Rattle.strat_store.specs.Looking.{levels_there, arrays_there, MayBeFound, AreInOrder, AreCachedFrom, LooksThrough, NamesNoBlock, HaveOwnIds, MayBeAsked, asked_of_level, array_says, decides, reads_of_array, reads_in};
+ghost use Rattle.strat_cursor.specs.Looking.{levels_there, arrays_there, MayBeFound, AreInOrder, AreCachedFrom, LooksThrough, NamesNoBlock, HaveOwnIds, MayBeAsked, asked_of_level, array_says, decides, reads_of_array, reads_in};
 
 use strat_array::{Cache, Scratch, Seen, find};
 use strat_base::limits::LEVELS;

@@ -13,7 +13,7 @@ ghost use Rattle.strat_state.specs.LookUp.{looked_up};
 ghost use Rattle.strat_state.specs.Reading.{level_zero, live_of};
 ghost use Rattle.strat_state.specs.Sound.{IsSound};
 ghost use Rattle.strat_state.specs.State.{State, versions_of};
-ghost use Rattle.strat_store.specs.Looking.{AreInOrder};
+ghost use Rattle.strat_cursor.specs.Looking.{AreInOrder};
 
 /// A store whose state is sound answers as its table does: with what level 0 says of a key, or else with what is looked
 /// up in the levels that an image has. Its arrays are in order in that image.

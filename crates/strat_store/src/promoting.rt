@@ -14,7 +14,7 @@ ghost use Rattle.strat_standing.specs.Next.{arrays_made};
 ghost use Rattle.strat_standing.specs.Occupied.{UsesMore, extents_of};
 ghost use Rattle.strat_state.specs.Sound.{IsSound};
 ghost use Rattle.strat_state.specs.State.{State};
-ghost use Rattle.strat_store.specs.Looking.{arrays_there};
+ghost use Rattle.strat_cursor.specs.Looking.{arrays_there};
 ghost use Rattle.strat_store.specs.Promoting.{MayPromote, HoldInMemory, HaveFewLeads, IsPromotedTo};
 
 use crate::memory::Memory;

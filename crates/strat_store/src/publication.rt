@@ -23,7 +23,7 @@ ghost use Rattle.strat_standing.specs.Standing.{ShowsTable, ContentsStand};
 ghost use Rattle.strat_state.specs.Level.{Level};
 ghost use Rattle.strat_store.specs.Applying.{IsDamagedIn, IsPublishedAs, IsOkOrShort};
 ghost use Rattle.strat_store.specs.Held.{IsConsistent, StandsWith, contents_held};
-ghost use Rattle.strat_store.specs.Looking.{arrays_there};
+ghost use Rattle.strat_cursor.specs.Looking.{arrays_there};
 ghost use Rattle.strat_store.specs.Memory.{emptied};
 ghost use Rattle.strat_store.specs.Publishing.{IsComputed, is_in_front, manifest_after};
 ghost use Rattle.strat_store.specs.Recovering.{chained_of, held_of, IsAdmitted};

@@ -26,7 +26,7 @@ ghost use Rattle.strat_store.specs.Applying.{IsAppliedTo, FollowsStep, FailsAsTo
 ghost use Rattle.strat_store.specs.Following.{IsOpenedAs, IsUnchanged, LeavesOpening};
 ghost use Rattle.strat_store.specs.Held.{IsConsistent, StandsWith};
 ghost use Rattle.strat_store.specs.Memory.{info_told};
-ghost use Rattle.strat_store.specs.Looking.{AreInOrder, AreCachedFrom, LooksThrough, arrays_there, levels_there};
+ghost use Rattle.strat_cursor.specs.Looking.{AreInOrder, AreCachedFrom, LooksThrough, arrays_there, levels_there};
 ghost use Rattle.strat_store.specs.Recovering.{held_of, held_after, empty_cache};
 ghost use Rattle.strat_store.specs.declared.opening.AttachFault.TheVariants as fault;
 

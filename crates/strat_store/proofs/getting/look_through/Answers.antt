@@ -1,7 +1,7 @@
 use Rattle.std.proofs.Common.{subst}
 use Rattle.strat_base.specs.Tree.{Parents}
 use Rattle.strat_crash.specs.Faults.{ReadsAtMost}
-use Rattle.strat_store.specs.Looking.{reads_in}
+use Rattle.strat_cursor.specs.Looking.{reads_in}
 use Rattle.strat_store.proofs.getting.look_through.Goals as goal
 
 pub returns-in-None-clause-reads : goal.returns-in-None-clause-reads

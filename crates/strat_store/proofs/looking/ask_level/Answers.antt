@@ -3,7 +3,7 @@ use Rattle.strat_array.proofs.SearchLemmas.{if_ok_then}
 use Rattle.strat_array.specs.Told.{TellsFound}
 use Rattle.strat_base.specs.declared.descriptors.ArrayDesc.{ArrayDesc}
 use Rattle.strat_crash.specs.Faults.{ReadsAtMost}
-use Rattle.strat_store.specs.Looking.{arrays_there, asked_of_level, array_says, reads_of_array}
+use Rattle.strat_cursor.specs.Looking.{arrays_there, asked_of_level, array_says, reads_of_array}
 use Rattle.strat_store.proofs.LookLemmas.{asked_there, tell_one, through_one, names_one}
 use Rattle.strat_store.proofs.looking.ask_level.Goals as goal
 

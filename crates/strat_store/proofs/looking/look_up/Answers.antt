@@ -2,7 +2,7 @@ use Rattle.std.proofs.Common.{◌≡◌, ◌<◌, false, [], length, sym, ◌∙
 use Rattle.strat_array.specs.Told.{TheirPairs, TellsFound, AddsPair}
 use Rattle.strat_recovery.specs.Asked.{on_disk}
 use Rattle.strat_state.specs.LookUp.{looked_up}
-use Rattle.strat_store.specs.Looking.{levels_there, decides}
+use Rattle.strat_cursor.specs.Looking.{levels_there, decides}
 use Rattle.strat_store.proofs.LookLemmas.{through_trans, still_cached, passes_on, passing_answers, reads_left, adds_none}
 use Rattle.strat_store.proofs.looking.look_up.Goals as goal
 

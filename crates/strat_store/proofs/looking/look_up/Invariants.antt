@@ -1,7 +1,7 @@
 use Rattle.std.proofs.Common.{◌≡◌, ◌≤◌, ◌<◌, ◌+◌, ◌^◌, ℕ, length, drop, Contains}
 use Rattle.strat_base.specs.declared.descriptors.ArrayDesc.{ArrayDesc}
 use Rattle.strat_format.specs.Arrays.{blocks_of}
-use Rattle.strat_store.specs.Looking.{arrays_there, reads_in}
+use Rattle.strat_cursor.specs.Looking.{arrays_there, reads_in}
 use Rattle.strat_store.proofs.LookLemmas.{Passing}
 use Rattle.strat_store.proofs.looking.look_up.Given as goal
 

@@ -1,0 +1,2 @@
+//! Ranges of a version's pairs, through level 0 and the levels of a store.
+#![tactic(auto)]
