@@ -13,8 +13,8 @@ use Rattle.strat_model.specs.Request.{Request, Put, Delete, Get, Clone, Scan, In
 use Rattle.strat_model.specs.Run.{Position, Response, Answers, position_after}
 use Rattle.strat_model.specs.Spelling.{counted, command_bytes, command_body, is_built, size_refusal, FitsFields, HasForm, Spells, IsMalformed, HasUnlawfulSize, IsRefusedAs, tag_of}
 use Rattle.strat_model.specs.Step.{step}
-use Rattle.strat_frame.specs.Fields.{number_then, sole_number, version_key_in, version_pair_in, request_in, command_in}
-use Rattle.strat_frame.proofs.FieldLemmas.{bind_some, map_some, either_arm, no_arm, front_parts, ReadsAll, number_reads, word_reads, sole_reads, version_key_reads, version_pair_reads}
+use Rattle.strat_frame.specs.Fields.{number_then, sole_number, version_key_in, version_pair_in, version_range_in, request_in, command_in}
+use Rattle.strat_frame.proofs.FieldLemmas.{bind_some, map_some, either_arm, no_arm, front_parts, ReadsAll, number_reads, word_reads, sole_reads, version_key_reads, version_pair_reads, version_range_reads}
 
 -- a command whose opcode and fields these are
 record IsRequest (opcode : ℕ) (fields : List ℕ) (request : Request) : Type 0 where
@@ -54,9 +54,11 @@ request_takes opcode fields bytes =
     (by_fields 3 (λ x. Get x.0 x.1) version_key_in _ _ version_key_reads (λ x f. record { text = refl; fits = f; built = refl }) opcode fields bytes)
     (either_arm Is (eqb opcode 4) _ _
     (by_fields 4 Clone sole_number _ _ sole_reads (λ x f. record { text = refl; fits = f; built = refl }) opcode fields bytes)
+    (either_arm Is (eqb opcode 5) _ _
+    (by_fields 5 (λ x. Scan x.0.0.0 x.0.0.1 x.0.1 x.1) version_range_in _ _ version_range_reads (λ x f. record { text = refl; fits = (f.0.0.0, f.0.0.1, f.0.1, f.1); built = refl }) opcode fields bytes)
     (either_arm Is (eqb opcode 6) _ _
     (by_fields 6 Info sole_number _ _ sole_reads (λ x f. record { text = refl; fits = f; built = refl }) opcode fields bytes)
-    (either_arm Is (eqb opcode 10) _ _ (no_fields opcode fields) (no_arm Is))))))
+    (either_arm Is (eqb opcode 10) _ _ (no_fields opcode fields) (no_arm Is)))))))
 
 -- what is read is spelled so
 pub command_takes : (body : List ℕ) (tag : ℕ) (request : Request) → AreBytes body → command_in body ≡ Some (tag, request) → HasForm body tag request
@@ -96,7 +98,9 @@ command_again tag (Clone version) tag_fits fits built =
 command_again tag (Info version) tag_fits fits built =
     front_again tag 6 (be 4 version) (Info version) tag_fits (omega arith) (ap (option_map Info) (sole_reads.again version fits))
 command_again tag Stat tag_fits fits built = front_again tag 10 [] Stat tag_fits (omega arith) refl
-command_again tag (Scan version lo hi limit) tag_fits fits built = absurd cc
+command_again tag (Scan version lo hi limit) tag_fits fits built =
+    front_again tag 5 (((be 4 version ++ counted lo) ++ counted hi) ++ be 2 limit) (Scan version lo hi limit) tag_fits (omega arith)
+    (ap (option_map (λ (x : ((ℕ × List ℕ) × List ℕ) × ℕ). Scan x.0.0.0 x.0.0.1 x.0.1 x.1)) (version_range_reads.again (((version, lo), hi), limit) (((fits.0, fits.1), fits.2), fits.3)))
 command_again tag (OpenCursor version lo hi) tag_fits fits built = absurd cc
 command_again tag (NextPairs cursor limit) tag_fits fits built = absurd cc
 command_again tag (CloseCursor cursor) tag_fits fits built = absurd cc

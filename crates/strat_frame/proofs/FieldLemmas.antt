@@ -7,7 +7,7 @@ use Rattle.std.specs.Option.{option_and_then, option_map}
 use Rattle.strat_base.specs.Numbers.{be, number, AreBytes}
 use Rattle.strat_base.proofs.NumberLemmas.{length-be, number-be, number-lt, AreBytes-drop, be-number_2, be-number_4}
 use Rattle.strat_model.specs.Spelling.{counted, FitsCount}
-use Rattle.strat_frame.specs.Fields.{Reader, number_then, counted_then, both, all_of, sole_number, version_key_in, version_pair_in}
+use Rattle.strat_frame.specs.Fields.{Reader, number_then, counted_then, both, all_of, sole_number, version_key_in, version_pair_in, version_range_in}
 
 -- the value of a step that found one
 pub bind_some : {A B : Type 0} (f : A → Option B) (o : Option A) (y : B) → option_and_then f o ≡ Some y → (x : A) × (o ≡ Some x) × (f x ≡ Some y)
@@ -152,3 +152,12 @@ unfolding version_pair_in
 version_pair_reads =
     all_read (both (both (number_then 4) counted_then) counted_then) _ _
     (both_read (both (number_then 4) counted_then) counted_then _ counted _ FitsCount version_key counted_reads)
+
+-- a version, two bounds and a limit
+pub version_range_reads : ReadsAll (((ℕ × List ℕ) × List ℕ) × ℕ) version_range_in (λ x. ((be 4 x.0.0.0 ++ counted x.0.0.1) ++ counted x.0.1) ++ be 2 x.1)
+    (λ x. (((x.0.0.0 < 2 ^ 32) × FitsCount x.0.0.1) × FitsCount x.0.1) × (x.1 < 2 ^ 16))
+unfolding version_range_in
+version_range_reads =
+    all_read (both (both (both (number_then 4) counted_then) counted_then) (number_then 2)) _ _
+    (both_read (both (both (number_then 4) counted_then) counted_then) (number_then 2) _ (be 2) _ (λ n. n < 2 ^ 16)
+    (both_read (both (number_then 4) counted_then) counted_then _ counted _ FitsCount version_key counted_reads) (number_reads 2 be-number_2))

@@ -109,8 +109,8 @@ unfolding refusal_in
 refusal_takes status =
     arm why.UnknownVersion (refl, refl, tt, refl) _ (arm why.Frozen (refl, refl, tt, refl) _ (arm why.VersionLimit (refl, refl, tt, refl) _
     (arm why.ChangeLimit (refl, refl, tt, refl) _ (arm why.Malformed (refl, refl, tt, refl) _ (arm why.KeySize (refl, refl, tt, refl) _
-    (arm why.ValueSize (refl, refl, tt, refl) _ (arm why.FrameTooLong (refl, refl, tt, refl) _ (arm why.NoMemory (refl, refl, tt, refl) _
-    (arm why.DeviceFault (refl, refl, tt, refl) _ (no_arm Is))))))))))
+    (arm why.ValueSize (refl, refl, tt, refl) _ (arm why.ScanSize (refl, refl, tt, refl) _ (arm why.FrameTooLong (refl, refl, tt, refl) _ (arm why.NoMemory (refl, refl, tt, refl) _
+    (arm why.DeviceFault (refl, refl, tt, refl) _ (no_arm Is)))))))))))
   where
     Is : Refusal → Type 0
     Is cause = IsReply status [] (reply.Refused cause)
@@ -265,7 +265,7 @@ reply_again tag (reply.Pairs more) pairs tag_fits given fits none = absurd cc
 reply_again tag (reply.Opened cursor) pairs tag_fits given fits none = absurd cc
 reply_again tag (reply.Refused why.UnknownCursor) pairs tag_fits given fits none = absurd cc
 reply_again tag (reply.Refused why.CursorLimit) pairs tag_fits given fits none = absurd cc
-reply_again tag (reply.Refused why.ScanSize) pairs tag_fits given fits none = absurd cc
+reply_again tag (reply.Refused why.ScanSize) pairs tag_fits given fits none = plain_again tag (reply.Refused why.ScanSize) pairs tag_fits none (omega arith) refl
 
 -- a body is read as the reply that it spells
 spelled_is_read : (body : List ℕ) (tag : ℕ) (a : Answer) → SpellsReply body tag a → reply_in body ≡ Some (tag, a)

@@ -2,7 +2,7 @@
 use Rattle.std.specs.Prelude.{ℕ, ◌==◌, nat_le, if◌then◌else◌, Bool, true, false, List, [], ◌∷◌, length, take, drop, Option, Some, None}
 use Rattle.std.specs.Option.{option_and_then, option_map}
 use Rattle.strat_base.specs.Numbers.{number}
-use Rattle.strat_model.specs.Request.{Request, Put, Delete, Get, Clone, Info, Stat}
+use Rattle.strat_model.specs.Request.{Request, Put, Delete, Get, Clone, Scan, Info, Stat}
 use Rattle.strat_base.specs.Sizes.{is_value}
 use Rattle.strat_model.specs.declared.replies.Reply.{Reply}
 use Rattle.strat_model.specs.declared.replies.Reply.TheVariants as reply
@@ -47,6 +47,11 @@ version_key_in = all_of (both (number_then 4) counted_then)
 unfoldable pub version_pair_in : List ℕ → Option ((ℕ × List ℕ) × List ℕ)
 version_pair_in = all_of (both (both (number_then 4) counted_then) counted_then)
 
+-- a version, two bounds and a limit
+unfoldable pub version_range_in : List ℕ → Option (((ℕ × List ℕ) × List ℕ) × ℕ)
+version_range_in =
+    all_of (both (both (both (number_then 4) counted_then) counted_then) (number_then 2))
+
 -- the command of an opcode and its fields
 unfoldable pub request_in : ℕ → List ℕ → Option Request
 request_in opcode fields =
@@ -54,6 +59,8 @@ request_in opcode fields =
     if opcode == 2 then option_map (λ x. Delete x.0 x.1) (version_key_in fields) else
     if opcode == 3 then option_map (λ x. Get x.0 x.1) (version_key_in fields) else
     if opcode == 4 then option_map Clone (sole_number fields) else
+    if opcode == 5 then
+    option_map (λ x. Scan x.0.0.0 x.0.0.1 x.0.1 x.1) (version_range_in fields) else
     if opcode == 6 then option_map Info (sole_number fields) else
     if opcode == 10 then (if length fields == 0 then Some Stat else None) else None
 
@@ -75,6 +82,7 @@ refusal_in status =
     if status == 22 then Some why.Malformed else
     if status == 23 then Some why.KeySize else
     if status == 24 then Some why.ValueSize else
+    if status == 25 then Some why.ScanSize else
     if status == 26 then Some why.FrameTooLong else
     if status == 32 then Some why.NoMemory else
     if status == 33 then Some why.DeviceFault else None

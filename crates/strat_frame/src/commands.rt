@@ -10,7 +10,7 @@ ghost use Rattle.strat_frame.specs.Fields.{request_in, command_in};
 ghost use Rattle.strat_frame.specs.Faults.{refusal_for};
 
 use crate::buffer::{OutBuf, REPLY_MAX};
-use crate::fields::{sole_u32, u8_then, u32_then, version_and_key, version_and_pair};
+use crate::fields::{sole_u32, u8_then, u32_then, version_and_key, version_and_pair, version_and_range};
 use crate::sizes::size_fault;
 use strat_base::get_u32;
 use strat_model::Command;
@@ -68,6 +68,20 @@ fn clone_of(fields: &[u8]) -> Option<Command<'_>>
     Some(Command::Clone { version })
 }
 
+/// The command of opcode 5, by its fields.
+#[tactic(auto, unfolding(crate::specs::Fields::request_in))]
+fn scan_of(fields: &[u8]) -> Option<Command<'_>>
+    ensures { Finds request_of result (request_in 5 fields.now) }
+{
+    let (version, lo, hi, limit) = version_and_range(fields)?;
+    Some(Command::Scan {
+        version,
+        lo,
+        hi,
+        limit,
+    })
+}
+
 /// The command of opcode 6, by its fields.
 #[tactic(auto, unfolding(crate::specs::Fields::request_in))]
 fn info_of(fields: &[u8]) -> Option<Command<'_>>
@@ -98,6 +112,7 @@ fn request_for(opcode: u8, fields: &[u8]) -> Option<Command<'_>>
         2 => delete_of(fields),
         3 => get_of(fields),
         4 => clone_of(fields),
+        5 => scan_of(fields),
         6 => info_of(fields),
         10 => stat_of(fields),
         _ => None,

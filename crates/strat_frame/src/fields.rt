@@ -2,7 +2,7 @@
 
 ghost use Rattle.std.specs.Prelude.{◌≡◌};
 ghost use Rattle.strat_base.specs.Finds.{Finds};
-ghost use Rattle.strat_frame.specs.Fields.{number_then, counted_then, sole_number, version_key_in, version_pair_in, parent_for, parent_then, flag_then};
+ghost use Rattle.strat_frame.specs.Fields.{number_then, counted_then, sole_number, version_key_in, version_pair_in, version_range_in, parent_for, parent_then, flag_then};
 
 use strat_base::{get_u8, get_u16, get_u32};
 
@@ -78,6 +78,21 @@ pub(crate) fn version_and_pair(fields: &[u8]) -> Option<(u32, &[u8], &[u8])>
         return None;
     }
     Some((version, key, value))
+}
+
+/// A version, two bounds and a limit, and nothing behind them.
+#[tactic(auto, unfolding(crate::specs::Fields::version_range_in, crate::specs::Fields::all_of, crate::specs::Fields::both))]
+pub(crate) fn version_and_range(fields: &[u8]) -> Option<(u32, &[u8], &[u8], u16)>
+    ensures { Finds (λ x. (((x.0, x.1.now), x.2.now), x.3)) result (version_range_in fields.now) }
+{
+    let (version, rest) = u32_then(fields)?;
+    let (lo, rest) = counted_bytes_then(rest)?;
+    let (hi, rest) = counted_bytes_then(rest)?;
+    let (limit, rest) = u16_then(rest)?;
+    if !rest.is_empty() {
+        return None;
+    }
+    Some((version, lo, hi, limit))
 }
 
 /// A parent by its number, or none where it is the greatest.

@@ -152,6 +152,7 @@ fn refusal_of(status: u8) -> Option<Refusal>
         22 => Some(Refusal::Malformed),
         23 => Some(Refusal::KeySize),
         24 => Some(Refusal::ValueSize),
+        25 => Some(Refusal::ScanSize),
         26 => Some(Refusal::FrameTooLong),
         32 => Some(Refusal::NoMemory),
         33 => Some(Refusal::DeviceFault),

@@ -138,7 +138,7 @@ fn commands_are_written_field_by_field(rt: HostRuntime) -> Result<(), Fail> {
 }
 
 // Bodies, their tags and their commands.
-const BODIES: [(&str, u32, Command<'static>); 9] = [
+const BODIES: [(&str, u32, Command<'static>); 11] = [
     ("00000007 01 00000000 0001 61 0001 31", 7, PUT),
     (
         "ffffffff 01 00000201 0002 6162 0000",
@@ -163,6 +163,26 @@ const BODIES: [(&str, u32, Command<'static>); 9] = [
     ),
     ("00000001 04 00000000", 1, Command::Clone { version: 0 }),
     ("00000002 04 00000102", 2, Command::Clone { version: 258 }),
+    (
+        "0000000a 05 00000000 0000 0000 0002",
+        10,
+        Command::Scan {
+            version: 0,
+            lo: b"",
+            hi: b"",
+            limit: 2,
+        },
+    ),
+    (
+        "00000003 05 00000102 0001 61 0002 6263 0100",
+        3,
+        Command::Scan {
+            version: 258,
+            lo: b"a",
+            hi: b"bc",
+            limit: 256,
+        },
+    ),
     ("00000006 06 00000000", 6, Command::Info { version: 0 }),
     (
         "00000004 06 ffffffff",
@@ -200,8 +220,8 @@ fn bodies_are_read_as_commands(rt: HostRuntime) -> Result<(), Fail> {
 }
 
 // Bodies that do not have the form of a command, and the tags of their replies. A field too few or a byte too
-// many comes before any size. A scan and the commands of cursors are not built.
-const MALFORMED: [(&str, u32); 26] = [
+// many comes before any size. The commands of cursors are not built.
+const MALFORMED: [(&str, u32); 28] = [
     ("", 0),
     ("aabbcc", 0),
     ("00000009", 9),
@@ -221,7 +241,9 @@ const MALFORMED: [(&str, u32); 26] = [
     ("00000001 04", 1),
     ("00000001 04 000000", 1),
     ("00000001 04 00000000 00", 1),
-    ("0000000a 05 00000000 0000 0000 0002", 10),
+    ("0000000a 05 00000000 0000 0000", 10),
+    ("0000000a 05 00000000 0000 0000 00", 10),
+    ("0000000a 05 00000000 0000 0000 0000 00", 10),
     ("00000001 06 000000", 1),
     ("00000001 06 00000000 00", 1),
     ("00000001 07 00000000 0000 0000", 1),
@@ -237,6 +259,13 @@ const NO_KEYS: [(&str, u32); 5] = [
     ("00000002 02 00000000 0000", 2),
     ("00000003 03 00000000 0000", 3),
     ("ffffffff 03 ffffffff 0000", 4294967295),
+];
+
+// Bodies that ask for no pair or for too many, whatever their version.
+const NO_LIMITS: [(&str, u32); 3] = [
+    ("0000000a 05 00000005 0000 0000 0000", 10),
+    ("0000000a 05 00000000 0001 61 0001 62 0101", 10),
+    ("0000000a 05 00000000 0001 62 0001 61 ffff", 10),
 ];
 
 /// Whether this is the first that is wrong with a body, and its reply has this tag.
@@ -267,6 +296,12 @@ fn bodies_of_another_form_are_malformed(rt: HostRuntime) -> Result<(), Fail> {
 #[test]
 fn a_key_has_a_byte(rt: HostRuntime) -> Result<(), Fail> {
     assert!(rt; are_refused(rt.alloc(), &NO_KEYS, BodyFault::KeySize)?);
+    Ok(())
+}
+
+#[test]
+fn a_scan_asks_for_1_to_256_pairs(rt: HostRuntime) -> Result<(), Fail> {
+    assert!(rt; are_refused(rt.alloc(), &NO_LIMITS, BodyFault::ScanSize)?);
     Ok(())
 }
 

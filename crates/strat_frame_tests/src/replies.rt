@@ -199,7 +199,7 @@ fn are_digits_of(
 }
 
 // Bodies and their replies.
-const BODIES: [(&str, Reply); 22] = [
+const BODIES: [(&str, Reply); 23] = [
     ("00000007 00", Reply::Done),
     ("00000007 01 0001 31", Reply::Found),
     ("00000007 02", Reply::Absent),
@@ -253,6 +253,7 @@ const BODIES: [(&str, Reply); 22] = [
     ("00000007 16", Reply::Refused(Refusal::Malformed)),
     ("00000007 17", Reply::Refused(Refusal::KeySize)),
     ("00000007 18", Reply::Refused(Refusal::ValueSize)),
+    ("00000007 19", Reply::Refused(Refusal::ScanSize)),
     ("00000007 1a", Reply::Refused(Refusal::FrameTooLong)),
     ("00000007 20", Reply::Refused(Refusal::NoMemory)),
     ("00000007 21", Reply::Refused(Refusal::DeviceFault)),
@@ -295,7 +296,7 @@ fn is_no_reply(alloc: Global, pairs: &mut PairBuf, digits: &str) -> Result<bool,
 
 // Bodies that are no reply: with a field too few or a byte too many, a flag that is neither 0 nor 1, or the
 // status of no reply that is given so far.
-const NO_REPLIES: [&str; 26] = [
+const NO_REPLIES: [&str; 25] = [
     "",
     "00000007",
     "000007 00",
@@ -316,7 +317,6 @@ const NO_REPLIES: [&str; 26] = [
     "00000007 11 00",
     "00000007 12",
     "00000007 15",
-    "00000007 19",
     "00000007 1b",
     "00000007 21 00000007",
     "00000007 22",
