@@ -3,9 +3,11 @@
 use crate::lead_run::LeadRun;
 use crate::zero_copy::ZeroRun;
 
-/// A run of a promotion.
+/// A run of a promotion, for a merger.
 #[derive(Drop)]
-pub(crate) enum Input {
+pub enum Input {
+    /// The entries of level 0.
     Zero(ZeroRun),
+    /// The leads of an array, of which one block is in memory.
     Leads(LeadRun),
 }

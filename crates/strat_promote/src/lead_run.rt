@@ -68,7 +68,7 @@ fn reach_lead<D: Disk>(
 
 /// The leads of an array, of whose blocks one is in memory: from the first lead on at which it stands.
 #[derive(Drop)]
-pub(crate) struct LeadRun {
+pub struct LeadRun {
     blocks: LeadBlocks,
     tag: Tag,
     horizon: u32,
@@ -94,7 +94,7 @@ impl LeadRun {
     /// Begins with the first lead of an array: reads blocks until there is one. What is taken here is a block, a key and
     /// copies of the extents and of the tag. Device: the disk counted a fault. Damaged: this block of the array holds no
     /// entries, or none that come after those before it.
-    pub(crate) fn open<D: Disk>(
+    pub fn open<D: Disk>(
         alloc: Global,
         disk: &mut D,
         desc: &ArrayDesc,

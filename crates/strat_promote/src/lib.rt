@@ -4,13 +4,13 @@
 mod closing;
 mod counting;
 mod edges;
-mod input;
+pub mod input;
 mod input_run;
 mod inputs;
 mod last_read;
 pub mod laws;
 mod lead_blocks;
-mod lead_run;
+pub mod lead_run;
 mod opening;
 mod passing;
 mod planning;

@@ -11,7 +11,7 @@ use strat_merge::GroupBuf;
 
 /// A copy of level 0's entries, and which of them comes next.
 #[derive(Drop)]
-pub(crate) struct ZeroRun {
+pub struct ZeroRun {
     pub(crate) horizon: u32,
     pub(crate) arena: Arena,
     pub(crate) items: GroupBuf,

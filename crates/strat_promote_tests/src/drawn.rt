@@ -8,6 +8,7 @@ use crate::made::{Reader, make_reader};
 use crate::ready::are_short;
 use crate::scene::{gone, grown, put};
 use crate::sliced::WHOLE;
+use crate::strata::is_stratified;
 use std::alloc::Global;
 use std::process::Abort;
 use std::test::Fail;
@@ -203,7 +204,7 @@ fn tells_all(
     true
 }
 
-/// Whether a level tells what walks do, at each version.
+/// Whether a level is stratified, and tells what walks do at each version.
 fn agrees(
     alloc: Global,
     seed: u32,
@@ -213,6 +214,12 @@ fn agrees(
 ) -> Result<bool, Trouble> {
     let tree = whole_tree(alloc, seed)?;
     let mut reader = make_reader(alloc)?;
+    let Some(made) = levels.get(level) else {
+        return Ok(false);
+    };
+    if !is_stratified(disk, made.desc(), &tree, &mut reader, &KEYS) {
+        return Ok(false);
+    }
     for version in 0..VERSIONS[1] {
         if !tells_all(seed, disk, levels, level, &tree, &mut reader, version) {
             return Ok(false);

@@ -2,6 +2,8 @@
 #![tactic(auto)]
 
 #[cfg(test)]
+mod bare;
+#[cfg(test)]
 mod drawn;
 #[cfg(test)]
 mod history;
@@ -23,3 +25,5 @@ mod scene;
 mod sliced;
 #[cfg(test)]
 mod stops;
+#[cfg(test)]
+mod strata;

@@ -91,7 +91,7 @@ fn a_promotion_that_is_given_up_gives_its_blocks_back(rt: HostRuntime) -> Result
 }
 
 /// Makes block 8 one that holds no entries.
-fn damage(disk: &mut MemDisk) -> bool {
+pub(crate) fn damage(disk: &mut MemDisk) -> bool {
     if disk.bytes().len() < 36_864 {
         return false;
     }

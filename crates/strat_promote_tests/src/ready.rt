@@ -50,7 +50,7 @@ fn are_low(versions: &Versions, n: Version) -> bool
 }
 
 /// Whether an array has few short extents and few leads, and is for versions below a number.
-fn is_plain(array: &ArrayDesc, n: Version) -> bool
+pub(crate) fn is_plain(array: &ArrayDesc, n: Version) -> bool
     ensures { result ≡ is_plain n array.now }
 {
     are_short(&array.extents) && array.leads <= 1000 && are_low(&array.versions, n)
