@@ -2,9 +2,7 @@
 #![tactic(auto)]
 
 mod desks;
-mod scanning;
 mod view;
 
 pub use desks::Desks;
-pub use scanning::scan;
 pub use view::{Picked, View};

@@ -125,7 +125,7 @@ block_read f (c ∷ blocks) entries b read (inr there) =
     block_read f blocks rest.0 b rest.1 there
 
 -- so no block of arrays in order is damaged
-none_damaged : (content : Option Image) (f : Image) (arrays : List ArrayDesc) (b : ℕ) → content ≡ Some f → AreInOrder f arrays → NamesNoBlock content arrays b → ⊥
+pub none_damaged : (content : Option Image) (f : Image) (arrays : List ArrayDesc) (b : ℕ) → content ≡ Some f → AreInOrder f arrays → NamesNoBlock content arrays b → ⊥
 none_damaged content f arrays b exposed ordered is =
     let entries = ordered.each is.array is.one in
     let at = any_among (λ other. eqb other b) (blocks_of is.array.extents) is.none.0 in
@@ -155,10 +155,10 @@ whole_read s whole =
 
 -- a whole store stands with the contents that it holds
 module _ (v : DiskView) (s : Held) (levels : List Level) (whole : IsConsistent s) (w : StandsWith v s (contents_held s levels)) where
-  abbrev y : Contents
+  abbrev pub y : Contents
   y = contents_held s levels
 
-  abbrev it : State
+  abbrev pub it : State
   it = contents_state y
 
   -- their state is that of the disk's content
@@ -168,14 +168,14 @@ module _ (v : DiskView) (s : Held) (levels : List Level) (whole : IsConsistent s
   listed : arrays_there s.levels ≡ descriptors s.chained.manifest
   listed = ap (flat_map (λ (l : LevelDesc). l.arrays)) whole.placed.listed_are
 
-  ordered : AreInOrder w.stands.content (arrays_there s.levels)
+  pub ordered : AreInOrder w.stands.content (arrays_there s.levels)
   ordered = subst (AreInOrder w.stands.content) (sym listed) (in_order w.stands.content (head_held s) it read w.stands.sound)
 
-  cached : AreCachedFrom w.stands.content s.chained.manifest.next_array (arrays_there s.levels) s.cached
+  pub cached : AreCachedFrom w.stands.content s.chained.manifest.next_array (arrays_there s.levels) s.cached
   cached = subst (λ (rs : List ArrayDesc). AreCachedFrom w.stands.content s.chained.manifest.next_array rs s.cached) (sym listed) w.cached
 
   -- a version is known where the table has it
-  known : (n : ℕ) → is_known s.memory.parents n ≡ has_row (table_of it) n
+  pub known : (n : ℕ) → is_known s.memory.parents n ≡ has_row (table_of it) n
   known n = ap (ltb n) (ap (λ (ps : Parents). length ps) whole.memory.parents ∙ sym (length-rows (map_over (versions_of it) (sources it)) 0 (versions_of it)))
 
   stepped : (n : ℕ) (key : List ℕ) → is_known s.memory.parents n ≡ true → (step (table_of it) (Get n key)).answer ≡ found key (value_of (pairs_at (table_of it) n) key)
@@ -183,7 +183,7 @@ module _ (v : DiskView) (s : Held) (levels : List Level) (whole : IsConsistent s
       ap (λ (b : Bool). (if b then replies_with (table_of it) (found key (value_of (pairs_at (table_of it) n) key)) else refuses (table_of it) why.UnknownVersion).answer) (sym (known n) ∙ is)
 
   -- what is looked up is what the table has
-  asked_is : (n : ℕ) (key : List ℕ) → is_known s.memory.parents n ≡ true
+  pub asked_is : (n : ℕ) (key : List ℕ) → is_known s.memory.parents n ≡ true
       → asked w.stands.content s.memory.parents (s.memory.entries ∷ []) (levels_there s.levels) n key ≡ value_of (pairs_at (table_of it) n) key
   asked_is n key is =
       let same = key_found w.stands.content (head_held s) it s.memory read whole.memory w.stands.sound n key in
@@ -204,7 +204,7 @@ module _ (v : DiskView) (s : Held) (levels : List Level) (whole : IsConsistent s
     later = read_stands y v now looks.disk w.stands leaves
 
     -- the store stands as it did
-    stays : StandsWith now (record s { cached = d }) y
+    pub stays : StandsWith now (record s { cached = d }) y
     stays =
         let may = whole_read s whole in
         let some : Some w.stands.content ≡ Some later.content = sym w.stands.exposed ∙ sym looks.disk.same ∙ later.exposed in

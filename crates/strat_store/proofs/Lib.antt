@@ -5,6 +5,7 @@ pub mod MemoryLemmas
 pub mod IdLemmas
 pub mod LookLawLemmas
 pub mod GettingLemmas
+pub mod RangingLemmas
 pub mod LookLemmas
 pub mod NewBlockLemmas
 pub mod NewStoreLemmas

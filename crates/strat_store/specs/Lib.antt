@@ -4,6 +4,7 @@ pub mod Memory
 pub mod MemoryFields
 pub mod Belonging
 pub mod Getting
+pub mod Ranging
 pub mod Held
 pub mod StoreFields
 pub mod Applying

@@ -18,7 +18,9 @@ mod promoting;
 mod publication;
 mod publishing;
 pub mod publishing_laws;
+mod ranging;
 mod recovering;
+mod scanning;
 mod store;
 
 pub use formatting::{FormatFault, format};

@@ -1,0 +1,231 @@
+-- What a store says of a range: level 0 and its levels answer as its table.
+use Rattle.std.proofs.Common.{◌≡◌, ◌≤◌, ◌<◌, ℕ, suc, Bool, true, false, cond, eqb, inl, inr, List, [], ◌∷◌, length, map, if◌then◌else◌, Contains, Option, Some, None, Result, Ok, Err, IfOk, OnErr, IsErrOf, refl, sym, ap, ◌∙◌, subst, arith, true≢false}
+use Rattle.std.proofs.lemmas.Bool.{ltb-true, eqb-true}
+use Rattle.std.specs.BTreeMap.{insert_entry}
+use Rattle.std.specs.List.{filter_map, cons_option, fold}
+use Rattle.std.specs.List.Sorted.{IsStrictlySortedBy}
+use Rattle.std.specs.Option.{option_and_then, option_map, option_map_or}
+use Rattle.strat_array.specs.Kept.{Blocks}
+use Rattle.strat_array.specs.Told.{TheirPairs}
+use Rattle.strat_base.proofs.ListFacts.{Among, any_among, among_in_flat}
+use Rattle.strat_base.specs.Entries.{Entry}
+use Rattle.strat_base.specs.Order.{key_cmp}
+use Rattle.strat_base.specs.Tree.{Parents, is_known}
+use Rattle.strat_base.specs.declared.descriptors.ArrayDesc.{ArrayDesc}
+use Rattle.strat_base.specs.declared.descriptors.LevelDesc.{LevelDesc}
+use Rattle.strat_base.specs.declared.failures.Fault.{Fault}
+use Rattle.strat_base.specs.declared.failures.Fault.TheVariants as fault
+use Rattle.strat_crash.specs.Image.{Image}
+use Rattle.strat_crash.specs.Moments.{DiskView}
+use Rattle.strat_cursor.specs.Looking.{levels_there, arrays_there, AreInOrder, AreCachedFrom, LooksThrough, NamesNoBlock, HaveOwnIds}
+use Rattle.strat_cursor.specs.Ranges.{content_on, seen_in, arrays_in_view, arrays_picked, IsMapSeen, IsPageOf}
+use Rattle.strat_cursor.specs.Views.{zeros_in, IsReadable, TellsPage}
+use Rattle.strat_cursor.specs.declared.view.View.{View}
+use Rattle.strat_format.specs.Arrays.{blocks_of, block_on}
+use Rattle.strat_level.specs.Levels.{desc_for}
+use Rattle.strat_model.proofs.MapLemmas.{set_keeps_map}
+use Rattle.strat_model.specs.Answer.{Answer, as_told, accepts}
+use Rattle.strat_model.specs.Kept.{IsMap}
+use Rattle.strat_model.specs.Pairs.{Pairs, range}
+use Rattle.strat_model.specs.Request.{Scan}
+use Rattle.strat_model.specs.Step.{step, page, refuses, replies_with, pairs_at}
+use Rattle.strat_model.specs.declared.replies.Refusal.TheVariants as why
+use Rattle.strat_model.specs.declared.replies.Reply.TheVariants as reply
+use Rattle.strat_promote.specs.Job.{blocks_listed}
+use Rattle.strat_recovery.proofs.RowLemmas.{pairs_over, length-rows}
+use Rattle.strat_recovery.specs.Asked.{on_disk}
+use Rattle.strat_recovery.specs.StateTable.{table_of}
+use Rattle.strat_standing.proofs.ListLemmas.{among_contained, contained_among}
+use Rattle.strat_standing.specs.Contents.{Contents, contents_state}
+use Rattle.strat_standing.specs.Standing.{LeavesContent}
+use Rattle.strat_state.specs.Level.{Level}
+use Rattle.strat_state.specs.LookUp.{looked_up, first_live}
+use Rattle.strat_state.specs.Maps.{map_over, with_value, value_over}
+use Rattle.strat_state.specs.State.{State, versions_of, sources}
+use Rattle.strat_store.proofs.GettingLemmas.{none_damaged, whole_read, y, it, ordered, cached, known, asked_is, stays}
+use Rattle.strat_store.specs.Applying.{is_fault, IsLookedUp, IsDamagedIn}
+use Rattle.strat_store.specs.Held.{Held, IsConsistent, StandsWith, contents_held}
+use Rattle.strat_store.specs.Memory.{Memory}
+use Rattle.strat_store.specs.Ranging.{reply_of_scan, IsMapAsked}
+
+-- what is made of what is picked is picked of what is made
+map_picked : {X A B : Type 0} (g : A → B) (h : X → Option A) (xs : List X) → map g (filter_map h xs) ≡ filter_map (λ x. option_map g (h x)) xs
+map_picked g h [] = refl
+map_picked {B = B} g h (x ∷ xs) =
+    elim (h x) as (λ o. map g (cons_option o (filter_map h xs)) ≡ cons_option (option_map g o) (filter_map (λ y. option_map g (h y)) xs)) [
+      | None ↦ map_picked g h xs
+      | Some a ↦ ap (λ (r : List B). g a ∷ r) (map_picked g h xs)
+    ]
+
+-- no more are picked than there are
+few_picked : {X A : Type 0} (h : X → Option A) (xs : List X) → length (filter_map h xs) ≤ length xs
+few_picked h [] = omega arith
+few_picked h (x ∷ xs) =
+    let rest = few_picked h xs in
+    elim (h x) as (λ o. length (cons_option o (filter_map h xs)) ≤ suc (length xs)) [
+      | None ↦ omega (arith, rest)
+      | Some a ↦ omega (arith, rest)
+    ]
+
+-- the arrays of levels that are for a version
+abbrev pub picked_of : Parents → List (Option LevelDesc) → ℕ → List ArrayDesc
+picked_of parents levels v = filter_map (λ level. desc_for parents level v) (levels_there levels)
+
+pub few_arrays : (parents : Parents) (levels : List (Option LevelDesc)) (v : ℕ) → length levels ≡ 22 → length (picked_of parents levels v) ≤ 22
+few_arrays parents levels v count = omega (arith, count, few_picked (λ level. desc_for parents level v) (levels_there levels), few_picked (λ (level : Option LevelDesc). level) levels)
+
+-- what is seen through the arrays that are picked is what is looked up through the levels
+seen_is : (f : Image) (parents : Parents) (entries : List Entry) (levels : List (Option LevelDesc)) (v : ℕ) (key : List ℕ)
+    → seen_in f parents (entries ∷ []) (picked_of parents levels v) v key ≡ looked_up (on_disk f) parents (entries ∷ []) (levels_there levels) v key
+seen_is f parents entries levels v key =
+    ap (λ (lists : List (List Entry)). first_live parents (entries ∷ lists) v key) (map_picked (content_on f) (λ level. desc_for parents level v) (levels_there levels))
+
+map_seen : (f : Image) (parents : Parents) (entries : List Entry) (levels : List (Option LevelDesc)) (v : ℕ) (m : Pairs) → IsMapAsked f parents entries levels v m → IsMapSeen f parents (entries ∷ []) (picked_of parents levels v) v m
+map_seen f parents entries levels v m is = record {
+  ordered = is.ordered;
+  each = λ key. is.each key ∙ ap (λ (o : Option Entry). option_and_then (λ e. e.value) o) (sym (seen_is f parents entries levels v key));
+}
+
+-- what a scan through level 0 and levels says
+abbrev pub FindsRange : Option Image → Parents → List Entry → List (Option LevelDesc) → ℕ → List ℕ → List ℕ → ℕ → Blocks → TheirPairs → Bool → Type 0
+FindsRange content parents entries levels n lo hi limit c out more =
+    (f : Image) (next : ℕ) → content ≡ Some f → AreInOrder f (arrays_there levels) → HaveOwnIds (arrays_there levels) → AreCachedFrom f next (arrays_there levels) c
+    → (m : Pairs) → IsMapSeen f parents (entries ∷ []) (picked_of parents levels n) n m → IsPageOf (range m lo hi) limit out more
+
+-- a scan through a view of level 0 and levels says so
+pub finds_range : (content : Option Image) (view : View) (parents : Parents) (entries : List Entry) (levels : List (Option LevelDesc)) (n : ℕ) (lo hi : List ℕ) (limit : ℕ) (c : Blocks) (out : TheirPairs) (r : Result Bool Fault)
+    → view.tree.now.parents ≡ parents → zeros_in view ≡ entries ∷ [] → arrays_in_view view.levels ≡ arrays_there levels
+    → ((ps : Parents) → arrays_picked ps view.levels n ≡ picked_of ps levels n)
+    → IfOk r (λ more. (f : Image) (next : ℕ) → content ≡ Some f → IsReadable f next view c → TellsPage f view n lo hi limit out more)
+    → IfOk r (FindsRange content parents entries levels n lo hi limit c out)
+finds_range content view parents entries levels n lo hi limit c out (Err e) tree zeros there picked tells = tt
+finds_range content view parents entries levels n lo hi limit c out (Ok more) tree zeros there picked tells = λ f next exposed ordered own cached m seen.
+    tells f next exposed
+    (record {
+      ordered = subst (λ (rs : List ArrayDesc). AreInOrder f rs) (sym there) ordered;
+      ids = subst (λ (rs : List ArrayDesc). HaveOwnIds rs) (sym there) own;
+      cached = subst (λ (rs : List ArrayDesc). AreCachedFrom f next rs c) (sym there) cached;
+    })
+    m
+    (subst (λ (rs : List ArrayDesc). IsMapSeen f view.tree.now.parents (zeros_in view) rs n m) (sym (picked view.tree.now.parents))
+    (subst (λ (ls : List (List Entry)). IsMapSeen f view.tree.now.parents ls (picked_of view.tree.now.parents levels n) n m) (sym zeros)
+    (subst (λ (ps : Parents). IsMapSeen f ps (entries ∷ []) (picked_of ps levels n) n m) (sym tree) seen)))
+
+-- a page that is told is the answer
+page_told : (pairs : Pairs) (limit : ℕ) (out : TheirPairs) (more : Bool) → IsPageOf pairs limit out more → as_told (reply_of_scan (Ok more)) out ≡ page pairs limit
+page_told pairs limit out more is = λ j. record { reply = reply.Pairs (is.more_is j); pairs = is.pairs_are j }
+
+-- unless a fault ended the scan it is so
+pub range_told : (content : Option Image) (parents : Parents) (entries : List Entry) (levels : List (Option LevelDesc)) (n : ℕ) (lo hi : List ℕ) (limit : ℕ) (c : Blocks) (out : TheirPairs) (r : Result Bool Fault)
+    → IfOk r (FindsRange content parents entries levels n lo hi limit c out) → is_fault (reply_of_scan r) ≡ false
+    → (f : Image) (next : ℕ) (m : Pairs) → content ≡ Some f → AreInOrder f (arrays_there levels) → HaveOwnIds (arrays_there levels) → AreCachedFrom f next (arrays_there levels) c
+    → IsMapAsked f parents entries levels n m → as_told (reply_of_scan r) out ≡ page (range m lo hi) limit
+range_told content parents entries levels n lo hi limit c out (Ok more) tells none f next m exposed ordered own cached is =
+    page_told (range m lo hi) limit out more (tells f next exposed ordered own cached m (map_seen f parents entries levels n m is))
+range_told content parents entries levels n lo hi limit c out (Err fault.Device) tells none f next m exposed ordered own cached is = absurd (true≢false none)
+range_told content parents entries levels n lo hi limit c out (Err (fault.Damaged block)) tells none f next m exposed ordered own cached is = absurd (true≢false none)
+
+-- a block that is told of is one of the arrays'
+pub damaged_range : (content : Option Image) (m : Memory) (levels : List (Option LevelDesc)) (r : Result Bool Fault) (b : ℕ) → ((block : ℕ) → IsErrOf r (fault.Damaged block) → NamesNoBlock content (arrays_there levels) block)
+    → reply_of_scan r ≡ reply.Refused (why.Damaged b) → IsDamagedIn content m levels b
+damaged_range content m levels (Ok more) b names told = absurd (cc)
+damaged_range content m levels (Err fault.Device) b names told = absurd (cc)
+damaged_range content m levels (Err (fault.Damaged block)) b names told =
+    let same : block ≡ b = cc in
+    let is = subst (λ (n : ℕ). NamesNoBlock content (arrays_there levels) n) same (names block refl) in
+    let at = any_among (λ other. eqb other b) (blocks_of is.array.extents) is.none.0 in
+    let here : at.0 ≡ b = eqb-true at.0 b at.2 in
+    record {
+      listed = among_contained (blocks_listed (arrays_there levels)) b
+          (among_in_flat (λ (a : ArrayDesc). blocks_of a.extents) (arrays_there levels) is.array b (contained_among (arrays_there levels) is.array is.one)
+          (subst (λ (n : ℕ). Among n (blocks_of is.array.extents)) here at.1));
+      bad = λ f exposed few. inl (is.none.1 f exposed);
+    }
+
+-- which has no entries
+pub none_in_range : (content : Option Image) (arrays : List ArrayDesc) (r : Result Bool Fault) (b : ℕ) → ((block : ℕ) → IsErrOf r (fault.Damaged block) → NamesNoBlock content arrays block)
+    → reply_of_scan r ≡ reply.Refused (why.Damaged b) → (f : Image) → content ≡ Some f → block_on f b ≡ None
+none_in_range content arrays (Ok more) b names told = absurd (cc)
+none_in_range content arrays (Err fault.Device) b names told = absurd (cc)
+none_in_range content arrays (Err (fault.Damaged block)) b names told =
+    let same : block ≡ b = cc in
+    let is = subst (λ (n : ℕ). NamesNoBlock content arrays n) same (names block refl) in
+    is.none.1
+
+-- the map of a version is one
+
+module _ (parents : Parents) (entries : List Entry) (v : ℕ) where
+  value_keeps : (o : Option (List ℕ)) (key : List ℕ) (pairs : Pairs) → IsMap pairs → IsMap (option_map_or (λ value. insert_entry key_cmp pairs key value) o pairs)
+  value_keeps None key pairs is = is
+  value_keeps (Some value) key pairs is = set_keeps_map key value pairs is
+
+  fold_keeps : (start : Pairs) → IsMap start → (others : List Entry) → IsMap (fold (λ pairs e. with_value parents entries v pairs e.key) start others)
+  fold_keeps start is [] = is
+  fold_keeps start is (e ∷ others) = fold_keeps (with_value parents entries v start e.key) (value_keeps (value_over parents entries v e.key) e.key start is) others
+
+  map_is : IsMap (map_over parents entries v)
+  unfolding IsStrictlySortedBy
+  map_is = fold_keeps [] tt entries
+
+-- a whole store stands with the contents that it holds
+module _ (v : DiskView) (s : Held) (levels : List Level) (whole : IsConsistent s) (w : StandsWith v s (contents_held s levels)) where
+  abbrev state : State
+  state = it v s levels whole w
+
+  abbrev table_pairs : ℕ → Pairs
+  table_pairs n = pairs_at (table_of state) n
+
+  stepped : (n : ℕ) (lo hi : List ℕ) (limit : ℕ) → is_known s.memory.parents n ≡ true → (step (table_of state) (Scan n lo hi limit)).answer ≡ page (range (table_pairs n) lo hi) limit
+  stepped n lo hi limit is =
+      ap (λ (b : Bool). (if b then replies_with (table_of state) (page (range (table_pairs n) lo hi) limit) else refuses (table_of state) why.UnknownVersion).answer)
+      (sym (known v s levels whole w n) ∙ is)
+
+  unknown : (n : ℕ) (lo hi : List ℕ) (limit : ℕ) → is_known s.memory.parents n ≡ false → (step (table_of state) (Scan n lo hi limit)).answer ≡ as_told (reply.Refused why.UnknownVersion) []
+  unknown n lo hi limit off =
+      ap (λ (b : Bool). (if b then replies_with (table_of state) (page (range (table_pairs n) lo hi) limit) else refuses (table_of state) why.UnknownVersion).answer)
+      (sym (known v s levels whole w n) ∙ off)
+
+  -- its map is what is asked
+  table_asked : (n : ℕ) → is_known s.memory.parents n ≡ true → IsMapAsked w.stands.content s.memory.parents s.memory.entries s.levels n (table_pairs n)
+  table_asked n is =
+      let here : n < length (versions_of state) = subst (λ (ps : Parents). n < length ps) whole.memory.parents (ltb-true n (length s.memory.parents) is) in
+      record {
+        ordered = subst IsMap (sym (pairs_over (versions_of state) (sources state) n here)) (map_is (versions_of state) (sources state) n);
+        each = λ key. sym (asked_is v s levels whole w n key is);
+      }
+
+  module _ (now : DiskView) (d : Blocks) (looks : LooksThrough v now (arrays_there s.levels) s.cached d) (leaves : LeavesContent now) where
+    not_there : (n : ℕ) (lo hi : List ℕ) (limit : ℕ) → is_known s.memory.parents n ≡ false
+        → IsLookedUp now (record s { cached = d }) (contents_held s levels) (Scan n lo hi limit) (as_told (reply.Refused why.UnknownVersion) [])
+    not_there n lo hi limit off = inl (sym (unknown n lo hi limit off), stays v s levels whole w now d looks leaves)
+
+    there : (n : ℕ) (lo hi : List ℕ) (limit : ℕ) (out : TheirPairs) (r : Result Bool Fault) → is_known s.memory.parents n ≡ true
+        → IfOk r (FindsRange v.content s.memory.parents s.memory.entries s.levels n lo hi limit s.cached out) → OnErr r (out ≡ [])
+        → ((b : ℕ) → IsErrOf r (fault.Damaged b) → NamesNoBlock v.content (arrays_there s.levels) b)
+        → IsLookedUp now (record s { cached = d }) (contents_held s levels) (Scan n lo hi limit) (as_told (reply_of_scan r) out)
+    there n lo hi limit out (Ok more) is tells none names =
+        let may = whole_read s whole in
+        let told : IsPageOf (range (table_pairs n) lo hi) limit out more =
+            tells w.stands.content s.chained.manifest.next_array w.stands.exposed (ordered v s levels whole w) may.own (cached v s levels whole w) (table_pairs n)
+            (map_seen w.stands.content s.memory.parents s.memory.entries s.levels n (table_pairs n) (table_asked n is)) in
+        inl (page_told (range (table_pairs n) lo hi) limit out more told ∙ sym (stepped n lo hi limit is), stays v s levels whole w now d looks leaves)
+    there n lo hi limit out (Err fault.Device) is tells none names =
+        inr (ap (as_told (reply.Refused why.DeviceFault)) none, refl, ap (λ (a : Answer). accepts a.reply) (stepped n lo hi limit is))
+    there n lo hi limit out (Err (fault.Damaged block)) is tells none names =
+        absurd (none_damaged v.content w.stands.content (arrays_there s.levels) block w.stands.exposed (ordered v s levels whole w) (names block refl))
+
+-- whatever contents it stands with
+module _ (v now : DiskView) (s : Held) (x : Contents) (d : Blocks) (n : ℕ) (lo hi : List ℕ) (limit : ℕ) (out : TheirPairs) (whole : IsConsistent s) (w : StandsWith v s x)
+    (looks : LooksThrough v now (arrays_there s.levels) s.cached d) (leaves : LeavesContent now) where
+  pub unknown_range : is_known s.memory.parents n ≡ false → out ≡ [] → IsLookedUp now (record s { cached = d }) x (Scan n lo hi limit) (as_told (reply.Refused why.UnknownVersion) out)
+  unknown_range off none =
+      subst (λ (z : Contents). IsLookedUp now (record s { cached = d }) z (Scan n lo hi limit) (as_told (reply.Refused why.UnknownVersion) out)) (sym w.held)
+      (subst (λ (ps : TheirPairs). IsLookedUp now (record s { cached = d }) (contents_held s x.levels) (Scan n lo hi limit) (as_told (reply.Refused why.UnknownVersion) ps)) (sym none)
+      (not_there v s x.levels whole (subst (StandsWith v s) w.held w) now d looks leaves n lo hi limit off))
+
+  pub known_range : (r : Result Bool Fault) → is_known s.memory.parents n ≡ true → IfOk r (FindsRange v.content s.memory.parents s.memory.entries s.levels n lo hi limit s.cached out)
+      → OnErr r (out ≡ []) → ((b : ℕ) → IsErrOf r (fault.Damaged b) → NamesNoBlock v.content (arrays_there s.levels) b)
+      → IsLookedUp now (record s { cached = d }) x (Scan n lo hi limit) (as_told (reply_of_scan r) out)
+  known_range r is tells none names =
+      subst (λ (z : Contents). IsLookedUp now (record s { cached = d }) z (Scan n lo hi limit) (as_told (reply_of_scan r) out)) (sym w.held)
+      (there v s x.levels whole (subst (StandsWith v s) w.held w) now d looks leaves n lo hi limit out r is tells none names)

@@ -1,0 +1,60 @@
+use Rattle.std.proofs.Common.{◌≡◌, ◌≤◌, ℕ, Bool, List, [], ◌∷◌, IsTrue, refl, sym, ap, ◌∙◌, subst}
+use Rattle.strat_base.specs.Entries.{Entry}
+use Rattle.strat_base.specs.Tree.{Parents}
+use Rattle.strat_level.specs.Memtable.{ItemList, entries_held, ListStands}
+use Rattle.strat_model.specs.Answer.{as_told}
+use Rattle.strat_model.specs.Request.{Scan}
+use Rattle.strat_model.specs.declared.replies.Reply.{Reply}
+use Rattle.strat_recovery.specs.TableOver.{are_known}
+use Rattle.strat_store.specs.Applying.{is_fault, IsLookedUp}
+use Rattle.strat_store.specs.Recovering.{held_of}
+use Rattle.strat_store.proofs.GettingLemmas.{whole_read}
+use Rattle.strat_store.proofs.LookLemmas.{through_refl}
+use Rattle.strat_store.proofs.RangingLemmas.{few_arrays, finds_range, range_told, damaged_range, none_in_range, unknown_range, known_range}
+use Rattle.strat_store.proofs.ranging.scan_range.Goals as goal
+
+pub returns-then-not-has-clause-ok : goal.returns-then-not-has-clause-ok
+returns-then-not-has-clause-ok g c = λ x w.
+    unknown_range _ _ (held_of c.args.held.now c.args.cache.now) x c.args.cache.now c.args.version c.args.lo.now c.args.hi.now c.args.limit c.args.out.now (c.requires.kept c.args.cache.now) w
+    (through_refl _ _ _) (g.met.D.Disk.leaves_content c.args.disk.now) (sym c.has.ensures.ok ∙ c.if-not-has.true) c.requires.room
+
+pub scan-found-requires-clause-kept : goal.scan-found-requires-clause-kept
+scan-found-requires-clause-kept g c =
+    let whole = c.requires.kept c.args.cache.now in
+    let entries = ap (λ (list : ItemList). entries_held c.parts.result.1.now list) c.view.ensures.ok ∙ c.parts.ensures.ok in
+    record {
+      zero = subst (λ (list : ItemList). ListStands c.parts.result.1.now list) (sym c.view.ensures.ok) c.parts.ensures.kept;
+      known = subst (λ (ps : Parents). IsTrue (are_known ps (entries_held c.parts.result.1.now c.view.result.now))) (sym c.parts.ensures.found.0)
+          (subst (λ (es : List Entry). IsTrue (are_known c.args.held.now.memory.parents es)) (sym entries) c.parts.ensures.fits);
+      sealed = tt;
+      arrays = (whole_read (held_of c.args.held.now c.args.cache.now) whole).within;
+      few = λ v. few_arrays c.parts.result.2.now.parents c.args.held.now.published.levels v whole.placed.count;
+    }
+
+pub returns-clause-ok : goal.returns-clause-ok
+returns-clause-ok g c = λ x w.
+    subst (λ (told : Reply). IsLookedUp (g.D.Disk.view c.scan-found.new.disk) (held_of c.args.held.now c.scan-found.new.cache) x (Scan c.args.version c.args.lo.now c.args.hi.now c.args.limit) (as_told told c.scan-found.new.out))
+    (sym c.reply_of_scan.ensures.ok)
+    (known_range _ _ (held_of c.args.held.now c.args.cache.now) x c.scan-found.new.cache c.args.version c.args.lo.now c.args.hi.now c.args.limit c.scan-found.new.out (c.requires.kept c.args.cache.now) w
+    c.scan-found.ensures.same (g.met.D.Disk.leaves_content c.scan-found.new.disk) c.scan-found.result (sym c.has.ensures.ok ∙ c.if-not-has.false)
+    (finds_range _ _ c.args.held.now.memory.parents c.args.held.now.memory.entries c.args.held.now.published.levels c.args.version c.args.lo.now c.args.hi.now c.args.limit c.args.cache.now c.scan-found.new.out c.scan-found.result
+    c.parts.ensures.found.0 (ap (λ (es : List Entry). es ∷ []) (ap (λ (list : ItemList). entries_held c.parts.result.1.now list) c.view.ensures.ok ∙ c.parts.ensures.ok)) refl (λ ps. refl) c.scan-found.ensures.ok)
+    c.scan-found.ensures.err c.scan-found.ensures.damaged)
+
+pub returns-clause-found : goal.returns-clause-found
+returns-clause-found g c = λ f m exposed ordered cached none is asked.
+    let may = whole_read (held_of c.args.held.now c.args.cache.now) (c.requires.kept c.args.cache.now) in
+    ap (λ (told : Reply). as_told told c.scan-found.new.out) c.reply_of_scan.ensures.ok
+    ∙ range_told _ c.args.held.now.memory.parents c.args.held.now.memory.entries c.args.held.now.published.levels c.args.version c.args.lo.now c.args.hi.now c.args.limit c.args.cache.now c.scan-found.new.out
+    c.scan-found.result
+    (finds_range _ _ c.args.held.now.memory.parents c.args.held.now.memory.entries c.args.held.now.published.levels c.args.version c.args.lo.now c.args.hi.now c.args.limit c.args.cache.now c.scan-found.new.out c.scan-found.result
+    c.parts.ensures.found.0 (ap (λ (es : List Entry). es ∷ []) (ap (λ (list : ItemList). entries_held c.parts.result.1.now list) c.view.ensures.ok ∙ c.parts.ensures.ok)) refl (λ ps. refl) c.scan-found.ensures.ok)
+    (ap is_fault (sym c.reply_of_scan.ensures.ok) ∙ none) f _ m exposed ordered may.own cached asked
+
+pub returns-clause-damaged : goal.returns-clause-damaged
+returns-clause-damaged g c = λ b told.
+    damaged_range _ c.args.held.now.memory c.args.held.now.published.levels c.scan-found.result b c.scan-found.ensures.damaged (sym c.reply_of_scan.ensures.ok ∙ told)
+
+pub returns-clause-err : goal.returns-clause-err
+returns-clause-err g c = λ b told.
+    none_in_range _ _ c.scan-found.result b c.scan-found.ensures.damaged (sym c.reply_of_scan.ensures.ok ∙ told)

@@ -1,0 +1,95 @@
+//! What a store over levels says of a range of a version.
+
+ghost use Rattle.std.specs.Prelude.{◌≡◌, ◌≤◌, ℕ, [], length, true, false, None};
+ghost use Rattle.strat_array.specs.Kept.{Blocks};
+ghost use Rattle.strat_base.specs.Tree.{is_known};
+ghost use Rattle.strat_crash.specs.Image.{Image};
+ghost use Rattle.strat_crash.specs.Moments.{Exposes};
+ghost use Rattle.strat_cursor.specs.Looking.{arrays_there, AreInOrder, AreCachedFrom, LooksThrough};
+ghost use Rattle.strat_format.specs.Arrays.{block_on};
+ghost use Rattle.strat_model.specs.Answer.{as_told};
+ghost use Rattle.strat_model.specs.Pairs.{Pairs, range};
+ghost use Rattle.strat_model.specs.Request.{Scan};
+ghost use Rattle.strat_model.specs.Step.{page};
+ghost use Rattle.strat_model.specs.declared.replies.Refusal.TheVariants as why;
+ghost use Rattle.strat_model.specs.declared.replies.Reply.TheVariants as reply;
+ghost use Rattle.strat_standing.specs.Contents.{Contents};
+ghost use Rattle.strat_store.specs.Applying.{is_fault, IsLookedUp, FailsAsTold, IsDamagedIn};
+ghost use Rattle.strat_store.specs.Held.{IsConsistent, StandsWith};
+ghost use Rattle.strat_store.specs.Ranging.{reply_of_scan, IsMapAsked, MayTellOfRange};
+ghost use Rattle.strat_store.specs.Recovering.{held_of};
+
+use crate::recovering::Recovered;
+use strat_array::Cache;
+use strat_base::{Fault, PairBuf, Version};
+use crate::scanning::scan;
+use strat_cursor::{Desks, Picked, View};
+use strat_disk::Disk;
+use strat_model::{Refusal, Reply};
+
+/// What is told of a range after a scan, or after the fault that ended it.
+fn reply_of_scan(found: Result<bool, Fault>) -> Reply
+    ensures ok { result ≡ reply_of_scan found }
+{
+    match found {
+        Ok(more) => Reply::Pairs { more },
+        Err(Fault::Device) => Reply::Refused(Refusal::DeviceFault),
+        Err(Fault::Damaged { block }) => Reply::Refused(Refusal::Damaged { block }),
+    }
+}
+
+/// The first pairs of a version from `lo` on and below `hi`, at most `limit` of them, which are put into `out`, and whether
+/// others follow. Costs what `strat_cursor::scan` does, over level 0 and the array of each level that is for the version, and
+/// takes no memory but for blocks that are cached. UnknownVersion: there is no such version, and nothing was read. DeviceFault:
+/// the disk counted a fault. Damaged: this block of one of the arrays is no block of entries.
+pub(crate) fn scan_range<D: Disk>(
+    held: &Recovered,
+    cache: &mut Cache,
+    desks: &mut Desks,
+    disk: &mut D,
+    version: Version,
+    lo: &[u8],
+    hi: &[u8],
+    limit: u16,
+    out: &mut PairBuf,
+) -> Reply
+    requires kept { (cached : Blocks) → IsConsistent (held_of held.now cached) }
+    requires fits { (1 ≤ limit) × (limit ≤ 256) }
+    requires room { out.old ≡ [] }
+    ensures ok { (x : Contents) → StandsWith (D.view disk.old) (held_of held.now cache.old) x
+        → IsLookedUp (D.view disk.new) (held_of held.now cache.new) x
+        (Scan version lo.now hi.now limit) (as_told result out.new) }
+    ensures found { (f : Image) (m : Pairs) → Exposes (D.view disk.old) f
+        → AreInOrder f (arrays_there held.now.published.levels)
+        → AreCachedFrom f held.now.published.manifest.next_array
+        (arrays_there held.now.published.levels) cache.old
+        → is_fault result ≡ false → is_known held.now.memory.parents version ≡ true
+        → IsMapAsked f held.now.memory.parents held.now.memory.entries
+        held.now.published.levels version m
+        → as_told result out.new ≡ page (range m lo.now hi.now) limit }
+    ensures none { is_known held.now.memory.parents version ≡ false
+        → (result ≡ reply.Refused why.UnknownVersion) × (disk.new ≡ disk.old) }
+    ensures same { LooksThrough (D.view disk.old) (D.view disk.new)
+        (arrays_there held.now.published.levels) cache.old cache.new }
+    ensures cause { FailsAsTold (D.faults disk.old) (D.faults disk.new) result }
+    ensures damaged { (b : ℕ) → result ≡ reply.Refused (why.Damaged b)
+        → IsDamagedIn (D.view disk.old).content held.now.memory held.now.published.levels b }
+    ensures err { (b : ℕ) → result ≡ reply.Refused (why.Damaged b) → (f : Image)
+        → Exposes (D.view disk.old) f → block_on f b ≡ None }
+    ensures end { MayTellOfRange result }
+    ensures len { length out.new ≤ limit }
+{
+    if !held.memory.has(version) {
+        return Reply::Refused(Refusal::UnknownVersion);
+    }
+    let (zero, pool, tree) = held.memory.parts();
+    let view = View {
+        tree,
+        pool,
+        zero: zero.view(),
+        sealed: None,
+        levels: Picked::Live(&held.published.levels),
+    };
+    let found = scan(disk, cache, &view, version, lo, hi, limit, desks, out);
+    reply_of_scan(found)
+}
