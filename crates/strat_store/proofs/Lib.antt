@@ -32,3 +32,5 @@ pub mod SettledLemmas
 pub mod LoggingLemmas
 pub mod ChangingLemmas
 pub mod RenewingLemmas
+pub mod OnDiskLemmas
+pub mod LeavingLemmas

@@ -27,10 +27,11 @@ use Rattle.strat_state.specs.Sound.{IsSound}
 use Rattle.strat_store.specs.declared.opening.AttachFault.{AttachFault}
 use Rattle.strat_store.specs.declared.opening.AttachFault.TheVariants.{Device}
 use Rattle.strat_store.specs.Following.{ChangesGateAlone, FollowsFrom, IsOpenedAs, LeavesOpening}
-use Rattle.strat_store.specs.Held.{contents_held, StandsWith}
+use Rattle.strat_store.specs.Held.{contents_held, IsConsistent, StandsWith}
 use Rattle.strat_cursor.specs.Looking.{AreCachedFrom}
 use Rattle.strat_store.specs.Recovering.{chained_of, head_recovered, held_of, empty_cache, IsRecoveredFrom, ReadsAsSound}
 use Rattle.strat_store.specs.declared.recovering.Recovered.{Recovered}
+use Rattle.strat_store.proofs.OnDiskLemmas.{gate_on}
 
 module _ (old : DiskView) (f : Image) (x : Contents) (sb : Super) (stale : Bool) (exposed : Exposes old f) (durable : IsDurable old) (same : x.sb ≡ sb) (is : ReadsAsSound f stale x) where
   -- each image reads as these contents
@@ -180,12 +181,16 @@ module _ (before synced read now : DiskView) (r : Recovered) (syncs : OnlyReads 
   })
 
   pub opened_as : ((f : Image) (x : Contents) → Exposes read f → IsDurable read → x.sb ≡ super_of r.sb → ReadsAsSound f r.journal.stale x → ContentsStand now x)
-      → (cap : ℕ) → IsOpenedAs before now (held_of r (empty_cache cap))
-  opened_as stands cap = record {
+      → ((cached : Blocks) → IsConsistent (held_of r cached)) → (cap : ℕ) → IsOpenedAs before now (held_of r (empty_cache cap))
+  opened_as stands whole cap = record {
     going = refl;
     found = λ f exposed. (found f exposed).head;
     chain = λ f exposed. (found f exposed).chain;
     gate = gate_alone;
+    on_disk = λ f exposed.
+        let kept = whole (empty_cache cap) in
+        let is = found f exposed in
+        gate_on read now (held_of r (empty_cache cap)) f kept.belonging kept.lawful.region_most (looks.same ∙ syncs.same ∙ exposed) (reads_keep_durable synced read looks settled) is.newest is.chain torn passes;
     stands = λ f t exposed shows.
         let is = found f exposed in (
           opened_contents f r is t shows,

@@ -11,7 +11,7 @@ use Rattle.strat_recovery.specs.Opening.{recover}
 use Rattle.strat_recovery.specs.StateTable.{table_of}
 use Rattle.strat_standing.specs.Contents.{Contents, contents_state}
 use Rattle.strat_standing.specs.Standing.{ShowsTable}
-use Rattle.strat_store.specs.Held.{Held, head_held, StandsWith}
+use Rattle.strat_store.specs.Held.{Held, head_held, IsOnDisk, StandsWith}
 
 -- a disk with this content was synced, and from then on followed tables
 pub record FollowsFrom (before now : DiskView) (f : Image) (tables : List Table) (n : ℕ)
@@ -51,6 +51,7 @@ pub record IsOpenedAs (before now : DiskView) (s : Held) : Type 0 where
   pub chain : (f : Image) → Exposes before f
       → manifest_at f s.sb.manifest s.sb.length ≡ Ok s.chained
   pub gate : (f : Image) → Exposes before f → ChangesGateAlone before now f s.slot s.sb
+  pub on_disk : (f : Image) → Exposes before f → IsOnDisk now s
   pub stands : (f : Image) (t : Table) → Exposes before f → ShowsTable f t
       → (x : Contents) × StandsWith now s x × (table_of (contents_state x) ≡ t)
   pub follows : (f : Image) (t : Table) → Exposes before f → ShowsTable f t

@@ -1,11 +1,12 @@
 -- An open store, and the disk that it stands on.
-use Rattle.std.specs.Prelude.{◌≡◌, ◌≤◌, ℕ, Bool, List, [], length, Option, Some, IsTrue}
+use Rattle.std.specs.Prelude.{◌≡◌, ◌≤◌, ℕ, Bool, List, [], length, Option, Some, Ok, IsTrue}
 use Rattle.strat_array.specs.Kept.{Blocks}
 use Rattle.strat_base.specs.declared.descriptors.LevelDesc.{LevelDesc}
-use Rattle.strat_crash.specs.Moments.{DiskView}
-use Rattle.strat_format.specs.Chained.{Chained}
+use Rattle.strat_crash.specs.Image.{Image}
+use Rattle.strat_crash.specs.Moments.{DiskView, Exposes, Images}
+use Rattle.strat_format.specs.Chained.{Chained, manifest_at}
 use Rattle.strat_format.specs.Manifest.{is_lawful_manifest}
-use Rattle.strat_format.specs.SuperBlock.{Super, IsLawful}
+use Rattle.strat_format.specs.SuperBlock.{Super, IsLawful, newest_in}
 use Rattle.strat_journal.specs.Log.{Log}
 use Rattle.strat_level.specs.Levels.{level_numbered}
 use Rattle.strat_model.specs.Run.{Position}
@@ -80,6 +81,14 @@ pub record StandsWith (v : DiskView) (s : Held) (x : Contents) : Type 0 where
   pub held : x ≡ contents_held s x.levels
   pub cached : AreCachedFrom stands.content s.chained.manifest.next_array
       (descriptors s.chained.manifest) s.cached
+
+-- a disk exposes its content, and each crash leaves the superblock and the manifest that a store holds; so has the content,
+-- which is one of the images of a disk
+pub record IsOnDisk (v : DiskView) (s : Held) : Type 0 where
+  pub content : Image
+  pub exposed : Exposes v content
+  pub newest : (c : Image) → Images v c → newest_in c ≡ Ok (Some (s.slot, s.sb))
+  pub chain : (c : Image) → Images v c → manifest_at c s.sb.manifest s.sb.length ≡ Ok s.chained
 
 -- where a store with these contents stands in a run: the table that they mean, and how many changes the
 -- journal holds

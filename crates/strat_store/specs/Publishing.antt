@@ -1,16 +1,17 @@
 -- A publication of a store, step by step.
-use Rattle.std.specs.Prelude.{◌≡◌, ◌≤◌, ◌<◌, ℕ, ◌+◌, ◌-◌, ◌++◌, Bool, List, [], length, filter, sum_by, nat_le, nat_lt, Option, IsTrue}
+use Rattle.std.specs.Prelude.{◌≡◌, ◌≢◌, ◌≤◌, ◌<◌, ℕ, ◌+◌, ◌-◌, ◌++◌, Bool, List, [], length, filter, sum_by, nat_le, nat_lt, Option, Some, Ok, IsSome, IsTrue}
 use Rattle.std.specs.Option.{option_to_list}
 use Rattle.strat_base.specs.declared.descriptors.Extent.{Extent}
 use Rattle.strat_base.specs.declared.descriptors.LevelDesc.{LevelDesc}
 use Rattle.strat_crash.specs.Image.{Image}
-use Rattle.strat_crash.specs.Blocks.{TearsBlocks}
-use Rattle.strat_crash.specs.Moments.{DiskView, Exposes}
+use Rattle.strat_crash.specs.Blocks.{KeepsTaken, TearsBlocks}
+use Rattle.strat_crash.specs.Moments.{DiskView, Exposes, Images}
 use Rattle.strat_extent.specs.Blocks.{SpaceView, is_free}
 use Rattle.strat_format.specs.Arrays.{blocks_of}
 use Rattle.strat_format.specs.Manifest.{Manifest, is_lawful_manifest}
+use Rattle.strat_format.specs.Chained.{Chained, manifest_at}
 use Rattle.strat_format.specs.Layout.{first_free, other_region}
-use Rattle.strat_format.specs.SuperBlock.{Super}
+use Rattle.strat_format.specs.SuperBlock.{Super, newest_in}
 use Rattle.strat_journal.specs.Log.{Log}
 use Rattle.strat_recovery.specs.Head.{parent_numbers}
 use Rattle.strat_store.specs.Memory.{Memory, IsMemoryOf}
@@ -49,6 +50,19 @@ pub record IsComputed (v : DiskView) (slot : ℕ) (sb : Super) (log : Log) (old 
 -- a block lies in front of those that a space has
 abbrev pub is_in_front : ℕ → ℕ → Bool
 is_in_front mem b = nat_lt b (first_free mem)
+
+-- a superblock was laid into a slot: where the newest one of a content stood in the other slot, of a smaller generation,
+-- each image has the one laid as its newest; and the blocks behind the journal are those of the content
+pub record LaysSuperblock (old new : DiskView) (mem slot : ℕ) (sb : Super) : Type 0 where
+  pub newest : (f : Image) (other : ℕ) (was : Super) → Exposes old f
+      → newest_in f ≡ Ok (Some (other, was)) → other ≢ slot → was.generation < sb.generation
+      → (c : Image) → Images new c → newest_in c ≡ Ok (Some (slot, sb))
+  pub behind : (f c : Image) → Exposes old f → Images new c → KeepsTaken (is_in_front mem) f c
+
+-- a manifest was written where a superblock leads: a content that is exposed has it there, where one was exposed before
+abbrev pub WritesManifest : DiskView → DiskView → ℕ → ℕ → Chained → Type 0
+WritesManifest old new first size chained = IsSome old.content → (g : Image) → Exposes new g
+    → manifest_at g first size ≡ Ok chained
 
 -- contents name the manifest and the chain that was written for them: its first block, its length in bytes, its extents
 pub record IsWrittenTo (first size : ℕ) (chain : List Extent) (m : Manifest) (new : Contents)

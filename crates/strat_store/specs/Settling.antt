@@ -1,5 +1,5 @@
 -- A publication of a store: what takes the place of what the store holds.
-use Rattle.std.specs.Prelude.{◌≡◌, ℕ, ◌+◌, ◌-◌, Bool, false, List, [], Option}
+use Rattle.std.specs.Prelude.{◌≡◌, ◌≢◌, ◌⊎◌, ◌≤◌, ℕ, ◌+◌, ◌-◌, ◌&&◌, Bool, true, false, List, [], length, Option}
 use Rattle.strat_base.specs.declared.descriptors.LevelDesc.{LevelDesc}
 use Rattle.strat_crash.specs.Blocks.{TearsBlocks}
 use Rattle.strat_crash.specs.Moments.{DiskView}
@@ -8,11 +8,17 @@ use Rattle.strat_format.specs.Layout.{other_region}
 use Rattle.strat_format.specs.Manifest.{Manifest}
 use Rattle.strat_format.specs.SuperBlock.{Super, IsLawful}
 use Rattle.strat_journal.specs.Log.{region_begun}
+use Rattle.strat_model.specs.declared.replies.Refusal.TheVariants as why
+use Rattle.strat_model.specs.declared.replies.Reply.{Reply}
+use Rattle.strat_model.specs.declared.replies.Reply.TheVariants as reply
+use Rattle.strat_model.specs.Answer.{accepts}
+use Rattle.strat_model.specs.Request.{Request}
+use Rattle.strat_model.specs.Run.{is_change}
 use Rattle.strat_recovery.specs.Head.{parent_numbers}
 use Rattle.strat_standing.specs.Contents.{Contents}
 use Rattle.strat_standing.specs.Standing.{AreFree}
 use Rattle.strat_state.specs.Level.{Level}
-use Rattle.strat_store.specs.Held.{Held, contents_held}
+use Rattle.strat_store.specs.Held.{Held, IsOnDisk, contents_held}
 use Rattle.strat_store.specs.Memory.{Memory, emptied}
 use Rattle.strat_store.specs.Publishing.{IsComputed, manifest_after}
 
@@ -82,3 +88,31 @@ pub record ArePublishedAfter (sb : Super) (m : Manifest) (memory : Memory) (next
   pub size : ℕ
   pub manifest_is : next ≡ manifest_after m memory target made
   pub sb_is : next_sb ≡ super_after sb first size
+
+-- a store holds the superblock and the manifest that it held, with their levels
+pub record KeepsPublished (old new : Held) : Type 0 where
+  pub slot : new.slot ≡ old.slot
+  pub sb : new.sb ≡ old.sb
+  pub chained : new.chained ≡ old.chained
+  pub levels : new.levels ≡ old.levels
+
+-- a store whose journal was full holds those that a publication left
+pub record HasPublished (old new : Held) : Type 0 where
+  pub full : old.log.mem ≤ length old.log.list
+  pub slot : new.slot ≡ 1 - old.slot
+  pub after : ArePublishedAfter old.sb old.chained.manifest old.memory new.sb
+      new.chained.manifest
+
+-- a command is a change, and was carried out
+abbrev pub carries_out : Request → Reply → Bool
+carries_out request told = is_change request && accepts told
+
+-- what a command leaves of the superblock and the manifest of a store: a change that was carried out at a full journal
+-- published once, one that met a fault of the device there may have, and no other command did. Unless the device failed,
+-- those that the store then holds are on the disk, where they were before
+pub record LeavesPublished (before now : DiskView) (old : Held) (carried : Bool) (told : Reply)
+    (new : Held) : Type 0 where
+  pub either : KeepsPublished old new ⊎ HasPublished old new
+  pub kept : carried ≡ false → told ≢ reply.Refused why.DeviceFault → KeepsPublished old new
+  pub next : carried ≡ true → old.log.mem ≤ length old.log.list → HasPublished old new
+  pub on_disk : told ≢ reply.Refused why.DeviceFault → IsOnDisk before old → IsOnDisk now new

@@ -7,9 +7,10 @@ ghost use Rattle.strat_base.specs.ChangeView.{change_of};
 ghost use Rattle.strat_crash.specs.Blocks.{AgreeOn};
 ghost use Rattle.strat_crash.specs.Faults.{CountsFaults};
 ghost use Rattle.strat_crash.specs.Image.{Image};
-ghost use Rattle.strat_crash.specs.Moments.{Exposes, Passes};
+ghost use Rattle.strat_crash.specs.Moments.{Exposes, Passes, TearsOnly};
 ghost use Rattle.strat_crash.specs.Trail.{Trail};
-ghost use Rattle.strat_model.specs.Answer.{plain};
+ghost use Rattle.strat_format.specs.Layout.{region_at, region_size};
+ghost use Rattle.strat_model.specs.Answer.{accepts, plain};
 ghost use Rattle.strat_model.specs.declared.replies.Refusal.{Refusal};
 ghost use Rattle.strat_model.specs.declared.replies.Refusal.TheVariants as why;
 ghost use Rattle.strat_model.specs.declared.replies.Reply.TheVariants as reply;
@@ -20,10 +21,11 @@ ghost use Rattle.strat_standing.specs.Contents.{Contents, contents_state, named_
 ghost use Rattle.strat_standing.specs.Standing.{ShowsTable, ContentsStand};
 ghost use Rattle.strat_state.specs.Sound.{Takes};
 ghost use Rattle.strat_store.specs.Applying.{IsAppliedTo, FollowsStep, FailsAsTold, IsDamagedIn, is_fault, refusal_of_trouble};
-ghost use Rattle.strat_store.specs.Held.{IsConsistent, StandsWith};
+ghost use Rattle.strat_store.specs.Held.{IsConsistent, IsOnDisk, StandsWith};
 ghost use Rattle.strat_cursor.specs.Looking.{arrays_there};
 ghost use Rattle.strat_store.specs.Memory.{refusal_of_change};
 ghost use Rattle.strat_store.specs.Recovering.{held_of, held_after};
+ghost use Rattle.strat_store.specs.Settling.{KeepsPublished, LeavesPublished};
 
 use crate::publication::publish;
 use crate::recovering::Recovered;
@@ -57,6 +59,8 @@ fn log_change<D: Disk>(
     ensures same { OnOk result ((x : Contents) → ContentsStand (D.view disk.old) x
         → IsLogOf x journal.old → (f g : Image) → Exposes (D.view disk.old) f
         → Exposes (D.view disk.new) g → AgreeOn (named_blocks x) f g) }
+    ensures images { TearsOnly (D.view disk.old) (D.view disk.new)
+        (region_at journal.old.mem journal.old.active) (region_size journal.old.mem) }
     ensures time { Passes (D.view disk.old) (D.view disk.new) }
     ensures cause { CountsFaults (D.faults disk.old) (D.faults disk.new) result }
 {
@@ -82,6 +86,11 @@ fn carry_out<D: Disk>(held: &mut Recovered, disk: &mut D, change: &Change<'_>) -
         (plain result) }
     ensures kept { is_fault result ≡ false → (cached : Blocks)
         → IsConsistent (held_of held.new cached) }
+    ensures end { (cached : Blocks)
+        → KeepsPublished (held_of held.old cached) (held_of held.new cached)
+        × (IsOnDisk (D.view disk.old) (held_of held.old cached)
+        → IsOnDisk (D.view disk.new) (held_of held.new cached)) }
+    ensures err { accepts result ≡ false → result ≡ reply.Refused why.DeviceFault }
     ensures damaged { (b : ℕ) → result ≡ reply.Refused (why.Damaged b) → ⊥ }
     ensures same { (held.new.sb.mem ≡ held.old.sb.mem) × (result ≢ reply.Found) }
     ensures time { Passes (D.view disk.old) (D.view disk.new) }
@@ -126,6 +135,8 @@ fn carry_out_anew<D: Disk>(
         (plain result) }
     ensures kept { is_fault result ≡ false → (cached : Blocks)
         → IsConsistent (held_of held.new cached) }
+    ensures end { (cached : Blocks) → LeavesPublished (D.view disk.old) (D.view disk.new)
+        (held_of held.old cached) (accepts result) result (held_after held.new cached result) }
     ensures damaged { (b : ℕ) → result ≡ reply.Refused (why.Damaged b)
         → IsDamagedIn (D.view disk.old).content held.old.memory held.old.published.levels b
         × ((f g : Image) → Exposes (D.view disk.old) f → Exposes (D.view disk.new) g
@@ -162,6 +173,8 @@ pub(crate) fn change<D: Disk>(
         (plain result) }
     ensures kept { is_fault result ≡ false → (cached : Blocks)
         → IsConsistent (held_of held.new cached) }
+    ensures end { (cached : Blocks) → LeavesPublished (D.view disk.old) (D.view disk.new)
+        (held_of held.old cached) (accepts result) result (held_after held.new cached result) }
     ensures err { (r : Refusal)
         → refusal_of_change held.old.memory (change_of change.now) ≡ Some r
         → (result ≡ reply.Refused r) × (held.new ≡ held.old) × (disk.new ≡ disk.old) }

@@ -9,6 +9,7 @@ ghost use Rattle.strat_crash.specs.Faults.{HasCause};
 ghost use Rattle.strat_crash.specs.Image.{Image};
 ghost use Rattle.strat_crash.specs.Moments.{Exposes};
 ghost use Rattle.strat_extent.specs.Blocks.{is_free};
+ghost use Rattle.strat_format.specs.Arrays.{blocks_of};
 ghost use Rattle.strat_format.specs.Manifest.{is_lawful_manifest};
 ghost use Rattle.strat_extent.specs.Change.{IsMarked, SameBlocks};
 ghost use Rattle.strat_journal.specs.Log.{Log};
@@ -21,7 +22,7 @@ ghost use Rattle.strat_standing.specs.Next.{HasManifest, arrays_made};
 ghost use Rattle.strat_standing.specs.Occupied.{UsesMore, extents_of};
 ghost use Rattle.strat_cursor.specs.Looking.{arrays_there};
 ghost use Rattle.strat_store.specs.Promoting.{MayPromote, HaveFewLeads};
-ghost use Rattle.strat_store.specs.Publishing.{IsWrittenTo, MayCompute, IsComputedBy, manifest_after};
+ghost use Rattle.strat_store.specs.Publishing.{IsWrittenTo, MayCompute, IsComputedBy, WritesManifest, manifest_after};
 
 use crate::memory::Memory;
 use crate::promoting::{Made, promote};
@@ -245,6 +246,9 @@ pub(crate) fn compute_next<D: Disk>(
         r.made.target r.made.level r.first r.length r.chain) }
     ensures found { IfOk result (λ r. manifest_of r.manifest
         ≡ manifest_after (manifest_of old.now) memory.now r.made.target r.made.level) }
+    ensures end { IfOk result (λ r. WritesManifest (D.view disk.old) (D.view disk.new)
+        r.first r.length
+        (record { manifest = manifest_of r.manifest; blocks = blocks_of r.chain })) }
     ensures room { IfOk result (λ r.
         UsesMore space.old (r.chain ++ extents_of (arrays_made r.made.level)) space.new) }
     ensures fits { IfOk result (λ r. (1 ≤ r.made.target) × (r.made.target ≤ 22)

@@ -1,6 +1,6 @@
 //! A publication of a store, whole: its journal is emptied into its levels.
 
-ghost use Rattle.std.specs.Prelude.{◌≡◌, ◌<◌, ◌≤◌, ℕ, ◌-◌, List, [], ◌∷◌, length, Some, IfOk, OnOk, IsErrOf, IsTrue};
+ghost use Rattle.std.specs.Prelude.{◌≡◌, ◌<◌, ◌≤◌, ℕ, ◌-◌, List, [], ◌∷◌, length, Some, IfOk, OnOk, OnErr, IsErrOf, IsTrue};
 ghost use Rattle.strat_array.specs.Kept.{Blocks};
 ghost use Rattle.strat_base.specs.declared.failures.Trouble.TheVariants as trouble;
 ghost use Rattle.strat_base.specs.declared.failures.Trouble.TheVariants.{Device, Damaged};
@@ -22,12 +22,12 @@ ghost use Rattle.strat_standing.specs.Occupied.{IsSpaceOf};
 ghost use Rattle.strat_standing.specs.Standing.{ShowsTable, ContentsStand};
 ghost use Rattle.strat_state.specs.Level.{Level};
 ghost use Rattle.strat_store.specs.Applying.{IsDamagedIn, IsPublishedAs, IsOkOrShort};
-ghost use Rattle.strat_store.specs.Held.{IsConsistent, StandsWith, contents_held};
+ghost use Rattle.strat_store.specs.Held.{IsConsistent, IsOnDisk, StandsWith, contents_held};
 ghost use Rattle.strat_cursor.specs.Looking.{arrays_there};
 ghost use Rattle.strat_store.specs.Memory.{emptied};
-ghost use Rattle.strat_store.specs.Publishing.{IsComputed, is_in_front, manifest_after};
+ghost use Rattle.strat_store.specs.Publishing.{IsComputed, LaysSuperblock, WritesManifest, is_in_front, manifest_after};
 ghost use Rattle.strat_store.specs.Recovering.{chained_of, held_of, IsAdmitted};
-ghost use Rattle.strat_store.specs.Settling.{super_after, held_next, ArePublishedAfter, MayFollow, WritesBeside, IsReadied};
+ghost use Rattle.strat_store.specs.Settling.{super_after, held_next, ArePublishedAfter, KeepsPublished, MayFollow, WritesBeside, IsReadied};
 
 use crate::admitting::{Published, admit};
 use crate::belonging::own_blocks;
@@ -91,6 +91,9 @@ fn compute_beside<D: Disk>(
         (record { manifest = manifest_of r.manifest; blocks = blocks_of r.chain })) }
     ensures found { IfOk result (λ r. manifest_of r.manifest ≡ manifest_after
         (manifest_of held.now.published.manifest) held.now.memory r.made.target r.made.level) }
+    ensures end { IfOk result (λ r. WritesManifest (D.view disk.old) (D.view disk.new)
+        r.first r.length
+        (record { manifest = manifest_of r.manifest; blocks = blocks_of r.chain })) }
     ensures fits { IfOk result (λ r. (places.first_free held.now.sb.mem ≤ r.first)
         × (r.first < 4294967295) × (29 ≤ r.length)
         × IsTrue (is_lawful_manifest (manifest_of r.manifest))) }
@@ -161,6 +164,8 @@ fn prepare_next<D: Disk>(alloc: Global, held: &Recovered, disk: &mut D) -> Resul
     ensures found { IfOk result (λ next. ArePublishedAfter (super_of held.now.sb)
         (manifest_of held.now.published.manifest) held.now.memory (super_of next.sb)
         (manifest_of next.published.manifest)) }
+    ensures end { IfOk result (λ next. WritesManifest (D.view disk.old) (D.view disk.new)
+        next.sb.manifest next.sb.length (chained_of next.published)) }
     ensures kept { IfOk result (λ next. IsAdmitted (super_of next.sb) next.published) }
     ensures images { (cached : Blocks)
         → WritesBeside (D.view disk.old) (D.view disk.new) (held_of held.now cached) }
@@ -195,6 +200,10 @@ fn settle<D: Disk>(held: &mut Recovered, next: Next, disk: &mut D) -> Result<(),
     ensures trail { (x y : Contents) → IsComputed (D.view disk.old) (1 - held.old.slot)
         (super_of next.sb) held.old.journal x y → Trail ShowsTable (D.view disk.new)
         (D.view disk.old).moment (table_of (contents_state x) ∷ []) 0 }
+    ensures end { OnOk result (LaysSuperblock (D.view disk.old) (D.view disk.new)
+        held.old.journal.mem (1 - held.old.slot) (super_of next.sb)) }
+    ensures err { OnErr result ((cached : Blocks)
+        → KeepsPublished (held_of held.old cached) (held_of held.new cached)) }
     ensures same { held.new.sb.mem ≡ held.old.sb.mem }
     ensures images { TearsBlocks (is_in_front held.old.journal.mem)
         (D.view disk.old) (D.view disk.new) }
@@ -228,6 +237,11 @@ pub(crate) fn publish<D: Disk>(
     ensures found { OnOk result ((held.new.slot ≡ 1 - held.old.slot)
         × ArePublishedAfter (super_of held.old.sb) (manifest_of held.old.published.manifest)
         held.old.memory (super_of held.new.sb) (manifest_of held.new.published.manifest)) }
+    ensures end { (IsErrOf result trouble.Device → ⊥) → (cached : Blocks)
+        → IsOnDisk (D.view disk.old) (held_of held.old cached)
+        → IsOnDisk (D.view disk.new) (held_of held.new cached) }
+    ensures err { OnErr result ((cached : Blocks)
+        → KeepsPublished (held_of held.old cached) (held_of held.new cached)) }
     ensures none { IsErrOf result trouble.NoMemory → (x : Contents) (cached : Blocks)
         → StandsWith (D.view disk.old) (held_of held.old cached) x
         → StandsWith (D.view disk.new) (held_of held.new cached) x }

@@ -23,7 +23,7 @@ ghost use Rattle.strat_standing.specs.Contents.{Contents, contents_state};
 ghost use Rattle.strat_standing.specs.Next.{IsNextOf, HasManifest, arrays_made};
 ghost use Rattle.strat_standing.specs.Occupied.{IsSpaceOf, extents_of, arrays_in};
 ghost use Rattle.strat_standing.specs.Standing.{ShowsTable, ContentsStand};
-ghost use Rattle.strat_store.specs.Publishing.{IsComputed, IsWrittenTo, is_in_front};
+ghost use Rattle.strat_store.specs.Publishing.{IsComputed, IsWrittenTo, LaysSuperblock, is_in_front};
 
 use std::alloc::Global;
 use strat_base::{Extents, Failed, Trouble};
@@ -101,6 +101,8 @@ pub(crate) fn lay_next<D: Disk>(
         → IsComputed (D.view disk.old) slot (super_of sb.now) journal.old old new
         → ContentsStand (D.view disk.new) new × IsLogOf new journal.new) }
     ensures ok { OnOk result (journal.new ≡ region_begun journal.old) }
+    ensures end { OnOk result (journal.old.active ≤ 1 → LaysSuperblock (D.view disk.old)
+        (D.view disk.new) journal.old.mem slot (super_of sb.now)) }
     ensures err { OnErr result (journal.new ≡ journal.old) }
     ensures images { journal.old.active ≤ 1
         → TearsBlocks (is_in_front journal.old.mem) (D.view disk.old) (D.view disk.new) }

@@ -28,6 +28,7 @@ ghost use Rattle.strat_store.specs.Held.{IsConsistent, StandsWith};
 ghost use Rattle.strat_store.specs.Memory.{info_told};
 ghost use Rattle.strat_cursor.specs.Looking.{AreInOrder, AreCachedFrom, LooksThrough, arrays_there, levels_there};
 ghost use Rattle.strat_store.specs.Recovering.{held_of, held_after, empty_cache};
+ghost use Rattle.strat_store.specs.Settling.{LeavesPublished, carries_out};
 ghost use Rattle.strat_store.specs.declared.opening.AttachFault.TheVariants as fault;
 
 use crate::changing::change;
@@ -183,6 +184,9 @@ fn answer<D: Disk>(
         (held.old.memory.entries ∷ []) (levels_there held.old.published.levels) version key) }
     ensures kept { is_fault result ≡ false → (cached : Blocks)
         → IsConsistent (held_of held.new cached) }
+    ensures end { LeavesPublished (D.view disk.old) (D.view disk.new)
+        (held_of held.old cache.old) (carries_out (request_of command.now) result) result
+        (held_after held.new cache.new result) }
     ensures len { (result ≡ reply.Found → length out.new ≡ 1)
         × (held.new.sb.mem ≡ held.old.sb.mem) }
     ensures same { IsUntouched (D.view disk.old) (D.view disk.new) (request_of command.now)
@@ -242,6 +246,8 @@ impl Store {
             (self.old.memory.entries ∷ []) (levels_there self.old.levels) version key) }
         ensures kept { (self.new.spent ≡ is_fault result)
             × (self.new.spent ≡ false → IsConsistent self.new) }
+        ensures end { LeavesPublished (D.view disk.old) (D.view disk.new) self.old
+            (carries_out (request_of command.now) result) result self.new }
         ensures len { result ≡ reply.Found → length out.new ≡ 1 }
         ensures same { (self.new.sb.mem ≡ self.old.sb.mem)
             × IsUntouched (D.view disk.old) (D.view disk.new) (request_of command.now)

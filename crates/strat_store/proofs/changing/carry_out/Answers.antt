@@ -1,6 +1,7 @@
 use Rattle.std.proofs.Common.{refl, arith}
 use Rattle.strat_store.specs.Recovering.{held_of, empty_cache}
 use Rattle.strat_store.proofs.ChangingLemmas.{log_of, kept_more, breaks, takes, step_trail, told_trail, carries, finds_none}
+use Rattle.strat_store.proofs.LeavingLemmas.{logged_leaves, taken_well}
 use Rattle.strat_store.proofs.MemoryLawLemmas.{room_for}
 use Rattle.strat_store.specs.Held.{head_held}
 use Rattle.strat_store.proofs.changing.carry_out.Goals as goal
@@ -50,3 +51,16 @@ returns-clause-kept g c calm cached =
 
 pub returns-clause-same : goal.returns-clause-same
 returns-clause-same g c = (refl, finds_none c.args.held.now.memory _ c.take.result c.take.ensures.found)
+
+pub returns-in_default-clause-end : goal.returns-in_default-clause-end
+returns-in_default-clause-end g c = λ cached.
+    logged_leaves (g.D.Disk.view c.args.disk.now) (g.D.Disk.view c.log_change.new.disk) (held_of c.args.held.now cached) (held_of (record c.args.held.now { journal = c.log_change.new.journal }) cached)
+    (c.requires.kept cached) (record { slot = refl; sb = refl; chained = refl; levels = refl }) c.log_change.ensures.images c.log_change.ensures.time
+
+pub returns-clause-end : goal.returns-clause-end
+returns-clause-end g c = λ cached.
+    logged_leaves (g.D.Disk.view c.args.disk.now) (g.D.Disk.view c.log_change.new.disk) (held_of c.args.held.now cached) (held_of (record c.args.held.now { journal = c.log_change.new.journal; memory = c.take.new.self }) cached)
+    (c.requires.kept cached) (record { slot = refl; sb = refl; chained = refl; levels = refl }) c.log_change.ensures.images c.log_change.ensures.time
+
+pub returns-clause-err : goal.returns-clause-err
+returns-clause-err g c = λ refused. taken_well c.args.held.now.memory _ c.take.result c.take.ensures.found refused

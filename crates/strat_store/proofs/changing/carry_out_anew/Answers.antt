@@ -1,7 +1,9 @@
 use Rattle.std.proofs.Common.{◌≡◌, length, Err, ap, arith}
-use Rattle.std.specs.Prelude.{IsErrOf}
+use Rattle.std.specs.Prelude.{Result, IsErrOf}
 use Rattle.strat_base.specs.declared.failures.Trouble.{Trouble}
+use Rattle.strat_base.specs.declared.failures.Trouble.TheVariants as trouble
 use Rattle.strat_store.specs.Recovering.{empty_cache}
+use Rattle.strat_store.proofs.LeavingLemmas.{gives_up, renews}
 use Rattle.strat_store.proofs.RenewingLemmas.{calm_short, told_up, renewed, renewed_trail, trail_so_far}
 use Rattle.strat_store.proofs.changing.carry_out_anew.Goals as goal
 
@@ -45,3 +47,15 @@ returns-clause-trail g c x cached stands =
     renewed_trail c.args.held.now cached (c.requires.kept cached) (g.D.Disk.view c.args.disk.now) x stands _ c.requires.none c.requires.room c.publish.new.held (g.D.Disk.view c.publish.new.disk)
     (c.in_default.ensures.kept tt cached) c.in_default.ensures.room.0 p (g.D.Disk.view c.carry_out.new.disk) c.carry_out.result c.carry_out.ensures.time (c.publish.ensures.trail x cached stands)
     (c.carry_out.ensures.trail p.after cached p.stands)
+
+pub returns-in-Err-clause-end : goal.returns-in-Err-clause-end
+returns-in-Err-clause-end g c = λ cached.
+    gives_up (g.D.Disk.view c.args.disk.now) (g.D.Disk.view c.publish.new.disk) c.args.held.now c.publish.new.held cached c.in-Err.trouble c.refusal_of.result c.refusal_of.ensures.ok
+    (c.in-Err.ensures.err cached) (λ other. c.in-Err.ensures.end (λ e. other (let x : ◌≡◌ {A = Result _ Trouble} (Err c.in-Err.trouble) (Err trouble.Device) = e in cc)) cached)
+
+pub returns-clause-end : goal.returns-clause-end
+returns-clause-end g c = λ cached.
+    let kept = c.requires.kept cached in
+    renews (g.D.Disk.view c.args.disk.now) (g.D.Disk.view c.publish.new.disk) (g.D.Disk.view c.carry_out.new.disk) c.args.held.now c.publish.new.held c.carry_out.new.held cached c.carry_out.result
+    (omega (arith, c.requires.room, kept.log.mem)) c.in_default.ensures.found.0 c.in_default.ensures.found.1 (c.carry_out.ensures.end cached) c.carry_out.ensures.err
+    (c.in_default.ensures.end (λ e. absurd (cc)) cached)

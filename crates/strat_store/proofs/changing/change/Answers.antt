@@ -1,5 +1,7 @@
-use Rattle.std.proofs.Common.{sym, arith}
-use Rattle.strat_store.specs.Recovering.{empty_cache}
+use Rattle.std.proofs.Common.{refl, sym, arith}
+use Rattle.strat_crash.proofs.MomentLemmas.{reads_refl}
+use Rattle.strat_store.specs.Recovering.{held_of, empty_cache}
+use Rattle.strat_store.proofs.LeavingLemmas.{left_alone, leaves_room}
 use Rattle.strat_store.proofs.RenewingLemmas.{refused_well, refused_trail}
 use Rattle.strat_store.proofs.changing.change.Goals as goal
 
@@ -20,3 +22,14 @@ pub carry_out-requires-clause-room : goal.carry_out-requires-clause-room
 carry_out-requires-clause-room g c =
     let kept = c.requires.kept (empty_cache 0) in
     omega (arith, c.if-room-eq0.false, c.room.ensures, kept.log.mem, kept.log.few)
+
+pub returns-in-Some-clause-end : goal.returns-in-Some-clause-end
+returns-in-Some-clause-end g c = λ cached.
+    left_alone (g.D.Disk.view c.args.disk.now) (g.D.Disk.view c.args.disk.now) (held_of c.args.held.now cached) _ _ _ refl (reads_refl (g.D.Disk.view c.args.disk.now))
+
+pub returns-clause-end : goal.returns-clause-end
+returns-clause-end g c = λ cached.
+    let kept = c.requires.kept cached in
+    let both = c.carry_out.ensures.end cached in
+    leaves_room (g.D.Disk.view c.args.disk.now) (g.D.Disk.view c.carry_out.new.disk) (held_of c.args.held.now cached) (held_of c.carry_out.new.held cached) _ c.carry_out.result _
+    (omega (arith, c.if-room-eq0.false, c.room.ensures, kept.log.mem, kept.log.few)) both.0 both.1

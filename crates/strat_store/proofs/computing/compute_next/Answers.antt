@@ -1,4 +1,5 @@
 use Rattle.strat_manifest.specs.ManifestView.{manifest_of}
+use Rattle.strat_store.proofs.OnDiskLemmas.{written_at}
 use Rattle.strat_store.proofs.ComputedLemmas.{computed_by, torn_on, uses_both}
 use Rattle.strat_store.proofs.computing.compute_next.Goals as goal
 
@@ -18,3 +19,8 @@ returns-clause-images g c = torn_on c.args.space.now c.promote.new.space _ _ _ _
 
 pub returns-in_err-manifest-clause-images : goal.returns-in_err-manifest-clause-images
 returns-in_err-manifest-clause-images g c = torn_on c.args.space.now c.promote.new.space _ _ _ _ c.in_ok-made.ensures.room c.promote.ensures.images c.write_after.ensures.images
+
+pub returns-clause-end : goal.returns-clause-end
+returns-clause-end g c =
+    written_at (g.D.Disk.view c.args.disk.now) (g.D.Disk.view c.promote.new.disk) (g.D.Disk.view c.write_after.new.disk) c.in_ok-manifest.first c.in_ok-manifest.length c.in_ok-manifest.chain
+    (manifest_of c.in_ok-manifest.manifest) c.promote.ensures.images.time c.in_ok-manifest.ensures.fits.3 c.in_ok-manifest.ensures.ok

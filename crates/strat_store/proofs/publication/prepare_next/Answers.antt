@@ -1,6 +1,7 @@
 use Rattle.std.proofs.Common.{ap, ◌∙◌}
 use Rattle.strat_format.specs.Chained.{Chained}
 use Rattle.strat_store.specs.Recovering.{held_of, empty_cache}
+use Rattle.strat_store.proofs.OnDiskLemmas.{written_as}
 use Rattle.strat_store.proofs.SettlingLemmas.{readied_as}
 use Rattle.strat_store.proofs.publication.prepare_next.Goals as goal
 
@@ -20,3 +21,7 @@ returns-clause-found g c = record {
   manifest_is = ap (λ (h : Chained). h.manifest) c.in_ok-next.ensures.found ∙ c.in_ok-computed.ensures.found;
   sb_is = c.in_ok-next.ensures.ok.0;
 }
+
+pub returns-clause-end : goal.returns-clause-end
+returns-clause-end g c =
+    written_as (g.D.Disk.view c.args.disk.now) (g.D.Disk.view c.compute_beside.new.disk) _ _ _ _ c.in_ok-next.ensures.ok.0 c.in_ok-next.ensures.found c.in_ok-computed.ensures.end

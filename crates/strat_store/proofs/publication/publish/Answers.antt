@@ -1,18 +1,21 @@
-use Rattle.std.proofs.Common.{◌∙◌, ℕ, Some, None, sym, ap, subst, arith}
+use Rattle.std.proofs.Common.{◌∙◌, ◌≡◌, ◌<◌, ℕ, Some, None, refl, sym, ap, subst, arith}
 use Rattle.std.proofs.lemmas.Result.{err_from_is_err_and}
 use Rattle.strat_array.specs.Kept.{Blocks}
 use Rattle.strat_crash.proofs.MomentLemmas.{passes_trans}
 use Rattle.strat_crash.specs.Blocks.{TearsBlocks}
+use Rattle.strat_format.specs.SuperBlock.{Super}
 use Rattle.strat_gate.specs.SuperView.{super_of}
 use Rattle.strat_journal.proofs.ReadLemmas.{same_err}
 use Rattle.strat_manifest.specs.ManifestView.{manifest_of}
+use Rattle.strat_promote.proofs.OpeningLemmas.{on_err}
 use Rattle.strat_standing.specs.Standing.{ShowsTable}
 use Rattle.strat_store.specs.Applying.{IsPublishedAs}
-use Rattle.strat_store.specs.Held.{Held, IsConsistent}
+use Rattle.strat_store.specs.Held.{Held, IsConsistent, IsOnDisk}
 use Rattle.strat_store.specs.Memory.{Memory, emptied}
 use Rattle.strat_store.specs.Publishing.{is_in_front}
 use Rattle.strat_store.specs.Recovering.{held_of, empty_cache, chained_of}
 use Rattle.strat_store.proofs.SettlingLemmas.{unwritten}
+use Rattle.strat_store.proofs.OnDiskLemmas.{kept_on, beside_on, published_on}
 use Rattle.strat_store.proofs.SettledLemmas.{consistent_ready, stands_ready, damaged_ready, trail_beside, stands_beside, arrays_kept, one_trail, published_after, published_as, consistent_next, none_damaged}
 use Rattle.strat_store.proofs.publication.publish.Goals as goal
 
@@ -131,3 +134,32 @@ returns-clause-found g c =
       published_after (super_of c.args.held.now.sb) _ _ (manifest_of c.args.held.now.published.manifest) _ _ c.args.held.now.memory c.prepare.new.self (Some c.args.held.now.sb.mem)
           c.in_ok-prepare.ensures.ok (ap (λ (h : Held). h.sb) all) (ap (λ (h : Held). h.chained.manifest) all) c.in_ok-next.ensures.found,
     )
+
+pub returns-in_err-prepare-clause-end : goal.returns-in_err-prepare-clause-end
+returns-in_err-prepare-clause-end g c = λ other cached on.
+    kept_on (g.D.Disk.view c.args.disk.now) (held_of c.args.held.now cached) (held_of (record c.args.held.now { memory = c.prepare.new.self }) cached) (record { slot = refl; sb = refl; chained = refl; levels = refl }) on
+
+pub returns-in_err-next-clause-end : goal.returns-in_err-next-clause-end
+returns-in_err-next-clause-end g c = λ other cached on.
+    let mid = record c.args.held.now { memory = c.prepare.new.self } in
+    beside_on (g.D.Disk.view c.args.disk.now) (g.D.Disk.view c.prepare_next.new.disk) (held_of mid cached) (c.prepare_next.ensures.images cached)
+    (kept_on (g.D.Disk.view c.args.disk.now) (held_of c.args.held.now cached) (held_of mid cached) (record { slot = refl; sb = refl; chained = refl; levels = refl }) on)
+
+pub returns-clause-end : goal.returns-clause-end
+returns-clause-end g c = λ other cached on.
+    let v = g.D.Disk.view c.args.disk.now in
+    let mid = record c.args.held.now { memory = c.prepare.new.self } in
+    let whole = consistent_ready (held_of c.args.held.now cached) (Some c.args.held.now.sb.mem) c.prepare.new.self c.in_ok-prepare.ensures.ok (c.requires.kept cached) in
+    let next = c.in_ok-next.next in
+    let found = c.in_ok-next.ensures.found in
+    let greater : c.args.held.now.sb.generation < next.sb.generation = omega (arith, ap (λ (sb : Super). sb.generation) found.sb_is) in
+    subst (λ (h : Held). IsOnDisk (g.D.Disk.view c.settle.new.disk) h) (sym (c.in_ok-settle.ensures.ok cached))
+    (published_on v (g.D.Disk.view c.prepare_next.new.disk) (g.D.Disk.view c.settle.new.disk) (held_of mid cached) (super_of next.sb) (chained_of next.published) next.published.levels
+    whole (c.prepare_next.ensures.images cached) c.in_ok-next.ensures.end (g.met.D.Disk.leaves_content c.prepare_next.new.disk) c.in_ok-settle.ensures.end c.settle.ensures.time
+    greater (c.in_ok-next.ensures.fits cached).mem c.in_ok-next.ensures.kept.belonging
+    (kept_on v (held_of c.args.held.now cached) (held_of mid cached) (record { slot = refl; sb = refl; chained = refl; levels = refl }) on))
+
+pub returns-in_err-settle-clause-err : goal.returns-in_err-settle-clause-err
+returns-in_err-settle-clause-err g c =
+    on_err c.from_residual-in_err-settle.result _
+    (λ cached. let same = c.in_err-settle.ensures.err cached in record { slot = same.slot; sb = same.sb; chained = same.chained; levels = same.levels })

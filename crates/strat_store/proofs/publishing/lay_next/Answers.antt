@@ -4,6 +4,7 @@ use Rattle.strat_crash.specs.Moments.{OnlyReads, IsDurable}
 use Rattle.strat_crash.proofs.BlockLemmas.{reads_tear_none, blocks_trans}
 use Rattle.strat_format.specs.Layout.{region_at}
 use Rattle.strat_store.specs.Publishing.{is_in_front}
+use Rattle.strat_store.proofs.OnDiskLemmas.{laid_superblock}
 use Rattle.strat_store.proofs.PublishingLemmas.{synced_trail, next_of, lay_trail, turn_trail, turn_stands, torn_in_front, gate_in_front, slot_in_front}
 use Rattle.strat_store.proofs.publishing.lay_next.Given.{Over}
 use Rattle.strat_store.proofs.publishing.lay_next.Goals.{After-sync_written, After-lay, After-turn}
@@ -64,3 +65,8 @@ returns-clause-images g c few =
 
 pub returns-in_err-sync_written-clause-trail : goal.returns-in_err-sync_written-clause-trail
 returns-in_err-sync_written-clause-trail g c old new computed = synced_trail _ (g.D.Disk.view c.sync_written.new.disk) _ _ _ old new computed (synced g (goal.at.returns-in_err-sync_written-clause-trail g c).After-sync_written)
+
+pub returns-clause-end : goal.returns-clause-end
+returns-clause-end g c few =
+    laid_superblock _ (g.D.Disk.view c.sync_written.new.disk) (g.D.Disk.view c.lay.new.disk) _ c.args.slot _ c.args.journal.now.mem c.args.journal.now.active c.requires.fits.0
+    (synced g (goal.at.returns-clause-end g c).After-sync_written) c.in_ok-sync_written.ensures.ok c.lay.ensures.images c.lay.ensures.time c.in_ok-lay.ensures.found c.turn.ensures.images c.turn.ensures.time few

@@ -1,11 +1,12 @@
-use Rattle.std.proofs.Common.{refl, sym, subst}
-use Rattle.strat_model.specs.Answer.{as_told, plain}
+use Rattle.std.proofs.Common.{◌&&◌, Bool, refl, sym, ap, subst}
+use Rattle.strat_model.specs.Answer.{accepts, as_told, plain}
 use Rattle.strat_model.specs.Command.{request_of}
 use Rattle.strat_model.specs.Pairs.{Pairs}
 use Rattle.strat_model.specs.Request.{Request}
 use Rattle.strat_store.specs.Applying.{IsAppliedTo, FollowsStep, is_fault}
 use Rattle.strat_store.specs.Recovering.{held_of, held_after}
-use Rattle.strat_store.proofs.ApplyLemmas.{wanted_for, tells_of_change, look_applied, look_follows}
+use Rattle.strat_store.proofs.LeavingLemmas.{left_cached, leaves_wanted}
+use Rattle.strat_store.proofs.ApplyLemmas.{wanted_for, tells_of_change, look_no_change, look_applied, look_follows}
 use Rattle.strat_store.proofs.store.answer.Goals as goal
 
 pub returns-in-Some-clause-ok : goal.returns-in-Some-clause-ok
@@ -35,3 +36,14 @@ returns-in-None-clause-trail g c = λ x w.
 
 pub returns-in-Some-clause-cause : goal.returns-in-Some-clause-cause
 returns-in-Some-clause-cause g c = (c.change.ensures.cause, tells_of_change (g.D.Disk.view c.args.disk.now) _ _ c.change.result c.in-Some.ensures)
+
+pub returns-in-Some-clause-end : goal.returns-in-Some-clause-end
+returns-in-Some-clause-end g c =
+    leaves_wanted (g.D.Disk.view c.args.disk.now) (g.D.Disk.view c.change.new.disk) (held_of c.args.held.now c.args.cache.now) (held_after c.change.new.held c.args.cache.now c.change.result) (request_of c.args.command.now) _ c.change.result
+    c.in-Some.ensures (c.change.ensures.end c.args.cache.now)
+
+pub returns-in-None-clause-end : goal.returns-in-None-clause-end
+returns-in-None-clause-end g c =
+    let still = look_no_change (request_of c.args.command.now) c.requires.fits.0 c.in-None.ensures in
+    left_cached (g.D.Disk.view c.args.disk.now) (g.D.Disk.view c.look.new.disk) c.args.held.now c.args.cache.now c.look.new.cache _ c.look.result (is_fault c.look.result)
+    (ap (λ (b : Bool). b && accepts c.look.result) still) c.look.ensures.same.disk

@@ -17,3 +17,6 @@ returns-clause-kept g c = (
   λ calm. spent_consistent (held_of c.answer-told.new.held c.answer-told.new.cache) c.is_fault-self-inside.result
       (c.answer-told.ensures.kept (sym c.is_fault-self-inside.ensures.ok ∙ calm) c.answer-told.new.cache),
 )
+
+pub returns-clause-damaged : goal.returns-clause-damaged
+returns-clause-damaged g c = rw (← c.self.view_is) c.answer-told.ensures.damaged

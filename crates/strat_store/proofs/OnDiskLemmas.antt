@@ -1,0 +1,251 @@
+-- What a store holds of a disk whatever its arrays hold: the superblock and the manifest stay there, or others are published.
+use Rattle.std.proofs.Common.{◌≡◌, ◌≢◌, ◌≤◌, ◌<◌, ◌+◌, ◌-◌, ◌*◌, ℕ, zero, suc, Bool, true, false, cond, eqb, inl, inr, List, [], ◌∷◌, ◌++◌, length, Option, Some, None, Ok, Err, refl, sym, ap, ◌∙◌, subst, arith, true≢false}
+use Rattle.std.specs.Prelude.{IsSome, IfSome, option_map}
+use Rattle.std.proofs.lemmas.Bool.{cases_lt, le-ltb, ltb-false}
+use Rattle.strat_base.specs.declared.descriptors.Extent.{Extent}
+use Rattle.strat_base.specs.declared.descriptors.LevelDesc.{LevelDesc}
+use Rattle.strat_base.specs.declared.limits.TheConstants.{BLOCK}
+use Rattle.strat_base.specs.Numbers.{number}
+use Rattle.strat_base.proofs.ListFacts.{Among, among_left}
+use Rattle.strat_crash.specs.Blocks.{KeepsBlock, KeepsTaken}
+use Rattle.strat_crash.specs.Image.{Image, SameIn, window}
+use Rattle.strat_crash.specs.Moments.{DiskView, Exposes, Images, Passes, TearsOnly, OnlyReads, IsDurable}
+use Rattle.strat_crash.proofs.BlockLemmas.{keeps_refl}
+use Rattle.strat_crash.proofs.ImageLemmas.{window_same, outside_same, outside_same_above}
+use Rattle.strat_crash.proofs.MomentLemmas.{now_since_start, settled_at, at_told}
+use Rattle.strat_format.specs.Arrays.{blocks_of}
+use Rattle.strat_format.specs.Chain.{chain_length}
+use Rattle.strat_format.specs.Chained.{Chained, link_at, may_follow, chain_from, chained_bytes, manifest_filled, manifest_in_chain, manifest_at}
+use Rattle.strat_format.specs.Damage.{Read, and_then, passed_or, found_or, put_first}
+use Rattle.strat_format.specs.Layout.{region_at, region_size, other_region, first_free}
+use Rattle.strat_format.specs.Manifest.{Manifest, manifest_bytes, is_lawful_manifest}
+use Rattle.strat_format.specs.SuperBlock.{Super, Slot, newest_in}
+use Rattle.strat_format.proofs.ChainLemmas.{chain_read}
+use Rattle.strat_format.proofs.DamageLemmas.{and_then_ok, passed_ok, found_ok, put_first_ok}
+use Rattle.strat_gate.specs.Laying.{LaysOver}
+use Rattle.strat_promote.specs.Job.{blocks_listed}
+use Rattle.strat_recovery.specs.Head.{descriptors}
+use Rattle.strat_recovery.specs.Opening.{belongs}
+use Rattle.strat_recovery.proofs.OpeningLemmas.{map_some}
+use Rattle.strat_standing.specs.Contents.{Contents, named_blocks}
+use Rattle.strat_standing.specs.Next.{HasManifest}
+use Rattle.strat_standing.specs.Standing.{LeavesContent}
+use Rattle.strat_standing.proofs.ListLemmas.{among_contained}
+use Rattle.strat_standing.proofs.LocalLemmas.{SameOn}
+use Rattle.strat_standing.proofs.PlaceLemmas.{places, newest_chosen, newest_local, named_behind}
+use Rattle.strat_store.specs.Held.{Held, IsConsistent, IsOnDisk, contents_held}
+use Rattle.strat_store.specs.Publishing.{IsWrittenTo, LaysSuperblock, WritesManifest, is_in_front}
+use Rattle.strat_store.specs.Settling.{KeepsPublished, WritesBeside, held_next}
+
+-- a manifest is read again while the blocks of its chain stay
+link_same : (f c : Image) (b : ℕ) → KeepsBlock b f c → link_at c b ≡ link_at f b
+link_same f c b keeps = ap (number 4) (window_same f c (BLOCK * b) 4 (record { byte = λ i low high. keeps.byte i (omega arith) (omega arith) }))
+
+text_same : (f c : Image) (b : ℕ) → KeepsBlock b f c → window c (BLOCK * b + 4) (BLOCK - 4) ≡ window f (BLOCK * b + 4) (BLOCK - 4)
+text_same f c b keeps = window_same f c (BLOCK * b + 4) (BLOCK - 4) (record { byte = λ i low high. keeps.byte i (omega arith) (omega arith) })
+
+chain_still : (f c : Image) (before : List ℕ) (b n : ℕ) (blocks : List ℕ) → chain_from f before b n ≡ Ok blocks → SameOn f c blocks → chain_from c before b n ≡ Ok blocks
+unfolding chain_from
+chain_still f c before b zero blocks e same =
+    let one = passed_ok b (eqb (link_at f b) 0) (b ∷ []) blocks e in
+    let here : KeepsBlock b f c = same b (subst (λ (l : List ℕ). Among b l) one.1 (inl refl)) in
+    ap (λ (k : ℕ). passed_or b (eqb k 0) (b ∷ [])) (link_same f c b here) ∙ e
+chain_still f c before b (suc n) blocks e same =
+    by_test (may_follow (b ∷ before) (link_at f b)) refl (λ rest e' on. chain_still f c (b ∷ before) (link_at f b) n rest e' on) e
+  where
+    by_test : (t : Bool) → may_follow (b ∷ before) (link_at f b) ≡ t
+        → ((rest : List ℕ) → chain_from f (b ∷ before) (link_at f b) n ≡ Ok rest → SameOn f c rest → chain_from c (b ∷ before) (link_at f b) n ≡ Ok rest)
+        → cond t (put_first b (chain_from f (b ∷ before) (link_at f b) n)) (Err b) ≡ Ok blocks
+        → cond (may_follow (b ∷ before) (link_at c b)) (put_first b (chain_from c (b ∷ before) (link_at c b) n)) (Err b) ≡ Ok blocks
+    by_test false is further e = absurd (cc)
+    by_test true is further e =
+        let rest = put_first_ok b (chain_from f (b ∷ before) (link_at f b) n) blocks e in
+        let here : KeepsBlock b f c = same b (subst (λ (l : List ℕ). Among b l) rest.2 (inl refl)) in
+        let later : SameOn f c rest.0 = λ d among. same d (subst (λ (l : List ℕ). Among d l) rest.2 (inr among)) in
+        let there = further rest.0 rest.1 later in
+        ap (λ (k : ℕ). cond (may_follow (b ∷ before) k) (put_first b (chain_from c (b ∷ before) k n)) (Err b)) (link_same f c b here)
+        ∙ ap (λ (t : Bool). cond t (put_first b (chain_from c (b ∷ before) (link_at f b) n)) (Err b)) is
+        ∙ ap (λ (r : Read (List ℕ)). put_first b r) there
+        ∙ ap (λ (l : List ℕ). Ok l) rest.2
+
+bytes_still : (f c : Image) (blocks : List ℕ) → SameOn f c blocks → chained_bytes c blocks ≡ chained_bytes f blocks
+bytes_still f c [] same = refl
+bytes_still f c (b ∷ blocks) same = λ i. text_same f c b (same b (inl refl)) i ++ bytes_still f c blocks (λ d among. same d (inr among)) i
+
+manifest_still : (f c : Image) (first n : ℕ) (x : Chained) → manifest_at f first n ≡ Ok x → SameOn f c x.blocks → manifest_at c first n ≡ Ok x
+manifest_still f c first n x e same =
+    let read = and_then_ok (chain_from f [] first (chain_length n - 1)) (manifest_in_chain f first n) x e in
+    let made = map_some (λ m. record { manifest = m; blocks = read.0 }) (manifest_filled n (chained_bytes f read.0)) x
+    (found_ok first (option_map (λ m. record { manifest = m; blocks = read.0 }) (manifest_filled n (chained_bytes f read.0))) x read.2) in
+    let on : SameOn f c read.0 = subst (λ (l : List ℕ). SameOn f c l) (sym (ap (λ (y : Chained). y.blocks) made.2)) same in
+    ap (λ (r : Read (List ℕ)). and_then r (manifest_in_chain c first n)) (chain_still f c [] first (chain_length n - 1) read.0 read.1 on)
+    ∙ ap (λ (l : List ℕ). found_or first (option_map (λ m. record { manifest = m; blocks = read.0 }) (manifest_filled n l))) (bytes_still f c read.0 on)
+    ∙ read.2
+
+-- a store that holds the same superblock and manifest
+pub kept_on : (v : DiskView) (s t : Held) → KeepsPublished s t → IsOnDisk v s → IsOnDisk v t
+kept_on v s t same on = record {
+  content = on.content;
+  exposed = on.exposed;
+  newest = λ c left. on.newest c left ∙ (λ i. Ok (Some (sym same.slot i, sym same.sb i)));
+  chain = λ c left. (λ i. manifest_at c (same.sb i).manifest (same.sb i).length) ∙ on.chain c left ∙ (λ i. Ok (sym same.chained i));
+}
+
+told_some : (o : Option Image) (f : Image) → o ≡ Some f → IsSome o
+told_some None f e = absurd (cc)
+told_some (Some x) f e = refl
+
+some_told : (o : Option Image) → IsSome o → (g : Image) × (o ≡ Some g)
+some_told (Some g) some = (g, refl)
+some_told None some = absurd (true≢false (sym some))
+
+-- each image has the slots of one of before, and the blocks of the chain
+pub still_on : (v w : DiskView) (s : Held) → IsOnDisk v s → Passes v w
+    → ((c : Image) → Images w c → (d : Image) × Images v d × SameIn 0 8192 d c × SameOn d c s.chained.blocks) → IsOnDisk w s
+still_on v w s on time each =
+    let told = some_told w.content (time.exposed (told_some v.content on.content on.exposed)) in
+    record {
+      content = told.0;
+      exposed = told.1;
+      newest = λ c left. let one = each c left in newest_local one.0 c one.2 ∙ on.newest one.0 one.1;
+      chain = λ c left. let one = each c left in manifest_still one.0 c s.sb.manifest s.sb.length s.chained (on.chain one.0 one.1) one.3;
+    }
+
+-- a disk that was only read
+pub read_on : (v w : DiskView) (s : Held) → IsOnDisk v s → OnlyReads v w → IsOnDisk w s
+read_on v w s on reads =
+    still_on v w s on reads.time (λ c left. (
+      c,
+      reads.images.each c (now_since_start v w c reads.time left),
+      record { byte = λ i low high. refl },
+      λ b among. keeps_refl b c,
+    ))
+
+-- the slots lie in front of what is free
+slots_same : (free : ℕ → Bool) (mem : ℕ) (d c : Image) → ((b : ℕ) → b < first_free mem → free b ≡ false) → KeepsTaken free d c → SameIn 0 8192 d c
+slots_same free mem d c behind keeps = record {
+  byte = λ i low high. elim (cases_lt i 4096) [
+    | inl first ↦ (keeps 0 (behind 0 (omega arith))).byte i (omega arith) (omega (arith, first))
+    | inr second ↦ (keeps 1 (behind 1 (omega arith))).byte i (omega (arith, second)) (omega (arith, high))
+  ];
+}
+
+-- what was written is free beside what a store holds
+pub beside_on : (v w : DiskView) (s : Held) → WritesBeside v w s → IsOnDisk v s → IsOnDisk w s
+beside_on v w s beside on =
+    let named : List ℕ = named_blocks (contents_held s []) in
+    still_on v w s on beside.tears.time (λ c left.
+    let one = beside.tears.images c (now_since_start v w c beside.tears.time left) in (
+      one.0,
+      one.1,
+      slots_same beside.free s.sb.mem one.0 c beside.beside.behind one.2,
+      λ b among. one.2 b (beside.beside.unnamed b (among_contained named b (among_left s.chained.blocks (blocks_listed (descriptors s.chained.manifest)) b among))),
+    ))
+
+-- the blocks of a chain lie behind the journal
+chain_behind : (s : Held) → belongs s.sb s.chained ≡ true → (b : ℕ) → Among b s.chained.blocks → first_free s.sb.mem ≤ b
+chain_behind s belonging b among =
+    named_behind (contents_held s []) belonging b (among_left s.chained.blocks (blocks_listed (descriptors s.chained.manifest)) b among)
+
+-- what was written lies between the slots and what is free
+pub torn_on : (v w : DiskView) (s : Held) (at n : ℕ) → belongs s.sb s.chained ≡ true → 8192 ≤ at → at + n ≤ 4096 * first_free s.sb.mem → TearsOnly v w at n → Passes v w → IsOnDisk v s → IsOnDisk w s
+torn_on v w s at n belonging low high torn time on =
+    still_on v w s on time (λ c left.
+    let one = torn.each c (now_since_start v w c time left) in (
+      one.0,
+      one.1,
+      outside_same at n 0 8192 low one.2,
+      λ b among. let behind = chain_behind s belonging b among in outside_same_above at n (4096 * b) 4096 (omega (arith, behind, high)) one.2,
+    ))
+
+-- in the journal's active region
+pub logged_on : (v w : DiskView) (s : Held) → IsConsistent s → TearsOnly v w (region_at s.log.mem s.log.active) (region_size s.log.mem) → Passes v w → IsOnDisk v s → IsOnDisk w s
+logged_on v w s whole torn time on =
+    let most = whole.lawful.region_most in
+    let active = whole.log.active in
+    let mem = whole.log.mem in
+    let p = places s.log.mem s.log.active (omega (arith, most, active)) in
+    torn_on v w s (region_at s.log.mem s.log.active) (region_size s.log.mem) whole.belonging p.behind_slots
+    (subst (λ (n : ℕ). region_at s.log.mem s.log.active + region_size s.log.mem ≤ 4096 * first_free n) mem p.in_front) torn time on
+
+-- in the first gate of the other region, on a disk that was durable
+pub gate_on : (v w : DiskView) (s : Held) (f : Image) → belongs s.sb s.chained ≡ true → s.sb.region ≤ 1 → Exposes v f → IsDurable v → newest_in f ≡ Ok (Some (s.slot, s.sb))
+    → manifest_at f s.sb.manifest s.sb.length ≡ Ok s.chained → TearsOnly v w (region_at s.sb.mem (other_region s.sb.region)) 1 → Passes v w → IsOnDisk w s
+gate_on v w s f belonging few exposed durable newest chain torn time =
+    let p = places s.sb.mem s.sb.region few in
+    let here : IsOnDisk v s = record {
+      content = f;
+      exposed = exposed;
+      newest = λ c left. ap newest_in (settled_at v f exposed durable c left) ∙ newest;
+      chain = λ c left. ap (λ (d : Image). manifest_at d s.sb.manifest s.sb.length) (settled_at v f exposed durable c left) ∙ chain;
+    } in
+    torn_on v w s (region_at s.sb.mem (other_region s.sb.region)) 1 belonging p.gate_behind p.gate_within torn time here
+
+-- a superblock is laid on a disk that was synced, and then the gate of a region is shut
+module _ (v0 v1 v2 v3 : DiskView) (slot : ℕ) (sb : Super) (mem active : ℕ) (few : slot < 2) (reads : OnlyReads v0 v1) (durable : IsDurable v1)
+    (torn : TearsOnly v1 v2 (4096 * slot) 4096) (time : Passes v1 v2) (found : (f : Image) → LaysOver v1 f slot sb → (c : Image) → Images v2 c → newest_in c ≡ Ok (Some (slot, sb)))
+    (shut : TearsOnly v2 v3 (region_at mem active) 1) (passes : Passes v2 v3) (one : active ≤ 1) where
+  pub laid_superblock : LaysSuperblock v0 v3 mem slot sb
+  laid_superblock = record {
+    newest = λ f other was told is apart less c left.
+        let there : Exposes v1 f = reads.same ∙ told in
+        let chosen = newest_chosen f other was is in
+        let over : LaysOver v1 f slot sb = record {
+          content = there;
+          same = λ d left. subst (λ (e : Image). SameIn 0 8192 f e) (sym (settled_at v1 f there durable d left)) (record { byte = λ i low high. refl });
+          newest = subst (λ (o : Option (ℕ × Slot)). IfSome o (λ s. (s.0 ≢ slot) × (s.1.sb.generation < sb.generation))) (sym chosen.found) (apart, less);
+        } in
+        let last = shut.each c (now_since_start v2 v3 c passes left) in
+        newest_local last.0 c (outside_same (region_at mem active) 1 0 8192 (places mem active one).behind_slots last.2) ∙ found f over last.0 last.1;
+    behind = λ f c told left b taken.
+        let there : Exposes v1 f = reads.same ∙ told in
+        let last = shut.each c (now_since_start v2 v3 c passes left) in
+        let first = torn.each last.0 (now_since_start v1 v2 last.0 time last.1) in
+        let same : first.0 ≡ f = settled_at v1 f there durable first.0 first.1 in
+        let far = ltb-false b (first_free mem) taken in
+        let within = (places mem active one).in_front in
+        record { byte = λ i from to. last.2.above i (omega (arith, far, from, within)) ∙ first.2.above i (omega (arith, far, from, few)) ∙ ap (λ (d : Image). d i) same };
+  }
+
+-- a manifest that was written is read
+pub written_at : (v w u : DiskView) (first size : ℕ) (chain : List Extent) (m : Manifest) → Passes v w → is_lawful_manifest m ≡ true
+    → (IsSome w.content → (g : Image) → Exposes u g → (new : Contents) → IsWrittenTo first size chain m new → HasManifest g new)
+    → WritesManifest v u first size (record { manifest = m; blocks = blocks_of chain })
+written_at v w u first size chain m time lawful stored some g told =
+    let chained : Chained = record { manifest = m; blocks = blocks_of chain } in
+    let new : Contents = record {
+      slot = 0;
+      sb = record { generation = 0; manifest = first; length = size; region = 0; mem = 0; changes_max = 0; versions_max = 0 };
+      chained = chained;
+      journal = [];
+      levels = [];
+    } in
+    let has = stored (time.exposed some) g told new (record { chained = refl; first_is = refl; length_is = refl }) in
+    ap (manifest_at g first) has.size ∙ chain_read g first has.others (manifest_bytes m) m (record { lawful = lawful; text = refl }) has.chain
+    ∙ (λ i. Ok (record { manifest = m; blocks = sym has.blocks i }))
+
+-- the same of a superblock and a manifest that are these
+pub written_as : (v w : DiskView) (sb is : Super) (chained here : Chained) → is ≡ sb → here ≡ chained → WritesManifest v w sb.manifest sb.length chained → WritesManifest v w is.manifest is.length here
+written_as v w sb is chained here sb_is chained_is written =
+    subst (λ (k : Super). WritesManifest v w k.manifest k.length here) (sym sb_is) (subst (λ (ch : Chained). WritesManifest v w sb.manifest sb.length ch) (sym chained_is) written)
+
+-- a superblock that leads to a manifest written beside what a store holds takes its place
+pub published_on : (v w u : DiskView) (s : Held) (sb : Super) (chained : Chained) (levels : List (Option LevelDesc)) → IsConsistent s → WritesBeside v w s → WritesManifest v w sb.manifest sb.length chained
+    → LeavesContent w → LaysSuperblock w u s.log.mem (1 - s.slot) sb → Passes w u → s.sb.generation < sb.generation → sb.mem ≡ s.sb.mem → belongs sb chained ≡ true
+    → IsOnDisk v s → IsOnDisk u (held_next s sb chained levels)
+published_on v w u s sb chained levels whole beside written leaves laid time greater mem belonging on =
+    let mid = beside_on v w s beside on in
+    let told = some_told u.content (time.exposed (told_some w.content mid.content mid.exposed)) in
+    let g : Image = mid.content in
+    let log_mem = whole.log.mem in
+    let slot = whole.slot in
+    record {
+      content = told.0;
+      exposed = told.1;
+      newest = λ c left. laid.newest g s.slot s.sb mid.exposed (mid.newest g (at_told w.content (Images w) g mid.exposed leaves)) (λ e. absurd (omega (arith, e, slot))) greater c left;
+      chain = λ c left.
+          manifest_still g c sb.manifest sb.length chained (written (told_some v.content on.content on.exposed) g mid.exposed)
+          (λ b among.
+          let behind = chain_behind (held_next s sb chained levels) belonging b among in
+          laid.behind g c mid.exposed left b (le-ltb b (first_free s.log.mem) (omega (arith, behind, mem, log_mem))));
+    }
