@@ -1,5 +1,6 @@
 -- How a store answers commands that ask for no change, and what of it an answer leaves.
-use Rattle.std.proofs.Common.{◌≡◌, ℕ, Bool, true, false, inl, inr, List, [], ◌∷◌, length, Option, Some, None, refl, sym, ap, ◌∙◌, subst, true≢false}
+use Rattle.std.proofs.Common.{◌≡◌, ◌≤◌, ◌&&◌, ℕ, leb, Bool, true, false, inl, inr, List, [], ◌∷◌, length, Option, Some, None, refl, sym, ap, ◌∙◌, subst, true≢false}
+use Rattle.std.proofs.lemmas.Bool.{and_parts, leb-true}
 use Rattle.std.specs.Prelude.{if◌then◌else◌, option_and_then}
 use Rattle.strat_base.specs.Change.{Change}
 use Rattle.strat_base.specs.Change as change
@@ -16,9 +17,9 @@ use Rattle.strat_model.specs.declared.replies.Refusal.{Refusal}
 use Rattle.strat_model.specs.declared.replies.Refusal.TheVariants as why
 use Rattle.strat_model.specs.Answer.{Answer, plain, accepts}
 use Rattle.strat_model.specs.Pairs.{value_of}
-use Rattle.strat_model.specs.Request.{Request, Put, Delete, Get, Clone, Info, Stat}
+use Rattle.strat_model.specs.Request.{Request, Put, Delete, Get, Clone, Scan, Info, Stat}
 use Rattle.strat_model.specs.Run.{Position, is_change, reaches_disk, position_after, fill_after}
-use Rattle.strat_model.specs.Spelling.{is_built}
+use Rattle.strat_model.specs.Spelling.{is_built, is_bound, is_limit, has_lawful_sizes}
 use Rattle.strat_model.specs.Step.{step, replies_with, refuses, has_row, pairs_at, found}
 use Rattle.strat_model.specs.Table.{Table, bare}
 use Rattle.strat_recovery.specs.Head.{Head}
@@ -78,6 +79,7 @@ says_kept false t a r = refl
 pub look_kept : (t : Table) (r : Request) → is_built r ≡ true → change_wanted r ≡ None → (step t r).table ≡ t
 look_kept t (Get v key) built none = says_kept (has_row t v) t _ why.UnknownVersion
 look_kept t (Info v) built none = says_kept (has_row t v) t _ why.UnknownVersion
+look_kept t (Scan v lo hi limit) built none = says_kept (has_row t v) t _ why.UnknownVersion
 look_kept t Stat built none = refl
 look_kept t (Put v key value) built none = absurd (cc)
 look_kept t (Delete v key) built none = absurd (cc)
@@ -88,6 +90,7 @@ look_kept t _ built none = absurd (true≢false (sym built))
 pub look_no_change : (r : Request) → is_built r ≡ true → change_wanted r ≡ None → is_change r ≡ false
 look_no_change (Get v key) built none = refl
 look_no_change (Info v) built none = refl
+look_no_change (Scan v lo hi limit) built none = refl
 look_no_change Stat built none = refl
 look_no_change (Put v key value) built none = absurd (cc)
 look_no_change (Delete v key) built none = absurd (cc)
@@ -106,6 +109,7 @@ found_no_fault key (Some value) = refl
 pub look_no_fault : (t : Table) (r : Request) → is_built r ≡ true → change_wanted r ≡ None → is_fault (step t r).answer.reply ≡ false
 look_no_fault t (Get v key) built none = says_no_fault (has_row t v) t (found key (value_of (pairs_at t v) key)) (found_no_fault key (value_of (pairs_at t v) key))
 look_no_fault t (Info v) built none = says_no_fault (has_row t v) t _ refl
+look_no_fault t (Scan v lo hi limit) built none = says_no_fault (has_row t v) t _ refl
 look_no_fault t Stat built none = refl
 look_no_fault t (Put v key value) built none = absurd (cc)
 look_no_fault t (Delete v key) built none = absurd (cc)
@@ -204,3 +208,11 @@ spent_consistent s b whole = record {
   memory = whole.memory;
   placed = whole.placed;
 }
+
+-- a scan of lawful sizes asks for 1 to 256 pairs
+pub scan_fits : (v : ℕ) (lo hi : List ℕ) (limit : ℕ) → has_lawful_sizes (Scan v lo hi limit) ≡ true → (1 ≤ limit) × (limit ≤ 256)
+scan_fits v lo hi limit lawful =
+    let bounds = and_parts (is_bound lo) (is_bound hi && is_limit limit) lawful in
+    let asked = and_parts (is_bound hi) (is_limit limit) bounds.1 in
+    let ends = and_parts (leb 1 limit) (leb limit 256) asked.1 in
+    (leb-true 1 limit ends.0, leb-true limit 256 ends.1)

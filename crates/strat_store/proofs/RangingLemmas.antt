@@ -122,8 +122,8 @@ pub range_told : (content : Option Image) (parents : Parents) (entries : List En
     → IsMapAsked f parents entries levels n m → as_told (reply_of_scan r) out ≡ page (range m lo hi) limit
 range_told content parents entries levels n lo hi limit c out (Ok more) tells none f next m exposed ordered own cached is =
     page_told (range m lo hi) limit out more (tells f next exposed ordered own cached m (map_seen f parents entries levels n m is))
-range_told content parents entries levels n lo hi limit c out (Err fault.Device) tells none f next m exposed ordered own cached is = absurd (true≢false none)
-range_told content parents entries levels n lo hi limit c out (Err (fault.Damaged block)) tells none f next m exposed ordered own cached is = absurd (true≢false none)
+range_told content parents entries levels n lo hi limit c out (Err fault.Device) tells none f next m exposed inorder own kept is = absurd (true≢false none)
+range_told content parents entries levels n lo hi limit c out (Err (fault.Damaged block)) tells none f next m exposed inorder own kept is = absurd (true≢false none)
 
 -- a block that is told of is one of the arrays'
 pub damaged_range : (content : Option Image) (m : Memory) (levels : List (Option LevelDesc)) (r : Result Bool Fault) (b : ℕ) → ((block : ℕ) → IsErrOf r (fault.Damaged block) → NamesNoBlock content (arrays_there levels) block)

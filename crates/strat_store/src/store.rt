@@ -35,11 +35,13 @@ use crate::changing::change;
 use crate::getting::get;
 use crate::memory::Memory;
 use crate::opening::AttachFault;
+use crate::ranging::scan_range;
 use crate::recovering::{Recovered, open};
 use std::alloc::Global;
 use std::marker::Model;
 use strat_array::{Cache, Scratch};
 use strat_base::{Change, PairBuf, Version};
+use strat_cursor::Desks;
 use strat_disk::Disk;
 use strat_model::{Command, Refusal, Reply};
 
@@ -55,6 +57,7 @@ pub struct Store {
     held: Recovered,
     cache: Cache,
     scratch: Scratch,
+    desks: Desks,
     spent: bool,
 }
 
@@ -118,13 +121,15 @@ fn look<D: Disk>(
     held: &Recovered,
     cache: &mut Cache,
     scratch: &mut Scratch,
+    desks: &mut Desks,
     disk: &mut D,
     command: &Command<'_>,
     out: &mut PairBuf,
 ) -> Reply
     requires kept { (cached : Blocks) → IsConsistent (held_of held.now cached) }
     requires none { change_wanted (request_of command.now) ≡ None }
-    requires fits { is_built (request_of command.now) ≡ true }
+    requires fits { (is_built (request_of command.now) ≡ true)
+        × (has_lawful_sizes (request_of command.now) ≡ true) }
     requires room { out.old ≡ [] }
     ensures ok { (x : Contents) → StandsWith (D.view disk.old) (held_of held.now cache.old) x
         → IsLookedUp (D.view disk.new) (held_of held.now cache.new) x
@@ -147,6 +152,12 @@ fn look<D: Disk>(
 {
     match *command {
         Command::Get { version, key } => get(held, cache, scratch, disk, version, key, out),
+        Command::Scan {
+            version,
+            lo,
+            hi,
+            limit,
+        } => scan_range(held, cache, desks, disk, version, lo, hi, limit, out),
         Command::Info { version } => info(&held.memory, version),
         Command::Stat => held.memory.stat(),
         // The premises leave no other command.
@@ -160,6 +171,7 @@ fn answer<D: Disk>(
     held: &mut Recovered,
     cache: &mut Cache,
     scratch: &mut Scratch,
+    desks: &mut Desks,
     disk: &mut D,
     command: &Command<'_>,
     out: &mut PairBuf,
@@ -201,7 +213,7 @@ fn answer<D: Disk>(
 {
     match change_asked(command) {
         Some(asked) => change(alloc, held, disk, &asked),
-        None => look(held, cache, scratch, disk, command, out),
+        None => look(held, cache, scratch, desks, disk, command, out),
     }
 }
 
@@ -218,8 +230,8 @@ impl Store {
     /// it takes no memory. A change that meets a full journal, one in `mem`, has it emptied into the levels first: the levels that
     /// are merged are read twice, the new arrays and the manifest are written once, and there are five syncs at most. That takes
     /// memory before anything of the store is replaced, and where there is none the answer is `NoMemory`, and the store is as it
-    /// was. A get asks level 0, and then in each level one array at most, by a binary search of its blocks; it takes no memory but
-    /// for blocks that are cached. Other look-ups are O(1). `DeviceFault`: the disk counted a fault. `Damaged`: this block of one of
+    /// was. A get asks level 0, and then in each level one array at most, by a binary search of its blocks; a scan goes through
+    /// level 0 and one array of each level, pair by pair. These take no memory but for blocks that are cached. Other look-ups are O(1). `DeviceFault`: the disk counted a fault. `Damaged`: this block of one of
     /// the arrays holds no entries, or none that come after those before it. After these two, and no other, the store is spent.
     pub fn apply<D: Disk>(
         &mut self,
@@ -267,6 +279,7 @@ impl Store {
             &mut self.held,
             &mut self.cache,
             &mut self.scratch,
+            &mut self.desks,
             disk,
             command,
             out,
@@ -303,12 +316,14 @@ impl Store {
     {
         let cache = Cache::new(alloc, CACHED_MAX)?;
         let scratch = Scratch::new(alloc)?;
+        let desks = Desks::new(alloc)?;
         let held = open(alloc, disk)?;
         Ok(Store {
             alloc,
             held,
             cache,
             scratch,
+            desks,
             spent: false,
         })
     }

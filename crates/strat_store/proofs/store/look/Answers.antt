@@ -1,7 +1,10 @@
-use Rattle.std.proofs.Common.{inl, refl, ap}
+use Rattle.std.proofs.Common.{inl, refl, sym, ap, ◌∙◌}
+use Rattle.strat_model.specs.Command.{request_of}
+use Rattle.strat_model.specs.Spelling.{has_lawful_sizes}
+use Rattle.strat_model.specs.declared.commands.Command.{Command}
 use Rattle.strat_store.specs.Applying.{is_fault}
 use Rattle.strat_store.specs.Recovering.{held_of}
-use Rattle.strat_store.proofs.ApplyLemmas.{info_here, stat_here, info_calm, tells_calm}
+use Rattle.strat_store.proofs.ApplyLemmas.{info_here, stat_here, info_calm, tells_calm, scan_fits}
 use Rattle.strat_store.proofs.store.look.Goals as goal
 
 pub returns-in-Info-clause-ok : goal.returns-in-Info-clause-ok
@@ -26,3 +29,10 @@ returns-in-Stat-clause-err g c = tells_calm (g.D.Disk.view c.args.disk.now) _ c.
 
 pub returns-in_default-clause-err : goal.returns-in_default-clause-err
 returns-in_default-clause-err g c = tells_calm (g.D.Disk.view c.args.disk.now) _ _ refl
+
+pub scan_range-requires-clause-fits : goal.scan_range-requires-clause-fits
+scan_range-requires-clause-fits g c =
+    scan_fits c.in-Scan.version c.in-Scan.lo.now c.in-Scan.hi.now c.in-Scan.limit (ap (λ (asked : Command). has_lawful_sizes (request_of asked)) (sym c.in-Scan.is) ∙ c.requires.fits.1)
+
+pub returns-in-Scan-clause-err : goal.returns-in-Scan-clause-err
+returns-in-Scan-clause-err g c = rw (c.in-Scan.is) (record { reached = λ failed. refl; none = λ none. c.scan_range.ensures.err })
