@@ -6,12 +6,13 @@ with it. The bytes of a store's file are in `tests/formats.py`.
 
 import struct
 
-PUT, DELETE, GET, CLONE, INFO, STAT = 1, 2, 3, 4, 6, 10
-DONE, FOUND, ABSENT, MADE, PLACE, COUNTS = 0, 1, 2, 4, 5, 7
+PUT, DELETE, GET, CLONE, SCAN, INFO, STAT = 1, 2, 3, 4, 5, 6, 10
+DONE, FOUND, ABSENT, PAIRS, MADE, PLACE, COUNTS = 0, 1, 2, 3, 4, 5, 7
 UNKNOWN_VERSION, FROZEN, VERSION_LIMIT, CHANGE_LIMIT = 16, 17, 19, 20
-MALFORMED, KEY_SIZE, VALUE_SIZE, FRAME_TOO_LONG, DEVICE_FAULT, DAMAGED_BLOCK = 22, 23, 24, 26, 33, 34
+MALFORMED, KEY_SIZE, VALUE_SIZE, SCAN_SIZE = 22, 23, 24, 25
+FRAME_TOO_LONG, DEVICE_FAULT, DAMAGED_BLOCK = 26, 33, 34
 NO_PARENT = 2 ** 32 - 1
-BODY_MAX, KEY_MAX, VALUE_MAX = 2048, 255, 1024
+BODY_MAX, KEY_MAX, VALUE_MAX, PAIRS_MAX = 2048, 255, 1024, 256
 
 # How a run ends
 ENDED, NOT_A_STORE, TOO_LONG, TRUNCATED, DEVICE, SOURCE, SINK, DAMAGED = 0, 2, 3, 4, 5, 6, 7, 9
@@ -45,6 +46,10 @@ def clone(tag, version=0):
     return frame(struct.pack(">IBI", tag, CLONE, version))
 
 
+def scan(tag, lo=b"", hi=b"", limit=PAIRS_MAX, version=0):
+    return frame(struct.pack(">IBI", tag, SCAN, version) + sized(lo) + sized(hi) + struct.pack(">H", limit))
+
+
 def info(tag, version=0):
     return frame(struct.pack(">IBI", tag, INFO, version))
 
@@ -57,8 +62,13 @@ def reply(tag, status, fields=b""):
     return frame(struct.pack(">IB", tag, status) + fields)
 
 
-def fields_of(body, count):
-    """The version and the `count` byte strings of a body, or None where it holds anything else."""
+def page(tag, pairs, more=False):
+    listed = b"".join(sized(key) + sized(value) for key, value in pairs)
+    return reply(tag, PAIRS, struct.pack(">BH", more, len(pairs)) + listed)
+
+
+def fields_of(body, count, last=0):
+    """The version and the `count` byte strings of a body, and its `last` bytes; None where it holds anything else."""
     if len(body) < 9:
         return None
     version, at, parts = struct.unpack_from(">I", body, 5)[0], 9, []
@@ -68,7 +78,7 @@ def fields_of(body, count):
         size = struct.unpack_from(">H", body, at)[0]
         parts.append(body[at + 2:at + 2 + size])
         at += 2 + size
-    return (version, parts) if at == len(body) else None
+    return (version, parts, body[at:]) if at + last == len(body) else None
 
 
 def bodies_of(data):
@@ -153,11 +163,13 @@ class Store:
         opcode = body[4] if len(body) > 4 else 0
         if opcode == STAT and len(body) == 5:
             return reply(tag, COUNTS, struct.pack(">IIII", *self.counts(), 0))
-        parts_of = {PUT: 2, DELETE: 1, GET: 1, CLONE: 0, INFO: 0}
-        fields = fields_of(body, parts_of[opcode]) if opcode in parts_of else None
+        parts_of = {PUT: (2,), DELETE: (1,), GET: (1,), CLONE: (0,), SCAN: (2, 2), INFO: (0,)}
+        fields = fields_of(body, *parts_of[opcode]) if opcode in parts_of else None
         if fields is None:
             return reply(tag, MALFORMED)
-        version, parts = fields
+        version, parts, last = fields
+        if opcode == SCAN:
+            return self.scan(tag, version, *parts, *struct.unpack(">H", last))
         if parts and not 1 <= len(parts[0]) <= KEY_MAX:
             return reply(tag, KEY_SIZE)
         if any(len(value) > VALUE_MAX for value in parts[1:]):
@@ -178,6 +190,17 @@ class Store:
             return reply(tag, PLACE, self.place(version))
         value = self.pairs[version].get(*parts)
         return reply(tag, ABSENT) if value is None else reply(tag, FOUND, sized(value))
+
+    def scan(self, tag, version, lo, hi, limit):
+        """The reply to a scan."""
+        if max(len(lo), len(hi)) > KEY_MAX:
+            return reply(tag, KEY_SIZE)
+        if not 1 <= limit <= PAIRS_MAX:
+            return reply(tag, SCAN_SIZE)
+        if version >= len(self.parents):
+            return reply(tag, UNKNOWN_VERSION)
+        pairs = [pair for pair in sorted(self.pairs[version].items()) if lo <= pair[0] and (not hi or pair[0] < hi)]
+        return page(tag, pairs[:limit], len(pairs) > limit)
 
     def serve(self, data):
         """What a run writes for these bytes, and its status."""

@@ -28,7 +28,7 @@ import time
 import formats
 import model
 import promotions
-from model import BLOCK, Store, bodies_of, clone, delete, frame, get, info, put, reply, sized, stat, tag_of
+from model import BLOCK, Store, bodies_of, clone, delete, frame, get, info, page, put, reply, scan, sized, stat, tag_of
 
 TOP = pathlib.Path(__file__).resolve().parent.parent
 LAUNCHER = str(TOP / "castle")
@@ -246,7 +246,7 @@ def a_short_body_is_malformed_and_the_run_goes_on(folder):
 
 
 def a_body_that_is_not_just_its_fields_is_malformed(folder):
-    for whole in (PUT_A, GET_A, delete(1, b"a"), clone(2), info(3), stat(4)):
+    for whole in (PUT_A, GET_A, delete(1, b"a"), clone(2), info(3), stat(4), scan(5, b"a", b"bc")):
         whole = whole[4:]
         bodies = [whole[:length] for length in range(len(whole))] + [whole + b"\0", whole + whole]
         data = b"".join(frame(body) for body in bodies)
@@ -302,6 +302,55 @@ def a_deleted_key_is_absent_where_it_was_deleted(folder):
     store = StoreFile(folder)
     store.expect_served("deletes", [data], (want, 0))
     store.expect_served("deletes, again", [get(4, b"a", version=1) + GET_A], (want[-21:], 0))
+
+
+ABC = put(1, b"a", b"1") + put(2, b"b", b"2") + put(3, b"c", b"3")
+
+
+def a_scan_gives_the_pairs_of_a_range(folder):
+    done = b"".join(reply(tag, model.DONE) for tag in (1, 2, 3))
+    data = hexed("0000000f 0000000a 05 00000000 0000 0000 0002")
+    want = hexed("00000014 0000000a 03 01 0002 0001 61 0001 31 0001 62 0001 32")
+    in_every_cutting(folder, "two of three pairs", ABC + data, (done + want, 0))
+    data = hexed("0000000f 0000000a 05 00000000 0000 0000 0000") + scan(4, limit=257) + scan(5, limit=65535)
+    want = hexed("00000005 0000000a 19") + reply(4, model.SCAN_SIZE) + reply(5, model.SCAN_SIZE)
+    StoreFile(folder).expect_served("limits", [ABC, data], (done + want, 0))
+    # all that there are, and no more; a bound at, before and behind a key; empty ranges
+    pairs = [(b"a", b"1"), (b"b", b"2"), (b"c", b"3")]
+    data = (scan(4, limit=3) + scan(5, limit=4) + scan(6, b"b") + scan(7, b"", b"b") + scan(8, b"a\0", b"b\0") + scan(9, b"b", b"b")
+            + scan(10, b"c", b"a") + scan(11, b"d") + scan(12, b"", b"a") + scan(13, b"b", limit=1) + scan(14, b"c", limit=1))
+    want = (page(4, pairs) + page(5, pairs) + page(6, pairs[1:]) + page(7, pairs[:1]) + page(8, pairs[1:2]) + page(9, [])
+            + page(10, []) + page(11, []) + page(12, []) + page(13, pairs[1:2], True) + page(14, pairs[2:]))
+    StoreFile(folder).expect_served("bounds", [ABC, data], (done + want, 0))
+    longest = b"k" * model.KEY_MAX
+    data = scan(4, longest + b"k", limit=0, version=5) + scan(5, b"", longest + b"k") + scan(6, limit=0, version=5) + scan(7, longest, version=1)
+    want = reply(4, model.KEY_SIZE) + reply(5, model.KEY_SIZE) + reply(6, model.SCAN_SIZE) + reply(7, model.UNKNOWN_VERSION)
+    StoreFile(folder).expect_served("the size of a bound, then the limit, then the version", [data], (want, 0))
+
+
+def versions_of_settings_are_scanned_apart(folder):
+    store = StoreFile(folder, 64, 100000, 100)
+    data = put(1, b"user/1/name", b"Ann") + put(2, b"user/2/name", b"Bob") + clone(3) + clone(4)
+    store.expect_served("two environments", [data + put(5, b"user/2/name", b"Rob", 1) + delete(6, b"user/1/name", 2)])
+    data = b"".join(scan(v, b"user/", b"user0", 100, v) for v in (1, 2, 0))
+    ann, bob, rob = (b"user/1/name", b"Ann"), (b"user/2/name", b"Bob"), (b"user/2/name", b"Rob")
+    want = page(1, [ann, rob]) + page(2, [bob]) + page(0, [ann, bob])
+    store.expect_served("names", [data], (want, 0))
+
+
+def pages_follow_one_another_through_levels(folder):
+    chance = random.Random(25)
+    for turn in range(12):
+        store = StoreFile(folder, chance.choice((4, 8)), 100000, 16384)
+        frames = drawn_changes(chance, chance.choice((60, 400)), 1, chance.choice((5, 40)), chance.choice((0.05, 0.3)))
+        store.expect_served(f"turn {turn}", [b"".join(frames)])
+        for version in chance.sample(range(len(store.model.parents)), min(6, len(store.model.parents))):
+            keys = sorted(store.model.pairs[version])
+            bounds = [b"", *keys, *(key + b"\0" for key in keys), *(key[:-1] for key in keys), b"\xff"]
+            looks = [scan(tag, chance.choice(bounds), chance.choice(bounds), chance.choice((1, 2, 3, 256)), version) for tag in range(60)]
+            # every pair alone, and all together
+            looks += [scan(1, key, limit=1, version=version) for key in keys] + [scan(2, version=version)]
+            store.expect_served(f"turn {turn}, version {version}", [b"".join(looks)])
 
 
 def the_tree_and_the_counts_are_told(folder):
@@ -818,7 +867,9 @@ def drawn_frames(chance, count, versions, keys, clones):
     first = frames[0]
     for tag in range(count):
         version, key = chance.randrange(versions + count // 8), b"%d" % chance.randrange(keys)
-        other = chance.choice((get(tag, key, version), get(tag, key, version), info(tag, version), stat(tag)))
+        bound, limit = b"%d" % chance.randrange(keys), chance.choice((1, 2, 256, chance.randrange(300)))
+        other = chance.choice((get(tag, key, version), get(tag, key, version), info(tag, version), stat(tag),
+                               scan(tag, chance.choice((b"", key)), chance.choice((b"", bound)), limit, version)))
         if chance.random() < 0.1:
             body = bytearray(chance.choice((other, first))[4:])
             body[chance.randrange(4, len(body))] = chance.randrange(256)
@@ -891,6 +942,7 @@ def damaged_arrays_are_named(folder):
         fine = [get(1, b"k13"), stat(2), info(3), get(4, b"k01", 1)]
         store.expect_answers("before", fine)
         expect_damaged("a get", store, [*fine, get(1, b"k01")], 7)
+        expect_damaged("a scan", store, [*fine, scan(1, b"k01", b"k02")], 7)
         # four more keys are published without a look at level 2, and eight more with one
         store.expect_answers("a publication of others", [put(i, b"n%02d" % i, b"1") for i in range(4)])
         store.expect_answers("what it has", [get(i, b"n%02d" % i) for i in range(4)])
@@ -903,9 +955,10 @@ def damaged_arrays_are_named(folder):
     first, second = formats.arrays_of(contents.manifest)
     block = second.extents[0][0]
     altered(store.path, block * BLOCK, b"\0\0")
-    fine = [get(v, key, v) for v in (0, 1) for key in (b"a", b"b", b"c")]
+    fine = [get(v, key, v) for v in (0, 1) for key in (b"a", b"b", b"c")] + [scan(v, version=v) for v in (0, 1)]
     for version in (2, 3):
         expect_damaged(f"version {version}", store, [*fine, get(1, b"a", version)], block)
+        expect_damaged(f"a scan of version {version}", store, [*fine, scan(1, version=version)], block)
 
 
 # A file with two levels for the refusals of its manifest, written by the model
@@ -1515,6 +1568,9 @@ CHECKS = [
     the_largest_key_and_value_are_taken_and_no_larger,
     a_clone_has_its_own_pairs_and_its_parent_is_frozen,
     a_deleted_key_is_absent_where_it_was_deleted,
+    a_scan_gives_the_pairs_of_a_range,
+    versions_of_settings_are_scanned_apart,
+    pages_follow_one_another_through_levels,
     the_tree_and_the_counts_are_told,
     the_first_of_several_refusals_is_told,
     versions_are_as_the_model_has_them,
