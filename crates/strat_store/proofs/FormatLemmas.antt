@@ -1,5 +1,6 @@
 -- What a crash leaves of a disk while a new store is made on it, phase by phase.
 use Rattle.std.proofs.Common.{◌≡◌, ◌≢◌, ◌<◌, ℕ, ◌+◌, ◌*◌, inl, inr, [], length, Some, None, Ok, Option, IfSome, refl, sym, ap, subst, ◌∙◌, arith}
+use Rattle.std.proofs.lemmas.Bool.{le-leb}
 use Rattle.std.proofs.lemmas.List.{length-replicate}
 use Rattle.strat_format.specs.Chain.{link_bytes}
 use Rattle.strat_crash.specs.Image.{Image, Outside, SameIn, patch, window}
@@ -14,6 +15,8 @@ use Rattle.strat_format.proofs.SuperBlockLemmas.{slot_closed}
 use Rattle.strat_gate.specs.Laying.{LaysOver, OldOrNew}
 use Rattle.strat_journal.proofs.AloneLemmas.{empty}
 use Rattle.strat_format.specs.Records.{journal_in_one}
+use Rattle.strat_state.specs.Sound.{IsSound}
+use Rattle.strat_state.specs.State.{fresh_state}
 use Rattle.strat_store.specs.Format.{new_block, IsNewDisk, IsShut, IsNewStore, IsNoneOrNew, super_for}
 use Rattle.strat_store.proofs.NewStoreLemmas.{head_found, state_found}
 use Rattle.strat_store.proofs.ShutLemmas.{StaysBlank}
@@ -75,6 +78,19 @@ lays_over mem v p sb =
       newest = subst (λ (o : Option (ℕ × Slot)). IfSome o (λ s. (s.0 ≢ 0) × (s.1.sb.generation < sb.generation))) (sym none) tt;
     }
 
+-- the state of a new store is sound
+fresh_sound : (mem changes_max versions_max : ℕ) → IsSound (fresh_state mem changes_max versions_max)
+fresh_sound mem changes_max versions_max = record {
+  formed = record { tree = refl; numbered = refl; accepted = refl; fits = le-leb 0 mem (omega arith) };
+  stratified = tt;
+  roomy = refl;
+  old = refl;
+  settled = refl;
+  described = refl;
+  few = refl;
+  ascending = refl;
+}
+
 module _ (mem changes_max versions_max : ℕ) (some : 0 < mem) (v : DiskView) (p : Prepared mem v) where
   -- the content with the new superblock in the first block is a new store
   new_store : (c : Image) → Outside 0 4096 p.content c → newest_in c ≡ Ok (Some (0, super_for mem changes_max versions_max)) → IsNewStore mem changes_max versions_max c
@@ -86,6 +102,12 @@ module _ (mem changes_max versions_max : ℕ) (some : 0 < mem) (v : DiskView) (p
       record {
         found = head_found c sb refl refl block 0 newest none;
         reads = state_found c sb refl refl block 0 newest none;
+        shows = record {
+          state = fresh_state mem changes_max versions_max;
+          reads = state_found c sb refl refl block 0 newest none;
+          sound = fresh_sound mem changes_max versions_max;
+          table = refl;
+        };
         slot = λ up. p.second (sym (out.above 4096 (omega arith)) ∙ up);
         region = λ up. p.other (sym (out.above (region_at mem 1) (omega arith)) ∙ up);
       }

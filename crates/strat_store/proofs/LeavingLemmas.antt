@@ -1,5 +1,5 @@
 -- What a command leaves of the superblock and the manifest of a store.
-use Rattle.std.proofs.Common.{◌≡◌, ◌≢◌, ◌≤◌, ◌<◌, ◌-◌, ◌&&◌, ℕ, Bool, true, false, inl, inr, length, Some, None, refl, sym, ap, ◌∙◌, subst, arith, true≢false}
+use Rattle.std.proofs.Common.{◌≡◌, ◌≢◌, ◌≤◌, ◌<◌, ◌-◌, ◌&&◌, ℕ, Bool, true, false, inl, inr, length, Option, Some, None, refl, sym, ap, ◌∙◌, subst, arith, true≢false}
 use Rattle.strat_array.specs.Kept.{Blocks}
 use Rattle.strat_base.specs.Change.{Change}
 use Rattle.strat_base.specs.Change as change
@@ -18,9 +18,9 @@ use Rattle.strat_model.specs.declared.replies.Refusal.{Refusal}
 use Rattle.strat_model.specs.declared.replies.Refusal.TheVariants as why
 use Rattle.strat_model.specs.declared.replies.Reply.{Reply}
 use Rattle.strat_model.specs.declared.replies.Reply.TheVariants as reply
-use Rattle.strat_store.specs.Applying.{change_wanted, is_fault, refusal_of_trouble}
+use Rattle.strat_store.specs.Applying.{IsUntouched, change_wanted, is_fault, may_write, refusal_of_trouble}
 use Rattle.strat_store.specs.Held.{Held, IsConsistent, IsOnDisk}
-use Rattle.strat_store.specs.Memory.{Memory, reply_to}
+use Rattle.strat_store.specs.Memory.{Memory, refusal_of_change, reply_to}
 use Rattle.strat_store.specs.Recovering.{held_of, held_after}
 use Rattle.strat_store.specs.Settling.{ArePublishedAfter, KeepsPublished, HasPublished, LeavesPublished, carries_out}
 use Rattle.strat_store.specs.declared.recovering.Recovered.{Recovered}
@@ -32,10 +32,34 @@ pub logged_leaves : (v w : DiskView) (s t : Held) → IsConsistent s → KeepsPu
 logged_leaves v w s t whole same torn time = (same, λ on. kept_on w s t same (logged_on v w s whole torn time on))
 
 -- what is told of a change that is accepted is no refusal
-pub taken_well : (m : Memory) (c : Change) (told : Reply) → told ≡ reply_to m c → accepts told ≡ false → told ≡ reply.Refused why.DeviceFault
-taken_well m (change.Put v key value) told is refused = absurd (true≢false (sym (ap accepts is) ∙ refused))
-taken_well m (change.Delete v key) told is refused = absurd (true≢false (sym (ap accepts is) ∙ refused))
-taken_well m (change.Clone v) told is refused = absurd (true≢false (sym (ap accepts is) ∙ refused))
+pub taken_well : (m : Memory) (c : Change) (told : Reply) → told ≡ reply_to m c → (accepts told ≡ false → told ≡ reply.Refused why.DeviceFault) × (may_write told ≡ true)
+taken_well m (change.Put v key value) told is = (λ refused. absurd (true≢false (sym (ap accepts is) ∙ refused)), ap may_write is)
+taken_well m (change.Delete v key) told is = (λ refused. absurd (true≢false (sym (ap accepts is) ∙ refused)), ap may_write is)
+taken_well m (change.Clone v) told is = (λ refused. absurd (true≢false (sym (ap accepts is) ∙ refused)), ap may_write is)
+
+-- nor is want of memory, or a fault, one that leaves the disk
+pub troubled : (t : Trouble) (told : Refusal) → told ≡ refusal_of_trouble t → may_write (reply.Refused told) ≡ true
+troubled trouble.NoMemory told is = ap (λ (q : Refusal). may_write (reply.Refused q)) is
+troubled trouble.Device told is = ap (λ (q : Refusal). may_write (reply.Refused q)) is
+troubled (trouble.Damaged b) told is = ap (λ (q : Refusal). may_write (reply.Refused q)) is
+
+-- a change that is refused leaves the disk as it was
+pub untouched_by : (v w : DiskView) (request : Request) (c : Change) (r new : Recovered) (cached : Blocks) (told : Reply) → change_wanted request ≡ Some c
+    → ((q : Refusal) → refusal_of_change r.memory c ≡ Some q → (told ≡ reply.Refused q) × OnlyReads v w) → (refusal_of_change r.memory c ≡ None → may_write told ≡ true)
+    → IsUntouched v w request (held_of r cached) told (held_after new cached told)
+untouched_by v w request c r new cached told wanted refuses writes = record {
+  looks = λ none. absurd (let x : Some c ≡ None = sym wanted ∙ none in cc);
+  refused = λ d q asks e.
+      let both : Some c ≡ Some d = sym wanted ∙ asks in
+      let same : c ≡ d = cc in
+      let one = refuses q (subst (λ (x : Change). refusal_of_change r.memory x ≡ Some q) (sym same) e) in
+      (one.0, refl, one.1);
+  calm = by_refusal (refusal_of_change r.memory c) refl;
+}
+  where
+    by_refusal : (o : Option Refusal) → refusal_of_change r.memory c ≡ o → may_write told ≡ false → OnlyReads v w
+    by_refusal None is still = absurd (true≢false (sym (writes is) ∙ still))
+    by_refusal (Some q) is still = (refuses q is).1
 
 -- a store that is spent or not holds the same
 keeps_spent : (s t : Held) (b : Bool) → KeepsPublished s t → KeepsPublished s (record t { spent = b })

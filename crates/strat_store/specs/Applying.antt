@@ -1,5 +1,5 @@
 -- How a store answers a command.
-use Rattle.std.specs.Prelude.{◌≡◌, ◌≢◌, ◌≤◌, ◌⊎◌, ℕ, if◌then◌else◌, Bool, true, false, List, [], ◌∷◌, length, Contains, Option, Some, None, Result, IfErr}
+use Rattle.std.specs.Prelude.{◌≡◌, ◌≢◌, ◌≤◌, ◌⊎◌, ℕ, ◌||◌, if◌then◌else◌, Bool, true, false, List, [], ◌∷◌, length, Contains, Option, Some, None, Result, IfErr}
 use Rattle.strat_crash.specs.Faults.{Rose}
 use Rattle.strat_crash.specs.Image.{Image}
 use Rattle.strat_crash.specs.Moments.{DiskView, Exposes, OnlyReads}
@@ -91,6 +91,13 @@ abbrev pub ran_short : Reply → Bool
 ran_short (reply.Refused r) = tells_short r
 ran_short _ = false
 
+-- a reply after which a store may have written: a change was carried out, memory ran out amid a publication, or it met a fault
+abbrev pub may_write : Reply → Bool
+may_write reply.Done = true
+may_write (reply.Made version) = true
+may_write (reply.Refused r) = tells_fault r || tells_short r
+may_write _ = false
+
 -- the table that a crash may leave after a reply to a command
 abbrev pub table_left : Table → Request → Reply → Table
 table_left t request told = if ran_short told then t else bare (step t request).table
@@ -132,7 +139,8 @@ IsLookedUp now new x request answer =
     × (accepts (step (table_of (contents_state x)) request).answer.reply ≡ true))
 
 -- a command that asks for no change leaves the disk as it was, and a store but for blocks that it cached as they
--- stand there; a change that is refused leaves both as they were
+-- stand there; a change that is refused leaves both as they were, and so does any reply but those after which a store may
+-- have written leave the disk
 pub record IsUntouched (before now : DiskView) (request : Request) (old : Held) (told : Reply)
     (new : Held) : Type 0 where
   pub looks : change_wanted request ≡ None
@@ -141,6 +149,7 @@ pub record IsUntouched (before now : DiskView) (request : Request) (old : Held) 
       → refusal_of_change old.memory c ≡ Some r
       → (told ≡ reply.Refused r) × (new.cached ≡ old.cached)
       × OnlyReads before now
+  pub calm : may_write told ≡ false → OnlyReads before now
 
 -- contents took the place of others on the disk that a store stands on: they mean the same table
 pub record IsPublishedAs (now : DiskView) (x : Contents) (new : Held) : Type 0 where

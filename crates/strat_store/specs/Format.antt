@@ -5,10 +5,12 @@ use Rattle.strat_format.specs.Layout.{region_at, first_free, open_flag, manifest
 use Rattle.strat_crash.specs.Moments.{DiskView, Exposes, Images, Since}
 use Rattle.strat_state.specs.State.{fresh_state}
 use Rattle.strat_format.specs.SuperBlock.{Super, newest_in}
+use Rattle.strat_model.specs.Table.{fresh}
 use Rattle.strat_recovery.specs.Head.{Head}
 use Rattle.strat_recovery.specs.Opening.{recover, reads_as}
 use Rattle.strat_format.specs.Chain.{link_bytes}
 use Rattle.strat_format.specs.Manifest.{manifest_bytes, new_manifest}
+use Rattle.strat_standing.specs.Standing.{ShowsTable}
 
 -- the superblock of a new store: the first generation, with the manifest in the first free block
 abbrev pub super_for : ℕ → ℕ → ℕ → Super
@@ -39,10 +41,12 @@ pub record IsAtRest (v : DiskView) : Type 0 where
   pub alone : (c : Image) → Images v c → c ≡ content
 
 -- an image is a new store with these limits: recovery finds its head, it reads as the state of a
--- new store, and the second superblock slot and the second journal region are shut
+-- new store and shows the table of one, and the second superblock slot and the second journal
+-- region are shut
 pub record IsNewStore (mem changes_max versions_max : ℕ) (c : Image) : Type 0 where
   pub found : recover c ≡ Ok (Some (head_for mem changes_max versions_max))
   pub reads : reads_as c ≡ Some (fresh_state mem changes_max versions_max)
+  pub shows : ShowsTable c (fresh changes_max versions_max)
   pub slot : c 4096 ≢ open_flag
   pub region : c (region_at mem 1) ≢ open_flag
 

@@ -1,6 +1,6 @@
 //! Changes of a store over levels: each is durable before it is in memory, and before it is answered.
 
-ghost use Rattle.std.specs.Prelude.{◌≡◌, ◌≢◌, ◌<◌, ℕ, [], ◌∷◌, ◌++◌, length, Some, None, OnOk, IsTrue, false};
+ghost use Rattle.std.specs.Prelude.{◌≡◌, ◌≢◌, ◌<◌, ℕ, [], ◌∷◌, ◌++◌, length, Some, None, OnOk, IsTrue, true, false};
 ghost use Rattle.strat_array.specs.Kept.{Blocks};
 ghost use Rattle.strat_base.specs.Change.{is_lawful};
 ghost use Rattle.strat_base.specs.ChangeView.{change_of};
@@ -20,7 +20,7 @@ ghost use Rattle.strat_standing.specs.Appending.{IsLogOf, with_batch};
 ghost use Rattle.strat_standing.specs.Contents.{Contents, contents_state, named_blocks};
 ghost use Rattle.strat_standing.specs.Standing.{ShowsTable, ContentsStand};
 ghost use Rattle.strat_state.specs.Sound.{Takes};
-ghost use Rattle.strat_store.specs.Applying.{IsAppliedTo, FollowsStep, FailsAsTold, IsDamagedIn, is_fault, refusal_of_trouble};
+ghost use Rattle.strat_store.specs.Applying.{IsAppliedTo, FollowsStep, FailsAsTold, IsDamagedIn, is_fault, may_write, refusal_of_trouble};
 ghost use Rattle.strat_store.specs.Held.{IsConsistent, IsOnDisk, StandsWith};
 ghost use Rattle.strat_cursor.specs.Looking.{arrays_there};
 ghost use Rattle.strat_store.specs.Memory.{refusal_of_change};
@@ -90,7 +90,8 @@ fn carry_out<D: Disk>(held: &mut Recovered, disk: &mut D, change: &Change<'_>) -
         → KeepsPublished (held_of held.old cached) (held_of held.new cached)
         × (IsOnDisk (D.view disk.old) (held_of held.old cached)
         → IsOnDisk (D.view disk.new) (held_of held.new cached)) }
-    ensures err { accepts result ≡ false → result ≡ reply.Refused why.DeviceFault }
+    ensures err { (accepts result ≡ false → result ≡ reply.Refused why.DeviceFault)
+        × (may_write result ≡ true) }
     ensures damaged { (b : ℕ) → result ≡ reply.Refused (why.Damaged b) → ⊥ }
     ensures same { (held.new.sb.mem ≡ held.old.sb.mem) × (result ≢ reply.Found) }
     ensures time { Passes (D.view disk.old) (D.view disk.new) }
@@ -137,6 +138,7 @@ fn carry_out_anew<D: Disk>(
         → IsConsistent (held_of held.new cached) }
     ensures end { (cached : Blocks) → LeavesPublished (D.view disk.old) (D.view disk.new)
         (held_of held.old cached) (accepts result) result (held_after held.new cached result) }
+    ensures err { may_write result ≡ true }
     ensures damaged { (b : ℕ) → result ≡ reply.Refused (why.Damaged b)
         → IsDamagedIn (D.view disk.old).content held.old.memory held.old.published.levels b
         × ((f g : Image) → Exposes (D.view disk.old) f → Exposes (D.view disk.new) g
@@ -178,6 +180,8 @@ pub(crate) fn change<D: Disk>(
     ensures err { (r : Refusal)
         → refusal_of_change held.old.memory (change_of change.now) ≡ Some r
         → (result ≡ reply.Refused r) × (held.new ≡ held.old) × (disk.new ≡ disk.old) }
+    ensures none { refusal_of_change held.old.memory (change_of change.now) ≡ None
+        → may_write result ≡ true }
     ensures damaged { (b : ℕ) → result ≡ reply.Refused (why.Damaged b)
         → IsDamagedIn (D.view disk.old).content held.old.memory held.old.published.levels b
         × ((f g : Image) → Exposes (D.view disk.old) f → Exposes (D.view disk.new) g

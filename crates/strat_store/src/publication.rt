@@ -1,6 +1,6 @@
 //! A publication of a store, whole: its journal is emptied into its levels.
 
-ghost use Rattle.std.specs.Prelude.{◌≡◌, ◌<◌, ◌≤◌, ℕ, ◌-◌, List, [], ◌∷◌, length, Some, IfOk, OnOk, OnErr, IsErrOf, IsTrue};
+ghost use Rattle.std.specs.Prelude.{◌≡◌, ◌<◌, ◌≤◌, ℕ, ◌+◌, ◌-◌, ◌*◌, List, [], ◌∷◌, length, Some, IfOk, OnOk, OnErr, IsErrOf, IsTrue};
 ghost use Rattle.strat_array.specs.Kept.{Blocks};
 ghost use Rattle.strat_base.specs.declared.failures.Trouble.TheVariants as trouble;
 ghost use Rattle.strat_base.specs.declared.failures.Trouble.TheVariants.{Device, Damaged};
@@ -102,6 +102,8 @@ fn compute_beside<D: Disk>(
     ensures cause { HasCause Device (D.faults disk.old) (D.faults disk.new) result }
     ensures damaged { (b : ℕ) → IsErrOf result (Damaged b) → IsDamagedIn
         (D.view disk.old).content held.now.memory held.now.published.levels b }
+    ensures reads { D.reads disk.new ≤ D.reads disk.old
+        + 2 * length (blocks_listed (arrays_there held.now.published.levels)) }
 {
     let mut space = used_space(alloc, held)?;
     compute_next(
@@ -172,6 +174,8 @@ fn prepare_next<D: Disk>(alloc: Global, held: &Recovered, disk: &mut D) -> Resul
     ensures cause { HasCause Device (D.faults disk.old) (D.faults disk.new) result }
     ensures damaged { (b : ℕ) → IsErrOf result (Damaged b) → IsDamagedIn
         (D.view disk.old).content held.now.memory held.now.published.levels b }
+    ensures reads { D.reads disk.new ≤ D.reads disk.old
+        + 2 * length (blocks_listed (arrays_there held.now.published.levels)) }
 {
     let computed = compute_beside(alloc, held, disk)?;
     let next = admit_next(

@@ -63,4 +63,4 @@ returns-clause-end g c = λ cached.
     (c.requires.kept cached) (record { slot = refl; sb = refl; chained = refl; levels = refl }) c.log_change.ensures.images c.log_change.ensures.time
 
 pub returns-clause-err : goal.returns-clause-err
-returns-clause-err g c = λ refused. taken_well c.args.held.now.memory _ c.take.result c.take.ensures.found refused
+returns-clause-err g c = taken_well c.args.held.now.memory _ c.take.result c.take.ensures.found

@@ -3,7 +3,7 @@ use Rattle.std.specs.Prelude.{Result, IsErrOf}
 use Rattle.strat_base.specs.declared.failures.Trouble.{Trouble}
 use Rattle.strat_base.specs.declared.failures.Trouble.TheVariants as trouble
 use Rattle.strat_store.specs.Recovering.{empty_cache}
-use Rattle.strat_store.proofs.LeavingLemmas.{gives_up, renews}
+use Rattle.strat_store.proofs.LeavingLemmas.{gives_up, renews, troubled}
 use Rattle.strat_store.proofs.RenewingLemmas.{calm_short, told_up, renewed, renewed_trail, trail_so_far}
 use Rattle.strat_store.proofs.changing.carry_out_anew.Goals as goal
 
@@ -57,5 +57,8 @@ pub returns-clause-end : goal.returns-clause-end
 returns-clause-end g c = λ cached.
     let kept = c.requires.kept cached in
     renews (g.D.Disk.view c.args.disk.now) (g.D.Disk.view c.publish.new.disk) (g.D.Disk.view c.carry_out.new.disk) c.args.held.now c.publish.new.held c.carry_out.new.held cached c.carry_out.result
-    (omega (arith, c.requires.room, kept.log.mem)) c.in_default.ensures.found.0 c.in_default.ensures.found.1 (c.carry_out.ensures.end cached) c.carry_out.ensures.err
+    (omega (arith, c.requires.room, kept.log.mem)) c.in_default.ensures.found.0 c.in_default.ensures.found.1 (c.carry_out.ensures.end cached) c.carry_out.ensures.err.0
     (c.in_default.ensures.end (λ e. absurd (cc)) cached)
+
+pub returns-in-Err-clause-err : goal.returns-in-Err-clause-err
+returns-in-Err-clause-err g c = troubled c.in-Err.trouble c.refusal_of.result c.refusal_of.ensures.ok

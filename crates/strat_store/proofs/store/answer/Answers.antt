@@ -1,11 +1,14 @@
-use Rattle.std.proofs.Common.{◌&&◌, Bool, refl, sym, ap, subst}
+use Rattle.std.proofs.Common.{◌≡◌, ◌∙◌, ◌&&◌, Bool, Option, Some, None, refl, sym, ap, subst}
+use Rattle.strat_base.specs.Change.{Change}
+use Rattle.strat_crash.specs.Moments.{OnlyReads}
+use Rattle.strat_crash.proofs.MomentLemmas.{reads_refl}
 use Rattle.strat_model.specs.Answer.{accepts, as_told, plain}
 use Rattle.strat_model.specs.Command.{request_of}
 use Rattle.strat_model.specs.Pairs.{Pairs}
 use Rattle.strat_model.specs.Request.{Request}
 use Rattle.strat_store.specs.Applying.{IsAppliedTo, FollowsStep, is_fault}
 use Rattle.strat_store.specs.Recovering.{held_of, held_after}
-use Rattle.strat_store.proofs.LeavingLemmas.{left_cached, leaves_wanted}
+use Rattle.strat_store.proofs.LeavingLemmas.{left_cached, leaves_wanted, untouched_by}
 use Rattle.strat_store.proofs.ApplyLemmas.{wanted_for, tells_of_change, look_no_change, look_applied, look_follows}
 use Rattle.strat_store.proofs.store.answer.Goals as goal
 
@@ -47,3 +50,17 @@ returns-in-None-clause-end g c =
     let still = look_no_change (request_of c.args.command.now) c.requires.fits.0 c.in-None.ensures in
     left_cached (g.D.Disk.view c.args.disk.now) (g.D.Disk.view c.look.new.disk) c.args.held.now c.args.cache.now c.look.new.cache _ c.look.result (is_fault c.look.result)
     (ap (λ (b : Bool). b && accepts c.look.result) still) c.look.ensures.same.disk
+
+pub returns-in-Some-clause-same : goal.returns-in-Some-clause-same
+returns-in-Some-clause-same g c =
+    let before = g.D.Disk.view c.args.disk.now in
+    untouched_by before (g.D.Disk.view c.change.new.disk) (request_of c.args.command.now) _ c.args.held.now c.change.new.held c.args.cache.now c.change.result c.in-Some.ensures
+    (λ q e. let one = c.change.ensures.err q e in (one.0, subst (λ (d : _). OnlyReads before (g.D.Disk.view d)) (sym one.2) (reads_refl before)))
+    c.change.ensures.none
+
+pub returns-in-None-clause-same : goal.returns-in-None-clause-same
+returns-in-None-clause-same g c = record {
+  looks = λ none. c.look.ensures.same;
+  refused = λ d q asks e. absurd (let x : ◌≡◌ {A = Option Change} None (Some d) = sym c.in-None.ensures ∙ asks in cc);
+  calm = λ still. c.look.ensures.same.disk;
+}
