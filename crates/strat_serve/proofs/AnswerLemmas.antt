@@ -7,7 +7,7 @@ use Rattle.strat_crash.specs.Blocks.{AgreeOn}
 use Rattle.strat_crash.specs.Image.{Image}
 use Rattle.strat_crash.specs.Moments.{DiskView, Images, Since}
 use Rattle.strat_crash.specs.Trail.{At, Trail}
-use Rattle.strat_crash.proofs.MomentLemmas.{since_now}
+use Rattle.strat_crash.proofs.MomentLemmas.{since_now, reads_refl}
 use Rattle.strat_crash.proofs.TrailLemmas.{trail_of_two, marks_in_order}
 use Rattle.strat_frame.specs.declared.commands.BodyFault.{BodyFault}
 use Rattle.strat_frame.specs.declared.commands.BodyFault.TheVariants as body
@@ -31,7 +31,7 @@ use Rattle.strat_standing.proofs.FreeLemmas.{shows_contents}
 use Rattle.strat_store.specs.Applying.{is_fault, ran_short, IsAnsweredBy, IsShortOf, IsBrokenBy, IsAppliedTo, FollowsStep, FailsAsTold, IsDamagedIn}
 use Rattle.strat_store.specs.Held.{Held, StandsWith, IsConsistent, position_with}
 use Rattle.strat_cursor.specs.Looking.{arrays_there}
-use Rattle.strat_serve.specs.Session.{IsAnswered, ContinuesWith, StopsWith, FailsAsMet, IsFoundDamaged, fault_told}
+use Rattle.strat_serve.specs.Session.{IsAnswered, IsToldBy, ContinuesWith, StopsWith, FailsAsMet, fault_told}
 
 -- what a reply tells of faults
 pub record Tells (r : Reply) : Type 0 where
@@ -89,18 +89,9 @@ fails_as_met r met before now is told = record {
   same = λ other. told.same (λ e. other (is ∙ ap fault_told e));
 }
 
--- a block that a command found damaged is one of the store's arrays
-pub found_damaged : (r : Reply) (met : Option Fault) (before now : DiskView) (s : Held) → met ≡ fault_told r → IsConsistent s
-    → ((b : ℕ) → r ≡ reply.Refused (why.Damaged b) → IsDamagedIn before.content s.memory s.levels b
-    × ((f g : Image) → before.content ≡ Some f → now.content ≡ Some g → AgreeOn (blocks_listed (arrays_there s.levels)) f g))
-    → (b : ℕ) → met ≡ Some (fault.Damaged b) → IsFoundDamaged before now b
-found_damaged r met before now s is lawful damaged b e =
-    let found = damaged b ((tells r).damaged b (sym is ∙ e)) in
-    record { store = s; lawful = lawful; content = before.content; exposed = λ f there. some before.content f there; bad = found.0; kept = found.1 }
-  where
-    some : (o : Option Image) (f : Image) → o ≡ Some f → IsSome o
-    some (Some g) f e = refl
-    some None f e = absurd (let x : ◌≡◌ {A = Option Image} None (Some f) = e in cc)
+-- a block is told damaged where a reply tells so
+pub told_damaged : (r : Reply) (met : Option Fault) (b : ℕ) → met ≡ fault_told r → met ≡ Some (fault.Damaged b) → r ≡ reply.Refused (why.Damaged b)
+told_damaged r met b is e = (tells r).damaged b (sym is ∙ e)
 
 -- no body is refused for a fault
 pub none_told : (f : BodyFault) → fault_told (reply.Refused (refusal_for f)) ≡ None
@@ -208,14 +199,14 @@ module _ (before now : DiskView) (old new : Held) (bytes : List ℕ) (tag : ℕ)
   applied x (inr (inr is)) trail = inr (breaks x is trail)
 
   -- a command that the store answered
-  pub answered : (met : Option Fault) (out : List ℕ) → met ≡ fault_told r → out ≡ frame (reply_body tag (as_told r pairs))
+  pub answered : (met : Option Fault) (out : List ℕ) → met ≡ fault_told r → out ≡ frame (reply_body tag (as_told r pairs)) → IsToldBy before now old bytes told new
       → ((x : Contents) → StandsWith before old x → IsAppliedTo now old x request (as_told r pairs) new)
       → ((x : Contents) → StandsWith before old x → FollowsStep before now x request (as_told r pairs))
       → IsAnswered before now old bytes met new out
-  answered met out is sent_bytes ok trail = record {
+  answered met out is sent_bytes by ok trail = record {
     response = told;
     spelled = sent_bytes;
-    responds = inr (record { request = request; spelled = spelled });
+    responds = inr by;
     tells = is;
     run = λ x stands. applied x (ok x stands) (trail x stands);
   }
@@ -229,7 +220,7 @@ told_faulty v s bytes tag f pairs out going is none sent_bytes =
     record {
       response = response;
       spelled = sent_bytes;
-      responds = inl (record { cause = refusal_for f; refused = is; answer = said });
+      responds = inl (record { refused = record { cause = refusal_for f; refused = is; answer = said }; store = refl; disk = reads_refl v });
       tells = sym (none_told f);
       run = λ x stands.
           let at_end = stands_table v s x stands in

@@ -1,29 +1,43 @@
 -- A serving run while it goes on.
-use Rattle.std.proofs.Common.{◌≡◌, ◌≤◌, ◌<◌, ℕ, ◌+◌, false, List, [], ◌∷◌, ◌++◌, length, take, drop, map, Option, Some, None, refl, sym, ap, subst, ◌∙◌, ◌⊎◌, inl, inr, append_assoc, length-append, arith}
+use Rattle.std.proofs.Common.{◌≡◌, ◌≢◌, ◌≤◌, ◌<◌, ℕ, ◌+◌, false, List, [], ◌∷◌, ◌++◌, length, take, drop, map, Option, Some, None, refl, sym, ap, subst, ◌∙◌, ◌⊎◌, inl, inr, append_assoc, length-append, arith}
 use Rattle.std.specs.Prelude.{Ok, is_some}
 use Rattle.std.specs.List.{flat_map, AllByRecursion}
+use Rattle.std.proofs.lemmas.Bool.{and_right}
 use Rattle.std.proofs.lemmas.List.{append-nil, length-map, map-append, take-append-drop, take-append-le}
 use Rattle.std.proofs.lemmas.List.Concat.{flat_map-append}
 use Rattle.strat_base.specs.declared.failures.Fault.{Fault}
 use Rattle.strat_base.specs.declared.failures.Fault.TheVariants as fault
-use Rattle.strat_crash.specs.Image.{Image}
-use Rattle.strat_crash.specs.Moments.{DiskView, Images, Passes}
+use Rattle.strat_crash.specs.Blocks.{AgreeOn}
+use Rattle.strat_crash.specs.Image.{Image, Outside}
+use Rattle.strat_crash.specs.Moments.{DiskView, Images, OnlyReads, Passes}
 use Rattle.strat_crash.specs.Trail.{At, Trail}
+use Rattle.strat_crash.proofs.MomentLemmas.{each_then, now_since_start, passes_trans}
 use Rattle.strat_crash.proofs.TrailLemmas.{trail_join}
+use Rattle.strat_cursor.specs.Looking.{arrays_there}
+use Rattle.strat_format.specs.Layout.{region_at, other_region}
+use Rattle.strat_format.specs.SuperBlock.{Super}
 use Rattle.strat_io.specs.Streams.{Appends, Gives}
 use Rattle.strat_io.proofs.StreamLemmas.{appends_then}
+use Rattle.strat_model.specs.declared.replies.Refusal.TheVariants as why
+use Rattle.strat_model.specs.declared.replies.Reply.{Reply}
+use Rattle.strat_model.specs.declared.replies.Reply.TheVariants as reply
 use Rattle.strat_model.specs.Answer.{Answer}
 use Rattle.strat_model.specs.Stream.{frame, IsBody}
 use Rattle.strat_model.specs.Table.{Table, bare}
-use Rattle.strat_model.specs.Run.{Position, Response, response_bytes, Exchange, Answers, IsRun, sent_bytes}
+use Rattle.strat_model.specs.Run.{Position, Response, response_bytes, Exchange, Answers, IsRun, is_change, sent_bytes}
+use Rattle.strat_promote.specs.Job.{blocks_listed}
 use Rattle.strat_recovery.specs.Opening.{recover}
 use Rattle.strat_recovery.specs.StateTable.{table_of}
 use Rattle.strat_standing.specs.Contents.{Contents, contents_state}
 use Rattle.strat_standing.specs.Standing.{ShowsTable}
-use Rattle.strat_store.specs.Following.{FollowsFrom, IsOpenedAs}
-use Rattle.strat_store.specs.Held.{Held, IsConsistent, StandsWith, head_held, position_with}
-use Rattle.strat_serve.specs.Session.{Took, IsAtEnd, Begins, RespondsTo, AreAnsweredBy, IsAnswered, ContinuesWith, StopsWith, FailsAsMet, IsFoundDamaged, fault_told}
+use Rattle.strat_store.specs.Applying.{IsDamagedIn, may_write}
+use Rattle.strat_store.specs.Following.{ChangesGateAlone, FollowsFrom, IsOpenedAs}
+use Rattle.strat_store.specs.Held.{Held, IsConsistent, IsOnDisk, StandsWith, head_held, position_with}
+use Rattle.strat_store.specs.Settling.{carries_out}
+use Rattle.strat_store.proofs.OnDiskLemmas.{kept_on, read_on}
+use Rattle.strat_serve.specs.Session.{Took, IsAtEnd, Begins, RespondsTo, AreAnsweredBy, IsAnswered, ContinuesWith, StopsWith, FailsAsMet, fault_told}
 use Rattle.strat_serve.specs.World.{World}
+use Rattle.strat_serve.proofs.AnswerLemmas.{told_damaged}
 use Rattle.strat_serve.proofs.BeginLemmas.{opens_begins}
 
 -- the tables at which bodies were answered
@@ -61,6 +75,10 @@ pub record Progress (start current : Held) (count : ℕ) (held : List ℕ) (befo
   pub lawful : IsConsistent current
   pub going : current.spent ≡ false
   pub calm : now.disk_faults ≡ before.disk_faults
+  pub passes : Passes before.disk now.disk
+  pub on_disk : (f : Image) → before.disk.content ≡ Some f → IsOnDisk now.disk current
+  pub still : AllByRecursion (λ (r : Response). may_write r.answer.reply ≡ false) answers → (f : Image) → before.disk.content ≡ Some f
+      → (slot : ℕ) × (sb : Super) × ChangesGateAlone before.disk now.disk f slot sb
   pub runs : (f : Image) (t : Table) → before.disk.content ≡ Some f → ShowsTable f t → RunSoFar start current before.disk now.disk f t bodies answers
 
 -- what was read was taken from the source
@@ -126,8 +144,8 @@ answered_more (b ∷ bs) (r ∷ rs) body response all is = (all.0, answered_more
 
 -- a run begins with the store that was opened
 pub begins : (s : Held) (held : List ℕ) (before : World) (disk : DiskView) (faults : ℕ) → held ≡ [] → faults ≡ before.disk_faults
-    → IsOpenedAs before.disk disk s → IsConsistent s → Progress s s 0 held before (record before { disk = disk; disk_faults = faults })
-begins s held before disk faults empty calm opened lawful = record {
+    → IsOpenedAs before.disk disk s → Passes before.disk disk → IsConsistent s → Progress s s 0 held before (record before { disk = disk; disk_faults = faults })
+begins s held before disk faults empty calm opened time lawful = record {
   taken = [];
   counted = refl;
   took = took_none before.left;
@@ -143,6 +161,9 @@ begins s held before disk faults empty calm opened lawful = record {
   lawful = lawful;
   going = opened.going;
   calm = calm;
+  passes = time;
+  on_disk = opened.on_disk;
+  still = λ quiet f exposed. (s.slot, s.sb, opened.gate f exposed);
   runs = λ f t exposed shows.
       let there = opened.stands f t exposed shows in
       record {
@@ -179,6 +200,9 @@ reads start current count n held piece fed before now left faults p took len fee
   lawful = p.lawful;
   going = p.going;
   calm = p.calm;
+  passes = p.passes;
+  on_disk = p.on_disk;
+  still = p.still;
   runs = p.runs;
 }
 
@@ -201,6 +225,9 @@ reads_none start current count held before now left faults p took = record {
   lawful = p.lawful;
   going = p.going;
   calm = p.calm;
+  passes = p.passes;
+  on_disk = p.on_disk;
+  still = p.still;
   runs = p.runs;
 }
 
@@ -246,6 +273,54 @@ follows_one before mid now f xs x t u at passes so_far more =
     subst (λ (n : ℕ). FollowsFrom before now f (tables_before (xs ++ x ∷ []) ++ u ∷ []) n) len
     (subst (λ (l : List Table). FollowsFrom before now f l (length xs + 1)) list joined)
 
+-- what an answer says whatever the disk shows
+module _ (v w : DiskView) (old : Held) (body : List ℕ) (met : Option Fault) (new : Held) (out : List ℕ) (is : IsAnswered v w old body met new out) where
+  pub step_responds : RespondsTo body is.response
+  step_responds = elim is.responds [
+    | inl away ↦ inl away.refused
+    | inr told ↦ inr (record { request = told.request; spelled = told.spelled; reached = told.err.reached })
+  ]
+
+  -- the superblock and the manifest are on the disk still, unless the device failed
+  pub step_on : met ≢ Some fault.Device → IsOnDisk v old → IsOnDisk w new
+  step_on other on = elim is.responds [
+    | inl away ↦ subst (IsOnDisk w) (sym away.store) (read_on v w old on away.disk)
+    | inr told ↦ told.leaves.on_disk (λ e. other (is.tells ∙ ap fault_told e)) on
+  ]
+
+  -- and where a block is damaged they are those of before
+  pub step_damaged : (b : ℕ) → met ≡ Some (fault.Damaged b) → IsOnDisk v old → IsOnDisk w old
+  step_damaged b e on = elim is.responds [
+    | inl away ↦ read_on v w old on away.disk
+    | inr told ↦
+        let reply_is : is.response.answer.reply ≡ reply.Refused (why.Damaged b) = told_damaged is.response.answer.reply met b is.tells e in
+        let none : carries_out told.request is.response.answer.reply ≡ false = ap (carries_out told.request) reply_is ∙ and_right (is_change told.request) false refl in
+        let other : is.response.answer.reply ≢ reply.Refused why.DeviceFault = λ f. let g : ◌≡◌ {A = Reply} (reply.Refused (why.Damaged b)) (reply.Refused why.DeviceFault) = sym reply_is ∙ f in cc in
+        let same = told.leaves.kept none other in
+        kept_on w new old (record { slot = sym same.slot; sb = sym same.sb; chained = sym same.chained; levels = sym same.levels }) (told.leaves.on_disk other on)
+  ]
+
+  -- and a reply that is none after which a store may have written left the disk as it was
+  pub step_reads : may_write is.response.answer.reply ≡ false → OnlyReads v w
+  step_reads calm = elim is.responds [
+    | inl away ↦ away.disk
+    | inr told ↦ told.same.calm calm
+  ]
+
+-- a disk that changed in a gate alone and then was only read
+pub gate_still : (before mid now : DiskView) (f : Image) (slot : ℕ) (sb : Super) → ChangesGateAlone before mid f slot sb → Passes before mid → OnlyReads mid now → ChangesGateAlone before now f slot sb
+gate_still before mid now f slot sb gate passes reads = record {
+  newest = gate.newest;
+  images = each_then mid now before.moment (λ c. Images before c ⊎ Outside (region_at sb.mem (other_region sb.region)) 1 f c) reads.time gate.images
+      (λ c since. gate.images c (now_since_start before mid c passes (reads.images.each c since)));
+}
+
+-- responses after none of which a store may have written, and the last of them
+pub quiet_parts : (xs : List Response) (x : Response) → AllByRecursion (λ (r : Response). may_write r.answer.reply ≡ false) (xs ++ x ∷ [])
+    → AllByRecursion (λ (r : Response). may_write r.answer.reply ≡ false) xs × (may_write x.answer.reply ≡ false)
+quiet_parts [] x each = (tt, each.0)
+quiet_parts (y ∷ ys) x each = let rest = quiet_parts ys x each.1 in ((each.0, rest.0), rest.1)
+
 -- the world after one answer more
 pub record Answered (old new : Held) (mid now : World) (body : List ℕ) (met : Option Fault) (out : List ℕ) : Type 0 where
   pub left : now.left ≡ mid.left
@@ -255,7 +330,8 @@ pub record Answered (old new : Held) (mid now : World) (body : List ℕ) (met : 
   pub spent : new.spent ≡ is_some met
   pub kept : met ≡ None → IsConsistent new
   pub same : new.sb.mem ≡ old.sb.mem
-  pub damaged : (b : ℕ) → met ≡ Some (fault.Damaged b) → IsFoundDamaged mid.disk now.disk b
+  pub damaged : (b : ℕ) → met ≡ Some (fault.Damaged b) → IsDamagedIn mid.disk.content old.memory old.levels b
+      × ((f g : Image) → mid.disk.content ≡ Some f → now.disk.content ≡ Some g → AgreeOn (blocks_listed (arrays_there old.levels)) f g)
 
 -- a reply that the device failed tells of a fault
 tells_device : (r : Response) (met : Option Fault) → met ≡ fault_told r.answer.reply → (a : Answer) → r.answer ≡ a → fault_told a.reply ≡ Some fault.Device → met ≡ None → ⊥
@@ -308,14 +384,15 @@ module _ (start old new : Held) (count : ℕ) (held rest body : List ℕ) (met :
   pub answers : held ≡ frame body ++ rest → IsBody body → Appends mid.held now.held (response_bytes response)
       → (q : Progress start new count rest before now) × (q.answers ≡ p.answers ++ response ∷ [])
   answers front fits sent =
-      let lawful : IsConsistent new = done.kept none in (
+      let lawful : IsConsistent new = done.kept none in
+      let not_device : met ≢ Some fault.Device = λ e. let f : ◌≡◌ {A = Option Fault} None (Some fault.Device) = sym none ∙ e in cc in (
         record {
           taken = p.taken;
           counted = p.counted;
           took = subst (λ (x : Option (List ℕ)). Took before.left x p.taken) (sym done.left) p.took;
           bodies = p.bodies ++ body ∷ [];
           answers = p.answers ++ response ∷ [];
-          answered = answered_more p.bodies p.answers body response p.answered done.is.responds;
+          answered = answered_more p.bodies p.answers body response p.answered (step_responds mid.disk now.disk old body met new out done.is);
           quiet = quiet_more p.answers response p.quiet (sym done.is.tells ∙ none);
           parts = parts_more front;
           each = each_more p.bodies body p.each fits;
@@ -324,7 +401,13 @@ module _ (start old new : Held) (count : ℕ) (held rest body : List ℕ) (met :
           mem = lawful.log.mem ∙ done.same ∙ sym p.lawful.log.mem ∙ p.mem;
           lawful = lawful;
           going = done.spent ∙ ap is_some none;
-          calm = done.cause.same (λ e. let f : ◌≡◌ {A = Option Fault} None (Some fault.Device) = sym none ∙ e in cc) ∙ p.calm;
+          calm = done.cause.same not_device ∙ p.calm;
+          passes = passes_trans p.passes done.passes;
+          on_disk = λ f exposed. step_on mid.disk now.disk old body met new out done.is not_device (p.on_disk f exposed);
+          still = λ quiet f exposed.
+              let parts = quiet_parts p.answers response quiet in
+              let gate = p.still parts.0 f exposed in
+              (gate.0, gate.1, gate_still before.disk mid.disk now.disk f gate.0 gate.1 gate.2 p.passes (step_reads mid.disk now.disk old body met new out done.is parts.1));
           runs = λ f t e shows. let so_far = p.runs f t e shows in run_on f t so_far (done.is.run so_far.contents so_far.stands);
         },
         refl,

@@ -22,10 +22,11 @@ use Rattle.strat_recovery.specs.StateTable.{table_of}
 use Rattle.strat_standing.specs.Contents.{contents_state}
 use Rattle.strat_standing.specs.Standing.{ShowsTable}
 use Rattle.strat_store.specs.Following.{FollowsFrom}
-use Rattle.strat_store.specs.Held.{Held, head_held, position_with}
-use Rattle.strat_serve.specs.Session.{Took, IsAtEnd, SendsPrefix, too_long_bytes, AreAnsweredBy, ContinuesWith, StopsWith, IsFoundDamaged, fault_told, broken_by, Session, IsSession, AnswersAll, all_responses, output, last_output, earlier_bytes, Sends, EndsFor, FollowsRun, Served}
+use Rattle.strat_store.specs.Applying.{may_write}
+use Rattle.strat_store.specs.Held.{Held, IsConsistent, IsOnDisk, head_held, position_with}
+use Rattle.strat_serve.specs.Session.{Took, IsAtEnd, SendsPrefix, too_long_bytes, AreAnsweredBy, ContinuesWith, StopsWith, fault_told, broken_by, Session, IsSession, AnswersAll, all_responses, output, last_output, earlier_bytes, Sends, EndsFor, FollowsRun, Served}
 use Rattle.strat_serve.specs.World.{World}
-use Rattle.strat_serve.proofs.ProgressLemmas.{Progress, RunSoFar, Answered, tables_before, follows_more, text_more, answered_more, answers}
+use Rattle.strat_serve.proofs.ProgressLemmas.{Progress, RunSoFar, Answered, tables_before, follows_more, text_more, answered_more, step_responds, step_damaged, step_reads, gate_still, quiet_parts, answers}
 use Rattle.strat_serve.proofs.StreamLemmas.{partial_not_long, frames_of}
 
 -- bodies one after the other that fit
@@ -129,6 +130,8 @@ module _ (start current : Held) (count budget : ℕ) (held : List ℕ) (before n
     faulted = λ told. absurd told;
     calm = λ _. p.calm;
     damaged = λ block told. absurd told;
+    left = λ _ f exposed. (current, p.lawful, p.on_disk f exposed);
+    still = λ quiet. p.still (subst (λ (l : List Response). AllByRecursion (λ (r : Response). may_write r.answer.reply ≡ false) l) tolds_all quiet);
     follows = follows_unbroken others rest;
   }
 
@@ -243,17 +246,6 @@ still_some before mid f passes e = go mid.content refl (passes.exposed (some bef
     go (Some g) is there = (g, is)
     go None is there = absurd cc
 
--- a block found damaged by a later command
-pub found_since : (before mid now : DiskView) (b : ℕ) → Passes before mid → IsFoundDamaged mid now b → IsFoundDamaged before now b
-found_since before mid now b passes is = record {
-  store = is.store;
-  lawful = is.lawful;
-  content = is.content;
-  exposed = λ f e. let there = still_some before mid f passes e in is.exposed there.0 there.1;
-  bad = is.bad;
-  kept = is.kept;
-}
-
 -- the next body was answered
 module _ (start old new : Held) (count budget : ℕ) (held rest body : List ℕ) (met : Option Fault) (out : List ℕ) (before mid now : World)
     (p : Progress start old count held before mid) (within : count ≤ budget) (done : Answered old new mid now body met out)
@@ -316,7 +308,7 @@ module _ (start old new : Held) (count budget : ℕ) (held rest body : List ℕ)
             each = each_then (p.bodies ++ body ∷ []) s.bodies (each_then p.bodies (body ∷ []) p.each (fits, tt)) s.splits.each;
             last = s.splits.last;
           };
-          answered = answered_front (p.bodies ++ body ∷ []) s.bodies (p.answers ++ response ∷ []) (answered_more p.bodies p.answers body response p.answered done.is.responds);
+          answered = answered_front (p.bodies ++ body ∷ []) s.bodies (p.answers ++ response ∷ []) (answered_more p.bodies p.answers body response p.answered (step_responds mid.disk now.disk old body met new out done.is));
           calm = p.quiet;
           fault = let there : IsSome (Some f) = refl in subst (λ (o : Option Fault). IsSome o) (sym tells) there;
           within = omega (arith, p.counted);
@@ -354,6 +346,12 @@ module _ (start old new : Held) (count budget : ℕ) (held rest body : List ℕ)
               (follows_more before.disk mid.disk now.disk g so_far.exchanges (table_of (contents_state so_far.contents)) (bare stops.done.table) 0 done.passes so_far.follows stops.trail);
         }
 
+    -- the superblock and the manifest of the store, unless the device failed
+    left_on : (k : Fault) → f ≡ k → (fault_told response.answer.reply ≡ Some fault.Device → ⊥) → (g : Image) → before.disk.content ≡ Some g → (store : Held) × IsConsistent store × IsOnDisk now.disk store
+    left_on fault.Device same other g exposed = absurd (other (tells ∙ ap (λ (x : Fault). Some x) same))
+    left_on (fault.Damaged b) same other g exposed =
+        (old, p.lawful, step_damaged mid.disk now.disk old body met new out done.is b (some ∙ ap (λ (x : Fault). Some x) same) (p.on_disk g exposed))
+
     -- the run ended so, with the fault told or not
     halts : Passes before.disk mid.disk → (how : Ended) → Sends how before.held now.held broken → EndsFor how budget broken now.left → Served budget how before now
     halts passes how sends ends = record {
@@ -366,7 +364,23 @@ module _ (start old new : Held) (count budget : ℕ) (held rest body : List ℕ)
       ends = ends;
       faulted = λ told. subst (λ (n : ℕ). Rose n now.disk_faults) p.calm (done.cause.rose (done.is.tells ∙ told));
       calm = λ other. done.cause.same (λ e. other (sym done.is.tells ∙ e)) ∙ p.calm;
-      damaged = λ b told. found_since before.disk mid.disk now.disk b passes (done.damaged b (done.is.tells ∙ told));
+      damaged = λ b told.
+          let e : met ≡ Some (fault.Damaged b) = done.is.tells ∙ told in
+          let found = done.damaged b e in
+          record {
+            store = old;
+            lawful = p.lawful;
+            on_disk = λ g exposed. step_damaged mid.disk now.disk old body met new out done.is b e (p.on_disk g exposed);
+            content = mid.disk.content;
+            exposed = λ g exposed. let there = still_some before.disk mid.disk g passes exposed in subst IsSome (sym there.1) refl;
+            bad = found.0;
+            kept = found.1;
+          };
+      left = λ other g exposed. left_on f refl other g exposed;
+      still = λ quiet g exposed.
+          let parts = quiet_parts p.answers response quiet in
+          let gate = p.still parts.0 g exposed in
+          (gate.0, gate.1, gate_still before.disk mid.disk now.disk g gate.0 gate.1 gate.2 p.passes (step_reads mid.disk now.disk old body met new out done.is parts.1));
       follows = λ g t e shows. let so_far = p.runs g t e shows in run_broken g t so_far (done.is.run so_far.contents so_far.stands);
     }
 

@@ -1,15 +1,16 @@
 -- A serving run: what it took, what it answered, what it sent, what it left on the disk, and why
 -- it ended.
-use Rattle.std.specs.Prelude.{◌≡◌, ◌≢◌, ◌≤◌, ◌<◌, ◌⊎◌, ℕ, ◌==◌, ◌&&◌, Bool, false, if◌then◌else◌, List, [], ◌∷◌, ◌++◌, ◌-◌, length, take, map, Option, Some, None, IfSome, IsSome, option_map, Ok, Err}
+use Rattle.std.specs.Prelude.{◌≡◌, ◌≢◌, ◌≤◌, ◌<◌, ◌⊎◌, ℕ, ◌==◌, ◌&&◌, Bool, true, false, if◌then◌else◌, List, [], ◌∷◌, ◌++◌, ◌-◌, length, take, map, Option, Some, None, IfSome, IsSome, option_map, Ok, Err}
 use Rattle.std.specs.List.{AllByRecursion}
 use Rattle.strat_base.specs.declared.failures.Fault.{Fault}
 use Rattle.strat_base.specs.declared.failures.Fault.TheVariants as fault
+use Rattle.strat_base.specs.Tree.{is_known}
 use Rattle.strat_crash.specs.Blocks.{AgreeOn}
 use Rattle.strat_crash.specs.Faults.{Rose}
 use Rattle.strat_crash.specs.Image.{Image}
-use Rattle.strat_crash.specs.Moments.{DiskView, Exposes, Passes}
+use Rattle.strat_crash.specs.Moments.{DiskView, Exposes, OnlyReads, Passes}
 use Rattle.strat_crash.specs.Trail.{Trail}
-use Rattle.strat_format.specs.SuperBlock.{newest_in}
+use Rattle.strat_format.specs.SuperBlock.{Super, newest_in}
 use Rattle.strat_io.specs.Streams.{Appends}
 use Rattle.strat_model.specs.declared.ended.Ended.{Ended}
 use Rattle.strat_model.specs.declared.ended.Ended.TheVariants as ended
@@ -18,21 +19,24 @@ use Rattle.strat_model.specs.declared.replies.Refusal.TheVariants as why
 use Rattle.strat_model.specs.declared.replies.Reply.{Reply}
 use Rattle.strat_model.specs.declared.replies.Reply.TheVariants as reply
 use Rattle.strat_model.specs.Answer.{refusal}
-use Rattle.strat_model.specs.Request.{Request}
+use Rattle.strat_model.specs.Request.{Request, Get}
 use Rattle.strat_model.specs.Spelling.{Spells, IsRefusedAs, reply_body}
+use Rattle.strat_model.specs.Step.{found as answer_found}
 use Rattle.strat_model.specs.Stream.{frame, Splits, Whole, Rest, Long, ending_of, is_too_long}
 use Rattle.strat_model.specs.Table.{Table, bare}
-use Rattle.strat_model.specs.Run.{Position, Response, response_bytes, Answers, AnswersFault, Transcript, IsTranscript, bodies_of, tables_of, sent_bytes}
+use Rattle.strat_model.specs.Run.{reaches_disk, Position, Response, response_bytes, Answers, AnswersFault, Transcript, IsTranscript, bodies_of, tables_of, sent_bytes}
 use Rattle.strat_promote.specs.Job.{blocks_listed}
+use Rattle.strat_recovery.specs.Asked.{asked}
 use Rattle.strat_recovery.specs.Head.{Head}
 use Rattle.strat_recovery.specs.Opening.{recover}
 use Rattle.strat_recovery.specs.StateTable.{table_of}
 use Rattle.strat_standing.specs.Contents.{Contents, contents_state}
 use Rattle.strat_standing.specs.Standing.{ShowsTable}
-use Rattle.strat_store.specs.Applying.{IsDamagedIn}
-use Rattle.strat_store.specs.Following.{FollowsFrom, IsOpenedAs, IsUnchanged, LeavesOpening}
-use Rattle.strat_store.specs.Held.{Held, IsConsistent, StandsWith, position_with}
-use Rattle.strat_cursor.specs.Looking.{arrays_there}
+use Rattle.strat_store.specs.Applying.{IsDamagedIn, IsUntouched, TellsFaultOf, is_fault, may_write}
+use Rattle.strat_store.specs.Following.{ChangesGateAlone, FollowsFrom, IsOpenedAs, IsUnchanged, LeavesOpening}
+use Rattle.strat_store.specs.Held.{Held, IsConsistent, IsOnDisk, StandsWith, position_with}
+use Rattle.strat_store.specs.Settling.{LeavesPublished, carries_out}
+use Rattle.strat_cursor.specs.Looking.{AreInOrder, AreCachedFrom, arrays_there, levels_there}
 use Rattle.strat_serve.specs.World.{World}
 
 -- these bytes were taken from the front of a source
@@ -63,10 +67,13 @@ pub record IsRefusedFor (body : List ℕ) (response : Response) : Type 0 where
   pub refused : IsRefusedAs body response.tag cause
   pub answer : response.answer ≡ refusal cause
 
--- a body is a command, and the response has its tag
+-- a body is a command, and the response has its tag; where that tells that the device failed, it is
+-- one that reaches the disk
 pub record IsTaggedFor (body : List ℕ) (response : Response) : Type 0 where
   pub request : Request
   pub spelled : Spells body response.tag request
+  pub reached : response.answer.reply ≡ reply.Refused why.DeviceFault
+      → reaches_disk request ≡ true
 
 -- a response may be that to a body, whatever a store says
 abbrev pub RespondsTo : List ℕ → Response → Type 0
@@ -109,23 +116,51 @@ pub record StopsWith (before now : DiskView) (old : Held) (x : Contents) (body :
   pub trail : Trail ShowsTable now before.moment
       (table_of (contents_state x) ∷ bare done.table ∷ []) 0
 
+-- a body is no command: it was refused, and left the store and the disk alone
+pub record IsTurnedAway (before now : DiskView) (old : Held) (body : List ℕ) (response : Response)
+    (new : Held) : Type 0 where
+  pub refused : IsRefusedFor body response
+  pub store : new ≡ old
+  pub disk : OnlyReads before now
+
+-- a body is a command, and a store answered it so, on any disk
+pub record IsToldBy (before now : DiskView) (old : Held) (body : List ℕ) (response : Response)
+    (new : Held) : Type 0 where
+  pub request : Request
+  pub spelled : Spells body response.tag request
+  -- a look-up that met no fault found what level 0 and the arrays hold
+  pub found : (f : Image) (version : ℕ) (key : List ℕ) → request ≡ Get version key
+      → Exposes before f → AreInOrder f (arrays_there old.levels)
+      → AreCachedFrom f old.chained.manifest.next_array (arrays_there old.levels) old.cached
+      → is_fault response.answer.reply ≡ false → is_known old.memory.parents version ≡ true
+      → response.answer ≡ answer_found key (asked f old.memory.parents
+      (old.memory.entries ∷ []) (levels_there old.levels) version key)
+  -- it left the disk as it was, or wrote: what it asked for, and what it was told, says which
+  pub same : IsUntouched before now request old response.answer.reply new
+  pub err : TellsFaultOf before request response.answer.reply
+  pub leaves : LeavesPublished before now old (carries_out request response.answer.reply)
+      response.answer.reply new
+
 -- a body was answered by these bytes, and that says which fault the store met, if it met one; where
 -- the store stood on the disk it was answered as the table says
 pub record IsAnswered (before now : DiskView) (old : Held) (body : List ℕ) (met : Option Fault)
     (new : Held) (bytes : List ℕ) : Type 0 where
   pub response : Response
   pub spelled : bytes ≡ response_bytes response
-  pub responds : RespondsTo body response
+  pub responds : IsTurnedAway before now old body response new
+      ⊎ IsToldBy before now old body response new
   pub tells : met ≡ fault_told response.answer.reply
   pub run : (x : Contents) → StandsWith before old x
       → ContinuesWith before now old x body response new
       ⊎ StopsWith before now old x body response
 
--- a block is one of the arrays of a store as an opening may find it, and bad in the content that a
--- disk had, where it exposed that; and what it exposes now is the same in all blocks of these arrays
+-- a block is one of the arrays of a store whose superblock and manifest are those on the disk now,
+-- and bad in the content that it had, where it exposed that; and what it exposes now is the same in
+-- all blocks of these arrays
 pub record IsFoundDamaged (before now : DiskView) (block : ℕ) : Type 0 where
   pub store : Held
   pub lawful : IsConsistent store
+  pub on_disk : (f : Image) → Exposes before f → IsOnDisk now store
   pub content : Option Image
   pub exposed : (f : Image) → Exposes before f → IsSome content
   pub bad : IsDamagedIn content store.memory store.levels block
@@ -261,6 +296,15 @@ pub record Served (budget : ℕ) (how : Ended) (before now : World) : Type 0 whe
       → now.disk_faults ≡ before.disk_faults
   pub damaged : (block : ℕ) → EndsWithFault session.broken (fault.Damaged block)
       → IsFoundDamaged before.disk now.disk block
+  -- where the disk exposes its content, each crash at the end leaves the superblock and the manifest
+  -- of a store as an opening may find it, unless the device failed at a command
+  pub left : (EndsWithFault session.broken fault.Device → ⊥) → (f : Image)
+      → Exposes before.disk f → (store : Held) × IsConsistent store × IsOnDisk now.disk store
+  -- and where no response is one after which a store may have written, a crash leaves what it might
+  -- have left before, or the content but for one gate
+  pub still : AllByRecursion (λ r. may_write r.answer.reply ≡ false) (all_responses session)
+      → (f : Image) → Exposes before.disk f
+      → (slot : ℕ) × (sb : Super) × ChangesGateAlone before.disk now.disk f slot sb
   -- where the disk exposes a content that shows a table, the session is a run of that table
   pub follows : (f : Image) (t : Table) → Exposes before.disk f → ShowsTable f t
       → FollowsRun before.disk now.disk f t session

@@ -1,12 +1,17 @@
 //! The answer to one frame, and to one that is too long.
 
 ghost use Rattle.std.specs.Prelude.{◌≡◌, ℕ, OnOk, OnErr, IfOk, [], Some, None, is_some, false};
+ghost use Rattle.strat_crash.specs.Blocks.{AgreeOn};
 ghost use Rattle.strat_base.specs.declared.failures.Fault.TheVariants as fault;
 ghost use Rattle.strat_crash.specs.Faults.{CountsFaults};
-ghost use Rattle.strat_crash.specs.Moments.{Passes};
+ghost use Rattle.strat_crash.specs.Image.{Image};
+ghost use Rattle.strat_crash.specs.Moments.{Exposes, Passes};
+ghost use Rattle.strat_cursor.specs.Looking.{arrays_there};
 ghost use Rattle.strat_frame.specs.Faults.{refusal_for};
 ghost use Rattle.strat_io.specs.Streams.{Appends};
-ghost use Rattle.strat_serve.specs.Session.{IsAnswered, FailsAsMet, IsFoundDamaged, fault_told, SendsPrefix, too_long_bytes};
+ghost use Rattle.strat_promote.specs.Job.{blocks_listed};
+ghost use Rattle.strat_serve.specs.Session.{IsAnswered, FailsAsMet, fault_told, SendsPrefix, too_long_bytes};
+ghost use Rattle.strat_store.specs.Applying.{IsDamagedIn};
 ghost use Rattle.strat_store.specs.Held.{IsConsistent};
 
 use std::alloc::Global;
@@ -81,7 +86,9 @@ pub fn answer<D: Disk>(
     ensures time { Passes (D.view disk.old) (D.view disk.new) }
     ensures cause { FailsAsMet (D.faults disk.old) (D.faults disk.new) result }
     ensures damaged { (b : ℕ) → result ≡ Some (fault.Damaged b)
-        → IsFoundDamaged (D.view disk.old) (D.view disk.new) b }
+        → IsDamagedIn (D.view disk.old).content store.old.memory store.old.levels b
+        × ((f g : Image) → Exposes (D.view disk.old) f → Exposes (D.view disk.new) g
+        → AgreeOn (blocks_listed (arrays_there store.old.levels)) f g) }
 {
     out.clear();
     match parse_command(body) {

@@ -5,14 +5,16 @@ use Rattle.strat_model.specs.Command.{request_of}
 use Rattle.strat_model.specs.Spelling.{reply_body}
 use Rattle.strat_model.specs.Stream.{frame}
 use Rattle.strat_model.specs.Answer.{as_told}
-use Rattle.strat_serve.proofs.AnswerLemmas.{answered, told_faulty, found_damaged}
+use Rattle.strat_serve.proofs.AnswerLemmas.{answered, told_faulty, told_damaged}
 use Rattle.strat_serve.proofs.answering.answer.Goals as goal
 
 pub returns-in-Ok-clause-ok : goal.returns-in-Ok-clause-ok
 returns-in-Ok-clause-ok g c =
     let request = request_of c.in-Ok.command in
     answered (g.D.Disk.view c.args.disk.now) (g.D.Disk.view c.apply-reply.new.disk) c.args.store.now c.apply-reply.new.self c.args.body.now c.in-Ok.tag request c.apply-reply.result c.apply-reply.new.out
-    c.in-Ok.ensures.ok c.fault_told.result c.write_reply.new.out c.fault_told.ensures c.write_reply.ensures.ok c.apply-reply.ensures.ok c.apply-reply.ensures.trail
+    c.in-Ok.ensures.ok c.fault_told.result c.write_reply.new.out c.fault_told.ensures c.write_reply.ensures.ok
+    (record { request = request; spelled = c.in-Ok.ensures.ok; found = c.apply-reply.ensures.found; same = c.apply-reply.ensures.same.1; err = c.apply-reply.ensures.err; leaves = c.apply-reply.ensures.end })
+    c.apply-reply.ensures.ok c.apply-reply.ensures.trail
 
 pub returns-in-Err-clause-ok : goal.returns-in-Err-clause-ok
 returns-in-Err-clause-ok g c =
@@ -22,4 +24,4 @@ returns-in-Err-clause-ok g c =
 
 pub returns-in-Ok-clause-damaged : goal.returns-in-Ok-clause-damaged
 returns-in-Ok-clause-damaged g c =
-    found_damaged c.apply-reply.result c.fault_told.result (g.D.Disk.view c.args.disk.now) (g.D.Disk.view c.apply-reply.new.disk) c.args.store.now c.fault_told.ensures c.requires.kept c.apply-reply.ensures.damaged
+    λ b e. c.apply-reply.ensures.damaged b (told_damaged c.apply-reply.result c.fault_told.result b c.fault_told.ensures e)
