@@ -4,7 +4,6 @@ use Rattle.std.specs.Prelude.{◌≡◌, ◌≢◌, ◌≤◌, ◌<◌, ◌⊎�
 use Rattle.std.specs.List.{AllByRecursion}
 use Rattle.strat_base.specs.declared.failures.Fault.{Fault}
 use Rattle.strat_base.specs.declared.failures.Fault.TheVariants as fault
-use Rattle.strat_base.specs.Tree.{is_known}
 use Rattle.strat_crash.specs.Blocks.{AgreeOn}
 use Rattle.strat_crash.specs.Faults.{Rose}
 use Rattle.strat_crash.specs.Image.{Image}
@@ -19,14 +18,12 @@ use Rattle.strat_model.specs.declared.replies.Refusal.TheVariants as why
 use Rattle.strat_model.specs.declared.replies.Reply.{Reply}
 use Rattle.strat_model.specs.declared.replies.Reply.TheVariants as reply
 use Rattle.strat_model.specs.Answer.{refusal}
-use Rattle.strat_model.specs.Request.{Request, Get}
+use Rattle.strat_model.specs.Request.{Request}
 use Rattle.strat_model.specs.Spelling.{Spells, IsRefusedAs, reply_body}
-use Rattle.strat_model.specs.Step.{found as answer_found}
 use Rattle.strat_model.specs.Stream.{frame, Splits, Whole, Rest, Long, ending_of, is_too_long}
 use Rattle.strat_model.specs.Table.{Table, bare}
 use Rattle.strat_model.specs.Run.{reaches_disk, Position, Response, response_bytes, Answers, AnswersFault, Transcript, IsTranscript, bodies_of, tables_of, sent_bytes}
 use Rattle.strat_promote.specs.Job.{blocks_listed}
-use Rattle.strat_recovery.specs.Asked.{asked}
 use Rattle.strat_recovery.specs.Head.{Head}
 use Rattle.strat_recovery.specs.Opening.{recover}
 use Rattle.strat_recovery.specs.StateTable.{table_of}
@@ -35,8 +32,9 @@ use Rattle.strat_standing.specs.Standing.{ShowsTable}
 use Rattle.strat_store.specs.Applying.{IsDamagedIn, IsUntouched, TellsFaultOf, is_fault, may_write}
 use Rattle.strat_store.specs.Following.{ChangesGateAlone, FollowsFrom, IsOpenedAs, IsUnchanged, LeavesOpening}
 use Rattle.strat_store.specs.Held.{Held, IsConsistent, IsOnDisk, StandsWith, position_with}
+use Rattle.strat_store.specs.Ranging.{TellsFrom}
 use Rattle.strat_store.specs.Settling.{LeavesPublished, carries_out}
-use Rattle.strat_cursor.specs.Looking.{AreInOrder, AreCachedFrom, arrays_there, levels_there}
+use Rattle.strat_cursor.specs.Looking.{AreInOrder, AreCachedFrom, arrays_there}
 use Rattle.strat_serve.specs.World.{World}
 
 -- these bytes were taken from the front of a source
@@ -129,12 +127,10 @@ pub record IsToldBy (before now : DiskView) (old : Held) (body : List ℕ) (resp
   pub request : Request
   pub spelled : Spells body response.tag request
   -- a look-up that met no fault found what level 0 and the arrays hold
-  pub found : (f : Image) (version : ℕ) (key : List ℕ) → request ≡ Get version key
-      → Exposes before f → AreInOrder f (arrays_there old.levels)
+  pub found : (f : Image) → Exposes before f → AreInOrder f (arrays_there old.levels)
       → AreCachedFrom f old.chained.manifest.next_array (arrays_there old.levels) old.cached
-      → is_fault response.answer.reply ≡ false → is_known old.memory.parents version ≡ true
-      → response.answer ≡ answer_found key (asked f old.memory.parents
-      (old.memory.entries ∷ []) (levels_there old.levels) version key)
+      → is_fault response.answer.reply ≡ false
+      → TellsFrom f old.memory old.levels request response.answer
   -- it left the disk as it was, or wrote: what it asked for, and what it was told, says which
   pub same : IsUntouched before now request old response.answer.reply new
   pub err : TellsFaultOf before request response.answer.reply

@@ -1,10 +1,11 @@
 -- How a store answers commands that ask for no change, and what of it an answer leaves.
-use Rattle.std.proofs.Common.{◌≡◌, ◌≤◌, ◌&&◌, ℕ, leb, Bool, true, false, inl, inr, List, [], ◌∷◌, length, Option, Some, None, refl, sym, ap, ◌∙◌, subst, true≢false}
+use Rattle.std.proofs.Common.{◌≡◌, ◌≤◌, ◌&&◌, ℕ, leb, Bor, Bool, true, false, inl, inr, List, [], ◌∷◌, length, Option, Some, None, refl, sym, ap, ◌∙◌, subst, true≢false}
 use Rattle.std.proofs.lemmas.Bool.{and_parts, leb-true}
 use Rattle.std.specs.Prelude.{if◌then◌else◌, option_and_then}
 use Rattle.strat_base.specs.Change.{Change}
 use Rattle.strat_base.specs.Change as change
 use Rattle.strat_base.specs.Tree.{is_known}
+use Rattle.strat_base.specs.declared.descriptors.LevelDesc.{LevelDesc}
 use Rattle.strat_crash.specs.Image.{Image}
 use Rattle.strat_crash.specs.Moments.{DiskView, Since, OnlyReads}
 use Rattle.strat_crash.specs.Trail.{Trail}
@@ -15,6 +16,9 @@ use Rattle.strat_model.specs.declared.replies.Reply.{Reply}
 use Rattle.strat_model.specs.declared.replies.Reply.TheVariants as reply
 use Rattle.strat_model.specs.declared.replies.Refusal.{Refusal}
 use Rattle.strat_model.specs.declared.replies.Refusal.TheVariants as why
+use Rattle.strat_model.specs.Command.{request_of}
+use Rattle.strat_model.specs.declared.commands.Command.{Command}
+use Rattle.strat_model.specs.declared.commands.Command.TheVariants as command
 use Rattle.strat_model.specs.Answer.{Answer, plain, accepts}
 use Rattle.strat_model.specs.Pairs.{value_of}
 use Rattle.strat_model.specs.Request.{Request, Put, Delete, Get, Clone, Scan, Info, Stat}
@@ -31,6 +35,7 @@ use Rattle.strat_standing.specs.Contents.{Contents, contents_head, contents_stat
 use Rattle.strat_standing.specs.Standing.{ShowsTable}
 use Rattle.strat_store.proofs.MemoryLawLemmas.{version_told, store_told, version_unknown}
 use Rattle.strat_store.specs.Applying.{IsAppliedTo, IsLookedUp, FollowsStep, TellsFaultOf, change_wanted, is_fault, ran_short, table_left}
+use Rattle.strat_store.specs.Ranging.{TellsFrom}
 use Rattle.strat_store.specs.Held.{Held, position_with, IsConsistent, StandsWith}
 use Rattle.strat_store.specs.Memory.{Memory, info_told, stat_told, IsMemoryOf}
 
@@ -40,6 +45,20 @@ wanted_for (Put v key value) c wanted = let same : change.Put v key value ≡ c 
 wanted_for (Delete v key) c wanted = let same : change.Delete v key ≡ c = cc in ap request_for (sym same)
 wanted_for (Clone v) c wanted = let same : change.Clone v ≡ c = cc in ap request_for (sym same)
 wanted_for _ c wanted = absurd (cc)
+
+-- a change looks nothing up
+pub tells_from_wanted : (f : Image) (m : Memory) (levels : List (Option LevelDesc)) (r : Request) (c : Change) (answer : Answer) → change_wanted r ≡ Some c → TellsFrom f m levels r answer
+tells_from_wanted f m levels (Put v key value) c answer wanted = tt
+tells_from_wanted f m levels (Delete v key) c answer wanted = tt
+tells_from_wanted f m levels (Clone v) c answer wanted = tt
+tells_from_wanted f m levels _ c answer wanted = absurd (cc)
+
+-- and neither does a command that is neither a get nor a scan
+pub tells_other : (f : Image) (m : Memory) (levels : List (Option LevelDesc)) (asked : Command) (answer : Answer) → ((v : ℕ) (key : Bor (List ℕ)) → asked ≡ command.Get v key → ⊥)
+    → ((v : ℕ) (lo hi : Bor (List ℕ)) (limit : ℕ) → asked ≡ command.Scan v lo hi limit → ⊥) → TellsFrom f m levels (request_of asked) answer
+tells_other f m levels (command.Get v key) answer get scan = absurd (get v key refl)
+tells_other f m levels (command.Scan v lo hi limit) answer get scan = absurd (scan v lo hi limit refl)
+tells_other f m levels _ answer get scan = tt
 
 -- it reaches the disk, and so a fault may be told of it
 reaches_wanted : (r : Request) (c : Change) → change_wanted r ≡ Some c → reaches_disk r ≡ true

@@ -13,13 +13,10 @@ ghost use Rattle.strat_format.specs.Chain.{chain_length};
 ghost use Rattle.strat_format.specs.Layout.{region_blocks};
 ghost use Rattle.strat_model.specs.Answer.{as_told};
 ghost use Rattle.strat_model.specs.Command.{request_of};
-ghost use Rattle.strat_model.specs.Request.{Get};
 ghost use Rattle.strat_model.specs.Spelling.{is_built, has_lawful_sizes};
-ghost use Rattle.strat_model.specs.Step.{found as answer_found};
 ghost use Rattle.strat_model.specs.declared.replies.Refusal.TheVariants as why;
 ghost use Rattle.strat_model.specs.declared.replies.Reply.TheVariants as reply;
 ghost use Rattle.strat_promote.specs.Job.{blocks_listed};
-ghost use Rattle.strat_recovery.specs.Asked.{asked};
 ghost use Rattle.strat_recovery.specs.Opening.{recover};
 ghost use Rattle.strat_standing.specs.Contents.{Contents};
 ghost use Rattle.strat_store.specs.Applying.{IsAppliedTo, FollowsStep, FailsAsTold, IsDamagedIn, IsLookedUp, IsUntouched, TellsFaultOf, change_wanted, is_fault};
@@ -27,6 +24,7 @@ ghost use Rattle.strat_store.specs.Following.{IsOpenedAs, IsUnchanged, LeavesOpe
 ghost use Rattle.strat_store.specs.Held.{IsConsistent, StandsWith};
 ghost use Rattle.strat_store.specs.Memory.{info_told};
 ghost use Rattle.strat_cursor.specs.Looking.{AreInOrder, AreCachedFrom, LooksThrough, arrays_there, levels_there};
+ghost use Rattle.strat_store.specs.Ranging.{TellsFrom};
 ghost use Rattle.strat_store.specs.Recovering.{held_of, held_after, empty_cache};
 ghost use Rattle.strat_store.specs.Settling.{LeavesPublished, carries_out};
 ghost use Rattle.strat_store.specs.declared.opening.AttachFault.TheVariants as fault;
@@ -134,14 +132,12 @@ fn look<D: Disk>(
     ensures ok { (x : Contents) → StandsWith (D.view disk.old) (held_of held.now cache.old) x
         → IsLookedUp (D.view disk.new) (held_of held.now cache.new) x
         (request_of command.now) (as_told result out.new) }
-    ensures found { (f : Image) (version : ℕ) (key : List ℕ)
-        → request_of command.now ≡ Get version key → Exposes (D.view disk.old) f
+    ensures found { (f : Image) → Exposes (D.view disk.old) f
         → AreInOrder f (arrays_there held.now.published.levels)
         → AreCachedFrom f held.now.published.manifest.next_array
-        (arrays_there held.now.published.levels) cache.old
-        → is_fault result ≡ false → is_known held.now.memory.parents version ≡ true
-        → as_told result out.new ≡ answer_found key (asked f held.now.memory.parents
-        (held.now.memory.entries ∷ []) (levels_there held.now.published.levels) version key) }
+        (arrays_there held.now.published.levels) cache.old → is_fault result ≡ false
+        → TellsFrom f held.now.memory held.now.published.levels
+        (request_of command.now) (as_told result out.new) }
     ensures len { result ≡ reply.Found → length out.new ≡ 1 }
     ensures same { LooksThrough (D.view disk.old) (D.view disk.new)
         (arrays_there held.now.published.levels) cache.old cache.new }
@@ -186,14 +182,12 @@ fn answer<D: Disk>(
     ensures trail { (x : Contents) → StandsWith (D.view disk.old) (held_of held.old cache.old) x
         → FollowsStep (D.view disk.old) (D.view disk.new) x (request_of command.now)
         (as_told result out.new) }
-    ensures found { (f : Image) (version : ℕ) (key : List ℕ)
-        → request_of command.now ≡ Get version key → Exposes (D.view disk.old) f
+    ensures found { (f : Image) → Exposes (D.view disk.old) f
         → AreInOrder f (arrays_there held.old.published.levels)
         → AreCachedFrom f held.old.published.manifest.next_array
-        (arrays_there held.old.published.levels) cache.old
-        → is_fault result ≡ false → is_known held.old.memory.parents version ≡ true
-        → as_told result out.new ≡ answer_found key (asked f held.old.memory.parents
-        (held.old.memory.entries ∷ []) (levels_there held.old.published.levels) version key) }
+        (arrays_there held.old.published.levels) cache.old → is_fault result ≡ false
+        → TellsFrom f held.old.memory held.old.published.levels
+        (request_of command.now) (as_told result out.new) }
     ensures kept { is_fault result ≡ false → (cached : Blocks)
         → IsConsistent (held_of held.new cached) }
     ensures end { LeavesPublished (D.view disk.old) (D.view disk.new)
@@ -248,14 +242,12 @@ impl Store {
         ensures trail { (x : Contents) → StandsWith (D.view disk.old) self.old x
             → FollowsStep (D.view disk.old) (D.view disk.new) x (request_of command.now)
             (as_told result out.new) }
-        ensures found { (f : Image) (version : ℕ) (key : List ℕ)
-            → request_of command.now ≡ Get version key → Exposes (D.view disk.old) f
+        ensures found { (f : Image) → Exposes (D.view disk.old) f
             → AreInOrder f (arrays_there self.old.levels)
             → AreCachedFrom f self.old.chained.manifest.next_array
-            (arrays_there self.old.levels) self.old.cached
-            → is_fault result ≡ false → is_known self.old.memory.parents version ≡ true
-            → as_told result out.new ≡ answer_found key (asked f self.old.memory.parents
-            (self.old.memory.entries ∷ []) (levels_there self.old.levels) version key) }
+            (arrays_there self.old.levels) self.old.cached → is_fault result ≡ false
+            → TellsFrom f self.old.memory self.old.levels
+            (request_of command.now) (as_told result out.new) }
         ensures kept { (self.new.spent ≡ is_fault result)
             × (self.new.spent ≡ false → IsConsistent self.new) }
         ensures end { LeavesPublished (D.view disk.old) (D.view disk.new) self.old

@@ -9,7 +9,7 @@ use Rattle.strat_model.specs.Request.{Request}
 use Rattle.strat_store.specs.Applying.{IsAppliedTo, FollowsStep, is_fault}
 use Rattle.strat_store.specs.Recovering.{held_of, held_after}
 use Rattle.strat_store.proofs.LeavingLemmas.{left_cached, leaves_wanted, untouched_by}
-use Rattle.strat_store.proofs.ApplyLemmas.{wanted_for, tells_of_change, look_no_change, look_applied, look_follows}
+use Rattle.strat_store.proofs.ApplyLemmas.{wanted_for, tells_from_wanted, tells_of_change, look_no_change, look_applied, look_follows}
 use Rattle.strat_store.proofs.store.answer.Goals as goal
 
 pub returns-in-Some-clause-ok : goal.returns-in-Some-clause-ok
@@ -64,3 +64,6 @@ returns-in-None-clause-same g c = record {
   refused = λ d q asks e. absurd (let x : ◌≡◌ {A = Option Change} None (Some d) = sym c.in-None.ensures ∙ asks in cc);
   calm = λ still. c.look.ensures.same.disk;
 }
+
+pub returns-in-Some-clause-found : goal.returns-in-Some-clause-found
+returns-in-Some-clause-found g c = λ f exposed ordered cached none. tells_from_wanted f c.args.held.now.memory c.args.held.now.published.levels (request_of c.args.command.now) _ _ c.in-Some.ensures

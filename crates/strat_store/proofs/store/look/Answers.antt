@@ -1,10 +1,13 @@
 use Rattle.std.proofs.Common.{inl, refl, sym, ap, ◌∙◌}
+use Rattle.strat_model.specs.Answer.{as_told}
 use Rattle.strat_model.specs.Command.{request_of}
+use Rattle.strat_model.specs.declared.replies.Refusal.TheVariants as why
+use Rattle.strat_model.specs.declared.replies.Reply.TheVariants as reply
 use Rattle.strat_model.specs.Spelling.{has_lawful_sizes}
 use Rattle.strat_model.specs.declared.commands.Command.{Command}
 use Rattle.strat_store.specs.Applying.{is_fault}
 use Rattle.strat_store.specs.Recovering.{held_of}
-use Rattle.strat_store.proofs.ApplyLemmas.{info_here, stat_here, info_calm, tells_calm, scan_fits}
+use Rattle.strat_store.proofs.ApplyLemmas.{info_here, stat_here, info_calm, tells_calm, tells_other, scan_fits}
 use Rattle.strat_store.proofs.store.look.Goals as goal
 
 pub returns-in-Info-clause-ok : goal.returns-in-Info-clause-ok
@@ -36,3 +39,18 @@ scan_range-requires-clause-fits g c =
 
 pub returns-in-Scan-clause-err : goal.returns-in-Scan-clause-err
 returns-in-Scan-clause-err g c = rw (c.in-Scan.is) (record { reached = λ failed. refl; none = λ none. c.scan_range.ensures.err })
+
+pub returns-in-Get-clause-found : goal.returns-in-Get-clause-found
+returns-in-Get-clause-found g c = λ f exposed ordered cached none. rw (c.in-Get.is) (λ known. c.get.ensures.found f exposed ordered cached none known)
+
+pub returns-in-Scan-clause-found : goal.returns-in-Scan-clause-found
+returns-in-Scan-clause-found g c = λ f exposed ordered cached none. rw (c.in-Scan.is) (λ known pairs asked. c.scan_range.ensures.found f pairs exposed ordered cached none known asked)
+
+pub returns-in-Info-clause-found : goal.returns-in-Info-clause-found
+returns-in-Info-clause-found g c = λ f exposed ordered cached none. rw (c.in-Info.is) tt
+
+pub returns-in-Stat-clause-found : goal.returns-in-Stat-clause-found
+returns-in-Stat-clause-found g c = λ f exposed ordered cached none. rw (c.in-Stat.is) tt
+
+pub returns-in_default-clause-found : goal.returns-in_default-clause-found
+returns-in_default-clause-found g c = λ f exposed ordered cached none. tells_other f c.args.held.now.memory c.args.held.now.published.levels c.args.command.now (as_told (reply.Refused why.Malformed) c.args.out.now) c.in_default.not-Get c.in_default.not-Scan
