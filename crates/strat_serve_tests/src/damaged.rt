@@ -7,7 +7,7 @@ use std::alloc::Global;
 use strat_base::PairBuf;
 use strat_disk::MemDisk;
 use strat_io::{MemSink, MemSource};
-use strat_model::Ended;
+use strat_model::{Command, Ended};
 use strat_serve::serve;
 use strat_store::Store;
 
@@ -72,14 +72,26 @@ fn a_damaged_block_is_told_of(rt: HostRuntime) {
 
 /// Whether an open store names the block that was altered behind its back, and is spent.
 fn is_blamed(alloc: Global, disk: &mut MemDisk) -> Option<bool> {
-    let mut store = Store::attach(alloc, disk).ok()?;
-    let mut out = PairBuf::new(alloc).ok()?;
     let get = command(Script::LookThirteen, 0);
+    let scan = Command::Scan {
+        version: 0,
+        lo: b"k01",
+        hi: b"k02",
+        limit: 1,
+    };
     Some(
         say_entries(disk, 0)
-            && block_blamed(&mut store, disk, &mut out, &get) == Some(7)
-            && store.is_spent(),
+            && blames_block_7(alloc, disk, &get)?
+            && blames_block_7(alloc, disk, &scan)?,
     )
+}
+
+/// Whether a store that is opened names block 7 as it is asked for this, and is spent.
+fn blames_block_7(alloc: Global, disk: &mut MemDisk, command: &Command<'_>) -> Option<bool> {
+    let mut store = Store::attach(alloc, disk).ok()?;
+    let mut out = PairBuf::new(alloc).ok()?;
+    let blamed = block_blamed(&mut store, disk, &mut out, command);
+    Some(blamed == Some(7) && store.is_spent())
 }
 
 #[test]

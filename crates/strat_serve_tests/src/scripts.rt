@@ -5,6 +5,7 @@ ghost use Rattle.strat_model.specs.Command.{request_of};
 ghost use Rattle.strat_model.specs.Spelling.{is_built, has_lawful_sizes};
 
 use std::alloc::Global;
+use strat_base::limits::KEY_MAX;
 use strat_base::{NoMemory, PairBuf, key_ok, value_ok};
 use strat_disk::Disk;
 use strat_model::{Command, PlainTable, Refusal, Reply};
@@ -49,6 +50,18 @@ fn key_of(n: u32) -> &'static [u8] {
     KEYS[(n % 4) as usize]
 }
 
+/// Asks for the pairs of a version between two of the keys or without a bound, one, two or all of them.
+fn scan(version: u32, n: u32) -> Command<'static> {
+    const BOUNDS: [&[u8]; 4] = [b"", b"a", b"ab", b"b"];
+    const LIMITS: [u16; 3] = [1, 2, 256];
+    Command::Scan {
+        version,
+        lo: BOUNDS[(n / 16 % 4) as usize],
+        hi: BOUNDS[(n / 64 % 4) as usize],
+        limit: LIMITS[(n / 16 % 3) as usize],
+    }
+}
+
 /// Command number n, of one of four keys, at one of the first versions.
 fn any(n: u32) -> Command<'static> {
     let drawn = n.wrapping_mul(2_654_435_761) >> 7;
@@ -58,7 +71,8 @@ fn any(n: u32) -> Command<'static> {
         0 => Command::Clone { version },
         1 => Command::Delete { version, key },
         2 => Command::Info { version },
-        3 => Command::Stat,
+        3 if n % 16 == 3 => Command::Stat,
+        3 => scan(version, n),
         4 | 5 => Command::Get { version, key },
         6 => Command::Put {
             version,
@@ -175,6 +189,9 @@ fn may_be_given(command: &Command<'_>) -> bool
     match *command {
         Command::Put { key, value, .. } => key_ok(key) && value_ok(value),
         Command::Delete { key, .. } | Command::Get { key, .. } => key_ok(key),
+        Command::Scan { lo, hi, limit, .. } => {
+            lo.len() <= KEY_MAX && hi.len() <= KEY_MAX && 1 <= limit && limit <= 256
+        }
         Command::Clone { .. } | Command::Info { .. } | Command::Stat => true,
         _ => false,
     }
