@@ -90,10 +90,10 @@ fn carry_out<D: Disk>(held: &mut Recovered, disk: &mut D, change: &Change<'_>) -
         → KeepsPublished (held_of held.old cached) (held_of held.new cached)
         × (IsOnDisk (D.view disk.old) (held_of held.old cached)
         → IsOnDisk (D.view disk.new) (held_of held.new cached)) }
-    ensures err { (accepts result ≡ false → result ≡ reply.Refused why.DeviceFault)
-        × (may_write result ≡ true) }
     ensures damaged { (b : ℕ) → result ≡ reply.Refused (why.Damaged b) → ⊥ }
-    ensures same { (held.new.sb.mem ≡ held.old.sb.mem) × (result ≢ reply.Found) }
+    ensures same { (held.new.sb.mem ≡ held.old.sb.mem) × (result ≢ reply.Found)
+        × (accepts result ≡ false → result ≡ reply.Refused why.DeviceFault)
+        × (may_write result ≡ true) }
     ensures time { Passes (D.view disk.old) (D.view disk.new) }
     ensures cause { FailsAsTold (D.faults disk.old) (D.faults disk.new) result }
 {
@@ -138,12 +138,12 @@ fn carry_out_anew<D: Disk>(
         → IsConsistent (held_of held.new cached) }
     ensures end { (cached : Blocks) → LeavesPublished (D.view disk.old) (D.view disk.new)
         (held_of held.old cached) (accepts result) result (held_after held.new cached result) }
-    ensures err { may_write result ≡ true }
     ensures damaged { (b : ℕ) → result ≡ reply.Refused (why.Damaged b)
         → IsDamagedIn (D.view disk.old).content held.old.memory held.old.published.levels b
         × ((f g : Image) → Exposes (D.view disk.old) f → Exposes (D.view disk.new) g
         → AgreeOn (blocks_listed (arrays_there held.old.published.levels)) f g) }
-    ensures same { (held.new.sb.mem ≡ held.old.sb.mem) × (result ≢ reply.Found) }
+    ensures same { (held.new.sb.mem ≡ held.old.sb.mem) × (result ≢ reply.Found)
+        × (may_write result ≡ true) }
     ensures time { Passes (D.view disk.old) (D.view disk.new) }
     ensures cause { FailsAsTold (D.faults disk.old) (D.faults disk.new) result }
 {

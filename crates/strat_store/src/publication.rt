@@ -240,12 +240,12 @@ pub(crate) fn publish<D: Disk>(
         → IsPublishedAs (D.view disk.new) x (held_of held.new cached)) }
     ensures found { OnOk result ((held.new.slot ≡ 1 - held.old.slot)
         × ArePublishedAfter (super_of held.old.sb) (manifest_of held.old.published.manifest)
-        held.old.memory (super_of held.new.sb) (manifest_of held.new.published.manifest)) }
+        held.old.memory (super_of held.new.sb) (manifest_of held.new.published.manifest)
+        × (held.new.journal.list ≡ [])
+        × (held.new.memory ≡ emptied held.old.sb.mem held.old.memory)) }
     ensures end { (IsErrOf result trouble.Device → ⊥) → (cached : Blocks)
         → IsOnDisk (D.view disk.old) (held_of held.old cached)
         → IsOnDisk (D.view disk.new) (held_of held.new cached) }
-    ensures err { OnErr result ((cached : Blocks)
-        → KeepsPublished (held_of held.old cached) (held_of held.new cached)) }
     ensures none { IsErrOf result trouble.NoMemory → (x : Contents) (cached : Blocks)
         → StandsWith (D.view disk.old) (held_of held.old cached) x
         → StandsWith (D.view disk.new) (held_of held.new cached) x }
@@ -255,10 +255,10 @@ pub(crate) fn publish<D: Disk>(
         (table_of (contents_state x) ∷ []) 0 }
     ensures kept { IsOkOrShort result → (cached : Blocks)
         → IsConsistent (held_of held.new cached) }
-    ensures room { OnOk result ((held.new.journal.list ≡ [])
-        × (held.new.memory ≡ emptied held.old.sb.mem held.old.memory)) }
     ensures same { (held.new.sb.mem ≡ held.old.sb.mem)
-        × (IsErrOf result trouble.NoMemory → held.new.journal ≡ held.old.journal) }
+        × (IsErrOf result trouble.NoMemory → held.new.journal ≡ held.old.journal)
+        × OnErr result ((cached : Blocks)
+        → KeepsPublished (held_of held.old cached) (held_of held.new cached)) }
     ensures time { Passes (D.view disk.old) (D.view disk.new) }
     ensures cause { HasCause Device (D.faults disk.old) (D.faults disk.new) result }
     ensures damaged { (b : ℕ) → IsErrOf result (Damaged b)

@@ -190,13 +190,13 @@ fn answer<D: Disk>(
         (request_of command.now) (as_told result out.new) }
     ensures kept { is_fault result ≡ false → (cached : Blocks)
         → IsConsistent (held_of held.new cached) }
-    ensures end { LeavesPublished (D.view disk.old) (D.view disk.new)
-        (held_of held.old cache.old) (carries_out (request_of command.now) result) result
-        (held_after held.new cache.new result) }
     ensures len { (result ≡ reply.Found → length out.new ≡ 1)
         × (held.new.sb.mem ≡ held.old.sb.mem) }
     ensures same { IsUntouched (D.view disk.old) (D.view disk.new) (request_of command.now)
-        (held_of held.old cache.old) result (held_after held.new cache.new result) }
+        (held_of held.old cache.old) result (held_after held.new cache.new result)
+        × LeavesPublished (D.view disk.old) (D.view disk.new)
+        (held_of held.old cache.old) (carries_out (request_of command.now) result) result
+        (held_after held.new cache.new result) }
     ensures time { Passes (D.view disk.old) (D.view disk.new) }
     ensures cause { FailsAsTold (D.faults disk.old) (D.faults disk.new) result
         × TellsFaultOf (D.view disk.old) (request_of command.now) result }
@@ -250,12 +250,12 @@ impl Store {
             (request_of command.now) (as_told result out.new) }
         ensures kept { (self.new.spent ≡ is_fault result)
             × (self.new.spent ≡ false → IsConsistent self.new) }
-        ensures end { LeavesPublished (D.view disk.old) (D.view disk.new) self.old
-            (carries_out (request_of command.now) result) result self.new }
         ensures len { result ≡ reply.Found → length out.new ≡ 1 }
         ensures same { (self.new.sb.mem ≡ self.old.sb.mem)
             × IsUntouched (D.view disk.old) (D.view disk.new) (request_of command.now)
-            self.old result self.new }
+            self.old result self.new
+            × LeavesPublished (D.view disk.old) (D.view disk.new) self.old
+            (carries_out (request_of command.now) result) result self.new }
         ensures time { Passes (D.view disk.old) (D.view disk.new) }
         ensures cause { FailsAsTold (D.faults disk.old) (D.faults disk.new) result }
         ensures err { TellsFaultOf (D.view disk.old) (request_of command.now) result }

@@ -50,7 +50,9 @@ returns-clause-kept g c calm cached =
     kept_more c.args.held.now cached (c.requires.kept cached) _ c.requires.none c.requires.room c.log_change.new.journal c.take.new.self c.in-Ok.ensures.ok c.take.ensures.ok
 
 pub returns-clause-same : goal.returns-clause-same
-returns-clause-same g c = (refl, finds_none c.args.held.now.memory _ c.take.result c.take.ensures.found)
+returns-clause-same g c =
+    let well = taken_well c.args.held.now.memory _ c.take.result c.take.ensures.found in
+    (refl, finds_none c.args.held.now.memory _ c.take.result c.take.ensures.found, well.0, well.1)
 
 pub returns-in_default-clause-end : goal.returns-in_default-clause-end
 returns-in_default-clause-end g c = λ cached.
@@ -61,6 +63,3 @@ pub returns-clause-end : goal.returns-clause-end
 returns-clause-end g c = λ cached.
     logged_leaves (g.D.Disk.view c.args.disk.now) (g.D.Disk.view c.log_change.new.disk) (held_of c.args.held.now cached) (held_of (record c.args.held.now { journal = c.log_change.new.journal; memory = c.take.new.self }) cached)
     (c.requires.kept cached) (record { slot = refl; sb = refl; chained = refl; levels = refl }) c.log_change.ensures.images c.log_change.ensures.time
-
-pub returns-clause-err : goal.returns-clause-err
-returns-clause-err g c = taken_well c.args.held.now.memory _ c.take.result c.take.ensures.found

@@ -32,33 +32,33 @@ carry_out-requires-clause-kept g c = c.in_default.ensures.kept tt
 
 pub carry_out-requires-clause-room : goal.carry_out-requires-clause-room
 carry_out-requires-clause-room g c =
-    omega (arith, ap length c.in_default.ensures.room.0, c.publish.ensures.same.0, (c.requires.kept (empty_cache 0)).lawful.mem_least)
+    omega (arith, ap length c.in_default.ensures.found.2, c.publish.ensures.same.0, (c.requires.kept (empty_cache 0)).lawful.mem_least)
 
 pub returns-clause-ok : goal.returns-clause-ok
 returns-clause-ok g c x cached stands =
     let p = c.in_default.ensures.ok x cached stands in
     renewed c.args.held.now cached (c.requires.kept cached) (g.D.Disk.view c.args.disk.now) x stands _ c.requires.none c.requires.room c.publish.new.held (g.D.Disk.view c.publish.new.disk)
-    (c.in_default.ensures.kept tt cached) c.in_default.ensures.room.0 p c.carry_out.new.held (g.D.Disk.view c.carry_out.new.disk) c.carry_out.result
+    (c.in_default.ensures.kept tt cached) c.in_default.ensures.found.2 p c.carry_out.new.held (g.D.Disk.view c.carry_out.new.disk) c.carry_out.result
     (c.carry_out.ensures.ok p.after cached p.stands)
 
 pub returns-clause-trail : goal.returns-clause-trail
 returns-clause-trail g c x cached stands =
     let p = c.in_default.ensures.ok x cached stands in
     renewed_trail c.args.held.now cached (c.requires.kept cached) (g.D.Disk.view c.args.disk.now) x stands _ c.requires.none c.requires.room c.publish.new.held (g.D.Disk.view c.publish.new.disk)
-    (c.in_default.ensures.kept tt cached) c.in_default.ensures.room.0 p (g.D.Disk.view c.carry_out.new.disk) c.carry_out.result c.carry_out.ensures.time (c.publish.ensures.trail x cached stands)
+    (c.in_default.ensures.kept tt cached) c.in_default.ensures.found.2 p (g.D.Disk.view c.carry_out.new.disk) c.carry_out.result c.carry_out.ensures.time (c.publish.ensures.trail x cached stands)
     (c.carry_out.ensures.trail p.after cached p.stands)
 
 pub returns-in-Err-clause-end : goal.returns-in-Err-clause-end
 returns-in-Err-clause-end g c = λ cached.
     gives_up (g.D.Disk.view c.args.disk.now) (g.D.Disk.view c.publish.new.disk) c.args.held.now c.publish.new.held cached c.in-Err.trouble c.refusal_of.result c.refusal_of.ensures.ok
-    (c.in-Err.ensures.err cached) (λ other. c.in-Err.ensures.end (λ e. other (let x : ◌≡◌ {A = Result _ Trouble} (Err c.in-Err.trouble) (Err trouble.Device) = e in cc)) cached)
+    (c.in-Err.ensures.same.2 cached) (λ other. c.in-Err.ensures.end (λ e. other (let x : ◌≡◌ {A = Result _ Trouble} (Err c.in-Err.trouble) (Err trouble.Device) = e in cc)) cached)
 
 pub returns-clause-end : goal.returns-clause-end
 returns-clause-end g c = λ cached.
     let kept = c.requires.kept cached in
     renews (g.D.Disk.view c.args.disk.now) (g.D.Disk.view c.publish.new.disk) (g.D.Disk.view c.carry_out.new.disk) c.args.held.now c.publish.new.held c.carry_out.new.held cached c.carry_out.result
-    (omega (arith, c.requires.room, kept.log.mem)) c.in_default.ensures.found.0 c.in_default.ensures.found.1 (c.carry_out.ensures.end cached) c.carry_out.ensures.err.0
+    (omega (arith, c.requires.room, kept.log.mem)) c.in_default.ensures.found.0 c.in_default.ensures.found.1 (c.carry_out.ensures.end cached) c.carry_out.ensures.same.2
     (c.in_default.ensures.end (λ e. absurd (cc)) cached)
 
-pub returns-in-Err-clause-err : goal.returns-in-Err-clause-err
-returns-in-Err-clause-err g c = troubled c.in-Err.trouble c.refusal_of.result c.refusal_of.ensures.ok
+pub returns-in-Err-clause-same : goal.returns-in-Err-clause-same
+returns-in-Err-clause-same g c = (c.publish.ensures.same.0, λ e. absurd (cc), troubled c.in-Err.trouble c.refusal_of.result c.refusal_of.ensures.ok)

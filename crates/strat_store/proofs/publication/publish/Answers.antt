@@ -1,6 +1,8 @@
-use Rattle.std.proofs.Common.{◌∙◌, ◌≡◌, ◌<◌, ℕ, Some, None, refl, sym, ap, subst, arith}
+use Rattle.std.proofs.Common.{◌∙◌, ◌≡◌, ◌<◌, ℕ, Some, None, Result, Err, refl, sym, ap, subst, arith}
 use Rattle.std.proofs.lemmas.Result.{err_from_is_err_and}
 use Rattle.strat_array.specs.Kept.{Blocks}
+use Rattle.strat_base.specs.declared.failures.Trouble.{Trouble}
+use Rattle.strat_base.specs.declared.failures.Trouble.TheVariants as trouble
 use Rattle.strat_crash.proofs.MomentLemmas.{passes_trans}
 use Rattle.strat_crash.specs.Blocks.{TearsBlocks}
 use Rattle.strat_format.specs.SuperBlock.{Super}
@@ -18,6 +20,14 @@ use Rattle.strat_store.proofs.SettlingLemmas.{unwritten}
 use Rattle.strat_store.proofs.OnDiskLemmas.{kept_on, beside_on, published_on}
 use Rattle.strat_store.proofs.SettledLemmas.{consistent_ready, stands_ready, damaged_ready, trail_beside, stands_beside, arrays_kept, one_trail, published_after, published_as, consistent_next, none_damaged}
 use Rattle.strat_store.proofs.publication.publish.Goals as goal
+
+-- a fault of the device is no want of memory
+device_short : {T : Type 0} (r : Result T Trouble) (t : Trouble) → r ≡ Err t → t ≡ trouble.Device → r ≡ Err trouble.NoMemory → ⊥
+device_short r t is device short =
+    let both : ◌≡◌ {A = Result _ Trouble} (Err t) (Err trouble.NoMemory) = sym is ∙ short in
+    let same : t ≡ trouble.NoMemory = cc in
+    let none : trouble.Device ≡ trouble.NoMemory = sym device ∙ same in
+    cc
 
 pub prepare-requires : goal.prepare-requires
 prepare-requires g c = let lawful = (c.requires.kept (empty_cache 0)).lawful in record { fits = (lawful.mem_least, lawful.mem_most) }
@@ -119,11 +129,6 @@ returns-clause-kept g c = λ _ cached.
     subst IsConsistent (sym (c.in_ok-settle.ensures.ok cached))
     (consistent_next (held_of mid cached) (super_of next.sb) (chained_of next.published) next.published.levels whole (c.in_ok-next.ensures.fits cached) admitted.spelled admitted.belonging admitted.placed)
 
-pub returns-clause-room : goal.returns-clause-room
-returns-clause-room g c =
-    let all = c.in_ok-settle.ensures.ok (empty_cache 0) in
-    (ap (λ (h : Held). h.log.list) all, ap (λ (h : Held). h.memory) all ∙ ap (λ (m : Memory). emptied c.args.held.now.sb.mem m) c.in_ok-prepare.ensures.ok)
-
 pub returns-clause-time : goal.returns-clause-time
 returns-clause-time g c = passes_trans (c.prepare_next.ensures.images (empty_cache 0)).tears.time c.settle.ensures.time
 
@@ -133,6 +138,8 @@ returns-clause-found g c =
       ap (λ (h : Held). h.slot) all,
       published_after (super_of c.args.held.now.sb) _ _ (manifest_of c.args.held.now.published.manifest) _ _ c.args.held.now.memory c.prepare.new.self (Some c.args.held.now.sb.mem)
           c.in_ok-prepare.ensures.ok (ap (λ (h : Held). h.sb) all) (ap (λ (h : Held). h.chained.manifest) all) c.in_ok-next.ensures.found,
+      ap (λ (h : Held). h.log.list) all,
+      ap (λ (h : Held). h.memory) all ∙ ap (λ (m : Memory). emptied c.args.held.now.sb.mem m) c.in_ok-prepare.ensures.ok,
     )
 
 pub returns-in_err-prepare-clause-end : goal.returns-in_err-prepare-clause-end
@@ -159,7 +166,12 @@ returns-clause-end g c = λ other cached on.
     greater (c.in_ok-next.ensures.fits cached).mem c.in_ok-next.ensures.kept.belonging
     (kept_on v (held_of c.args.held.now cached) (held_of mid cached) (record { slot = refl; sb = refl; chained = refl; levels = refl }) on))
 
-pub returns-in_err-settle-clause-err : goal.returns-in_err-settle-clause-err
-returns-in_err-settle-clause-err g c =
-    on_err c.from_residual-in_err-settle.result _
-    (λ cached. let same = c.in_err-settle.ensures.err cached in record { slot = same.slot; sb = same.sb; chained = same.chained; levels = same.levels })
+pub returns-in_err-settle-clause-same : goal.returns-in_err-settle-clause-same
+returns-in_err-settle-clause-same g c = (
+  c.settle.ensures.same,
+  λ short.
+      let p = err_from_is_err_and c.from_residual-in_err-settle.result c.from_residual-in_err-settle.ensures.1 in
+      absurd (device_short c.from_residual-in_err-settle.result p.0 p.1 p.2 short),
+  on_err c.from_residual-in_err-settle.result _
+      (λ cached. let same = c.in_err-settle.ensures.err cached in record { slot = same.slot; sb = same.sb; chained = same.chained; levels = same.levels }),
+)

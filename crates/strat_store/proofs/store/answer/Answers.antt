@@ -40,30 +40,27 @@ returns-in-None-clause-trail g c = λ x w.
 pub returns-in-Some-clause-cause : goal.returns-in-Some-clause-cause
 returns-in-Some-clause-cause g c = (c.change.ensures.cause, tells_of_change (g.D.Disk.view c.args.disk.now) _ _ c.change.result c.in-Some.ensures)
 
-pub returns-in-Some-clause-end : goal.returns-in-Some-clause-end
-returns-in-Some-clause-end g c =
-    leaves_wanted (g.D.Disk.view c.args.disk.now) (g.D.Disk.view c.change.new.disk) (held_of c.args.held.now c.args.cache.now) (held_after c.change.new.held c.args.cache.now c.change.result) (request_of c.args.command.now) _ c.change.result
-    c.in-Some.ensures (c.change.ensures.end c.args.cache.now)
-
-pub returns-in-None-clause-end : goal.returns-in-None-clause-end
-returns-in-None-clause-end g c =
-    let still = look_no_change (request_of c.args.command.now) c.requires.fits.0 c.in-None.ensures in
-    left_cached (g.D.Disk.view c.args.disk.now) (g.D.Disk.view c.look.new.disk) c.args.held.now c.args.cache.now c.look.new.cache _ c.look.result (is_fault c.look.result)
-    (ap (λ (b : Bool). b && accepts c.look.result) still) c.look.ensures.same.disk
-
 pub returns-in-Some-clause-same : goal.returns-in-Some-clause-same
 returns-in-Some-clause-same g c =
-    let before = g.D.Disk.view c.args.disk.now in
-    untouched_by before (g.D.Disk.view c.change.new.disk) (request_of c.args.command.now) _ c.args.held.now c.change.new.held c.args.cache.now c.change.result c.in-Some.ensures
-    (λ q e. let one = c.change.ensures.err q e in (one.0, subst (λ (d : _). OnlyReads before (g.D.Disk.view d)) (sym one.2) (reads_refl before)))
-    c.change.ensures.none
+    let before = g.D.Disk.view c.args.disk.now in (
+      untouched_by before (g.D.Disk.view c.change.new.disk) (request_of c.args.command.now) _ c.args.held.now c.change.new.held c.args.cache.now c.change.result c.in-Some.ensures
+          (λ q e. let one = c.change.ensures.err q e in (one.0, subst (λ (d : _). OnlyReads before (g.D.Disk.view d)) (sym one.2) (reads_refl before)))
+          c.change.ensures.none,
+      leaves_wanted before (g.D.Disk.view c.change.new.disk) (held_of c.args.held.now c.args.cache.now) (held_after c.change.new.held c.args.cache.now c.change.result) (request_of c.args.command.now) _ c.change.result
+          c.in-Some.ensures (c.change.ensures.end c.args.cache.now),
+    )
 
 pub returns-in-None-clause-same : goal.returns-in-None-clause-same
-returns-in-None-clause-same g c = record {
-  looks = λ none. c.look.ensures.same;
-  refused = λ d q asks e. absurd (let x : ◌≡◌ {A = Option Change} None (Some d) = sym c.in-None.ensures ∙ asks in cc);
-  calm = λ still. c.look.ensures.same.disk;
-}
+returns-in-None-clause-same g c =
+    let still = look_no_change (request_of c.args.command.now) c.requires.fits.0 c.in-None.ensures in (
+      record {
+        looks = λ none. c.look.ensures.same;
+        refused = λ d q asks e. absurd (let x : ◌≡◌ {A = Option Change} None (Some d) = sym c.in-None.ensures ∙ asks in cc);
+        calm = λ calm. c.look.ensures.same.disk;
+      },
+      left_cached (g.D.Disk.view c.args.disk.now) (g.D.Disk.view c.look.new.disk) c.args.held.now c.args.cache.now c.look.new.cache _ c.look.result (is_fault c.look.result)
+          (ap (λ (b : Bool). b && accepts c.look.result) still) c.look.ensures.same.disk,
+    )
 
 pub returns-in-Some-clause-found : goal.returns-in-Some-clause-found
 returns-in-Some-clause-found g c = λ f exposed ordered cached none. tells_from_wanted f c.args.held.now.memory c.args.held.now.published.levels (request_of c.args.command.now) _ _ c.in-Some.ensures
