@@ -2,7 +2,9 @@
 #![tactic(auto)]
 
 mod desks;
+mod scanning;
 mod view;
 
 pub use desks::Desks;
+pub use scanning::scan;
 pub use view::{Picked, View};

@@ -20,7 +20,6 @@ mod publishing;
 pub mod publishing_laws;
 mod ranging;
 mod recovering;
-mod scanning;
 mod store;
 
 pub use formatting::{FormatFault, format};

@@ -22,8 +22,8 @@ ghost use Rattle.strat_store.specs.Recovering.{held_of};
 use crate::recovering::Recovered;
 use strat_array::Cache;
 use strat_base::{Fault, PairBuf, Version};
-use crate::scanning::scan;
-use strat_cursor::{Desks, Picked, View};
+
+use strat_cursor::{Desks, Picked, View, scan};
 use strat_disk::Disk;
 use strat_model::{Refusal, Reply};
 

@@ -9,7 +9,8 @@ ghost use Rattle.strat_cursor.specs.Looking.{LooksThrough, NamesNoBlock};
 ghost use Rattle.strat_cursor.specs.Ranges.{arrays_in_view};
 ghost use Rattle.strat_cursor.specs.Views.{ViewStands, IsReadable, TellsPage};
 
-use strat_cursor::{Desks, View};
+use crate::desks::Desks;
+use crate::view::View;
 use strat_array::Cache;
 use strat_base::{Fault, PairBuf, Version};
 use strat_disk::Disk;
