@@ -1,2 +1,10 @@
 //! Ranges of a version's pairs, through level 0 and the levels of a store.
 #![tactic(auto)]
+
+mod desks;
+mod scanning;
+mod view;
+
+pub use desks::Desks;
+pub use scanning::scan;
+pub use view::{Picked, View};
