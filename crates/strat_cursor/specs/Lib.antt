@@ -1,3 +1,5 @@
+pub mod Ahead
 pub mod Looking
 pub mod Ranges
+pub mod Sources
 pub mod Views

@@ -3,20 +3,30 @@
 ghost use Rattle.std.specs.Prelude.{◌≡◌, IfOk};
 
 use std::alloc::Global;
-use strat_array::Scratch;
+use strat_array::{Place, Scratch};
 use strat_base::NoMemory;
+
+/// Where a source of entries stands: at an item of level 0, or at an entry of the block that its scratch holds, if it
+/// has one left.
+#[derive(Drop)]
+pub struct Desk {
+    pub(crate) scratch: Scratch,
+    pub(crate) item: usize,
+    pub(crate) place: Place,
+    pub(crate) there: bool,
+}
 
 /// A block at hand for each array that a range is read from.
 #[derive(Drop)]
 pub struct Desks {
-    scratches: Vec<Scratch>,
+    pub(crate) desks: Vec<Desk>,
 }
 
 impl Desks {
     /// Room for 22 blocks, which is taken here. The only error is want of memory.
     pub fn new(alloc: Global) -> Result<Desks, NoMemory> {
         Ok(Desks {
-            scratches: Vec::with_capacity(alloc, 22)?,
+            desks: Vec::with_capacity(alloc, 22)?,
         })
     }
 }

@@ -2,6 +2,7 @@
 #![tactic(auto)]
 
 mod desks;
+mod sources;
 mod scanning;
 mod view;
 
