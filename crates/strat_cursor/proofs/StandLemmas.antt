@@ -1,22 +1,26 @@
 -- A source passes over entries that say nothing of the keys to come.
-use Rattle.std.proofs.Common.{◌≡◌, ◌<◌, ◌≤◌, ◌+◌, ℕ, Bool, true, false, cond, get_or, List, [], ◌∷◌, ◌++◌, length, drop, Option, Some, None, IfSome, IsTrue, refl, sym, ap, ◌∙◌, subst, arith, true≢false}
+use Rattle.std.proofs.Common.{◌≡◌, ◌<◌, ◌≤◌, ◌+◌, ◌-◌, ◌*◌, ◌^◌, ℕ, Bool, true, false, cond, get_or, inl, inr, ◌⊎◌, zero, suc, List, [], ◌∷◌, ◌++◌, length, drop, Option, Some, None, IfSome, IsTrue, refl, sym, ap, ◌∙◌, subst, arith, true≢false}
 use Rattle.std.specs.List.{list_all, find, slice_get}
 use Rattle.std.proofs.lemmas.Bool.{and_parts, cases_Bool, cases_lt}
-use Rattle.std.proofs.lemmas.List.{drop_all, drop_more}
+use Rattle.std.proofs.lemmas.List.{drop_more, length-map}
 use Rattle.strat_base.specs.Tree.{Parents, is_ancestor}
 use Rattle.strat_base.specs.Entries.{Entry, is_of, is_ascending}
 use Rattle.strat_base.proofs.EntryLemmas.{is_of_key}
 use Rattle.strat_crash.specs.Moments.{DiskView}
 use Rattle.strat_state.proofs.SettingLemmas.{stands_first}
+use Rattle.strat_arena.specs.Items.{entry_of_item}
+use Rattle.strat_arena.specs.PoolView.{arena_at}
+use Rattle.strat_arena.specs.declared.pool.PoolEntry.{PoolEntry}
+use Rattle.strat_level.specs.Memtable.{ItemList, entries_held}
 use Rattle.strat_array.specs.declared.place.Place.{Place}
 use Rattle.strat_array.specs.Kept.{Kept, Blocks, Looks, ArrayStands}
-use Rattle.strat_array.specs.Steps.{left_from, Settles, HoldsPlace}
+use Rattle.strat_array.specs.Steps.{left_from, Settles, HoldsPlace, IsNear}
 use Rattle.strat_array.specs.Walk.{is_seen_at}
 use Rattle.strat_array.proofs.FindLemmas.{left_held}
 use Rattle.strat_array.proofs.HoldLemmas.{held_has}
 use Rattle.strat_array.proofs.KeptLemmas.{looks_refl, looks_trans, stands_after}
 use Rattle.strat_cursor.specs.Ahead.{is_after}
-use Rattle.strat_cursor.specs.Sources.{PassesOver, is_due, left_behind, entry_held}
+use Rattle.strat_cursor.specs.Sources.{PassesOver, is_due, left_behind, entry_held, places_ahead}
 
 pub passes_none : (parents : Parents) (v : ℕ) (last : List ℕ) (entries : List Entry) → PassesOver parents v last entries entries
 passes_none parents v last entries = record { same = λ key after. refl; ordered = λ up. up; among = λ p all. all }
@@ -54,6 +58,14 @@ module _ (parents : Parents) (v : ℕ) (last : List ℕ) (entries : List Entry) 
       passes_one parents v last (drop from entries) (drop (i + 1) entries) e
       (subst (λ (l : List Entry). PassesOver parents v last (drop from entries) l) (drop_more entries i e within ∙ ap (λ (x : Entry). x ∷ drop (i + 1) entries) (sym (is e))) passes) off
 
+-- a step of a walk leaves no more places
+pub near_ahead : (place at : Place) → IsNear place at → at.block < 2 ^ 32 → places_ahead at ≤ places_ahead place
+near_ahead place at (inl same) low =
+    let block : at.block ≡ place.block = ap (λ (p : Place). p.block) same in
+    let index : at.index ≡ place.index = ap (λ (p : Place). p.index) same in
+    omega (arith, block, index)
+near_ahead place at (inr next) low = omega (arith, next.0, next.1)
+
 pub due_path : (parents : Parents) (v : ℕ) (last : List ℕ) (e : Entry) → is_due parents v last e ≡ true → is_ancestor parents e.version v ≡ true
 due_path parents v last e due = go (is_after last e.key) due
   where
@@ -62,12 +74,12 @@ due_path parents v last e due = go (is_after last e.key) due
     go false h = absurd (true≢false (sym h))
 
 get_is : (entries : List Entry) (i : ℕ) (d : Entry) → slice_get entries i ≡ Some d → (e : Entry) → ((x : Entry) → e ≡ get_or entries i x) → d ≡ e
-get_is entries i d at e is = go entries i at (is d)
+get_is entries i d at e is = got entries i at ∙ sym (is d)
   where
-    go : (xs : List Entry) (n : ℕ) → slice_get xs n ≡ Some d → e ≡ get_or xs n d → d ≡ e
-    go [] n a b = absurd (cc)
-    go (x ∷ xs) 0 a b = cc
-    go (x ∷ xs) (suc n) a b = go xs n a b
+    got : (xs : List Entry) (n : ℕ) → slice_get xs n ≡ Some d → d ≡ get_or xs n d
+    got [] n a = absurd (cc)
+    got (x ∷ xs) zero a = cc
+    got (x ∷ xs) (suc n) a = got xs n a
 
 pub item_path : (parents : Parents) (v : ℕ) (last : List ℕ) (entries : List Entry) (i : ℕ) (e : Entry) → ((x : Entry) → e ≡ get_or entries i x) → is_due parents v last e ≡ true → IfSome (slice_get entries i) (λ d. IsTrue (is_ancestor parents d.version v))
 item_path parents v last entries i e is due = go (slice_get entries i) refl
@@ -78,7 +90,7 @@ item_path parents v last entries i e is due = go (slice_get entries i) refl
 
 pub item_past : (parents : Parents) (v : ℕ) (entries : List Entry) (i : ℕ) → length entries ≤ i → IfSome (slice_get entries i) (λ d. IsTrue (is_ancestor parents d.version v))
 item_past parents v [] i past = tt
-item_past parents v (x ∷ xs) 0 past = absurd (omega arith)
+item_past parents v (x ∷ xs) zero past = absurd (omega arith)
 item_past parents v (x ∷ xs) (suc i) past = item_past parents v xs i (omega arith)
 
 -- a walk over an array so far
@@ -119,3 +131,6 @@ pub held_path : (parents : Parents) (v : ℕ) (last : List ℕ) (u : Option Kept
     → IfSome (entry_held u i) (λ d. IsTrue (is_ancestor parents d.version v))
 held_path parents v last None i entry is due = tt
 held_path parents v last (Some kept) i entry is due = item_path parents v last kept.1 i entry is due
+
+pub held_length : (pool : List PoolEntry) (list : ItemList) → length (entries_held pool list) ≡ length list.items
+held_length pool list = length-map list.items (entry_of_item (arena_at pool list.arena).pairs)

@@ -1,9 +1,10 @@
 -- The places that a range is read from, each with the entries that it has left.
-use Rattle.std.specs.Prelude.{◌≡◌, ◌≤◌, ◌<◌, ℕ, ◌+◌, ◌-◌, ◌*◌, ◌^◌, ⊤, Bool, true, false, if◌then◌else◌, List, [], ◌∷◌, length, drop, find, slice_get, Option, None, Some, option_and_then, unwrap_or, IfSome, IsTrue}
+use Rattle.std.specs.Prelude.{◌≡◌, ◌≤◌, ◌<◌, ℕ, ◌+◌, ◌-◌, ◌*◌, ◌^◌, ⊤, ⊥, Bool, true, false, if◌then◌else◌, List, [], ◌∷◌, length, drop, find, slice_get, Option, None, Some, option_and_then, unwrap_or, IfSome, IsTrue}
 use Rattle.std.specs.List.{list_all}
 use Rattle.strat_arena.specs.declared.pool.PoolEntry.{PoolEntry}
 use Rattle.strat_array.specs.Blocks.{lists_on}
 use Rattle.strat_array.specs.Kept.{Blocks, Kept, ArrayStands}
+use Rattle.strat_array.specs.Left.{is_from}
 use Rattle.strat_array.specs.Steps.{blocks_ahead, left_from, HoldsPlace}
 use Rattle.strat_array.specs.Walk.{is_seen_at}
 use Rattle.strat_array.specs.Within.{AreWithin}
@@ -14,7 +15,8 @@ use Rattle.strat_base.specs.declared.descriptors.ArrayDesc.{ArrayDesc}
 use Rattle.strat_crash.specs.Image.{Image}
 use Rattle.strat_format.specs.Arrays.{blocks_of}
 use Rattle.strat_level.specs.Memtable.{entries_held, ListStands}
-use Rattle.strat_cursor.specs.Ahead.{is_after}
+use Rattle.strat_cursor.specs.Ahead.{is_after, is_to_come}
+use Rattle.strat_cursor.specs.Looking.{MayBeAsked}
 use Rattle.strat_cursor.specs.Ranges.{content_on}
 use Rattle.strat_cursor.specs.declared.desks.Desk.{Desk}
 use Rattle.strat_cursor.specs.declared.sources.Source.{Source}
@@ -100,9 +102,48 @@ pub record IsSettledAt (parents : Parents) (v : ℕ) (pool : List PoolEntry) (s 
   pub on_path : IfSome (head_of pool s desk) (λ e. IsTrue (is_ancestor parents e.version v))
 
 -- in an image the blocks of a source's array are kept as they stand there
-abbrev pub StandsIn : Option Image → Blocks → Source → Option Kept → Type 0
-StandsIn content c source.None s = ⊤
-StandsIn content c (source.Zero list) s = ⊤
-StandsIn content c (source.Array a) s =
-    (f : Image) × (content ≡ Some f)
-    × ArrayStands content a.now.id (blocks_of a.now.extents) c s (lists_of f a.now)
+abbrev pub StandsIn : Image → Blocks → Source → Option Kept → Type 0
+StandsIn f c source.None s = ⊤
+StandsIn f c (source.Zero list) s = ⊤
+StandsIn f c (source.Array a) s =
+    ArrayStands (Some f) a.now.id (blocks_of a.now.extents) c s (lists_of f a.now)
+
+-- in an image a source's array has entries, in order, and its blocks in a cache are as they stand there
+abbrev pub MayBeBegun : Image → Blocks → Source → Type 0
+MayBeBegun f c source.None = ⊤
+MayBeBegun f c (source.Zero list) = ⊤
+MayBeBegun f c (source.Array a) = MayBeAsked f c a.now
+
+-- what a source has left says of each key to come what all its entries say, in order and from lo on
+pub record IsUpTo (f : Image) (pool : List PoolEntry) (parents : Parents) (v : ℕ)
+    (lo last : List ℕ) (s : Source) (desk : Desk) : Type 0 where
+  pub same : (key : List ℕ) → IsTrue (is_to_come lo last key)
+      → find (is_seen_at parents key v) (left_of f pool s desk)
+      ≡ find (is_seen_at parents key v) (content_of f pool s)
+  pub ordered : IsTrue (is_ascending (left_of f pool s desk))
+  pub from : IsTrue (list_all (is_from lo) (left_of f pool s desk))
+
+-- the first entry that a source has left is of no key to come
+abbrev pub IsSpent : List ℕ → Option Entry → Type 0
+IsSpent last None = ⊥
+IsSpent last (Some e) = is_after last e.key ≡ false
+
+-- how many steps a source may have to go
+abbrev pub steps_left : List PoolEntry → Source → Desk → ℕ
+steps_left pool source.None desk = 0
+steps_left pool (source.Zero list) desk = length (entries_held pool list.now) - desk.item
+steps_left pool (source.Array a) desk = if desk.there then 1 + places_ahead desk.place else 0
+
+-- how many blocks a source has still to read at most
+abbrev pub reads_left : Source → Desk → ℕ
+reads_left source.None desk = 0
+reads_left (source.Zero list) desk = 0
+reads_left (source.Array a) desk =
+    if desk.there then blocks_ahead desk.scratch a.now.id (length (blocks_of a.now.extents)) desk.place
+    else 0
+
+-- how many blocks a source reads at most until it has none left, where an array has fewer than 2^n
+abbrev pub reads_of : ℕ → Source → ℕ
+reads_of n source.None = 0
+reads_of n (source.Zero list) = 0
+reads_of n (source.Array a) = n + 1 + length (blocks_of a.now.extents)

@@ -108,7 +108,7 @@ fn stand_item(pool: &ArenaPool, list: &ZeroView, tree: &Tree, v: Version, last: 
     let mut item = item;
     while item < list.items().len() {
         if is_due(&list.entry(pool, item), tree, v, last) {
-            break;
+            return item;
         }
         item += 1;
     }
