@@ -1,2 +1,4 @@
 pub mod RangeLemmas
 pub mod StandLemmas
+pub mod ThroughLemmas
+pub mod SourceLemmas

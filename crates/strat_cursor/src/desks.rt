@@ -1,6 +1,6 @@
 //! Room for what a range is read with.
 
-ghost use Rattle.std.specs.Prelude.{◌≡◌, IfOk};
+ghost use Rattle.std.specs.Prelude.{◌≡◌, IfOk, is_some, unwrap_or};
 
 use std::alloc::Global;
 use strat_array::{Place, Scratch};
@@ -14,6 +14,22 @@ pub struct Desk {
     pub(crate) item: usize,
     pub(crate) place: Place,
     pub(crate) there: bool,
+}
+
+impl Desk {
+    /// Stands at a place of an array, or at none.
+    pub(crate) fn stand(&mut self, at: Option<Place>)
+        ensures ok { self.new ≡ record { scratch = self.old.scratch; item = self.old.item;
+            place = unwrap_or at self.old.place; there = is_some at } }
+    {
+        match at {
+            Some(place) => {
+                self.place = place;
+                self.there = true;
+            }
+            None => self.there = false,
+        }
+    }
 }
 
 /// A block at hand for each array that a range is read from.
