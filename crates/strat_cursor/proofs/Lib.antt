@@ -2,3 +2,4 @@ pub mod RangeLemmas
 pub mod StandLemmas
 pub mod ThroughLemmas
 pub mod SourceLemmas
+pub mod ContestLemmas

@@ -1,4 +1,5 @@
 pub mod Ahead
+pub mod Contest
 pub mod Looking
 pub mod Ranges
 pub mod Sources

@@ -1,6 +1,7 @@
 //! Ranges of a version's pairs, through level 0 and the levels of a store.
 #![tactic(auto)]
 
+mod contest;
 mod desks;
 mod sources;
 mod scanning;
