@@ -1,5 +1,5 @@
 -- What a tournament sees of sources, by their numbers.
-use Rattle.std.proofs.Common.{◌≡◌, ◌≢◌, ◌<◌, ◌≤◌, ◌+◌, ℕ, Bool, true, false, zero, suc, get_or, set, List, [], ◌∷◌, length, Option, Some, None, refl, sym, ap, ◌∙◌, arith}
+use Rattle.std.proofs.Common.{◌≡◌, ◌≢◌, ◌<◌, ◌≤◌, ◌+◌, ◌*◌, ◌/◌, ℕ, Bool, true, false, zero, suc, get_or, set, List, [], ◌∷◌, length, Option, Some, None, is_some, refl, sym, ap, ◌∙◌, subst, arith}
 use Rattle.std.specs.List.{slice_get}
 use Rattle.std.specs.Option.{option_map, option_and_then}
 use Rattle.std.specs.Ordering.{is_lt, nat_cmp, ordering_then}
@@ -9,8 +9,10 @@ use Rattle.strat_arena.specs.declared.pool.PoolEntry.{PoolEntry}
 use Rattle.strat_base.specs.Entries.{Entry}
 use Rattle.strat_base.specs.Order.{key_cmp, entry_cmp}
 use Rattle.strat_merge.specs.Runs.{RunView, head_at}
-use Rattle.strat_merge.specs.Bracket.{is_ahead}
-use Rattle.strat_cursor.specs.Contest.{keyed, contender, contenders, head_in}
+use Rattle.strat_merge.specs.Bracket.{is_ahead, IsBracket, IsTournament, PlayedBeside}
+use Rattle.strat_merge.proofs.BracketLemmas.{root_first, root_last, beside_leaf}
+use Rattle.std.proofs.lemmas.List.{length-set}
+use Rattle.strat_cursor.specs.Contest.{keyed, contender, contenders, head_in, Leads, NoneAhead}
 use Rattle.strat_cursor.specs.Sources.{head_of}
 use Rattle.strat_cursor.specs.declared.desks.Desk.{Desk}
 use Rattle.strat_cursor.specs.declared.sources.Source.{Source}
@@ -56,3 +58,38 @@ keyed_ahead e f a b = go (key_cmp e.key f.key)
     go Less = refl
     go Equal = refl
     go Greater = refl
+
+keyed_none : (o : Option Entry) → option_map keyed o ≡ None → o ≡ None
+keyed_none None is = refl
+keyed_none (Some e) is = absurd (cc)
+
+keyed_some : (o : Option Entry) → is_some o ≡ false → is_some (option_map keyed o) ≡ false
+keyed_some None is = refl
+keyed_some (Some e) is = is
+
+module _ (pool : List PoolEntry) (sources : List Source) (desks : List Desk) (winners : List ℕ) (same : length desks ≡ length sources) (won : IsTournament (contenders pool sources desks) winners) where
+  pub won_bracket : IsBracket (length sources) winners
+  won_bracket = subst (λ n. IsBracket n winners) (count_contenders pool sources desks same) won.bracket
+
+  pub root_low : 0 < length sources → get_or winners 1 0 < length sources
+  root_low some = let nodes : length winners ≡ 2 * length sources = won_bracket.nodes in won_bracket.low 1 (omega arith)
+
+  pub root_leads : Leads pool sources desks (get_or winners 1 0)
+  root_leads = λ i.
+      (λ j. is_ahead (sym (contender_at pool sources desks i) j) i (sym (contender_at pool sources desks (get_or winners 1 0)) j) (get_or winners 1 0))
+      ∙ root_first (contenders pool sources desks) winners won (get_or winners 1 0) refl i
+
+  pub root_none : is_some (head_in pool sources desks (get_or winners 1 0)) ≡ false → NoneAhead pool sources desks
+  root_none none = λ i.
+      keyed_none (head_in pool sources desks i)
+      (sym (contender_at pool sources desks i)
+          ∙ root_last (contenders pool sources desks) winners won (get_or winners 1 0) refl (ap is_some (contender_at pool sources desks (get_or winners 1 0)) ∙ keyed_some (head_in pool sources desks (get_or winners 1 0)) none) i)
+
+  -- after one source went on, all nodes are played but those above its leaf
+  pub beside_source : (w : ℕ) (d : Desk) → PlayedBeside (contenders pool sources (set desks w d)) winners ((length sources + w) / 2)
+  beside_source w d =
+      let count = count_contenders pool sources desks same in
+      let others = count_contenders pool sources (set desks w d) (length-set desks w d ∙ same) in
+      subst (λ n. PlayedBeside (contenders pool sources (set desks w d)) winners ((n + w) / 2)) count
+      (beside_leaf (contenders pool sources desks) winners won (contenders pool sources (set desks w d)) w (others ∙ sym count) (λ i apart.
+      contender_at pool sources (set desks w d) i ∙ ap (option_map keyed) (contender_other pool sources desks w i d apart) ∙ sym (contender_at pool sources desks i)))

@@ -1,7 +1,7 @@
 //! A tournament of the sources of a range, in which the one whose first key is least wins, and of equal keys the first
 //! source. After a source went on only the nodes above its leaf are played again.
 
-ghost use Rattle.std.specs.Prelude.{◌≡◌, ◌≤◌, ◌<◌, ℕ, ◌+◌, ◌*◌, ◌/◌, length, slice_index, slice_set, option_map, IfOk, IfSome, IfNone, Some, None, IsSome, IsTrue, false};
+ghost use Rattle.std.specs.Prelude.{◌≡◌, ◌≤◌, ◌<◌, ℕ, ◌+◌, ◌*◌, ◌/◌, length, slice_index, slice_set, option_map, IfOk, IfSome, IfNone, Some, None, IsSome, is_some, IsTrue, false};
 ghost use Rattle.strat_base.specs.EntryBytes.{fits_fields};
 ghost use Rattle.strat_base.specs.EntryView.{entry_of};
 ghost use Rattle.strat_merge.specs.Bracket.{is_ahead, winner_of, IsBracket, IsTournament, PlayedBeside};
@@ -115,6 +115,15 @@ pub(crate) fn replay(
     }
 }
 
+/// Whether a source has an entry left.
+fn has_head(sources: &[Source<'_>], pool: &ArenaPool, desks: &[Desk], i: usize) -> bool
+    requires kept { AreAtHand pool.now sources.now desks.now }
+    requires fits { i < length sources.now }
+    ensures ok { result ≡ is_some (head_in pool.now sources.now desks.now i) }
+{
+    head_in(sources, pool, desks, i).is_some()
+}
+
 /// The source whose first key is least, the first of these where several have it, or `None` where none has an entry
 /// left. O(1).
 pub(crate) fn leader(
@@ -125,16 +134,14 @@ pub(crate) fn leader(
 ) -> Option<usize>
     requires kept { AreAtHand pool.now sources.now desks.now }
     requires found { IsTournament (contenders pool.now sources.now desks.now) winners.now }
+    requires fits { 0 < length sources.now }
     ensures found { IfSome result (λ w. (w < length sources.now)
         × IsSome (head_in pool.now sources.now desks.now w)) }
     ensures ok { IfSome result (λ w. Leads pool.now sources.now desks.now w) }
     ensures none { IfNone result (NoneAhead pool.now sources.now desks.now) }
 {
-    if sources.is_empty() {
-        return None;
-    }
     let winner = winners[1];
-    if head_in(sources, pool, desks, winner).is_some() {
+    if has_head(sources, pool, desks, winner) {
         Some(winner)
     } else {
         None
