@@ -3,3 +3,4 @@ pub mod StandLemmas
 pub mod ThroughLemmas
 pub mod SourceLemmas
 pub mod ContestLemmas
+pub mod PickLemmas

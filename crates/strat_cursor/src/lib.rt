@@ -4,6 +4,7 @@
 mod contest;
 mod desks;
 mod sources;
+mod picking;
 mod scanning;
 mod view;
 
