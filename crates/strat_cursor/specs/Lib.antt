@@ -4,4 +4,5 @@ pub mod Looking
 pub mod Picking
 pub mod Ranges
 pub mod Sources
+pub mod Turning
 pub mod Views

@@ -6,6 +6,7 @@ mod desks;
 mod sources;
 mod picking;
 mod scanning;
+mod turn;
 mod view;
 
 pub use desks::Desks;
