@@ -4,3 +4,5 @@ pub mod ThroughLemmas
 pub mod SourceLemmas
 pub mod ContestLemmas
 pub mod PickLemmas
+pub mod TurnLemmas
+pub mod SeenLemmas

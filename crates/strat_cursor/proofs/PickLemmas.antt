@@ -181,7 +181,7 @@ get_mapped h [] i x d at = absurd (cc)
 get_mapped h (y ∷ ys) zero x d at = let same : y ≡ x = cc in ap h same
 get_mapped h (y ∷ ys) (suc i) x d at = get_mapped h ys i x d at
 
-get_within : {X : Type 0} (xs : List X) (i : ℕ) → i < length xs → (x : X) × (slice_get xs i ≡ Some x)
+pub get_within : {X : Type 0} (xs : List X) (i : ℕ) → i < length xs → (x : X) × (slice_get xs i ≡ Some x)
 get_within [] i low = absurd (omega (arith, low))
 get_within (x ∷ xs) zero low = (x, refl)
 get_within (x ∷ xs) (suc i) low = get_within xs i (omega (arith, low))

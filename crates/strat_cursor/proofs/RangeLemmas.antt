@@ -13,7 +13,9 @@ use Rattle.strat_base.proofs.ListFacts.{Among}
 use Rattle.strat_model.specs.Pairs.{Pair, Pairs, value_of, is_between, range}
 use Rattle.strat_model.specs.Kept.{IsMap}
 use Rattle.strat_model.proofs.MapLemmas.{same_key}
-use Rattle.strat_cursor.specs.Ahead.{is_after, range_after}
+use Rattle.strat_merge.proofs.OrderLemmas.{lt_then_le, lt_is_gt, lt_le}
+use Rattle.strat_cursor.specs.Ahead.{is_after, is_to_come, range_after}
+use Rattle.strat_cursor.specs.Turning.{is_under}
 
 -- filters that agree on a list pick the same
 pub filter_same : {X : Type 0} (p q : X → Bool) (xs : List X) → ((x : X) → Among x xs → p x ≡ q x) → filter p xs ≡ filter q xs
@@ -128,3 +130,83 @@ module _ (R : List ℕ → Bool) (k : List ℕ) where
 
   pub told_here : (m : Pairs) (x : List ℕ) → IsMap m → R k ≡ true → ((key : List ℕ) → R key ≡ true → is_lt (key_cmp key k) ≡ true → value_of m key ≡ None) → value_of m k ≡ Some x → filter picks m ≡ (k, x) ∷ filter picks_over m
   told_here m x sorted on before here = first_here m x sorted on (λ p among is below. has_value m p among (before p.0 is below)) here
+
+-- in terms of what was handled last
+module _ (lo hi last : List ℕ) where
+  abbrev in_range : List ℕ → Bool
+  in_range key = is_between lo hi key && is_after last key
+
+  between_parts : (key : List ℕ) → is_between lo hi key ≡ true → (not (is_lt (key_cmp key lo)) ≡ true) × (is_under hi key ≡ true)
+  between_parts key between = go hi between
+    where
+      go : (h : List ℕ) → is_between lo h key ≡ true → (not (is_lt (key_cmp key lo)) ≡ true) × (is_under h key ≡ true)
+      go [] is = (is, refl)
+      go (b ∷ h) is = and_parts (not (is_lt (key_cmp key lo))) (is_lt (key_cmp key (b ∷ h))) is
+
+  between_from : (key : List ℕ) → not (is_lt (key_cmp key lo)) ≡ true → is_under hi key ≡ true → is_between lo hi key ≡ true
+  between_from key from under = go hi under
+    where
+      go : (h : List ℕ) → is_under h key ≡ true → is_between lo h key ≡ true
+      go [] is = from
+      go (b ∷ h) is = and_from (not (is_lt (key_cmp key lo))) (is_lt (key_cmp key (b ∷ h))) from is
+
+  pub range_come : (key : List ℕ) → in_range key ≡ true → is_to_come lo last key ≡ true
+  range_come key in' =
+      let parts = and_parts (is_between lo hi key) (is_after last key) in' in
+      and_from (not (is_lt (key_cmp key lo))) (is_after last key) (between_parts key parts.0).0 parts.1
+
+  range_under : (key : List ℕ) → in_range key ≡ true → is_under hi key ≡ true
+  range_under key in' = (between_parts key (and_parts (is_between lo hi key) (is_after last key) in').0).1
+
+  -- where no key is to come, no pair is
+  pub range_done : (m : Pairs) → ((key : List ℕ) → in_range key ≡ true → value_of m key ≡ None) → range_after m lo hi last ≡ []
+  range_done m none = filter_none (λ (p : Pair). in_range p.0) m (λ p among. elim (cases_Bool (in_range p.0)) [
+    | inl is ↦ absurd (has_value m p among (none p.0 is))
+    | inr off ↦ off
+  ])
+
+  -- a key that is not below hi is above all in the range
+  pub past_hi : (k key : List ℕ) → is_under hi k ≡ false → in_range key ≡ true → is_lt (key_cmp key k) ≡ true
+  past_hi k key past in' = go hi past (range_under key in')
+    where
+      go : (h : List ℕ) → is_under h k ≡ false → is_under h key ≡ true → is_lt (key_cmp key k) ≡ true
+      go [] off under = absurd (true≢false off)
+      go (b ∷ h) off under = lt_then_le nat_list_cmp_total key (b ∷ h) k under (sym (lt_is_gt nat_list_cmp_total k (b ∷ h)) ∙ off)
+
+  module _ (k : List ℕ) (some : 0 < length k) (after : is_after last k ≡ true) where
+    over_is : (key : List ℕ) → is_after k key ≡ over k key
+    over_is key = go k some
+      where
+        go : (x : List ℕ) → 0 < length x → is_after x key ≡ is_lt (key_cmp x key)
+        go [] low = absurd (omega (arith, low))
+        go (b ∷ x) low = refl
+
+    pub later_after : (key : List ℕ) → is_after k key ≡ true → is_after last key ≡ true
+    later_after key is = go last after (sym (over_is key) ∙ is)
+      where
+        go : (l : List ℕ) → is_after l k ≡ true → is_lt (key_cmp k key) ≡ true → is_after l key ≡ true
+        go [] a b = refl
+        go (x ∷ l) a b = lt_then_le nat_list_cmp_total (x ∷ l) k key a (lt_le nat_list_cmp_total k key b)
+
+    narrow : (m : Pairs) → filter (λ (p : Pair). in_range p.0 && over k p.0) m ≡ range_after m lo hi k
+    narrow m = filter_same (λ (p : Pair). in_range p.0 && over k p.0) (λ (p : Pair). is_between lo hi p.0 && is_after k p.0) m (λ p among. same p.0)
+      where
+        same : (key : List ℕ) → ((is_between lo hi key && is_after last key) && over k key) ≡ (is_between lo hi key && is_after k key)
+        same key = go (is_between lo hi key) (is_after last key) (is_after k key) (over k key) (over_is key) (later_after key)
+
+        go : (a b c d : Bool) → c ≡ d → (c ≡ true → b ≡ true) → ((a && b) && d) ≡ (a && c)
+        go false b c d is later = refl
+        go true true c d is later = sym is
+        go true false true d is later = absurd (true≢false (sym (later refl)))
+        go true false false d is later = refl
+
+    module _ (m : Pairs) (before : (key : List ℕ) → in_range key ≡ true → is_lt (key_cmp key k) ≡ true → value_of m key ≡ None) where
+      -- a key without a value is passed over
+      pub range_passed : value_of m k ≡ None → range_after m lo hi last ≡ range_after m lo hi k
+      range_passed none = none_here in_range k m before (λ on. none) ∙ narrow m
+
+      -- a key with one is the first
+      pub range_told : (x : List ℕ) → IsMap m → not (is_lt (key_cmp k lo)) ≡ true → is_under hi k ≡ true → value_of m k ≡ Some x → range_after m lo hi last ≡ (k, x) ∷ range_after m lo hi k
+      range_told x sorted from under here =
+          told_here in_range k m x sorted (and_from (is_between lo hi k) (is_after last k) (between_from k from under) after) before here
+          ∙ ap (λ (ps : Pairs). (k, x) ∷ ps) (narrow m)

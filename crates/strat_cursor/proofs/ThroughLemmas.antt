@@ -117,3 +117,7 @@ names_more content some arrays b more is = record { array = is.array; one = more
 
 pub only_one : (a : ArrayDesc) → Contains (a ∷ []) a
 only_one a = (0, omega arith, refl)
+
+-- arrays of one number are one
+pub same_array : (arrays : List ArrayDesc) (a b : ArrayDesc) → HaveOwnIds arrays → Contains arrays a → Contains arrays b → a.id ≡ b.id → a ≡ b
+same_array arrays a b own one other same = id_names arrays a b own (contained_among arrays a one) (contained_among arrays b other) same
