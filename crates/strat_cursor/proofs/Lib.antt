@@ -6,3 +6,4 @@ pub mod ContestLemmas
 pub mod PickLemmas
 pub mod TurnLemmas
 pub mod SeenLemmas
+pub mod TellLemmas

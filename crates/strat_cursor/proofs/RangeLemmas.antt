@@ -131,6 +131,12 @@ module _ (R : List ℕ → Bool) (k : List ℕ) where
   pub told_here : (m : Pairs) (x : List ℕ) → IsMap m → R k ≡ true → ((key : List ℕ) → R key ≡ true → is_lt (key_cmp key k) ≡ true → value_of m key ≡ None) → value_of m k ≡ Some x → filter picks m ≡ (k, x) ∷ filter picks_over m
   told_here m x sorted on before here = first_here m x sorted on (λ p among is below. has_value m p among (before p.0 is below)) here
 
+narrow_test : (a b c d : Bool) → c ≡ d → (c ≡ true → b ≡ true) → ((a && b) && d) ≡ (a && c)
+narrow_test false b c d is later = refl
+narrow_test true true c d is later = sym is
+narrow_test true false true d is later = absurd (true≢false (sym (later refl)))
+narrow_test true false false d is later = refl
+
 -- in terms of what was handled last
 module _ (lo hi last : List ℕ) where
   abbrev in_range : List ℕ → Bool
@@ -189,16 +195,8 @@ module _ (lo hi last : List ℕ) where
         go (x ∷ l) a b = lt_then_le nat_list_cmp_total (x ∷ l) k key a (lt_le nat_list_cmp_total k key b)
 
     narrow : (m : Pairs) → filter (λ (p : Pair). in_range p.0 && over k p.0) m ≡ range_after m lo hi k
-    narrow m = filter_same (λ (p : Pair). in_range p.0 && over k p.0) (λ (p : Pair). is_between lo hi p.0 && is_after k p.0) m (λ p among. same p.0)
-      where
-        same : (key : List ℕ) → ((is_between lo hi key && is_after last key) && over k key) ≡ (is_between lo hi key && is_after k key)
-        same key = go (is_between lo hi key) (is_after last key) (is_after k key) (over k key) (over_is key) (later_after key)
-
-        go : (a b c d : Bool) → c ≡ d → (c ≡ true → b ≡ true) → ((a && b) && d) ≡ (a && c)
-        go false b c d is later = refl
-        go true true c d is later = sym is
-        go true false true d is later = absurd (true≢false (sym (later refl)))
-        go true false false d is later = refl
+    narrow m = filter_same (λ (p : Pair). in_range p.0 && over k p.0) (λ (p : Pair). is_between lo hi p.0 && is_after k p.0) m (λ p among.
+        narrow_test (is_between lo hi p.0) (is_after last p.0) (is_after k p.0) (over k p.0) (over_is p.0) (later_after p.0))
 
     module _ (m : Pairs) (before : (key : List ℕ) → in_range key ≡ true → is_lt (key_cmp key k) ≡ true → value_of m key ≡ None) where
       -- a key without a value is passed over

@@ -1,5 +1,5 @@
 -- What look-ups find of the least key that sources stand at, and of the keys before it.
-use Rattle.std.proofs.Common.{◌≡◌, ◌≢◌, ◌<◌, ◌≤◌, ◌+◌, ◌&&◌, ℕ, zero, suc, Bool, true, false, cond, not, get_or, map, inl, inr, ◌⊎◌, List, [], ◌∷◌, ◌++◌, length, Option, Some, None, IsSome, IfSome, IsTrue, refl, sym, ap, ◌∙◌, subst, arith, true≢false}
+use Rattle.std.proofs.Common.{◌≡◌, ◌≢◌, ◌<◌, ◌≤◌, ◌+◌, ◌&&◌, ℕ, zero, suc, Bool, true, false, cond, not, drop, get_or, map, inl, inr, ◌⊎◌, List, [], ◌∷◌, ◌++◌, length, Option, Some, None, IsSome, IfSome, IsTrue, refl, sym, ap, ◌∙◌, subst, arith, true≢false}
 use Rattle.std.specs.List.{list_all, find, slice_get, filter}
 use Rattle.std.specs.Option.{option_and_then, option_map, option_or}
 use Rattle.std.specs.Ordering.{is_lt, is_gt, nat_cmp, ordering_then}
