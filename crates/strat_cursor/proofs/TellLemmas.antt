@@ -183,3 +183,20 @@ module _ (old now : DiskView) (view : View) (tree : IsTree view.tree.now.parents
             ],
           );
     }
+
+pub entry_some : (o : Option Entry) → IsSome o → (e : Entry) × (o ≡ Some e)
+entry_some None some = absurd (true≢false (sym some))
+entry_some (Some e) some = (e, refl)
+
+-- a scan that ended
+pub ended : (old now : DiskView) (view : View) (tree : IsTree view.tree.now.parents) (v : ℕ) (hi : List ℕ) (sources : List Source) (c d : Blocks) (first last : List ℕ) (from desks : List Desk) (before out : Pairs) (are : AreSourcesOf view v sources)
+    (telling : Telling old now view v hi sources c d first last from desks before out) (settled : AreSettled view.tree.now.parents v view.pool.now sources desks)
+    (w : ℕ) (low : w < length sources) (e : Entry) (fits : fits_fields e ≡ true) (leads : Leads view.pool.now sources desks w) (here : head_in view.pool.now sources desks w ≡ Some e) (limit : ℕ) (next : List ℕ) (told : Pairs) (more : Bool)
+    → length out ≤ limit → HandlesKey e hi limit last next out told (Some more) → (f : Image) (lo : List ℕ) (m : Pairs) → old.content ≡ Some f → HaveOwnIds (arrays_in_view view.levels)
+    → AreUpTo f c view.pool.now view.tree.now.parents v lo first sources from → IsMapSeen f view.tree.now.parents (zeros_in view) (arrays_picked view.tree.now.parents view.levels v) v m → IsPageOf (before ++ range_after m lo hi first) limit told more
+ended old now view tree v hi sources c d first last from desks before out are telling settled w low e fits leads here limit next told true few handles f lo m exposed own up seen =
+    subst (λ (ps : Pairs). IsPageOf (before ++ range_after m lo hi first) limit ps true) (sym handles.4)
+    (more_left old now view tree v hi sources c d first last from desks before out are telling settled w low e fits leads here limit handles.0 handles.1 handles.2 few handles.3 f lo m exposed own up seen)
+ended old now view tree v hi sources c d first last from desks before out are telling settled w low e fits leads here limit next told false few handles f lo m exposed own up seen =
+    subst (λ (ps : Pairs). IsPageOf (before ++ range_after m lo hi first) limit ps false) (sym handles.2)
+    (past_left old now view tree v hi sources c d first last from desks before out are telling settled w low e fits leads here limit handles.1 few f lo m exposed own up seen)
