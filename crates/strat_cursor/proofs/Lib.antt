@@ -7,3 +7,4 @@ pub mod PickLemmas
 pub mod TurnLemmas
 pub mod SeenLemmas
 pub mod TellLemmas
+pub mod BeginLemmas

@@ -1,5 +1,5 @@
 -- The places that a range is read from, each with the entries that it has left.
-use Rattle.std.specs.Prelude.{◌≡◌, ◌≤◌, ◌<◌, ℕ, ◌+◌, ◌-◌, ◌*◌, ◌^◌, ⊤, Bool, true, false, if◌then◌else◌, List, [], ◌∷◌, length, drop, find, slice_get, Option, None, Some, option_and_then, unwrap_or, IfSome, IsTrue}
+use Rattle.std.specs.Prelude.{◌≡◌, ◌≤◌, ◌<◌, ℕ, ◌+◌, ◌-◌, ◌*◌, ◌^◌, ⊤, Bool, true, false, if◌then◌else◌, List, [], ◌∷◌, length, drop, find, slice_get, Contains, Option, None, Some, option_and_then, unwrap_or, IfSome, IsTrue}
 use Rattle.std.specs.List.{list_all}
 use Rattle.strat_arena.specs.declared.pool.PoolEntry.{PoolEntry}
 use Rattle.strat_array.specs.Blocks.{lists_on}
@@ -147,3 +147,8 @@ abbrev pub reads_of : ℕ → Source → ℕ
 reads_of n source.None = 0
 reads_of n (source.Zero list) = 0
 reads_of n (source.Array a) = n + 1 + length (blocks_of a.now.extents)
+
+-- each of these arrays has fewer blocks than 2^n
+abbrev pub HaveFewBlocks : ℕ → List ArrayDesc → Type 0
+HaveFewBlocks n arrays =
+    (a : ArrayDesc) → Contains arrays a → length (blocks_of a.extents) < 2 ^ n

@@ -1,6 +1,6 @@
 //! The first pairs of a range.
 
-ghost use Rattle.std.specs.Prelude.{◌≡◌, ◌≤◌, ◌<◌, ◌++◌, ℕ, List, [], length, vec_capacity, IfOk, OnOk, OnErr, IsErrOf};
+ghost use Rattle.std.specs.Prelude.{◌≡◌, ◌≤◌, ◌<◌, ◌++◌, ℕ, ◌+◌, List, sum_by, [], length, vec_capacity, IfOk, OnOk, OnErr, IsErrOf};
 ghost use Rattle.strat_base.specs.declared.failures.Fault.TheVariants.{Damaged, Device};
 ghost use Rattle.strat_crash.specs.Faults.{HasCause, ReadsAtMost};
 ghost use Rattle.strat_crash.specs.Image.{Image};
@@ -10,7 +10,7 @@ ghost use Rattle.strat_model.specs.Pairs.{Pairs};
 ghost use Rattle.strat_cursor.specs.Ahead.{range_after};
 ghost use Rattle.strat_cursor.specs.Contest.{contenders};
 ghost use Rattle.strat_cursor.specs.Picking.{AreSourcesOf};
-ghost use Rattle.strat_cursor.specs.Sources.{reads_left};
+ghost use Rattle.strat_cursor.specs.Sources.{reads_left, reads_of, HaveFewBlocks};
 ghost use Rattle.strat_cursor.specs.Turning.{AreSettled, AreUpTo, sum_over};
 ghost use Rattle.strat_cursor.specs.Looking.{LooksThrough, NamesNoBlock, HaveOwnIds};
 ghost use Rattle.strat_cursor.specs.Ranges.{arrays_in_view, arrays_picked, IsMapSeen, IsPageOf};
@@ -18,12 +18,49 @@ ghost use Rattle.strat_cursor.specs.Views.{ViewStands, IsReadable, TellsPage, ze
 
 use crate::contest::leader;
 use crate::desks::{Desk, Desks};
-use crate::sources::Source;
+use crate::sources::{Source, begin};
 use crate::turn::{go_on, handle_head};
 use crate::view::View;
 use strat_array::Cache;
 use strat_base::{Fault, PairBuf, Version};
 use strat_disk::Disk;
+
+/// Lets each source stand at its first entry that is due from a key on. What `begin` costs, for each.
+fn begin_all<D: Disk>(
+    disk: &mut D,
+    cache: &mut Cache,
+    view: &View<'_>,
+    sources: &[Source<'_>],
+    v: Version,
+    lo: &[u8],
+    desks: &mut [Desk],
+) -> Result<(), Fault>
+    requires fits { v < length view.now.tree.now.parents }
+    requires same { AreSourcesOf view.now v sources.now }
+    requires room { length desks.old ≡ length sources.now }
+    ensures kept { OnOk result (AreSettled view.now.tree.now.parents v view.now.pool.now
+        sources.now desks.new) }
+    ensures len { length desks.new ≡ length desks.old }
+    ensures ok { OnOk result ((f : Image) (next : ℕ) → Exposes (D.view disk.old) f
+        → IsReadable f next view.now cache.old
+        → AreUpTo f cache.new view.now.pool.now view.now.tree.now.parents v lo.now []
+        sources.now desks.new) }
+    ensures same { LooksThrough (D.view disk.old) (D.view disk.new)
+        (arrays_in_view view.now.levels) cache.old cache.new }
+    ensures damaged { (b : ℕ) → IsErrOf result (Damaged b)
+        → NamesNoBlock (D.view disk.old).content (arrays_in_view view.now.levels) b }
+    ensures cause { HasCause Device (D.faults disk.old) (D.faults disk.new) result }
+    ensures reads { (n : ℕ) → HaveFewBlocks n (arrays_in_view view.now.levels)
+        → ReadsAtMost (sum_by (reads_of n) sources.now) (D.reads disk.old) (D.reads disk.new) }
+    ensures room { OnOk result ((n : ℕ) → HaveFewBlocks n (arrays_in_view view.now.levels)
+        → D.reads disk.new + sum_over reads_left sources.now desks.new
+        ≤ D.reads disk.old + sum_by (reads_of n) sources.now) }
+{
+    for i in 0..sources.len() {
+        begin(disk, cache, &sources[i], view.pool, view.tree, v, lo, &mut desks[i])?;
+    }
+    Ok(())
+}
 
 /// Tells the pairs that are to come, and answers whether there are others than those that may be told. Each turn
 /// handles one entry that is due at some source: O(log sources) comparisons of keys, and what `advance` costs.

@@ -12,14 +12,13 @@ ghost use Rattle.strat_cursor.specs.Looking.{LooksThrough, NamesNoBlock};
 ghost use Rattle.strat_array.specs.Kept.{Looks, ArrayStands};
 ghost use Rattle.strat_array.specs.Within.{AreWithin, IsNoBlock};
 ghost use Rattle.strat_base.specs.Entries.{Entry as TheEntry, is_ascending};
-ghost use Rattle.strat_base.specs.declared.descriptors.ArrayDesc.{ArrayDesc as TheArray};
 ghost use Rattle.strat_base.specs.EntryBytes.{fits_fields};
 ghost use Rattle.strat_base.specs.EntryView.{entry_of};
 ghost use Rattle.strat_base.specs.Tree.{is_ancestor};
 ghost use Rattle.strat_level.specs.Memtable.{ListStands, entries_held};
 ghost use Rattle.strat_array.specs.Steps.{blocks_ahead, left_from, HoldsPlace};
 ghost use Rattle.strat_cursor.specs.Ahead.{is_after};
-ghost use Rattle.strat_cursor.specs.Sources.{MayBeRead, HasHead, head_of, entry_held, is_due, arrays_at, left_of, steps_left, reads_left, reads_of, IsSettledAt, IsUpTo, IsSpent, MayBeBegun, StandsIn, left_behind, places_ahead, blocks_behind, PassesOver};
+ghost use Rattle.strat_cursor.specs.Sources.{MayBeRead, HasHead, head_of, entry_held, is_due, arrays_at, left_of, steps_left, reads_left, reads_of, HaveFewBlocks, IsSettledAt, IsUpTo, IsSpent, MayBeBegun, StandsIn, left_behind, places_ahead, blocks_behind, PassesOver};
 
 use crate::desks::Desk;
 use strat_arena::ArenaPool;
@@ -247,11 +246,9 @@ pub(crate) fn begin<D: Disk>(
     ensures damaged { (b : ℕ) → IsErrOf result (Damaged b)
         → NamesNoBlock (D.view disk.old).content (arrays_at source.now) b }
     ensures cause { HasCause Device (D.faults disk.old) (D.faults disk.new) result }
-    ensures reads { (n : ℕ) → ((a : TheArray) → Contains (arrays_at source.now) a
-        → length (blocks_of a.extents) < 2 ^ n)
+    ensures reads { (n : ℕ) → HaveFewBlocks n (arrays_at source.now)
         → ReadsAtMost (reads_of n source.now) (D.reads disk.old) (D.reads disk.new) }
-    ensures room { OnOk result ((n : ℕ) → ((a : TheArray) → Contains (arrays_at source.now) a
-        → length (blocks_of a.extents) < 2 ^ n)
+    ensures room { OnOk result ((n : ℕ) → HaveFewBlocks n (arrays_at source.now)
         → D.reads disk.new + reads_left source.now desk.new
         ≤ D.reads disk.old + reads_of n source.now) }
 {
