@@ -208,3 +208,11 @@ module _ (lo hi last : List ℕ) where
       range_told x sorted from under here =
           told_here in_range k m x sorted (and_from (is_between lo hi k) (is_after last k) (between_from k from under) after) before here
           ∙ ap (λ (ps : Pairs). (k, x) ∷ ps) (narrow m)
+
+and_true : (b : Bool) → (b && true) ≡ b
+and_true true = refl
+and_true false = refl
+
+-- before any key was handled the whole range is to come
+pub range_all : (m : Pairs) (lo hi : List ℕ) → range_after m lo hi [] ≡ range m lo hi
+range_all m lo hi = filter_same (λ (p : Pair). is_between lo hi p.0 && is_after [] p.0) (λ (p : Pair). is_between lo hi p.0) m (λ p among. and_true (is_between lo hi p.0))

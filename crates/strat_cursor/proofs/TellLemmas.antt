@@ -32,7 +32,7 @@ use Rattle.strat_cursor.specs.declared.desks.Desk.{Desk}
 use Rattle.strat_cursor.specs.declared.sources.Source.{Source}
 use Rattle.strat_cursor.specs.declared.view.View.{View}
 use Rattle.strat_cursor.proofs.PickLemmas.{get_within}
-use Rattle.strat_cursor.proofs.RangeLemmas.{range_come, range_done, past_hi, later_after, range_passed, range_told}
+use Rattle.strat_cursor.proofs.RangeLemmas.{range_all, range_come, range_done, past_hi, later_after, range_passed, range_told}
 use Rattle.strat_cursor.proofs.SeenLemmas.{none_seen, below_seen, lead_seen, lead_from}
 
 value_some : (o : Option (List ℕ)) → is_some o ≡ true → (x : List ℕ) × (o ≡ Some x)
@@ -200,3 +200,8 @@ ended old now view tree v hi sources c d first last from desks before out are te
 ended old now view tree v hi sources c d first last from desks before out are telling settled w low e fits leads here limit next told false few handles f lo m exposed own up seen =
     subst (λ (ps : Pairs). IsPageOf (before ++ range_after m lo hi first) limit ps false) (sym handles.2)
     (past_left old now view tree v hi sources c d first last from desks before out are telling settled w low e fits leads here limit handles.1 few f lo m exposed own up seen)
+
+-- a scan from the start
+pub page_range : (m : Pairs) (lo hi last : List ℕ) (before : Pairs) (limit : ℕ) (told : Pairs) (more : Bool) → last ≡ [] → before ≡ [] → IsPageOf (before ++ range_after m lo hi last) limit told more → IsPageOf (range m lo hi) limit told more
+page_range m lo hi last before limit told more none empty page =
+    subst (λ (ps : Pairs). IsPageOf ps limit told more) ((λ j. empty j ++ range_after m lo hi (none j)) ∙ range_all m lo hi) page

@@ -1,5 +1,6 @@
 pub mod Ahead
 pub mod Contest
+pub mod DeskFields
 pub mod Looking
 pub mod Picking
 pub mod Ranges

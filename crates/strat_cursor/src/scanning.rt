@@ -12,12 +12,14 @@ ghost use Rattle.strat_cursor.specs.Contest.{contenders};
 ghost use Rattle.strat_cursor.specs.Picking.{AreSourcesOf};
 ghost use Rattle.strat_cursor.specs.Sources.{reads_left, reads_of, HaveFewBlocks};
 ghost use Rattle.strat_cursor.specs.Turning.{AreSettled, AreUpTo, sum_over};
+ghost use Rattle.strat_cursor.specs.DeskFields.{HasRoom};
 ghost use Rattle.strat_cursor.specs.Looking.{LooksThrough, NamesNoBlock, HaveOwnIds};
 ghost use Rattle.strat_cursor.specs.Ranges.{arrays_in_view, arrays_picked, IsMapSeen, IsPageOf};
 ghost use Rattle.strat_cursor.specs.Views.{ViewStands, IsReadable, TellsPage, zeros_in};
 
-use crate::contest::leader;
+use crate::contest::{leader, play_all};
 use crate::desks::{Desk, Desks};
+use crate::picking::pick;
 use crate::sources::{Source, begin};
 use crate::turn::{go_on, handle_head};
 use crate::view::View;
@@ -113,6 +115,88 @@ fn tell_all<D: Disk>(
     Ok(false)
 }
 
+/// Scans the sources of a view: see `scan`, whose room is passed here in its parts.
+fn scan_sources<D: Disk>(
+    disk: &mut D,
+    cache: &mut Cache,
+    view: &View<'_>,
+    sources: &[Source<'_>],
+    v: Version,
+    lo: &[u8],
+    hi: &[u8],
+    limit: usize,
+    last: &mut Vec<u8>,
+    desks: &mut [Desk],
+    winners: &mut [usize],
+    out: &mut PairBuf,
+) -> Result<bool, Fault>
+    requires fits { v < length view.now.tree.now.parents }
+    requires same { AreSourcesOf view.now v sources.now }
+    requires kept { HasRoom desks.old winners.old (vec_capacity last.old) }
+    requires room { (limit ≤ 256) × (out.old ≡ []) }
+    ensures ok { IfOk result (λ more. (f : Image) (next : ℕ) → Exposes (D.view disk.old) f
+        → IsReadable f next view.now cache.old
+        → TellsPage f view.now v lo.now hi.now limit out.new more) }
+    ensures len { IfOk result (λ more. length out.new ≤ limit) }
+    ensures kept { HasRoom desks.new winners.new (vec_capacity last.new) }
+    ensures same { LooksThrough (D.view disk.old) (D.view disk.new)
+        (arrays_in_view view.now.levels) cache.old cache.new }
+    ensures damaged { (b : ℕ) → IsErrOf result (Damaged b)
+        → NamesNoBlock (D.view disk.old).content (arrays_in_view view.now.levels) b }
+    ensures cause { HasCause Device (D.faults disk.old) (D.faults disk.new) result }
+    ensures reads { (n : ℕ) → HaveFewBlocks n (arrays_in_view view.now.levels)
+        → ReadsAtMost (sum_by (reads_of n) sources.now) (D.reads disk.old) (D.reads disk.new) }
+{
+    last.clear();
+    begin_all(disk, cache, view, sources, v, lo, desks)?;
+    play_all(sources, view.pool, desks, winners);
+    tell_all(disk, cache, view, sources, v, hi, limit, last, desks, winners, out)
+}
+
+/// Scans the sources of a view with the room of a scan.
+fn scan_with<D: Disk>(
+    disk: &mut D,
+    cache: &mut Cache,
+    view: &View<'_>,
+    sources: &[Source<'_>],
+    v: Version,
+    lo: &[u8],
+    hi: &[u8],
+    limit: usize,
+    desks: &mut Desks,
+    out: &mut PairBuf,
+) -> Result<bool, Fault>
+    requires fits { v < length view.now.tree.now.parents }
+    requires same { AreSourcesOf view.now v sources.now }
+    requires room { (limit ≤ 256) × (out.old ≡ []) }
+    ensures ok { IfOk result (λ more. (f : Image) (next : ℕ) → Exposes (D.view disk.old) f
+        → IsReadable f next view.now cache.old
+        → TellsPage f view.now v lo.now hi.now limit out.new more) }
+    ensures len { IfOk result (λ more. length out.new ≤ limit) }
+    ensures same { LooksThrough (D.view disk.old) (D.view disk.new)
+        (arrays_in_view view.now.levels) cache.old cache.new }
+    ensures damaged { (b : ℕ) → IsErrOf result (Damaged b)
+        → NamesNoBlock (D.view disk.old).content (arrays_in_view view.now.levels) b }
+    ensures cause { HasCause Device (D.faults disk.old) (D.faults disk.new) result }
+    ensures reads { (n : ℕ) → HaveFewBlocks n (arrays_in_view view.now.levels)
+        → ReadsAtMost (sum_by (reads_of n) sources.now) (D.reads disk.old) (D.reads disk.new) }
+{
+    scan_sources(
+        disk,
+        cache,
+        view,
+        sources,
+        v,
+        lo,
+        hi,
+        limit,
+        &mut desks.last,
+        &mut desks.desks,
+        &mut desks.winners,
+        out,
+    )
+}
+
 /// The first pairs of a version from `lo` on and below `hi`, or without an upper bound where `hi` is empty: at most
 /// `limit` of them are put into `out`. Answers whether there are others in the range.
 pub fn scan<D: Disk>(
@@ -141,5 +225,10 @@ pub fn scan<D: Disk>(
         → NamesNoBlock (D.view disk.old).content (arrays_in_view view.now.levels) b }
     ensures cause { HasCause Device (D.faults disk.old) (D.faults disk.new) result }
 {
-    Ok(false)
+    let sources = pick(view, version);
+    let told = scan_with(disk, cache, view, &sources, version, lo, hi, limit as usize, desks, out);
+    if told.is_err() {
+        out.clear();
+    }
+    told
 }
