@@ -1,19 +1,18 @@
 -- Sources begin one after the other.
-use Rattle.std.proofs.Common.{true, ◌≡◌, ◌≢◌, ◌<◌, ◌≤◌, ◌+◌, ℕ, zero, suc, get_or, set, drop, inl, inr, ◌⊎◌, List, [], ◌∷◌, length, Contains, sum_by, Option, Some, None, IsTrue, refl, sym, ap, ◌∙◌, subst, arith}
+use Rattle.std.proofs.Common.{true, ◌≡◌, ◌<◌, ◌≤◌, ◌+◌, ℕ, zero, suc, get_or, set, drop, List, [], ◌∷◌, length, Contains, sum_by, Option, Some, refl, sym, ap, ◌∙◌, subst, arith}
 use Rattle.std.specs.List.{slice_get}
 use Rattle.std.specs.Option.{unwrap_or}
-use Rattle.std.proofs.lemmas.List.{length-set, drop_more}
+use Rattle.std.proofs.lemmas.List.{drop_more}
 use Rattle.std.proofs.lemmas.List.Sums.{sum_by-cons}
 use Rattle.strat_array.specs.Kept.{Blocks}
 use Rattle.strat_base.specs.Entries.{Entry, is_ascending}
 use Rattle.strat_base.specs.declared.descriptors.ArrayDesc.{ArrayDesc}
 use Rattle.strat_crash.specs.Image.{Image}
 use Rattle.strat_crash.specs.Moments.{DiskView}
-use Rattle.strat_format.specs.Arrays.{blocks_of, entries_on}
 use Rattle.strat_cursor.specs.Looking.{LooksThrough}
 use Rattle.strat_cursor.specs.Picking.{IsOfView, AreSourcesOf}
 use Rattle.strat_cursor.specs.Ranges.{arrays_in_view}
-use Rattle.strat_cursor.specs.Sources.{MayBeRead, MayBeBegun, IsSettledAt, IsUpTo, StandsIn, arrays_at, content_of, HaveFewBlocks, reads_of}
+use Rattle.strat_cursor.specs.Sources.{MayBeRead, MayBeBegun, IsSettledAt, IsUpTo, StandsIn, content_of, HaveFewBlocks}
 use Rattle.strat_cursor.specs.Turning.{AreSettled, AreUpTo, sum_over}
 use Rattle.strat_cursor.specs.Views.{IsReadable}
 use Rattle.strat_cursor.specs.declared.desks.Desk.{Desk}
@@ -70,8 +69,8 @@ module _ (old now new : DiskView) (view : View) (v : ℕ) (lo : List ℕ) (sourc
   begins_more looks next_settled next_up = record {
     looks = through_trans old now new (arrays_in_view view.levels) c d g begun.looks looks;
     settled =
-      each_more (λ (j : ℕ) (x : Desk). (t : Source) → slice_get sources j ≡ Some t → MayBeRead view.pool.now t × IsSettledAt view.tree.now.parents v view.pool.now t x) desks i e begun.settled
-      (λ t at. subst (λ (x : Source). MayBeRead view.pool.now x × IsSettledAt view.tree.now.parents v view.pool.now x e) (sym (same_source t at)) ((are.each i s here).read, next_settled));
+        each_more (λ (j : ℕ) (x : Desk). (t : Source) → slice_get sources j ≡ Some t → MayBeRead view.pool.now t × IsSettledAt view.tree.now.parents v view.pool.now t x) desks i e begun.settled
+        (λ t at. subst (λ (x : Source). MayBeRead view.pool.now x × IsSettledAt view.tree.now.parents v view.pool.now x e) (sym (same_source t at)) ((are.each i s here).read, next_settled));
     up = λ f next exposed may.
         each_more (λ (j : ℕ) (x : Desk). (t : Source) → slice_get sources j ≡ Some t → IsUpTo f view.pool.now view.tree.now.parents v lo [] t x × StandsIn f g t x.scratch) desks i e
         (λ j x low at t there.

@@ -1,5 +1,5 @@
 -- What a tournament sees of sources, by their numbers.
-use Rattle.std.proofs.Common.{◌≡◌, ◌≢◌, ◌<◌, ◌≤◌, ◌+◌, ◌*◌, ◌/◌, ℕ, Bool, true, false, zero, suc, get_or, set, List, [], ◌∷◌, length, Option, Some, None, is_some, refl, sym, ap, ◌∙◌, subst, arith}
+use Rattle.std.proofs.Common.{◌≡◌, ◌≢◌, ◌<◌, ◌+◌, ◌*◌, ◌/◌, ℕ, false, zero, suc, get_or, set, List, [], ◌∷◌, length, Option, Some, None, is_some, refl, sym, ap, ◌∙◌, subst, arith}
 use Rattle.std.specs.List.{slice_get}
 use Rattle.std.specs.Option.{option_map, option_and_then}
 use Rattle.std.specs.Ordering.{is_lt, nat_cmp, ordering_then}
@@ -7,12 +7,12 @@ use Rattle.std.specs.declared.cmp.Ordering.{Ordering}
 use Rattle.std.specs.declared.cmp.Ordering.TheVariants.{Less, Equal, Greater}
 use Rattle.strat_arena.specs.declared.pool.PoolEntry.{PoolEntry}
 use Rattle.strat_base.specs.Entries.{Entry}
-use Rattle.strat_base.specs.Order.{key_cmp, entry_cmp}
-use Rattle.strat_merge.specs.Runs.{RunView, head_at}
+use Rattle.strat_base.specs.Order.{key_cmp}
+use Rattle.strat_merge.specs.Runs.{head_at}
 use Rattle.strat_merge.specs.Bracket.{is_ahead, IsBracket, IsTournament, PlayedBeside}
 use Rattle.strat_merge.proofs.BracketLemmas.{root_first, root_last, beside_leaf}
 use Rattle.std.proofs.lemmas.List.{length-set}
-use Rattle.strat_cursor.specs.Contest.{keyed, contender, contenders, head_in, Leads, NoneAhead}
+use Rattle.strat_cursor.specs.Contest.{keyed, contenders, head_in, Leads, NoneAhead}
 use Rattle.strat_cursor.specs.Sources.{head_of}
 use Rattle.strat_cursor.specs.declared.desks.Desk.{Desk}
 use Rattle.strat_cursor.specs.declared.sources.Source.{Source}
@@ -83,7 +83,7 @@ module _ (pool : List PoolEntry) (sources : List Source) (desks : List Desk) (wi
   root_none none = λ i.
       keyed_none (head_in pool sources desks i)
       (sym (contender_at pool sources desks i)
-          ∙ root_last (contenders pool sources desks) winners won (get_or winners 1 0) refl (ap is_some (contender_at pool sources desks (get_or winners 1 0)) ∙ keyed_some (head_in pool sources desks (get_or winners 1 0)) none) i)
+      ∙ root_last (contenders pool sources desks) winners won (get_or winners 1 0) refl (ap is_some (contender_at pool sources desks (get_or winners 1 0)) ∙ keyed_some (head_in pool sources desks (get_or winners 1 0)) none) i)
 
   -- after one source went on, all nodes are played but those above its leaf
   pub beside_source : (w : ℕ) (d : Desk) → PlayedBeside (contenders pool sources (set desks w d)) winners ((length sources + w) / 2)

@@ -1,9 +1,9 @@
 -- An array that is asked at a version is one of a view's.
-use Rattle.std.proofs.Common.{◌≡◌, ◌≢◌, ◌<◌, ◌≤◌, ◌+◌, ◌-◌, Bor, set, ℕ, zero, suc, Bool, true, false, cond, leb, eqb, get_or, inl, inr, List, [], ◌∷◌, ◌++◌, length, Contains, map, Option, Some, None, refl, sym, ap, ◌∙◌, subst, arith, true≢false}
+use Rattle.std.proofs.Common.{◌≡◌, ◌<◌, ◌≤◌, ◌+◌, ◌-◌, Bor, set, ℕ, zero, suc, Bool, true, cond, leb, eqb, get_or, inl, inr, List, [], ◌∷◌, ◌++◌, length, Contains, map, Option, Some, None, refl, sym, ap, ◌∙◌, subst, arith}
 use Rattle.std.proofs.lemmas.Bool.{le-leb, cases_lt, ne_eqb}
 use Rattle.std.proofs.lemmas.List.{length-map}
 use Rattle.std.specs.List.{filter_map, cons_option, slice_get}
-use Rattle.std.specs.Option.{option_and_then, option_or, unwrap_or}
+use Rattle.std.specs.Option.{option_and_then, option_or}
 use Rattle.strat_arena.specs.declared.pool.PoolEntry.{PoolEntry}
 use Rattle.strat_base.proofs.ListFacts.{Among, find_some, among_in_flat}
 use Rattle.strat_base.specs.Entries.{Entry}
@@ -18,7 +18,7 @@ use Rattle.strat_state.specs.Reading.{live_of}
 use Rattle.strat_cursor.specs.Looking.{levels_there, arrays_there, asked_of_level}
 use Rattle.strat_cursor.specs.Picking.{array_picked, HaveNumbers, content_if, sealed_if, content_at, IsOfView, AreSourcesOf}
 use Rattle.strat_cursor.specs.Ranges.{arrays_in_view, arrays_picked, content_on, seen_in, sealed_held}
-use Rattle.strat_cursor.specs.Sources.{MayBeRead, arrays_at, content_of}
+use Rattle.strat_cursor.specs.Sources.{content_of}
 use Rattle.strat_cursor.specs.Views.{ViewStands, sealed_in, zeros_in}
 use Rattle.strat_cursor.specs.declared.sources.Source.{Source}
 use Rattle.strat_cursor.specs.declared.sources.Source.TheVariants as source

@@ -1,5 +1,5 @@
 -- The pairs of a map in a range, from one key on.
-use Rattle.std.proofs.Common.{◌≡◌, ◌≢◌, ◌<◌, ℕ, Bool, true, false, cond, not, ◌&&◌, inl, inr, ◌⊎◌, List, [], ◌∷◌, ◌++◌, length, Option, Some, None, refl, sym, ap, ◌∙◌, subst, arith, true≢false}
+use Rattle.std.proofs.Common.{◌≡◌, ◌<◌, ℕ, Bool, true, false, cond, not, ◌&&◌, inl, inr, List, [], ◌∷◌, length, Some, None, refl, sym, ap, ◌∙◌, subst, arith, true≢false}
 use Rattle.std.specs.List.{AllByRecursion, filter}
 use Rattle.std.specs.List.Sorted.{IsStrictlySortedBy}
 use Rattle.std.specs.Map.{keys_of}
@@ -88,11 +88,11 @@ module _ (R : List ℕ → Bool) (k : List ℕ) where
           elim (cases_Bool (over k p.0)) [
             | inl above' ↦ sym above'
             | inr not_above ↦ elim (cases_Bool (is_lt (key_cmp p.0 k))) [
-                | inl below ↦ absurd (has_value m p among (before p.0 is below))
-                | inr not_below ↦
-                    let same : p.0 ≡ k = not_over k p.0 not_below not_above in
-                    absurd (has_value m p among (ap (value_of m) same ∙ here (sym (ap R same) ∙ is)))
-              ]
+              | inl below ↦ absurd (has_value m p among (before p.0 is below))
+              | inr not_below ↦
+                  let same : p.0 ≡ k = not_over k p.0 not_below not_above in
+                  absurd (has_value m p among (ap (value_of m) same ∙ here (sym (ap R same) ∙ is)))
+            ]
           ]
 
   -- the pair of k is the first of them, and the others are above k

@@ -1,14 +1,14 @@
 -- What look-ups find of the least key that sources stand at, and of the keys before it.
-use Rattle.std.proofs.Common.{◌≡◌, ◌≢◌, ◌<◌, ◌≤◌, ◌+◌, ◌&&◌, ℕ, zero, suc, Bool, true, false, cond, not, drop, get_or, map, inl, inr, ◌⊎◌, List, [], ◌∷◌, ◌++◌, length, Option, Some, None, IsSome, IfSome, IsTrue, refl, sym, ap, ◌∙◌, subst, arith, true≢false}
-use Rattle.std.specs.List.{list_all, find, slice_get, filter}
-use Rattle.std.specs.Option.{option_and_then, option_map, option_or}
+use Rattle.std.proofs.Common.{◌≡◌, ◌<◌, ℕ, zero, suc, Bool, true, false, cond, drop, get_or, map, inl, inr, List, [], ◌∷◌, length, Option, Some, None, IfSome, IsTrue, refl, sym, ap, ◌∙◌, subst, arith, true≢false}
+use Rattle.std.specs.List.{find, slice_get}
+use Rattle.std.specs.Option.{option_map, option_or}
 use Rattle.std.specs.Ordering.{is_lt, is_gt, nat_cmp, ordering_then}
 use Rattle.std.specs.declared.cmp.Ordering.{Ordering}
 use Rattle.std.specs.declared.cmp.Ordering.TheVariants.{Less, Equal, Greater}
-use Rattle.std.proofs.lemmas.Bool.{and_parts, and_from, cases_Bool, cases_lt}
-use Rattle.std.proofs.lemmas.Cmp.{nat_list_cmp_total, tied_itself}
+use Rattle.std.proofs.lemmas.Bool.{and_parts, and_from}
+use Rattle.std.proofs.lemmas.Cmp.{nat_list_cmp_total}
 use Rattle.strat_arena.specs.declared.pool.PoolEntry.{PoolEntry}
-use Rattle.strat_array.specs.Kept.{Kept, Blocks, ArrayStands, held_block}
+use Rattle.strat_array.specs.Kept.{Kept, Blocks, held_block}
 use Rattle.strat_array.specs.Left.{is_from}
 use Rattle.strat_array.specs.Steps.{left_from}
 use Rattle.strat_array.specs.Walk.{is_seen_at}
@@ -19,18 +19,18 @@ use Rattle.strat_base.specs.Entries.{Entry, is_of, is_ascending}
 use Rattle.strat_base.specs.Order.{key_cmp}
 use Rattle.strat_base.specs.Tree.{Parents, IsTree, is_ancestor}
 use Rattle.strat_base.proofs.EntryLemmas.{is_of_key, same_bytes}
-use Rattle.strat_base.proofs.ListFacts.{Among, all_at, find_some, get_among}
+use Rattle.strat_base.proofs.ListFacts.{all_at, find_some, get_among}
 use Rattle.strat_base.proofs.TreeLemmas.{option_cases}
 use Rattle.strat_crash.specs.Image.{Image}
 use Rattle.strat_format.specs.Arrays.{blocks_of}
 use Rattle.strat_level.specs.Memtable.{entries_held}
 use Rattle.strat_merge.specs.Bracket.{is_ahead}
-use Rattle.strat_merge.proofs.OrderLemmas.{behind_le, behind_lt, key_le, first_le_all, lt_then_le, not_before_itself, by_entry}
+use Rattle.strat_merge.proofs.OrderLemmas.{behind_le, behind_lt, key_le, first_le_all, lt_then_le, not_before_itself}
 use Rattle.strat_state.specs.LookUp.{first_live}
 use Rattle.strat_state.specs.Reading.{live_of}
-use Rattle.strat_cursor.specs.Ahead.{is_after, is_to_come}
-use Rattle.strat_cursor.specs.Contest.{keyed, head_in, Leads, NoneAhead}
-use Rattle.strat_cursor.specs.Sources.{HasHead, IsSettledAt, IsUpTo, StandsIn, content_of, left_of, head_of, lists_of, entry_held}
+use Rattle.strat_cursor.specs.Ahead.{is_to_come}
+use Rattle.strat_cursor.specs.Contest.{keyed, head_in, Leads}
+use Rattle.strat_cursor.specs.Sources.{HasHead, StandsIn, content_of, left_of, head_of, lists_of, entry_held}
 use Rattle.strat_cursor.specs.Turning.{AreSettled, AreUpTo}
 use Rattle.strat_cursor.specs.declared.desks.Desk.{Desk}
 use Rattle.strat_cursor.specs.declared.sources.Source.{Source}

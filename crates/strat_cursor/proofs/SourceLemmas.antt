@@ -1,5 +1,5 @@
 -- What a source has left after it began, and after it went on.
-use Rattle.std.proofs.Common.{◌≡◌, ◌<◌, ◌≤◌, ◌+◌, ◌-◌, ◌*◌, ◌^◌, ℕ, Bool, true, false, cond, ltb, not, ◌&&◌, inl, inr, ◌⊎◌, zero, suc, get_or, List, [], ◌∷◌, ◌++◌, length, drop, Option, Some, None, is_some, IfSome, IsTrue, refl, sym, ap, ◌∙◌, subst, arith, true≢false}
+use Rattle.std.proofs.Common.{◌≡◌, ◌<◌, ◌≤◌, ◌+◌, ◌^◌, ℕ, Bool, true, false, cond, ltb, not, ◌&&◌, inl, inr, ◌⊎◌, zero, suc, get_or, List, [], ◌∷◌, length, drop, Option, Some, None, is_some, IfSome, IsTrue, refl, sym, ap, ◌∙◌, subst, arith, true≢false}
 use Rattle.std.specs.List.{filter, list_all, find, slice_get}
 use Rattle.std.specs.Option.{unwrap_or}
 use Rattle.std.specs.Ordering.{is_lt, nat_cmp, ordering_then}
@@ -7,7 +7,7 @@ use Rattle.std.specs.declared.cmp.Ordering.{Ordering}
 use Rattle.std.specs.declared.cmp.Ordering.TheVariants.{Less, Equal, Greater}
 use Rattle.std.proofs.lemmas.Bool.{and_parts, cases_Bool, ltb-true}
 use Rattle.std.proofs.lemmas.List.{drop_more}
-use Rattle.std.proofs.lemmas.Cmp.{nat_list_cmp_total, upto, ranked}
+use Rattle.std.proofs.lemmas.Cmp.{ranked}
 use Rattle.strat_arena.specs.declared.pool.PoolEntry.{PoolEntry}
 use Rattle.strat_array.specs.Blocks.{lists_on}
 use Rattle.strat_array.specs.Kept.{Kept, Blocks, Looks, ArrayStands}
@@ -26,15 +26,15 @@ use Rattle.strat_base.specs.Order.{key_cmp}
 use Rattle.strat_base.specs.Tree.{Parents, is_ancestor}
 use Rattle.strat_base.specs.declared.descriptors.ArrayDesc.{ArrayDesc}
 use Rattle.strat_base.proofs.EntryLemmas.{is_of_key}
-use Rattle.strat_base.proofs.ListFacts.{Among, all_at, get_among}
+use Rattle.strat_base.proofs.ListFacts.{all_at, get_among}
 use Rattle.strat_crash.specs.Image.{Image}
 use Rattle.strat_crash.specs.Moments.{DiskView}
 use Rattle.strat_format.specs.Arrays.{blocks_of, entries_on}
 use Rattle.strat_level.specs.Memtable.{entries_held, ListStands}
-use Rattle.strat_level.specs.Places.{IsStart, compared}
+use Rattle.strat_level.specs.Places.{IsStart}
 use Rattle.strat_cursor.specs.Ahead.{is_after, is_to_come}
 use Rattle.strat_cursor.specs.Looking.{MayBeAsked, LooksThrough, NamesNoBlock}
-use Rattle.strat_cursor.specs.Sources.{PassesOver, is_due, left_behind, entry_held, places_ahead, lists_of, left_of, content_of, head_of, StandsIn, IsUpTo, IsSpent, HasHead, arrays_at, steps_left}
+use Rattle.strat_cursor.specs.Sources.{PassesOver, is_due, left_behind, entry_held, lists_of, left_of, content_of, head_of, StandsIn, IsUpTo, IsSpent, HasHead, arrays_at, steps_left}
 use Rattle.strat_cursor.specs.declared.desks.Desk.{Desk}
 use Rattle.strat_cursor.specs.declared.sources.Source.{Source}
 use Rattle.strat_cursor.specs.declared.sources.Source.TheVariants as source
@@ -206,8 +206,8 @@ module _ (parents : Parents) (v : ℕ) (last : List ℕ) (entries : List Entry) 
       let there = spent_there last (slice_get entries item) spent in
       passes_trans parents v last (drop item entries) (drop (item + 1) entries) (drop next entries)
       (passes_one parents v last (drop item entries) (drop (item + 1) entries) there.0
-          (subst (λ (l : List Entry). PassesOver parents v last (drop item entries) l) (drop_at entries item there.0 there.1 item_low) (passes_none parents v last (drop item entries)))
-          (spent_off parents v last there.0 there.2))
+      (subst (λ (l : List Entry). PassesOver parents v last (drop item entries) l) (drop_at entries item there.0 there.1 item_low) (passes_none parents v last (drop item entries)))
+      (spent_off parents v last there.0 there.2))
       passes
 
 -- an array goes on
@@ -277,7 +277,7 @@ pub zero_steps : (pool : List PoolEntry) (parents : Parents) (v : ℕ) (last : L
 zero_steps pool parents v last s list desk after is spent further =
     subst (λ (x : Source). steps_left pool x after < steps_left pool x desk) (sym is)
     (let low : desk.item < length (entries_held pool list.now) = item_low parents v last (entries_held pool list.now) desk.item after.item (subst (λ (x : Source). IsSpent last (head_of pool x desk)) is spent) in
-        omega (arith, low, further))
+    omega (arith, low, further))
 
 -- the scratch of a desk is the one that was looked with
 pub looks_desk : (old new : DiskView) (array : ℕ) (blocks : List ℕ) (c d : Blocks) (s t u : Option Kept) → u ≡ t → Looks old new array blocks c d s t → Looks old new array blocks c d s u

@@ -1,7 +1,7 @@
 -- A source passes over entries that say nothing of the keys to come.
-use Rattle.std.proofs.Common.{◌≡◌, ◌<◌, ◌≤◌, ◌+◌, ◌-◌, ◌*◌, ◌^◌, ℕ, Bool, true, false, cond, get_or, inl, inr, ◌⊎◌, zero, suc, List, [], ◌∷◌, ◌++◌, length, drop, Option, Some, None, IfSome, IsTrue, refl, sym, ap, ◌∙◌, subst, arith, true≢false}
+use Rattle.std.proofs.Common.{◌≡◌, ◌<◌, ◌≤◌, ◌+◌, ◌^◌, ℕ, Bool, true, false, cond, get_or, inl, inr, zero, suc, List, [], ◌∷◌, length, drop, Option, Some, None, IfSome, IsTrue, refl, sym, ap, ◌∙◌, subst, arith, true≢false}
 use Rattle.std.specs.List.{list_all, find, slice_get}
-use Rattle.std.proofs.lemmas.Bool.{and_parts, cases_Bool, cases_lt}
+use Rattle.std.proofs.lemmas.Bool.{and_parts, cases_Bool}
 use Rattle.std.proofs.lemmas.List.{drop_more, length-map}
 use Rattle.strat_base.specs.Tree.{Parents, is_ancestor}
 use Rattle.strat_base.specs.Entries.{Entry, is_of, is_ascending}
@@ -17,7 +17,6 @@ use Rattle.strat_array.specs.Kept.{Kept, Blocks, Looks, ArrayStands}
 use Rattle.strat_array.specs.Steps.{left_from, Settles, HoldsPlace, IsNear}
 use Rattle.strat_array.specs.Walk.{is_seen_at}
 use Rattle.strat_array.proofs.FindLemmas.{left_held}
-use Rattle.strat_array.proofs.HoldLemmas.{held_has}
 use Rattle.strat_array.proofs.KeptLemmas.{looks_refl, looks_trans, stands_after}
 use Rattle.strat_cursor.specs.Ahead.{is_after}
 use Rattle.strat_cursor.specs.Sources.{PassesOver, is_due, left_behind, entry_held, places_ahead}
@@ -123,8 +122,8 @@ module _ (old mid now : DiskView) (array : ℕ) (blocks : List ℕ) (c d e : Blo
           let now' = stands_after mid now array blocks d e t u lists looks mid' in
           passes_one parents v last (left_from lists first) (left_from lists next) entry
           (subst (λ (l : List Entry). PassesOver parents v last (left_from lists first) l)
-              (settles lists mid' ∙ left_held now.content array blocks e u lists now' at entry holds entry_is next block index)
-              (standing.passes lists stands)) off;
+          (settles lists mid' ∙ left_held now.content array blocks e u lists now' at entry holds entry_is next block index)
+          (standing.passes lists stands)) off;
     }
 
 pub held_path : (parents : Parents) (v : ℕ) (last : List ℕ) (u : Option Kept) (i : ℕ) (entry : Entry) → IfSome u (λ kept. (x : Entry) → entry ≡ get_or kept.1 i x) → is_due parents v last entry ≡ true

@@ -1,5 +1,5 @@
 -- A scan so far: what was told, and what is to come, are the range.
-use Rattle.std.proofs.Common.{◌≡◌, ◌<◌, ◌≤◌, ◌+◌, ◌^◌, ◌&&◌, map, length-append, ℕ, Bool, true, false, not, inl, inr, ◌⊎◌, List, [], ◌∷◌, ◌++◌, length, take, Option, Some, None, IsSome, is_some, IsTrue, refl, sym, ap, ◌∙◌, subst, arith, true≢false, ltb}
+use Rattle.std.proofs.Common.{◌≡◌, ◌<◌, ◌≤◌, ◌^◌, ◌&&◌, map, length-append, ℕ, Bool, true, false, not, inl, inr, List, [], ◌∷◌, ◌++◌, length, take, Option, Some, None, IsSome, is_some, refl, sym, ap, ◌∙◌, subst, arith, true≢false, ltb}
 use Rattle.std.specs.List.{slice_get}
 use Rattle.std.specs.Option.{option_and_then}
 use Rattle.std.specs.Ordering.{is_lt}
@@ -12,13 +12,12 @@ use Rattle.strat_base.specs.Entries.{Entry}
 use Rattle.strat_base.specs.EntryBytes.{fits_fields, is_markable}
 use Rattle.strat_base.specs.Sizes.{is_key}
 use Rattle.strat_base.specs.Order.{key_cmp}
-use Rattle.strat_base.specs.Tree.{Parents, IsTree}
+use Rattle.strat_base.specs.Tree.{IsTree}
 use Rattle.strat_crash.specs.Image.{Image}
 use Rattle.strat_crash.specs.Moments.{DiskView}
 use Rattle.strat_merge.proofs.OrderLemmas.{not_before_itself}
 use Rattle.strat_model.specs.Pairs.{Pair, Pairs, value_of, is_between, range}
-use Rattle.strat_model.specs.Kept.{IsMap}
-use Rattle.strat_cursor.specs.Ahead.{is_after, is_to_come, range_after}
+use Rattle.strat_cursor.specs.Ahead.{is_after, range_after}
 use Rattle.strat_cursor.specs.Contest.{head_in, Leads, NoneAhead}
 use Rattle.strat_cursor.specs.Looking.{LooksThrough, HaveOwnIds}
 use Rattle.strat_cursor.specs.Picking.{AreSourcesOf}
@@ -57,9 +56,9 @@ pub handled_spent : (e : Entry) (hi : List ℕ) (limit : ℕ) (last next : List 
 handled_spent e hi limit last next out new o at fits handles =
     subst (λ (x : Option Entry). IsSpent next x) (sym at)
     (elim handles [
-        | inl before ↦ ap (λ (k : List ℕ). is_after k e.key) before.1 ∙ before.0
-        | inr told ↦ ap (λ (k : List ℕ). is_after k e.key) told.2 ∙ spent_itself e.key (key_some e fits)
-      ])
+      | inl before ↦ ap (λ (k : List ℕ). is_after k e.key) before.1 ∙ before.0
+      | inr told ↦ ap (λ (k : List ℕ). is_after k e.key) told.2 ∙ spent_itself e.key (key_some e fits)
+    ])
 
 pub handled_later : (e : Entry) (hi : List ℕ) (limit : ℕ) (last next : List ℕ) (out new : Pairs) → fits_fields e ≡ true → HandlesKey e hi limit last next out new None → IsLater last next
 handled_later e hi limit last next out new fits handles = elim handles [
@@ -102,9 +101,9 @@ page_more pairs out rest p limit is few full =
     let exact : length out ≡ limit = omega (arith, few, full) in
     subst (λ (ps : Pairs). IsPageOf ps limit out true) (sym is)
     (record {
-        pairs_are = sym (take-append_seam out (p ∷ rest)) ∙ ap (λ (n : ℕ). take n (out ++ p ∷ rest)) exact;
-        more_is = sym (lt-ltb limit (length (out ++ p ∷ rest)) (omega (arith, exact, length-append {A = Pair} out (p ∷ rest))));
-      })
+      pairs_are = sym (take-append_seam out (p ∷ rest)) ∙ ap (λ (n : ℕ). take n (out ++ p ∷ rest)) exact;
+      more_is = sym (lt-ltb limit (length (out ++ p ∷ rest)) (omega (arith, exact, length-append {A = Pair} out (p ∷ rest))));
+    })
 
 module _ (old now : DiskView) (view : View) (tree : IsTree view.tree.now.parents) (v : ℕ) (hi : List ℕ) (sources : List Source) (c d : Blocks) (first last : List ℕ) (from desks : List Desk) (before out : Pairs) (are : AreSourcesOf view v sources)
     (telling : Telling old now view v hi sources c d first last from desks before out) (settled : AreSettled view.tree.now.parents v view.pool.now sources desks) where

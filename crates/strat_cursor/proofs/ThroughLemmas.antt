@@ -1,5 +1,5 @@
 -- Blocks of several arrays are looked at, each through one cache.
-use Rattle.std.proofs.Common.{◌≡◌, ◌<◌, ◌+◌, ℕ, zero, suc, true, false, inl, inr, ◌⊎◌, List, [], ◌∷◌, length, Contains, map, Option, Some, None, IsTrue, refl, sym, ap, ◌∙◌, subst, arith, true≢false}
+use Rattle.std.proofs.Common.{◌≡◌, ◌<◌, ℕ, true, inl, inr, ◌⊎◌, List, [], ◌∷◌, Contains, map, Option, Some, refl, sym, ap, ◌∙◌, subst, arith, true≢false}
 use Rattle.std.proofs.lemmas.Bool.{and_parts, not-true}
 use Rattle.std.specs.List.{slice_get}
 use Rattle.strat_array.specs.Kept.{Kept, Blocks, IsBlockRead, Looks}

@@ -1,15 +1,13 @@
 -- One source goes on, and the others stay as they are.
-use Rattle.std.proofs.Common.{◌≡◌, ◌≢◌, ◌<◌, ◌≤◌, ◌+◌, ℕ, zero, suc, true, false, cond, not, get_or, set, inl, inr, ◌⊎◌, List, [], ◌∷◌, length, Contains, Option, Some, None, IsSome, IfSome, IsTrue, refl, sym, ap, ◌∙◌, subst, arith}
-use Rattle.std.specs.List.{list_all, find, slice_get}
+use Rattle.std.proofs.Common.{◌≡◌, ◌<◌, ◌≤◌, ◌+◌, ℕ, zero, suc, true, not, get_or, set, inl, inr, ◌⊎◌, List, [], ◌∷◌, length, Contains, Option, Some, refl, sym, ap, ◌∙◌, subst, arith}
+use Rattle.std.specs.List.{slice_get}
 use Rattle.std.specs.Option.{option_and_then}
 use Rattle.std.proofs.lemmas.Bool.{and_parts, and_from}
 use Rattle.std.proofs.lemmas.List.{length-set}
 use Rattle.strat_arena.specs.declared.pool.PoolEntry.{PoolEntry}
-use Rattle.strat_array.specs.Kept.{Kept, Blocks, ArrayStands}
+use Rattle.strat_array.specs.Kept.{Kept, Blocks}
 use Rattle.strat_array.specs.Left.{is_from}
-use Rattle.strat_array.specs.Walk.{is_seen_at}
 use Rattle.strat_array.proofs.KeptLemmas.{listed_at}
-use Rattle.strat_base.specs.Entries.{Entry, is_ascending}
 use Rattle.strat_base.specs.Order.{key_cmp}
 use Rattle.strat_base.specs.Tree.{Parents}
 use Rattle.strat_base.specs.declared.descriptors.ArrayDesc.{ArrayDesc}
@@ -19,7 +17,7 @@ use Rattle.strat_format.specs.Arrays.{blocks_of, block_on}
 use Rattle.strat_cursor.specs.Ahead.{is_after, is_to_come}
 use Rattle.strat_cursor.specs.Contest.{head_in, AreAtHand}
 use Rattle.strat_cursor.specs.Looking.{LooksThrough, HaveOwnIds}
-use Rattle.strat_cursor.specs.Sources.{PassesOver, MayBeRead, IsSettledAt, IsUpTo, IsSpent, StandsIn, HasHead, arrays_at, content_of, left_of, head_of, lists_of}
+use Rattle.strat_cursor.specs.Sources.{PassesOver, MayBeRead, IsSettledAt, IsUpTo, StandsIn, arrays_at, left_of, head_of, lists_of}
 use Rattle.strat_cursor.specs.Turning.{AreSettled, AreUpTo, IsLater, sum_over}
 use Rattle.strat_cursor.specs.declared.desks.Desk.{Desk}
 use Rattle.strat_cursor.specs.declared.sources.Source.{Source}

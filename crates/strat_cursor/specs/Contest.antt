@@ -1,8 +1,7 @@
 -- The sources of a range in a tournament: the one whose first key is least wins, and of equal keys the first source.
-use Rattle.std.specs.Prelude.{◌≡◌, ◌≤◌, ◌<◌, ℕ, ◌+◌, List, [], ◌∷◌, length, Option, None, Some, option_map, option_and_then, slice_get, false, IsTrue}
+use Rattle.std.specs.Prelude.{◌≡◌, ℕ, List, [], ◌∷◌, length, Option, None, Some, option_map, option_and_then, slice_get, false}
 use Rattle.strat_arena.specs.declared.pool.PoolEntry.{PoolEntry}
 use Rattle.strat_base.specs.Entries.{Entry}
-use Rattle.strat_base.specs.Tree.{Parents}
 use Rattle.strat_merge.specs.Bracket.{is_ahead}
 use Rattle.strat_merge.specs.Runs.{RunView}
 use Rattle.strat_cursor.specs.Sources.{MayBeRead, HasHead, head_of}

@@ -1,5 +1,5 @@
 -- The sources of a view at a version: level 0, the sealed one, and the array of each level.
-use Rattle.std.specs.Prelude.{◌≡◌, ◌≤◌, ◌<◌, ℕ, ◌+◌, ◌-◌, ◌==◌, if◌then◌else◌, List, [], ◌∷◌, length, map, Contains, Option, None, Some, option_and_then, slice_get, slice_index_or}
+use Rattle.std.specs.Prelude.{◌≡◌, ◌≤◌, ℕ, ◌+◌, ◌-◌, ◌==◌, if◌then◌else◌, List, [], length, map, Contains, Option, None, Some, option_and_then, slice_get}
 use Rattle.strat_arena.specs.declared.pool.PoolEntry.{PoolEntry}
 use Rattle.strat_base.specs.Entries.{Entry}
 use Rattle.strat_base.specs.Tree.{Parents}
@@ -43,7 +43,7 @@ abbrev pub content_at : Image → View → ℕ → ℕ → List Entry
 content_at f view v i =
     if i == 0 then entries_held view.pool.now view.zero.now
     else (if i == 1 then sealed_if view.pool.now (sealed_in view)
-        else content_if f (array_picked view.tree.now.parents view.levels v (i - 2)))
+    else content_if f (array_picked view.tree.now.parents view.levels v (i - 2)))
 
 -- a source of a view can be read, and its array is one of the view's
 pub record IsOfView (view : View) (s : Source) : Type 0 where

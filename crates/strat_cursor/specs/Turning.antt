@@ -9,7 +9,7 @@ use Rattle.strat_base.specs.Tree.{Parents}
 use Rattle.strat_crash.specs.Image.{Image}
 use Rattle.strat_model.specs.Pairs.{Pairs}
 use Rattle.strat_cursor.specs.Ahead.{is_after}
-use Rattle.strat_cursor.specs.Sources.{MayBeRead, IsSettledAt, IsUpTo, StandsIn, content_of, steps_left}
+use Rattle.strat_cursor.specs.Sources.{MayBeRead, IsSettledAt, IsUpTo, StandsIn, content_of}
 use Rattle.strat_cursor.specs.declared.desks.Desk.{Desk}
 use Rattle.strat_cursor.specs.declared.sources.Source.{Source}
 
@@ -36,7 +36,7 @@ abbrev pub HandlesKey
 HandlesKey e hi limit last next old new None =
     ((is_after last e.key ≡ false) × (next ≡ last) × (new ≡ old))
     ⊎ (IsTrue (is_after last e.key) × IsTrue (is_under hi e.key) × (next ≡ e.key)
-        × AddsValue e.key e.value limit old new)
+    × AddsValue e.key e.value limit old new)
 HandlesKey e hi limit last next old new (Some false) =
     IsTrue (is_after last e.key) × (is_under hi e.key ≡ false) × (new ≡ old)
 HandlesKey e hi limit last next old new (Some true) =

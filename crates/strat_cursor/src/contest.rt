@@ -10,8 +10,8 @@ ghost use Rattle.strat_cursor.specs.Contest.{contenders, head_in, keyed, Leads, 
 
 use crate::desks::Desk;
 use crate::sources::{Source, head};
-use strat_arena::ArenaPool;
 use std::alloc::Global;
+use strat_arena::ArenaPool;
 use strat_base::{Entry, NoMemory};
 
 /// The first entry that a source has left, if there is one. O(1), and nothing is read.
@@ -45,7 +45,10 @@ fn precedes(sources: &[Source<'_>], pool: &ArenaPool, desks: &[Desk], a: usize, 
     ensures ok { result ≡ is_ahead (option_map keyed (head_in pool.now sources.now desks.now a)) a
         (option_map keyed (head_in pool.now sources.now desks.now b)) b }
 {
-    match (head_in(sources, pool, desks, a), head_in(sources, pool, desks, b)) {
+    match (
+        head_in(sources, pool, desks, a),
+        head_in(sources, pool, desks, b),
+    ) {
         (Some(e), Some(f)) => is_before(&e, a, &f, b),
         (Some(_), None) => true,
         (None, _) => false,
@@ -78,11 +81,20 @@ fn play(sources: &[Source<'_>], pool: &ArenaPool, desks: &[Desk], winners: &mut 
 {
     let a = winners[2 * k];
     let b = winners[2 * k + 1];
-    winners[k] = if precedes(sources, pool, desks, b, a) { b } else { a };
+    winners[k] = if precedes(sources, pool, desks, b, a) {
+        b
+    } else {
+        a
+    };
 }
 
 /// Plays all nodes, the deepest first. O(sources) comparisons of keys.
-pub(crate) fn play_all(sources: &[Source<'_>], pool: &ArenaPool, desks: &[Desk], winners: &mut [usize])
+pub(crate) fn play_all(
+    sources: &[Source<'_>],
+    pool: &ArenaPool,
+    desks: &[Desk],
+    winners: &mut [usize],
+)
     requires kept { AreAtHand pool.now sources.now desks.now }
     requires found { IsBracket (length sources.now) winners.old }
     ensures ok { IsTournament (contenders pool.now sources.now desks.now) winners.new }

@@ -33,8 +33,12 @@ impl Desk {
 
     /// Stands at a place of an array, or at none.
     pub(crate) fn stand(&mut self, at: Option<Place>)
-        ensures ok { self.new ≡ record { scratch = self.old.scratch; item = self.old.item;
-            place = unwrap_or at self.old.place; there = is_some at } }
+        ensures ok { self.new ≡ record {
+          scratch = self.old.scratch;
+          item = self.old.item;
+          place = unwrap_or at self.old.place;
+          there = is_some at;
+        } }
     {
         match at {
             Some(place) => {

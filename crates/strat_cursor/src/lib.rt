@@ -3,9 +3,9 @@
 
 mod contest;
 mod desks;
-mod sources;
 mod picking;
 mod scanning;
+mod sources;
 mod turn;
 mod view;
 

@@ -59,7 +59,16 @@ fn begin_all<D: Disk>(
         ≤ D.reads disk.old + sum_by (reads_of n) sources.now) }
 {
     for i in 0..sources.len() {
-        begin(disk, cache, &sources[i], view.pool, view.tree, v, lo, &mut desks[i])?;
+        begin(
+            disk,
+            cache,
+            &sources[i],
+            view.pool,
+            view.tree,
+            v,
+            lo,
+            &mut desks[i],
+        )?;
     }
     Ok(())
 }
@@ -150,7 +159,9 @@ fn scan_sources<D: Disk>(
     last.clear();
     begin_all(disk, cache, view, sources, v, lo, desks)?;
     play_all(sources, view.pool, desks, winners);
-    tell_all(disk, cache, view, sources, v, hi, limit, last, desks, winners, out)
+    tell_all(
+        disk, cache, view, sources, v, hi, limit, last, desks, winners, out,
+    )
 }
 
 /// Scans the sources of a view with the room of a scan.
@@ -226,7 +237,18 @@ pub fn scan<D: Disk>(
     ensures cause { HasCause Device (D.faults disk.old) (D.faults disk.new) result }
 {
     let sources = pick(view, version);
-    let told = scan_with(disk, cache, view, &sources, version, lo, hi, limit as usize, desks, out);
+    let told = scan_with(
+        disk,
+        cache,
+        view,
+        &sources,
+        version,
+        lo,
+        hi,
+        limit as usize,
+        desks,
+        out,
+    );
     if told.is_err() {
         out.clear();
     }

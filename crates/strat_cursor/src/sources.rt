@@ -68,7 +68,11 @@ fn entry_of_desk(desk: &Desk) -> Option<Entry<'_>>
 }
 
 /// The first entry that a source has left, if there is one. O(1), and nothing is read.
-pub(crate) fn head<'a>(source: &Source<'_>, pool: &'a ArenaPool, desk: &'a Desk) -> Option<Entry<'a>>
+pub(crate) fn head<'a>(
+    source: &Source<'_>,
+    pool: &'a ArenaPool,
+    desk: &'a Desk,
+) -> Option<Entry<'a>>
     requires kept { MayBeRead pool.now source.now }
     requires found { HasHead source.now desk.now }
     ensures ok { option_map entry_of result ≡ head_of pool.now source.now desk.now }
@@ -100,7 +104,14 @@ fn is_due(entry: &Entry<'_>, tree: &Tree, v: Version, last: &[u8]) -> bool
 }
 
 /// The first item from a place on that is due. O(items passed over), each as `is_due`.
-fn stand_item(pool: &ArenaPool, list: &ZeroView, tree: &Tree, v: Version, last: &[u8], item: usize) -> usize
+fn stand_item(
+    pool: &ArenaPool,
+    list: &ZeroView,
+    tree: &Tree,
+    v: Version,
+    last: &[u8],
+    item: usize,
+) -> usize
     requires kept { ListStands pool.now list.now }
     requires fits { v < length tree.now.parents }
     ensures ok { PassesOver tree.now.parents v last.now

@@ -157,7 +157,16 @@ pub(crate) fn go_on<D: Disk>(
     ensures room { OnOk result (D.reads disk.new + sum_over reads_left sources.now desks.new
         ≤ D.reads disk.old + sum_over reads_left sources.now desks.old) }
 {
-    advance(disk, cache, &sources[w], view.pool, view.tree, v, last, &mut desks[w])?;
+    advance(
+        disk,
+        cache,
+        &sources[w],
+        view.pool,
+        view.tree,
+        v,
+        last,
+        &mut desks[w],
+    )?;
     replay(sources, view.pool, desks, winners, sources.len() + w);
     Ok(())
 }

@@ -1,4 +1,4 @@
-use Rattle.std.proofs.Common.{◌<◌, length, subst, sym, arith}
+use Rattle.std.proofs.Common.{arith}
 use Rattle.strat_cursor.proofs.ContestLemmas.{get_here}
 use Rattle.strat_cursor.proofs.contest.head_in.Goals as goal
 

@@ -1,4 +1,4 @@
-use Rattle.std.proofs.Common.{◌<◌, length, refl, sym, ◌∙◌, arith}
+use Rattle.std.proofs.Common.{sym, ◌∙◌, arith}
 use Rattle.strat_cursor.proofs.ContestLemmas.{won_bracket, root_low, root_leads, root_none}
 use Rattle.strat_cursor.proofs.contest.leader.Goals as goal
 

@@ -1,6 +1,5 @@
-use Rattle.std.proofs.Common.{◌≡◌, length, sym, subst, arith}
+use Rattle.std.proofs.Common.{sym, subst, arith}
 use Rattle.strat_merge.specs.Bracket.{IsBracket}
-use Rattle.strat_cursor.specs.Contest.{contenders}
 use Rattle.strat_cursor.proofs.ContestLemmas.{count_contenders}
 use Rattle.strat_cursor.proofs.contest.play_all.Goals as goal
 

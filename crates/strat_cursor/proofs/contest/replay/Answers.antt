@@ -1,4 +1,4 @@
-use Rattle.std.proofs.Common.{◌≡◌, ◌/◌, length, sym, subst, arith}
+use Rattle.std.proofs.Common.{◌/◌, sym, subst, arith}
 use Rattle.strat_merge.specs.Bracket.{IsBracket, PlayedBeside}
 use Rattle.strat_merge.proofs.BracketLemmas.{replayed_more, replayed_all}
 use Rattle.strat_cursor.specs.Contest.{contenders}

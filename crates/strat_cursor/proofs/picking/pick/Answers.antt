@@ -1,4 +1,4 @@
-use Rattle.std.proofs.Common.{◌≡◌, ◌<◌, ℕ, length, sym, ◌∙◌, arith}
+use Rattle.std.proofs.Common.{◌≡◌, ℕ, ◌∙◌, arith}
 use Rattle.std.proofs.lemmas.List.{length-set}
 use Rattle.strat_crash.specs.Image.{Image}
 use Rattle.strat_cursor.specs.Picking.{content_at, IsOfView}
@@ -11,8 +11,8 @@ pub loop-i-preserved : goal.loop-i-preserved
 loop-i-preserved c = record {
   len = length-set c.loop-i.sources c.loop-i.i c.source_at.result ∙ c.loop-i.invariant.len;
   each =
-    each_more (λ (j : ℕ) (s : Source). IsOfView c.args.view.now s × ((f : Image) → content_of f c.args.view.now.pool.now s ≡ content_at f c.args.view.now c.args.v j)) c.loop-i.sources c.loop-i.i c.source_at.result
-    c.loop-i.invariant.each (c.source_at.ensures.found, c.source_at.ensures.ok);
+      each_more (λ (j : ℕ) (s : Source). IsOfView c.args.view.now s × ((f : Image) → content_of f c.args.view.now.pool.now s ≡ content_at f c.args.view.now c.args.v j)) c.loop-i.sources c.loop-i.i c.source_at.result
+      c.loop-i.invariant.each (c.source_at.ensures.found, c.source_at.ensures.ok);
 }
 
 pub returns : goal.returns

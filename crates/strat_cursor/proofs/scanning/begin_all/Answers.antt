@@ -1,4 +1,4 @@
-use Rattle.std.proofs.Common.{◌≡◌, ◌≤◌, ◌<◌, ◌+◌, length, drop, Some, refl, sym, ap, ◌∙◌, arith, sum_by}
+use Rattle.std.proofs.Common.{refl, ◌∙◌, arith}
 use Rattle.std.proofs.lemmas.List.{length-set}
 use Rattle.strat_array.proofs.SearchLemmas.{err_of}
 use Rattle.strat_cursor.specs.Ranges.{arrays_in_view}
@@ -52,15 +52,15 @@ loop-i-preserved g c =
     let looks = through_more _ _ _ (arrays_in_view c.args.view.now.levels) _ _ c.begin.ensures.same of.there in
     record {
       begun = begins_more (g.D.Disk.view c.args.disk.now) (g.D.Disk.view c.loop-i.disk) (g.D.Disk.view c.begin.new.disk) c.args.view.now c.args.v c.args.lo.now c.args.sources.now c.args.cache.now c.loop-i.cache c.begin.new.cache c.loop-i.i c.loop-i.desks c.index-sources-i.result c.begin.new.desk c.requires.same here c.loop-i.invariant.begun looks
-        c.in_ok-begin.ensures.found c.in_ok-begin.ensures.ok;
+          c.in_ok-begin.ensures.found c.in_ok-begin.ensures.ok;
       same = length-set c.loop-i.desks c.loop-i.i c.begin.new.desk ∙ c.loop-i.invariant.same;
       faults = c.in_ok-begin.ensures.cause.ok ∙ c.loop-i.invariant.faults;
       later = λ n few. omega (arith, c.loop-i.invariant.later n few, (c.begin.ensures.reads n (few_at n _ (arrays_in_view c.args.view.now.levels) of.there few)).later);
       reads = λ n few.
-        let own = c.in_ok-begin.ensures.room n (few_at n _ (arrays_in_view c.args.view.now.levels) of.there few) in
-        let more = sum_more c.loop-i.i reads_left c.args.sources.now c.loop-i.desks c.index-sources-i.result c.begin.new.desk here (omega (arith, c.loop-i-test.true, c.loop-i.invariant.same, c.requires.room)) in
-        let rest = sum_rest (reads_of n) c.args.sources.now c.loop-i.i c.index-sources-i.result here in
-        omega (arith, own, more, rest, c.loop-i.invariant.reads n few);
+          let own = c.in_ok-begin.ensures.room n (few_at n _ (arrays_in_view c.args.view.now.levels) of.there few) in
+          let more = sum_more c.loop-i.i reads_left c.args.sources.now c.loop-i.desks c.index-sources-i.result c.begin.new.desk here (omega (arith, c.loop-i-test.true, c.loop-i.invariant.same, c.requires.room)) in
+          let rest = sum_rest (reads_of n) c.args.sources.now c.loop-i.i c.index-sources-i.result here in
+          omega (arith, own, more, rest, c.loop-i.invariant.reads n few);
     }
 
 pub returns-clause-kept : goal.returns-clause-kept

@@ -1,4 +1,4 @@
-use Rattle.std.proofs.Common.{◌≡◌, ◌≤◌, List, length, refl, sym, ap, ◌∙◌, subst, arith}
+use Rattle.std.proofs.Common.{sym, ◌∙◌, arith}
 use Rattle.strat_cursor.proofs.ContestLemmas.{won_bracket}
 use Rattle.strat_cursor.proofs.ThroughLemmas.{through_trans}
 use Rattle.strat_cursor.proofs.TurnLemmas.{at_hand}
@@ -31,8 +31,8 @@ loop-w-preserved g c =
     let on = c.in_ok-go_on.ensures in
     record {
       telling =
-        tells_on _ _ c.args.view.now c.count-versions.ensures.kept c.args.v c.args.hi.now c.args.sources.now _ _ _ _ _ _ _ _ c.requires.same c.loop-w.invariant.telling c.loop-w.invariant.settled c.in-Some.w c.in-Some.ensures.found.0 e.0
-        (c.handle_head.ensures.fits e.0 e.1) c.in-Some.ensures.ok e.1 _ c.args.limit c.go_on.new.cache c.handle_head.new.last.items c.go_on.new.desks c.handle_head.new.out handles on.same (rw (sym c.deref.ensures.value) on.ok);
+          tells_on _ _ c.args.view.now c.count-versions.ensures.kept c.args.v c.args.hi.now c.args.sources.now _ _ _ _ _ _ _ _ c.requires.same c.loop-w.invariant.telling c.loop-w.invariant.settled c.in-Some.w c.in-Some.ensures.found.0 e.0
+          (c.handle_head.ensures.fits e.0 e.1) c.in-Some.ensures.ok e.1 _ c.args.limit c.go_on.new.cache c.handle_head.new.last.items c.go_on.new.desks c.handle_head.new.out handles on.same (rw (sym c.deref.ensures.value) on.ok);
       settled = on.kept;
       won = on.found;
       few = handled_len e.0 c.args.hi.now c.args.limit _ _ _ _ c.loop-w.invariant.few handles;

@@ -1,4 +1,4 @@
-use Rattle.std.proofs.Common.{ap, Option}
+use Rattle.std.proofs.Common.{ap}
 use Rattle.strat_array.proofs.SearchLemmas.{err_of}
 use Rattle.strat_array.specs.declared.place.Place.{Place}
 use Rattle.strat_cursor.specs.declared.desks.Desk.{Desk}

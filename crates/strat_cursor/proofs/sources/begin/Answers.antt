@@ -1,4 +1,4 @@
-use Rattle.std.proofs.Common.{ap, Option}
+use Rattle.std.proofs.Common.{ap}
 use Rattle.strat_array.proofs.SearchLemmas.{err_of}
 use Rattle.strat_cursor.specs.declared.desks.Desk.{Desk}
 use Rattle.strat_cursor.proofs.SourceLemmas.{zero_begins, array_begins, through_source, names_source, looks_desk}

@@ -1,8 +1,6 @@
 use Rattle.std.proofs.Common.{List, [], subst}
 use Rattle.strat_base.specs.Entries.{Entry}
 use Rattle.strat_format.specs.Arrays.{blocks_of}
-use Rattle.strat_array.specs.Left.{all_in}
-use Rattle.strat_array.specs.Steps.{left_from}
 use Rattle.strat_array.proofs.KeptLemmas.{looks_trans, stands_after}
 use Rattle.strat_array.proofs.SearchLemmas.{no_block_same, err_of, if_ok_then}
 use Rattle.strat_cursor.specs.Sources.{PassesOver, left_behind}

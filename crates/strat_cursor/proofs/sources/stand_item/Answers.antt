@@ -11,8 +11,8 @@ loop-item-preserved c =
     let same = ap (λ (l : List Item). length l) c.items.ensures.ok in
     record {
       passes =
-        passes_item c.args.tree.now.parents c.args.v c.args.last.now (entries_held c.args.pool.now c.args.list.now) c.args.item c.loop-item.item (entry_of c.entry.result) c.entry.ensures.ok
-        (omega (arith, held_length c.args.pool.now c.args.list.now, low, same)) c.loop-item.invariant.passes (sym c.is_due.ensures.ok ∙ c.if-is_due.false);
+          passes_item c.args.tree.now.parents c.args.v c.args.last.now (entries_held c.args.pool.now c.args.list.now) c.args.item c.loop-item.item (entry_of c.entry.result) c.entry.ensures.ok
+          (omega (arith, held_length c.args.pool.now c.args.list.now, low, same)) c.loop-item.invariant.passes (sym c.is_due.ensures.ok ∙ c.if-is_due.false);
       later = omega (arith, c.loop-item.invariant.later);
     }
 

@@ -1,4 +1,4 @@
-use Rattle.std.proofs.Common.{◌≡◌, ◌≤◌, length, drop, ◌-◌}
+use Rattle.std.proofs.Common.{◌≤◌, length, drop, ◌-◌}
 use Rattle.strat_level.specs.Memtable.{entries_held}
 use Rattle.strat_cursor.specs.Sources.{PassesOver}
 use Rattle.strat_cursor.proofs.sources.stand_item.Given as goal

@@ -1,10 +1,9 @@
-use Rattle.std.proofs.Common.{◌+◌, length, Some, None, refl, ap, sym, ◌∙◌, arith, subst}
+use Rattle.std.proofs.Common.{length, Some, None, ap, sym, ◌∙◌, arith}
 use Rattle.strat_base.specs.EntryView.{entry_of}
 use Rattle.strat_format.specs.Arrays.{blocks_of}
 use Rattle.strat_array.specs.declared.place.Place.{Place}
 use Rattle.strat_array.specs.Steps.{blocks_ahead}
 use Rattle.strat_array.proofs.SearchLemmas.{no_block_same, err_of}
-use Rattle.strat_cursor.specs.Sources.{places_ahead}
 use Rattle.strat_cursor.proofs.StandLemmas.{stood_on, stood, stands_on, held_path, near_ahead}
 use Rattle.strat_cursor.proofs.sources.stand_place.Goals as goal
 

@@ -1,4 +1,4 @@
-use Rattle.std.proofs.Common.{◌≡◌, ◌≤◌, ◌<◌, ◌+◌, length, Some, refl, sym, ap, ◌∙◌, subst, arith, get_or}
+use Rattle.std.proofs.Common.{length, ◌∙◌, subst, arith, get_or}
 use Rattle.std.proofs.lemmas.List.{length-set}
 use Rattle.strat_array.proofs.SearchLemmas.{err_of}
 use Rattle.strat_base.specs.Entries.{Entry}
