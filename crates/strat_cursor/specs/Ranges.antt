@@ -1,23 +1,19 @@
 -- The pairs of a version in a range, as look-ups through level 0 and the levels find them.
-use Rattle.std.specs.Prelude.{◌≡◌, ◌≤◌, ℕ, Bool, nat_lt, List, [], ◌∷◌, ◌++◌, length, map, filter_map, take, Option, None, Some, option_and_then, unwrap_or, IfSome, IsTrue}
-use Rattle.strat_arena.specs.PoolView.{arena_at}
+use Rattle.std.specs.Prelude.{◌≡◌, ℕ, Bool, nat_lt, List, [], ◌∷◌, ◌++◌, length, map, filter_map, take, Option, None, Some, option_and_then, unwrap_or}
 use Rattle.strat_arena.specs.declared.pool.PoolEntry.{PoolEntry}
 use Rattle.strat_base.specs.Entries.{Entry}
 use Rattle.strat_base.specs.Tree.{Parents}
 use Rattle.strat_base.specs.declared.descriptors.ArrayDesc.{ArrayDesc}
-use Rattle.strat_base.specs.declared.descriptors.LevelDesc.{LevelDesc}
 use Rattle.strat_crash.specs.Image.{Image}
 use Rattle.strat_format.specs.Arrays.{blocks_of, entries_on}
 use Rattle.strat_level.specs.Levels.{desc_for}
-use Rattle.strat_level.specs.Memtable.{ItemList, entries_held, ListStands}
+use Rattle.strat_level.specs.Memtable.{ItemList, entries_held}
 use Rattle.strat_model.specs.Kept.{IsMap}
-use Rattle.strat_model.specs.Pairs.{Pairs, value_of, range}
-use Rattle.strat_recovery.specs.TableOver.{are_known}
+use Rattle.strat_model.specs.Pairs.{Pairs, value_of}
 use Rattle.strat_state.specs.LookUp.{first_live}
-use Rattle.strat_cursor.specs.Looking.{MayBeFound, arrays_there, levels_there}
+use Rattle.strat_cursor.specs.Looking.{arrays_there, levels_there}
 use Rattle.strat_cursor.specs.declared.view.Picked.{Picked}
 use Rattle.strat_cursor.specs.declared.view.Picked.TheVariants as picked
-use Rattle.strat_cursor.specs.declared.view.View.{View}
 
 -- all arrays of a view, the shallowest level's first
 abbrev pub arrays_in_view : Picked → List ArrayDesc

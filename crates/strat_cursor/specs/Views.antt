@@ -1,15 +1,13 @@
 -- When a view of a store's pairs can be read, and what a reading of a page leaves.
-use Rattle.std.specs.Prelude.{◌≡◌, ◌≤◌, ℕ, Bool, List, [], ◌∷◌, ◌++◌, length, map, Option, Some, None, IfSome, option_map, IsTrue}
+use Rattle.std.specs.Prelude.{◌≤◌, ℕ, Bool, List, ◌∷◌, length, Option, IfSome, option_map, IsTrue}
 use Rattle.strat_array.specs.Kept.{Blocks}
 use Rattle.strat_base.specs.Entries.{Entry}
-use Rattle.strat_base.specs.Tree.{Parents}
 use Rattle.strat_crash.specs.Image.{Image}
 use Rattle.strat_level.specs.Memtable.{ItemList, entries_held, ListStands}
 use Rattle.strat_model.specs.Pairs.{Pairs, range}
 use Rattle.strat_recovery.specs.TableOver.{are_known}
 use Rattle.strat_cursor.specs.Looking.{MayBeFound, AreInOrder, HaveOwnIds, AreCachedFrom}
 use Rattle.strat_cursor.specs.Ranges.{arrays_in_view, arrays_picked, sealed_held, IsMapSeen, IsPageOf}
-use Rattle.strat_cursor.specs.declared.view.Picked.TheVariants as picked
 use Rattle.strat_cursor.specs.declared.view.View.{View}
 
 -- the sealed level 0 of a view, if it has one

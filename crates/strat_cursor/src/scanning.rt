@@ -1,19 +1,212 @@
 //! The first pairs of a range.
 
-ghost use Rattle.std.specs.Prelude.{◌≡◌, ◌≤◌, ◌<◌, ℕ, [], length, IfOk, OnErr, IsErrOf};
+ghost use Rattle.std.specs.Prelude.{◌≡◌, ◌≤◌, ◌<◌, ◌++◌, ℕ, ◌+◌, List, sum_by, [], length, vec_capacity, IfOk, OnOk, OnErr, IsErrOf};
 ghost use Rattle.strat_base.specs.declared.failures.Fault.TheVariants.{Damaged, Device};
-ghost use Rattle.strat_crash.specs.Faults.{HasCause};
+ghost use Rattle.strat_crash.specs.Faults.{HasCause, ReadsAtMost};
 ghost use Rattle.strat_crash.specs.Image.{Image};
 ghost use Rattle.strat_crash.specs.Moments.{Exposes};
-ghost use Rattle.strat_cursor.specs.Looking.{LooksThrough, NamesNoBlock};
-ghost use Rattle.strat_cursor.specs.Ranges.{arrays_in_view};
-ghost use Rattle.strat_cursor.specs.Views.{ViewStands, IsReadable, TellsPage};
+ghost use Rattle.strat_merge.specs.Bracket.{IsBracket, IsTournament};
+ghost use Rattle.strat_model.specs.Pairs.{Pairs};
+ghost use Rattle.strat_cursor.specs.Ahead.{range_after};
+ghost use Rattle.strat_cursor.specs.Contest.{contenders};
+ghost use Rattle.strat_cursor.specs.Picking.{AreSourcesOf};
+ghost use Rattle.strat_cursor.specs.Sources.{reads_left, reads_of, HaveFewBlocks};
+ghost use Rattle.strat_cursor.specs.Turning.{AreSettled, AreUpTo, sum_over};
+ghost use Rattle.strat_cursor.specs.DeskFields.{HasRoom};
+ghost use Rattle.strat_cursor.specs.Looking.{LooksThrough, NamesNoBlock, HaveOwnIds};
+ghost use Rattle.strat_cursor.specs.Ranges.{arrays_in_view, arrays_picked, IsMapSeen, IsPageOf};
+ghost use Rattle.strat_cursor.specs.Views.{ViewStands, IsReadable, TellsPage, zeros_in};
 
-use crate::desks::Desks;
+use crate::contest::{leader, play_all};
+use crate::desks::{Desk, Desks};
+use crate::picking::pick;
+use crate::sources::{Source, begin};
+use crate::turn::{go_on, handle_head};
 use crate::view::View;
 use strat_array::Cache;
 use strat_base::{Fault, PairBuf, Version};
 use strat_disk::Disk;
+
+/// Lets each source stand at its first entry that is due from a key on. What `begin` costs, for each.
+fn begin_all<D: Disk>(
+    disk: &mut D,
+    cache: &mut Cache,
+    view: &View<'_>,
+    sources: &[Source<'_>],
+    v: Version,
+    lo: &[u8],
+    desks: &mut [Desk],
+) -> Result<(), Fault>
+    requires fits { v < length view.now.tree.now.parents }
+    requires same { AreSourcesOf view.now v sources.now }
+    requires room { length desks.old ≡ length sources.now }
+    ensures kept { OnOk result (AreSettled view.now.tree.now.parents v view.now.pool.now
+        sources.now desks.new) }
+    ensures len { length desks.new ≡ length desks.old }
+    ensures ok { OnOk result ((f : Image) (next : ℕ) → Exposes (D.view disk.old) f
+        → IsReadable f next view.now cache.old
+        → AreUpTo f cache.new view.now.pool.now view.now.tree.now.parents v lo.now []
+        sources.now desks.new) }
+    ensures same { LooksThrough (D.view disk.old) (D.view disk.new)
+        (arrays_in_view view.now.levels) cache.old cache.new }
+    ensures damaged { (b : ℕ) → IsErrOf result (Damaged b)
+        → NamesNoBlock (D.view disk.old).content (arrays_in_view view.now.levels) b }
+    ensures cause { HasCause Device (D.faults disk.old) (D.faults disk.new) result }
+    ensures reads { (n : ℕ) → HaveFewBlocks n (arrays_in_view view.now.levels)
+        → ReadsAtMost (sum_by (reads_of n) sources.now) (D.reads disk.old) (D.reads disk.new) }
+    ensures room { OnOk result ((n : ℕ) → HaveFewBlocks n (arrays_in_view view.now.levels)
+        → D.reads disk.new + sum_over reads_left sources.now desks.new
+        ≤ D.reads disk.old + sum_by (reads_of n) sources.now) }
+{
+    for i in 0..sources.len() {
+        begin(
+            disk,
+            cache,
+            &sources[i],
+            view.pool,
+            view.tree,
+            v,
+            lo,
+            &mut desks[i],
+        )?;
+    }
+    Ok(())
+}
+
+/// Tells the pairs that are to come, and answers whether there are others than those that may be told. Each turn
+/// handles one entry that is due at some source: O(log sources) comparisons of keys, and what `advance` costs.
+fn tell_all<D: Disk>(
+    disk: &mut D,
+    cache: &mut Cache,
+    view: &View<'_>,
+    sources: &[Source<'_>],
+    v: Version,
+    hi: &[u8],
+    limit: usize,
+    last: &mut Vec<u8>,
+    desks: &mut [Desk],
+    winners: &mut [usize],
+    out: &mut PairBuf,
+) -> Result<bool, Fault>
+    requires fits { v < length view.now.tree.now.parents }
+    requires same { AreSourcesOf view.now v sources.now }
+    requires kept { AreSettled view.now.tree.now.parents v view.now.pool.now
+        sources.now desks.old }
+    requires found { IsTournament (contenders view.now.pool.now sources.now desks.old)
+        winners.old }
+    requires room { (limit ≤ 256) × (255 ≤ vec_capacity last.old) × (length out.old ≤ limit) }
+    ensures ok { IfOk result (λ more. (f : Image) (lo : List ℕ) (m : Pairs)
+        → Exposes (D.view disk.old) f → HaveOwnIds (arrays_in_view view.now.levels)
+        → AreUpTo f cache.old view.now.pool.now view.now.tree.now.parents v lo last.old.items
+        sources.now desks.old
+        → IsMapSeen f view.now.tree.now.parents (zeros_in view.now)
+        (arrays_picked view.now.tree.now.parents view.now.levels v) v m
+        → IsPageOf (out.old ++ range_after m lo hi.now last.old.items) limit out.new more) }
+    ensures len { IfOk result (λ more. length out.new ≤ limit) }
+    ensures room { (255 ≤ vec_capacity last.new) × (length desks.new ≡ length desks.old)
+        × IsBracket (length sources.now) winners.new }
+    ensures same { LooksThrough (D.view disk.old) (D.view disk.new)
+        (arrays_in_view view.now.levels) cache.old cache.new }
+    ensures damaged { (b : ℕ) → IsErrOf result (Damaged b)
+        → NamesNoBlock (D.view disk.old).content (arrays_in_view view.now.levels) b }
+    ensures cause { HasCause Device (D.faults disk.old) (D.faults disk.new) result }
+    ensures reads { ReadsAtMost (sum_over reads_left sources.now desks.old)
+        (D.reads disk.old) (D.reads disk.new) }
+{
+    // What it says beside its answer: the versions are a tree.
+    let _versions = view.tree.count();
+    while let Some(w) = leader(sources, view.pool, desks, winners) {
+        if let Some(more) = handle_head(sources, view.pool, desks, w, hi, limit, last, out) {
+            return Ok(more);
+        }
+        go_on(disk, cache, view, sources, v, w, last, desks, winners)?;
+    }
+    Ok(false)
+}
+
+/// Scans the sources of a view: see `scan`, whose room is passed here in its parts.
+fn scan_sources<D: Disk>(
+    disk: &mut D,
+    cache: &mut Cache,
+    view: &View<'_>,
+    sources: &[Source<'_>],
+    v: Version,
+    lo: &[u8],
+    hi: &[u8],
+    limit: usize,
+    last: &mut Vec<u8>,
+    desks: &mut [Desk],
+    winners: &mut [usize],
+    out: &mut PairBuf,
+) -> Result<bool, Fault>
+    requires fits { v < length view.now.tree.now.parents }
+    requires same { AreSourcesOf view.now v sources.now }
+    requires kept { HasRoom desks.old winners.old (vec_capacity last.old) }
+    requires room { (limit ≤ 256) × (out.old ≡ []) }
+    ensures ok { IfOk result (λ more. (f : Image) (next : ℕ) → Exposes (D.view disk.old) f
+        → IsReadable f next view.now cache.old
+        → TellsPage f view.now v lo.now hi.now limit out.new more) }
+    ensures len { IfOk result (λ more. length out.new ≤ limit) }
+    ensures kept { HasRoom desks.new winners.new (vec_capacity last.new) }
+    ensures same { LooksThrough (D.view disk.old) (D.view disk.new)
+        (arrays_in_view view.now.levels) cache.old cache.new }
+    ensures damaged { (b : ℕ) → IsErrOf result (Damaged b)
+        → NamesNoBlock (D.view disk.old).content (arrays_in_view view.now.levels) b }
+    ensures cause { HasCause Device (D.faults disk.old) (D.faults disk.new) result }
+    ensures reads { (n : ℕ) → HaveFewBlocks n (arrays_in_view view.now.levels)
+        → ReadsAtMost (sum_by (reads_of n) sources.now) (D.reads disk.old) (D.reads disk.new) }
+{
+    last.clear();
+    begin_all(disk, cache, view, sources, v, lo, desks)?;
+    play_all(sources, view.pool, desks, winners);
+    tell_all(
+        disk, cache, view, sources, v, hi, limit, last, desks, winners, out,
+    )
+}
+
+/// Scans the sources of a view with the room of a scan.
+fn scan_with<D: Disk>(
+    disk: &mut D,
+    cache: &mut Cache,
+    view: &View<'_>,
+    sources: &[Source<'_>],
+    v: Version,
+    lo: &[u8],
+    hi: &[u8],
+    limit: usize,
+    desks: &mut Desks,
+    out: &mut PairBuf,
+) -> Result<bool, Fault>
+    requires fits { v < length view.now.tree.now.parents }
+    requires same { AreSourcesOf view.now v sources.now }
+    requires room { (limit ≤ 256) × (out.old ≡ []) }
+    ensures ok { IfOk result (λ more. (f : Image) (next : ℕ) → Exposes (D.view disk.old) f
+        → IsReadable f next view.now cache.old
+        → TellsPage f view.now v lo.now hi.now limit out.new more) }
+    ensures len { IfOk result (λ more. length out.new ≤ limit) }
+    ensures same { LooksThrough (D.view disk.old) (D.view disk.new)
+        (arrays_in_view view.now.levels) cache.old cache.new }
+    ensures damaged { (b : ℕ) → IsErrOf result (Damaged b)
+        → NamesNoBlock (D.view disk.old).content (arrays_in_view view.now.levels) b }
+    ensures cause { HasCause Device (D.faults disk.old) (D.faults disk.new) result }
+    ensures reads { (n : ℕ) → HaveFewBlocks n (arrays_in_view view.now.levels)
+        → ReadsAtMost (sum_by (reads_of n) sources.now) (D.reads disk.old) (D.reads disk.new) }
+{
+    scan_sources(
+        disk,
+        cache,
+        view,
+        sources,
+        v,
+        lo,
+        hi,
+        limit,
+        &mut desks.last,
+        &mut desks.desks,
+        &mut desks.winners,
+        out,
+    )
+}
 
 /// The first pairs of a version from `lo` on and below `hi`, or without an upper bound where `hi` is empty: at most
 /// `limit` of them are put into `out`. Answers whether there are others in the range.
@@ -43,5 +236,21 @@ pub fn scan<D: Disk>(
         → NamesNoBlock (D.view disk.old).content (arrays_in_view view.now.levels) b }
     ensures cause { HasCause Device (D.faults disk.old) (D.faults disk.new) result }
 {
-    Ok(false)
+    let sources = pick(view, version);
+    let told = scan_with(
+        disk,
+        cache,
+        view,
+        &sources,
+        version,
+        lo,
+        hi,
+        limit as usize,
+        desks,
+        out,
+    );
+    if told.is_err() {
+        out.clear();
+    }
+    told
 }

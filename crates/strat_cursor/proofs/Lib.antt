@@ -1,0 +1,10 @@
+pub mod RangeLemmas
+pub mod StandLemmas
+pub mod ThroughLemmas
+pub mod SourceLemmas
+pub mod ContestLemmas
+pub mod PickLemmas
+pub mod TurnLemmas
+pub mod SeenLemmas
+pub mod TellLemmas
+pub mod BeginLemmas

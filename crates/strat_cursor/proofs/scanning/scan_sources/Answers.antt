@@ -1,0 +1,20 @@
+use Rattle.std.proofs.Common.{List, ℕ, sym, subst, ◌∙◌}
+use Rattle.strat_array.proofs.SearchLemmas.{if_ok_then}
+use Rattle.strat_cursor.specs.Turning.{AreUpTo}
+use Rattle.strat_cursor.proofs.ThroughLemmas.{through_trans}
+use Rattle.strat_cursor.proofs.TurnLemmas.{at_hand}
+use Rattle.strat_cursor.proofs.TellLemmas.{page_range}
+use Rattle.strat_cursor.proofs.scanning.scan_sources.Goals as goal
+
+pub play_all-requires-clause-kept : goal.play_all-requires-clause-kept
+play_all-requires-clause-kept g c = at_hand _ _ _ _ _ c.in_ok-begin_all.ensures.kept
+
+pub returns-clause-ok : goal.returns-clause-ok
+returns-clause-ok g c =
+    if_ok_then c.tell_all.result c.tell_all.ensures.ok (λ more answers f next exposed may m seen.
+    page_range m c.args.lo.now c.args.hi.now c.clear.new.self.items c.args.out.now c.args.limit _ more c.clear.ensures.items c.requires.room.1
+    (answers f c.args.lo.now m (c.in_ok-begin_all.ensures.same.disk.same ∙ exposed) may.ids
+    (subst (λ (l : List ℕ). AreUpTo f c.begin_all.new.cache c.args.view.now.pool.now c.args.view.now.tree.now.parents c.args.v c.args.lo.now l c.args.sources.now c.begin_all.new.desks) (sym c.clear.ensures.items) (c.in_ok-begin_all.ensures.ok f next exposed may)) seen))
+
+pub returns-clause-same : goal.returns-clause-same
+returns-clause-same g c = through_trans _ _ _ _ _ _ _ c.in_ok-begin_all.ensures.same c.tell_all.ensures.same

@@ -1,0 +1,53 @@
+-- The sources of a range in a tournament: the one whose first key is least wins, and of equal keys the first source.
+use Rattle.std.specs.Prelude.{◌≡◌, ℕ, List, [], ◌∷◌, length, Option, None, Some, option_map, option_and_then, slice_get, false}
+use Rattle.strat_arena.specs.declared.pool.PoolEntry.{PoolEntry}
+use Rattle.strat_base.specs.Entries.{Entry}
+use Rattle.strat_merge.specs.Bracket.{is_ahead}
+use Rattle.strat_merge.specs.Runs.{RunView}
+use Rattle.strat_cursor.specs.Sources.{MayBeRead, HasHead, head_of}
+use Rattle.strat_cursor.specs.declared.desks.Desk.{Desk}
+use Rattle.strat_cursor.specs.declared.sources.Source.{Source}
+
+-- the key of an entry, at version 0
+abbrev pub keyed : Entry → Entry
+keyed e = record { key = e.key; version = 0; value = None }
+
+-- what a tournament sees of a source: the key of its first entry
+abbrev pub contender : Option Entry → RunView
+contender head = record {
+  blocks = [];
+  versions = 0;
+  first = option_map keyed head;
+  left = λ c. [];
+  misfit = λ c. None;
+}
+
+-- the first entry that the source of a number has left
+abbrev pub head_in : List PoolEntry → List Source → List Desk → ℕ → Option Entry
+head_in pool sources desks i =
+    option_and_then (λ s. option_and_then (λ d. head_of pool s d) (slice_get desks i))
+    (slice_get sources i)
+
+-- what a tournament sees of sources
+abbrev pub contenders : List PoolEntry → List Source → List Desk → List RunView
+contenders pool [] desks = []
+contenders pool (s ∷ sources) [] = []
+contenders pool (s ∷ sources) (d ∷ desks) =
+    contender (head_of pool s d) ∷ contenders pool sources desks
+
+-- each source can be read, and the first entry that it has left is at hand
+pub record AreAtHand (pool : List PoolEntry) (sources : List Source) (desks : List Desk)
+    : Type 0 where
+  pub same : length desks ≡ length sources
+  pub each : (i : ℕ) (s : Source) (d : Desk) → slice_get sources i ≡ Some s
+      → slice_get desks i ≡ Some d → MayBeRead pool s × HasHead s d
+
+-- no source is ahead of the one of a number
+abbrev pub Leads : List PoolEntry → List Source → List Desk → ℕ → Type 0
+Leads pool sources desks w = (i : ℕ)
+    → is_ahead (option_map keyed (head_in pool sources desks i)) i
+    (option_map keyed (head_in pool sources desks w)) w ≡ false
+
+-- no source has an entry left
+abbrev pub NoneAhead : List PoolEntry → List Source → List Desk → Type 0
+NoneAhead pool sources desks = (i : ℕ) → head_in pool sources desks i ≡ None

@@ -1,0 +1,329 @@
+//! A place that a range is read from: a level 0, or an array.
+
+ghost use Rattle.std.specs.List.{slice_get, filter};
+ghost use Rattle.std.specs.Prelude.{◌≡◌, ◌≤◌, ◌<◌, ℕ, ◌+◌, ◌^◌, if◌then◌else◌, List, [], Contains, length, drop, option_map, IsTrue, IfSome, IfOk, OnOk, IsErrOf, None, Some};
+ghost use Rattle.strat_base.specs.declared.failures.Fault.TheVariants.{Damaged, Device};
+ghost use Rattle.strat_crash.specs.Faults.{HasCause, ReadsAtMost};
+ghost use Rattle.strat_crash.specs.Image.{Image};
+ghost use Rattle.strat_crash.specs.Moments.{Exposes};
+ghost use Rattle.strat_format.specs.Arrays.{blocks_of};
+ghost use Rattle.strat_array.specs.Left.{all_in, is_from};
+ghost use Rattle.strat_cursor.specs.Looking.{LooksThrough, NamesNoBlock};
+ghost use Rattle.strat_array.specs.Kept.{Looks, ArrayStands};
+ghost use Rattle.strat_array.specs.Within.{AreWithin, IsNoBlock};
+ghost use Rattle.strat_base.specs.Entries.{Entry as TheEntry, is_ascending};
+ghost use Rattle.strat_base.specs.EntryBytes.{fits_fields};
+ghost use Rattle.strat_base.specs.EntryView.{entry_of};
+ghost use Rattle.strat_base.specs.Tree.{is_ancestor};
+ghost use Rattle.strat_level.specs.Memtable.{ListStands, entries_held};
+ghost use Rattle.strat_array.specs.Steps.{blocks_ahead, left_from, HoldsPlace};
+ghost use Rattle.strat_cursor.specs.Ahead.{is_after};
+ghost use Rattle.strat_cursor.specs.Sources.{MayBeRead, HasHead, head_of, entry_held, is_due, arrays_at, left_of, steps_left, reads_left, reads_of, HaveFewBlocks, IsSettledAt, IsUpTo, IsSpent, MayBeBegun, StandsIn, left_behind, places_ahead, blocks_behind, PassesOver};
+
+use crate::desks::Desk;
+use strat_arena::ArenaPool;
+use strat_array::{Cache, Place, Scratch, seek, settle};
+use strat_base::{ArrayDesc, Entry, Fault, Version};
+use strat_disk::Disk;
+use strat_level::ZeroView;
+use strat_tree::Tree;
+
+/// A place that a range is read from.
+#[derive(Clone, Copy)]
+pub enum Source<'a> {
+    /// No place.
+    None,
+    /// A level 0.
+    Zero(&'a ZeroView),
+    /// An array.
+    Array(&'a ArrayDesc),
+}
+
+/// The item at a place of level 0, if there is one. O(1).
+fn item_at<'a>(pool: &'a ArenaPool, list: &ZeroView, item: usize) -> Option<Entry<'a>>
+    requires kept { ListStands pool.now list.now }
+    ensures ok { option_map entry_of result ≡ slice_get (entries_held pool.now list.now) item }
+    ensures fits { IfSome result (λ e. IsTrue (fits_fields (entry_of e))) }
+{
+    if item < list.items().len() {
+        Some(list.entry(pool, item))
+    } else {
+        None
+    }
+}
+
+/// The entry at a place, if there is one. O(1).
+fn entry_of_desk(desk: &Desk) -> Option<Entry<'_>>
+    requires kept { (a : ℕ) × (IsTrue desk.now.there
+        → HoldsPlace desk.now.scratch a desk.now.place × (desk.now.place.index < 454)) }
+    ensures ok { option_map entry_of result
+        ≡ (if desk.now.there then entry_held desk.now.scratch desk.now.place.index else None) }
+    ensures fits { IfSome result (λ e. IsTrue (fits_fields (entry_of e))) }
+{
+    if desk.there {
+        Some(desk.scratch.entry(desk.place.index))
+    } else {
+        None
+    }
+}
+
+/// The first entry that a source has left, if there is one. O(1), and nothing is read.
+pub(crate) fn head<'a>(
+    source: &Source<'_>,
+    pool: &'a ArenaPool,
+    desk: &'a Desk,
+) -> Option<Entry<'a>>
+    requires kept { MayBeRead pool.now source.now }
+    requires found { HasHead source.now desk.now }
+    ensures ok { option_map entry_of result ≡ head_of pool.now source.now desk.now }
+    ensures fits { IfSome result (λ e. IsTrue (fits_fields (entry_of e))) }
+{
+    match source {
+        Source::None => None,
+        Source::Zero(list) => item_at(pool, list, desk.item),
+        Source::Array(_) => entry_of_desk(desk),
+    }
+}
+
+/// Whether a key is after the last one that was handled, if any was.
+pub(crate) fn is_after(last: &[u8], key: &[u8]) -> bool
+    ensures ok { result ≡ is_after last.now key.now }
+{
+    last.is_empty() || last.cmp(key).is_lt()
+}
+
+/// Whether an entry decides its key: the key is after the last one that was handled, and the entry is at v or at an
+/// ancestor of it, whatever number its version is: a disk may say anything. A comparison of keys, and O(log
+/// versions_max) where the key is after it.
+#[tactic(auto, using(strat_array::proofs::WalkLemmas::past_is_off))]
+fn is_due(entry: &Entry<'_>, tree: &Tree, v: Version, last: &[u8]) -> bool
+    requires { v < length tree.now.parents }
+    ensures ok { result ≡ is_due tree.now.parents v last.now (entry_of entry.now) }
+{
+    is_after(last, entry.key) && entry.version < tree.count() && tree.is_ancestor(entry.version, v)
+}
+
+/// The first item from a place on that is due. O(items passed over), each as `is_due`.
+fn stand_item(
+    pool: &ArenaPool,
+    list: &ZeroView,
+    tree: &Tree,
+    v: Version,
+    last: &[u8],
+    item: usize,
+) -> usize
+    requires kept { ListStands pool.now list.now }
+    requires fits { v < length tree.now.parents }
+    ensures ok { PassesOver tree.now.parents v last.now
+        (drop item (entries_held pool.now list.now)) (drop result (entries_held pool.now list.now)) }
+    ensures found { IfSome (slice_get (entries_held pool.now list.now) result)
+        (λ e. IsTrue (is_ancestor tree.now.parents e.version v)) }
+    ensures end { item ≤ result }
+{
+    let mut item = item;
+    while item < list.items().len() {
+        if is_due(&list.entry(pool, item), tree, v, last) {
+            return item;
+        }
+        item += 1;
+    }
+    item
+}
+
+/// The place of the first entry from a place on that is due, or `None` where none is. Afterwards the scratch holds the
+/// block of that entry. O(entries passed over), each as `is_due`, and what `settle` costs. Device: the disk counted a
+/// fault. Damaged: this block of the array is no block of entries.
+fn stand_place<D: Disk>(
+    disk: &mut D,
+    cache: &mut Cache,
+    desc: &ArrayDesc,
+    tree: &Tree,
+    v: Version,
+    last: &[u8],
+    place: Place,
+    scratch: &mut Scratch,
+) -> Result<Option<Place>, Fault>
+    requires fits { AreWithin desc.now.extents }
+    requires kept { v < length tree.now.parents }
+    ensures found { IfOk result (λ r. IfSome r (λ at.
+        HoldsPlace scratch.new desc.now.id at × (at.index < 454))) }
+    ensures kept { IfOk result (λ r. IfSome r (λ at. IfSome (entry_held scratch.new at.index)
+        (λ e. IsTrue (is_ancestor tree.now.parents e.version v)))) }
+    ensures ok { IfOk result (λ r. (lists : List (List TheEntry))
+        → ArrayStands (D.view disk.old).content desc.now.id (blocks_of desc.now.extents)
+        cache.old scratch.old lists
+        → PassesOver tree.now.parents v last.now (left_from lists place) (left_behind lists r)) }
+    ensures end { IfOk result (λ r. IfSome r (λ at. places_ahead at ≤ places_ahead place)) }
+    ensures same { Looks (D.view disk.old) (D.view disk.new)
+        desc.now.id (blocks_of desc.now.extents) cache.old cache.new scratch.old scratch.new }
+    ensures damaged { (b : ℕ) → IsErrOf result (Damaged b)
+        → IsNoBlock (D.view disk.old).content (blocks_of desc.now.extents) b }
+    ensures cause { HasCause Device (D.faults disk.old) (D.faults disk.new) result }
+    ensures reads { ReadsAtMost
+        (blocks_ahead scratch.old desc.now.id (length (blocks_of desc.now.extents)) place)
+        (D.reads disk.old) (D.reads disk.new) }
+    ensures room { IfOk result (λ r. D.reads disk.new
+        + blocks_behind scratch.new desc.now.id (length (blocks_of desc.now.extents)) r
+        ≤ D.reads disk.old
+        + blocks_ahead scratch.old desc.now.id (length (blocks_of desc.now.extents)) place) }
+{
+    let mut place = place;
+    while let Some(at) = settle(disk, cache, desc, place, scratch)? {
+        let entry = scratch.entry(at.index);
+        if is_due(&entry, tree, v, last) {
+            return Ok(Some(at));
+        }
+        place = at.next();
+    }
+    Ok(None)
+}
+
+/// The place of the first entry of an array that is due from a key on, when none was handled yet. What `seek` and
+/// `stand_place` cost.
+fn begin_place<D: Disk>(
+    disk: &mut D,
+    cache: &mut Cache,
+    desc: &ArrayDesc,
+    tree: &Tree,
+    v: Version,
+    lo: &[u8],
+    scratch: &mut Scratch,
+) -> Result<Option<Place>, Fault>
+    requires fits { AreWithin desc.now.extents }
+    requires kept { v < length tree.now.parents }
+    ensures found { IfOk result (λ r. IfSome r (λ at.
+        HoldsPlace scratch.new desc.now.id at × (at.index < 454))) }
+    ensures kept { IfOk result (λ r. IfSome r (λ at. IfSome (entry_held scratch.new at.index)
+        (λ e. IsTrue (is_ancestor tree.now.parents e.version v)))) }
+    ensures ok { IfOk result (λ r. (lists : List (List TheEntry))
+        → ArrayStands (D.view disk.old).content desc.now.id (blocks_of desc.now.extents)
+        cache.old None lists
+        → IsTrue (is_ascending (all_in lists))
+        → PassesOver tree.now.parents v [] (filter (is_from lo.now) (all_in lists))
+        (left_behind lists r)) }
+    ensures same { Looks (D.view disk.old) (D.view disk.new)
+        desc.now.id (blocks_of desc.now.extents) cache.old cache.new None scratch.new }
+    ensures damaged { (b : ℕ) → IsErrOf result (Damaged b)
+        → IsNoBlock (D.view disk.old).content (blocks_of desc.now.extents) b }
+    ensures cause { HasCause Device (D.faults disk.old) (D.faults disk.new) result }
+    ensures reads { (n : ℕ) → length (blocks_of desc.now.extents) < 2 ^ n
+        → ReadsAtMost (n + 1 + length (blocks_of desc.now.extents))
+        (D.reads disk.old) (D.reads disk.new) }
+    ensures room { IfOk result (λ r. (n : ℕ) → length (blocks_of desc.now.extents) < 2 ^ n
+        → D.reads disk.new
+        + blocks_behind scratch.new desc.now.id (length (blocks_of desc.now.extents)) r
+        ≤ D.reads disk.old + (n + 1 + length (blocks_of desc.now.extents))) }
+{
+    let place = seek(disk, cache, desc, lo, scratch)?;
+    stand_place(disk, cache, desc, tree, v, &[], place, scratch)
+}
+
+/// The first item of level 0 that is due from a key on, when none was handled yet. What `ZeroView::seek` and
+/// `stand_item` cost.
+fn begin_item(pool: &ArenaPool, list: &ZeroView, tree: &Tree, v: Version, lo: &[u8]) -> usize
+    requires kept { ListStands pool.now list.now }
+    requires fits { v < length tree.now.parents }
+    ensures ok { PassesOver tree.now.parents v []
+        (filter (is_from lo.now) (entries_held pool.now list.now))
+        (drop result (entries_held pool.now list.now)) }
+    ensures found { IfSome (slice_get (entries_held pool.now list.now) result)
+        (λ e. IsTrue (is_ancestor tree.now.parents e.version v)) }
+{
+    let item = list.seek(pool, lo);
+    stand_item(pool, list, tree, v, &[], item)
+}
+
+/// Lets a source stand at its first entry that is due from a key on, when none was handled yet. What `seek` costs and
+/// the entries passed over, or `ZeroView::seek` and the items passed over.
+pub(crate) fn begin<D: Disk>(
+    disk: &mut D,
+    cache: &mut Cache,
+    source: &Source<'_>,
+    pool: &ArenaPool,
+    tree: &Tree,
+    v: Version,
+    lo: &[u8],
+    desk: &mut Desk,
+) -> Result<(), Fault>
+    requires kept { MayBeRead pool.now source.now }
+    requires fits { v < length tree.now.parents }
+    ensures found { OnOk result (IsSettledAt tree.now.parents v pool.now source.now desk.new) }
+    ensures ok { OnOk result ((f : Image) → Exposes (D.view disk.old) f
+        → MayBeBegun f cache.old source.now
+        → IsUpTo f pool.now tree.now.parents v lo.now [] source.now desk.new
+        × StandsIn f cache.new source.now desk.new.scratch) }
+    ensures same { LooksThrough (D.view disk.old) (D.view disk.new)
+        (arrays_at source.now) cache.old cache.new }
+    ensures damaged { (b : ℕ) → IsErrOf result (Damaged b)
+        → NamesNoBlock (D.view disk.old).content (arrays_at source.now) b }
+    ensures cause { HasCause Device (D.faults disk.old) (D.faults disk.new) result }
+    ensures reads { (n : ℕ) → HaveFewBlocks n (arrays_at source.now)
+        → ReadsAtMost (reads_of n source.now) (D.reads disk.old) (D.reads disk.new) }
+    ensures room { OnOk result ((n : ℕ) → HaveFewBlocks n (arrays_at source.now)
+        → D.reads disk.new + reads_left source.now desk.new
+        ≤ D.reads disk.old + reads_of n source.now) }
+{
+    match source {
+        Source::None => Ok(()),
+        Source::Zero(list) => {
+            desk.item = begin_item(pool, list, tree, v, lo);
+            Ok(())
+        }
+        Source::Array(desc) => {
+            let at = begin_place(disk, cache, desc, tree, v, lo, &mut desk.scratch)?;
+            desk.stand(at);
+            Ok(())
+        }
+    }
+}
+
+/// Lets a source go on from an entry that was handled, to the next one that is due. O(entries passed over) and what
+/// `stand_place` or `stand_item` costs.
+pub(crate) fn advance<D: Disk>(
+    disk: &mut D,
+    cache: &mut Cache,
+    source: &Source<'_>,
+    pool: &ArenaPool,
+    tree: &Tree,
+    v: Version,
+    last: &[u8],
+    desk: &mut Desk,
+) -> Result<(), Fault>
+    requires kept { MayBeRead pool.now source.now }
+    requires fits { v < length tree.now.parents }
+    requires held { HasHead source.now desk.old }
+    requires found { IsSpent last.now (head_of pool.now source.now desk.old) }
+    ensures found { OnOk result (IsSettledAt tree.now.parents v pool.now source.now desk.new) }
+    ensures ok { OnOk result ((f : Image) → Exposes (D.view disk.old) f
+        → StandsIn f cache.old source.now desk.old.scratch
+        → PassesOver tree.now.parents v last.now (left_of f pool.now source.now desk.old)
+        (left_of f pool.now source.now desk.new)
+        × StandsIn f cache.new source.now desk.new.scratch) }
+    ensures end { OnOk result (steps_left pool.now source.now desk.new
+        < steps_left pool.now source.now desk.old) }
+    ensures same { LooksThrough (D.view disk.old) (D.view disk.new)
+        (arrays_at source.now) cache.old cache.new }
+    ensures damaged { (b : ℕ) → IsErrOf result (Damaged b)
+        → NamesNoBlock (D.view disk.old).content (arrays_at source.now) b }
+    ensures cause { HasCause Device (D.faults disk.old) (D.faults disk.new) result }
+    ensures reads { ReadsAtMost (reads_left source.now desk.old)
+        (D.reads disk.old) (D.reads disk.new) }
+    ensures room { OnOk result (D.reads disk.new + reads_left source.now desk.new
+        ≤ D.reads disk.old + reads_left source.now desk.old) }
+{
+    match source {
+        Source::None => Ok(()),
+        Source::Zero(list) => {
+            // That there are more items than the place says is known where they are counted.
+            let _items = list.items().len();
+            desk.item = stand_item(pool, list, tree, v, last, desk.item + 1);
+            Ok(())
+        }
+        Source::Array(desc) => {
+            let next = desk.place.next();
+            let at = stand_place(disk, cache, desc, tree, v, last, next, &mut desk.scratch)?;
+            desk.stand(at);
+            Ok(())
+        }
+    }
+}

@@ -1,0 +1,172 @@
+//! A turn of a scan: the least key is handled, and its source goes on.
+
+ghost use Rattle.std.specs.Bool.{OnTrue};
+ghost use Rattle.std.specs.Prelude.{◌≡◌, ◌≤◌, ◌<◌, ℕ, ◌+◌, ◌^◌, List, length, Some, None, IsTrue, IsSome, IfOk, OnOk, OnErr, IsErrOf, vec_capacity};
+ghost use Rattle.strat_base.specs.Entries.{Entry as TheEntry};
+ghost use Rattle.strat_base.specs.EntryBytes.{fits_fields};
+ghost use Rattle.strat_base.specs.EntryView.{entry_of};
+ghost use Rattle.strat_base.specs.declared.failures.Fault.TheVariants.{Damaged, Device};
+ghost use Rattle.strat_base.specs.declared.limits.TheConstants.{PAIRS_MAX};
+ghost use Rattle.strat_crash.specs.Faults.{HasCause, ReadsAtMost};
+ghost use Rattle.strat_crash.specs.Image.{Image};
+ghost use Rattle.strat_crash.specs.Moments.{Exposes};
+ghost use Rattle.strat_merge.specs.Bracket.{IsBracket, IsTournament};
+ghost use Rattle.strat_cursor.specs.Contest.{contenders, head_in, AreAtHand};
+ghost use Rattle.strat_cursor.specs.Looking.{LooksThrough, NamesNoBlock, HaveOwnIds};
+ghost use Rattle.strat_cursor.specs.Picking.{AreSourcesOf};
+ghost use Rattle.strat_cursor.specs.Ranges.{arrays_in_view};
+ghost use Rattle.strat_cursor.specs.Sources.{IsSpent, steps_left, reads_left};
+ghost use Rattle.strat_cursor.specs.Turning.{is_under, TellsValue, HandlesKey, AreSettled, AreUpTo, IsLater, sum_over};
+
+use crate::contest::{head_in, replay};
+use crate::desks::Desk;
+use crate::sources::{Source, advance, is_after};
+use crate::view::View;
+use strat_arena::ArenaPool;
+use strat_array::Cache;
+use strat_base::{Entry, Fault, PairBuf, Val, Version};
+use strat_disk::Disk;
+
+/// Whether a key is below hi, where that is not empty.
+fn is_under(hi: &[u8], key: &[u8]) -> bool
+    ensures ok { result ≡ is_under hi.now key.now }
+{
+    hi.is_empty() || key.cmp(hi).is_lt()
+}
+
+/// Tells the pair of an entry that has a value, or answers that there are `limit` pairs already.
+fn tell_value(entry: &Entry<'_>, limit: usize, out: &mut PairBuf) -> bool
+    requires fits { IsTrue (fits_fields (entry_of entry.now)) }
+    requires room { limit ≤ PAIRS_MAX }
+    ensures ok { TellsValue (entry_of entry.now) limit out.old out.new result }
+{
+    let Val::Put(value) = entry.val else {
+        return false;
+    };
+    if out.len() >= limit {
+        return true;
+    }
+    out.push(entry.key, value);
+    false
+}
+
+/// Keeps a key as the last one that was handled.
+fn remember(last: &mut Vec<u8>, key: &[u8])
+    requires fits { length key.now ≤ 255 }
+    requires room { 255 ≤ vec_capacity last.old }
+    ensures ok { last.new.items ≡ key.now }
+    ensures room { 255 ≤ vec_capacity last.new }
+{
+    last.clear();
+    last.extend_from_slice(key).unwrap();
+}
+
+/// Handles the entry of the least key: see `HandlesKey`. At most `limit` pairs are told.
+fn handle(
+    entry: &Entry<'_>,
+    hi: &[u8],
+    limit: usize,
+    last: &mut Vec<u8>,
+    out: &mut PairBuf,
+) -> Option<bool>
+    requires fits { IsTrue (fits_fields (entry_of entry.now)) }
+    requires room { limit ≤ PAIRS_MAX }
+    requires kept { 255 ≤ vec_capacity last.old }
+    ensures ok { HandlesKey (entry_of entry.now) hi.now limit last.old.items last.new.items
+        out.old out.new result }
+    ensures kept { 255 ≤ vec_capacity last.new }
+{
+    if !is_after(last, entry.key) {
+        return None;
+    }
+    if !is_under(hi, entry.key) {
+        return Some(false);
+    }
+    if tell_value(entry, limit, out) {
+        return Some(true);
+    }
+    remember(last, entry.key);
+    None
+}
+
+/// Handles the first entry of the source that leads.
+pub(crate) fn handle_head(
+    sources: &[Source<'_>],
+    pool: &ArenaPool,
+    desks: &[Desk],
+    w: usize,
+    hi: &[u8],
+    limit: usize,
+    last: &mut Vec<u8>,
+    out: &mut PairBuf,
+) -> Option<bool>
+    requires kept { AreAtHand pool.now sources.now desks.now }
+    requires fits { w < length sources.now }
+    requires found { IsSome (head_in pool.now sources.now desks.now w) }
+    requires room { (limit ≤ PAIRS_MAX) × (255 ≤ vec_capacity last.old) }
+    ensures ok { (e : TheEntry) → head_in pool.now sources.now desks.now w ≡ Some e
+        → HandlesKey e hi.now limit last.old.items last.new.items out.old out.new result }
+    ensures fits { (e : TheEntry) → head_in pool.now sources.now desks.now w ≡ Some e
+        → IsTrue (fits_fields e) }
+    ensures room { 255 ≤ vec_capacity last.new }
+{
+    let entry = head_in(sources, pool, desks, w).unwrap();
+    handle(&entry, hi, limit, last, out)
+}
+
+/// The source that led goes on, and the nodes above its leaf are played again.
+pub(crate) fn go_on<D: Disk>(
+    disk: &mut D,
+    cache: &mut Cache,
+    view: &View<'_>,
+    sources: &[Source<'_>],
+    v: Version,
+    w: usize,
+    last: &[u8],
+    desks: &mut [Desk],
+    winners: &mut [usize],
+) -> Result<(), Fault>
+    requires fits { (v < length view.now.tree.now.parents) × (w < length sources.now) }
+    requires same { AreSourcesOf view.now v sources.now }
+    requires kept { AreSettled view.now.tree.now.parents v view.now.pool.now
+        sources.now desks.old }
+    requires found { IsTournament (contenders view.now.pool.now sources.now desks.old)
+        winners.old }
+    requires room { IsSpent last.now (head_in view.now.pool.now sources.now desks.old w) }
+    ensures kept { OnOk result (AreSettled view.now.tree.now.parents v view.now.pool.now
+        sources.now desks.new) }
+    ensures found { OnOk result (IsTournament
+        (contenders view.now.pool.now sources.now desks.new) winners.new) }
+    ensures len { (length desks.new ≡ length desks.old)
+        × IsBracket (length sources.now) winners.new }
+    ensures ok { OnOk result ((f : Image) (lo prev : List ℕ) → Exposes (D.view disk.old) f
+        → HaveOwnIds (arrays_in_view view.now.levels) → IsLater prev last.now
+        → AreUpTo f cache.old view.now.pool.now view.now.tree.now.parents v lo prev
+        sources.now desks.old
+        → AreUpTo f cache.new view.now.pool.now view.now.tree.now.parents v lo last.now
+        sources.now desks.new) }
+    ensures end { OnOk result (sum_over (steps_left view.now.pool.now) sources.now desks.new
+        < sum_over (steps_left view.now.pool.now) sources.now desks.old) }
+    ensures same { LooksThrough (D.view disk.old) (D.view disk.new)
+        (arrays_in_view view.now.levels) cache.old cache.new }
+    ensures damaged { (b : ℕ) → IsErrOf result (Damaged b)
+        → NamesNoBlock (D.view disk.old).content (arrays_in_view view.now.levels) b }
+    ensures cause { HasCause Device (D.faults disk.old) (D.faults disk.new) result }
+    ensures reads { ReadsAtMost (sum_over reads_left sources.now desks.old)
+        (D.reads disk.old) (D.reads disk.new) }
+    ensures room { OnOk result (D.reads disk.new + sum_over reads_left sources.now desks.new
+        ≤ D.reads disk.old + sum_over reads_left sources.now desks.old) }
+{
+    advance(
+        disk,
+        cache,
+        &sources[w],
+        view.pool,
+        view.tree,
+        v,
+        last,
+        &mut desks[w],
+    )?;
+    replay(sources, view.pool, desks, winners, sources.len() + w);
+    Ok(())
+}
