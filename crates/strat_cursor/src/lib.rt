@@ -1,10 +1,14 @@
 //! Ranges of a version's pairs, through level 0 and the levels of a store.
 #![tactic(auto)]
 
+mod cursor;
+mod cursors;
 mod desks;
 mod scanning;
+mod starting;
 mod view;
 
+pub use cursors::{CursorFault, Cursors, NextFault};
 pub use desks::Desks;
 pub use scanning::scan;
 pub use view::{Picked, View};
