@@ -1,5 +1,5 @@
 -- What is left of a range behind a page of it.
-use Rattle.std.proofs.Common.{◌≡◌, ◌<◌, ◌≤◌, ◌+◌, ◌-◌, ℕ, zero, suc, Bool, true, false, not, cond, ltb, eqb, ◌&&◌, List, [], ◌∷◌, ◌++◌, length, get_or, take, drop, refl, sym, ap, ◌∙◌, arith}
+use Rattle.std.proofs.Common.{◌≡◌, ◌<◌, ◌≤◌, ◌+◌, ◌-◌, ℕ, zero, suc, Bool, true, false, not, cond, ltb, eqb, ◌&&◌, List, [], ◌∷◌, ◌++◌, Option, Some, None, length, get_or, take, drop, refl, sym, ap, ◌∙◌, arith}
 use Rattle.std.specs.List.{AllByRecursion, filter}
 use Rattle.std.specs.List.Sorted.{IsStrictlySortedBy}
 use Rattle.std.specs.Map.{keys_of}
@@ -11,8 +11,11 @@ use Rattle.std.proofs.Math.Bool.{not-not}
 use Rattle.strat_base.specs.Order.{key_cmp}
 use Rattle.strat_model.specs.Pairs.{Pair, Pairs, is_between, range}
 use Rattle.strat_model.specs.Kept.{IsMap}
+use Rattle.strat_cursor.specs.Ranges.{IsPageOf}
+use Rattle.strat_cursor.specs.Cursors.{OpenCursor, range_left, pairs_left, behind_told, goes_on, TellsNext}
+use Rattle.std.proofs.lemmas.List.{get_or-take, drop_all, length-take-le}
 use Rattle.strat_model.proofs.MapLemmas.{filter_keeps_map}
-use Rattle.std.proofs.lemmas.Bool.{and_parts, not-true, true≢false}
+use Rattle.std.proofs.lemmas.Bool.{and_parts, not-true, ltb-false, ltb-true, lt-ltb, true≢false}
 use Rattle.std.proofs.lemmas.List.Elements.{filter_passes}
 
 -- no number is below zero
@@ -131,3 +134,28 @@ range_behind m lo hi i d sorted within =
     let at = not_below lo hi k (filter_passes (λ (p : Pair). is_between lo hi p.0) m i d within) in
     picks_both (λ p. is_between lo hi p.0) (λ p. is_lt (key_cmp k p.0)) (λ p. is_between (k ++ 0 ∷ []) hi p.0) (λ e. between_next lo hi k e.0 at) m
     ∙ behind_place (range m lo hi) i d (filter_keeps_map (λ p. is_between lo hi p.0) m sorted) within
+
+-- what is left behind a page is what it left
+pub left_behind : (m : Pairs) (from : Option (List ℕ)) (hi : List ℕ) (limit : ℕ) (told : Pairs) (more : Bool) → IsMap m → 1 ≤ limit
+    → IsPageOf (range_left m from hi) limit told more → range_left m (goes_on from more told) hi ≡ drop limit (range_left m from hi)
+left_behind m None hi zero told more sorted some page = refl
+left_behind m None hi (suc limit) told more sorted some page = refl
+left_behind m (Some lo) hi limit told false sorted some page =
+    sym (drop_all limit (range m lo hi) (ltb-false limit (length (range m lo hi)) (sym page.more_is)))
+left_behind m (Some lo) hi zero told true sorted some page = absurd (omega arith)
+left_behind m (Some lo) hi (suc i) told true sorted some page =
+    let within : suc i < length (range m lo hi) = ltb-true (suc i) (length (range m lo hi)) (sym page.more_is) in
+    let long : length told ≡ suc i = ap (λ (x : Pairs). length x) page.pairs_are ∙ length-take-le (suc i) (range m lo hi) (omega arith) in
+    let last : length told - 1 ≡ i = omega arith in
+    let last_key : (get_or told (length told - 1) ([], [])).0 ≡ (get_or (range m lo hi) i ([], [])).0 =
+    (λ j. (get_or (page.pairs_are j) (last j) ([], [])).0)
+    ∙ ap (λ (p : Pair). p.0) (get_or-take (suc i) (range m lo hi) i ([], []) (omega arith)) in
+    ap (λ n. range m (cond (ltb 0 n) (behind_told told) lo) hi) long
+    ∙ ap (λ b. range m (cond b (behind_told told) lo) hi) (lt-ltb 0 (suc i) (omega arith))
+    ∙ ap (λ (k : List ℕ). range m (k ++ 0 ∷ []) hi) last_key
+    ∙ range_behind m lo hi i ([], []) sorted (omega arith)
+
+-- a page tells the first pairs of what a cursor has left, and it goes on behind them
+pub next_told : (m : Pairs) (c : OpenCursor) (limit : ℕ) (told : Pairs) (more : Bool) → IsMap m → 1 ≤ limit
+    → IsPageOf (pairs_left m c) limit told more → TellsNext m c limit told more
+next_told m c limit told more sorted some page = record { page = page; left = left_behind m c.from c.hi limit told more sorted some page }
