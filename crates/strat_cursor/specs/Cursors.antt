@@ -1,6 +1,8 @@
 -- Cursors: the pairs of a range of a version as they were, told page by page.
 use Rattle.std.specs.Prelude.{◌≡◌, ◌≤◌, ◌<◌, ◌-◌, ◌+◌, ◌==◌, nat_lt, ℕ, Bool, true, false, if◌then◌else◌, not, List, [], ◌∷◌, ◌++◌, length, map, filter, flat_map, drop, slice_index_or, Option, Some, None, Contains, IfSome, IsTrue}
-use Rattle.std.specs.List.{list_any}
+use Rattle.std.specs.List.{list_any, AllByRecursion}
+use Rattle.std.specs.List.Sorted.{IsStrictlySortedBy}
+use Rattle.std.specs.Ordering.{nat_cmp}
 use Rattle.strat_arena.specs.declared.pool.PoolEntry.{PoolEntry}
 use Rattle.strat_array.specs.Kept.{Blocks}
 use Rattle.strat_base.specs.Entries.{Entry}
@@ -94,10 +96,22 @@ is_array_named cursors id = list_any (λ c. list_any (λ a. a.id == id) c.arrays
 abbrev pub those_named : List OpenCursor → List ArrayDesc → List ArrayDesc
 those_named cursors arrays = filter (λ a. is_array_named cursors a.id) arrays
 
--- a cursor's numbers are each its own and below the next one, and each retired array is named
+-- the numbers of cursors ascend, and are below the next one
 pub record AreNumberedBelow (cursors : List OpenCursor) (next : ℕ) : Type 0 where
-  pub some : 1 ≤ next
-  pub below : (c : OpenCursor) → Contains cursors c → (1 ≤ c.number) × (c.number < next)
+  pub ascending : IsStrictlySortedBy nat_cmp (map (λ c. c.number) cursors)
+  pub below : AllByRecursion (λ (c : OpenCursor). c.number < next) cursors
+
+-- cursors after the one of a number was closed: arrays that no other names are kept no longer
+abbrev pub closed_at : ℕ → CursorsView → CursorsView
+closed_at number c = record c {
+  opened = without_cursor number c.opened;
+  retired = those_named (without_cursor number c.opened) c.retired;
+}
+
+-- cursors after an array was retired: it is kept where one of them names it
+abbrev pub retired_by : ArrayDesc → CursorsView → CursorsView
+retired_by a c =
+    if is_array_named c.opened a.id then record c { retired = c.retired ++ a ∷ [] } else c
 
 -- in an image the arrays of a cursor have entries in order, and what is cached of them is as it stands
 -- there

@@ -1,3 +1,4 @@
+pub mod CursorFaults
 pub mod CursorFields
 pub mod CursorsFields
 pub mod Cursors

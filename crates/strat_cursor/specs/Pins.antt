@@ -8,7 +8,7 @@ use Rattle.strat_level.specs.Memtable.{ItemList, Memtable, entries_held, ListSta
 use Rattle.strat_recovery.specs.TableOver.{are_known}
 use Rattle.strat_base.specs.declared.descriptors.LevelDesc.{LevelDesc}
 use Rattle.strat_level.specs.Levels.{desc_for}
-use Rattle.strat_cursor.specs.Looking.{MayBeFound, levels_there}
+use Rattle.strat_cursor.specs.Looking.{MayBeFound, arrays_there, levels_there}
 use Rattle.strat_cursor.specs.Cursors.{OpenCursor, CursorsView}
 
 -- the arena of a list, if there is one
@@ -56,6 +56,15 @@ pub record IsPinned (pool : List PoolEntry) (parents : Parents) (c : OpenCursor)
   pub arrays : MayBeFound c.arrays
   pub few : length c.arrays ≤ 22
   pub version : c.version < length parents
+
+-- what a cursor at a version is to pin is there: the lists of level 0 stand, at versions of the tree, and
+-- the arrays of the levels may be read
+pub record MayBePinned (pool : List PoolEntry) (parents : Parents) (zero : Memtable)
+    (sealed : Option Memtable) (levels : List (Option LevelDesc)) (version : ℕ) : Type 0 where
+  pub first : ListStands pool zero.list × IsListKnown pool parents zero.list
+  pub second : IfSome sealed (λ z. ListStands pool z.list × IsListKnown pool parents z.list)
+  pub arrays : MayBeFound (arrays_there levels)
+  pub known : version < length parents
 
 -- these cursors may go on
 pub record ArePinned (pool : List PoolEntry) (parents : Parents) (cursors : List OpenCursor)

@@ -60,7 +60,7 @@ fn arrays_at(
 
 /// Equal items of a sealed level 0, if there is one, that share its arena. After want of memory all is as before.
 fn copy_if_any(sealed: Option<&Zero>, pool: &mut ArenaPool) -> Result<Option<ZeroView>, NoMemory>
-    requires kept { IfSome sealed (λ z. ListStands pool.old z.now.list) }
+    requires kept { IfSome (option_copied sealed) (λ z. ListStands pool.old z.list) }
     requires room { (n : ℕ) → shares_at pool.old n < 2 ^ 32 - 1 }
     ensures ok { IfOk result (λ list. IsCopyIfAny (option_copied sealed.entry) list) }
     ensures same { IfOk result (λ list. TakesShares pool.old pool.new (arena_pinned list)) }
@@ -80,7 +80,7 @@ fn copy_lists(
     pool: &mut ArenaPool,
 ) -> Result<(ZeroView, Option<ZeroView>), NoMemory>
     requires kept { ListStands pool.old zero.now.list
-        × IfSome sealed (λ z. ListStands pool.old z.now.list) }
+        × IfSome (option_copied sealed) (λ z. ListStands pool.old z.list) }
     requires room { (n : ℕ) → shares_at pool.old n + 1 < 2 ^ 32 - 1 }
     ensures found { IfOk result (λ lists. IsCopyOf zero.now.list lists.0) }
     ensures ok { IfOk result (λ lists. IsCopyIfAny (option_copied sealed.entry) lists.1) }
@@ -115,7 +115,7 @@ pub(crate) fn open_cursor(
 ) -> Result<Cursor, NoMemory>
     requires fits { version < length tree.now.parents }
     requires kept { ListStands pool.old zero.now.list
-        × IfSome sealed (λ z. ListStands pool.old z.now.list) }
+        × IfSome (option_copied sealed) (λ z. ListStands pool.old z.list) }
     requires room { (n : ℕ) → shares_at pool.old n + 1 < 2 ^ 32 - 1 }
     ensures found { IfOk result (λ c. IsCopyOf zero.now.list c.zero
         × IsCopyIfAny (option_copied sealed.entry) c.sealed) }
