@@ -1,3 +1,5 @@
 pub mod NextLemmas
+pub mod OpenedLemmas
 pub mod PageReads
+pub mod PinLemmas
 pub mod StartLemmas

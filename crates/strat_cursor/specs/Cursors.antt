@@ -1,6 +1,6 @@
 -- Cursors: the pairs of a range of a version as they were, told page by page.
 use Rattle.std.specs.Prelude.{◌≡◌, ◌≤◌, ◌<◌, ◌-◌, ◌+◌, ◌==◌, nat_lt, ℕ, Bool, true, false, if◌then◌else◌, not, List, [], ◌∷◌, ◌++◌, length, map, filter, flat_map, drop, slice_index_or, Option, Some, None, Contains, IfSome, IsTrue}
-use Rattle.std.specs.List.{list_any, AllByRecursion}
+use Rattle.std.specs.List.{list_any, list_all, AllByRecursion}
 use Rattle.std.specs.List.Sorted.{IsStrictlySortedBy}
 use Rattle.std.specs.Ordering.{nat_cmp}
 use Rattle.strat_arena.specs.declared.pool.PoolEntry.{PoolEntry}
@@ -95,6 +95,10 @@ is_array_named cursors id = list_any (λ c. list_any (λ a. a.id == id) c.arrays
 -- the arrays among these that some cursor names
 abbrev pub those_named : List OpenCursor → List ArrayDesc → List ArrayDesc
 those_named cursors arrays = filter (λ a. is_array_named cursors a.id) arrays
+
+-- some cursor names each of these arrays
+abbrev pub are_named : List OpenCursor → List ArrayDesc → Bool
+are_named cursors arrays = list_all (λ a. is_array_named cursors a.id) arrays
 
 -- the numbers of cursors ascend, and are below the next one
 pub record AreNumberedBelow (cursors : List OpenCursor) (next : ℕ) : Type 0 where

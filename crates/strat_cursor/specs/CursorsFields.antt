@@ -1,7 +1,7 @@
 -- The fields of cursors.
-use Rattle.std.specs.Prelude.{◌≡◌, ◌≤◌, ℕ, List, length, vec_capacity, IsTrue}
+use Rattle.std.specs.Prelude.{◌≤◌, length, vec_capacity, IsTrue}
 use Rattle.strat_base.specs.declared.limits.TheConstants.{CURSORS_MAX}
-use Rattle.strat_cursor.specs.Cursors.{CursorsView, AreNumberedBelow, those_named}
+use Rattle.strat_cursor.specs.Cursors.{CursorsView, AreNumberedBelow, are_named}
 use Rattle.strat_cursor.specs.declared.cursors.Cursors.TheInside.{Inside}
 
 -- the cursors of these fields
@@ -19,4 +19,4 @@ pub record AreOpened (a : Inside) : Type 0 where
   pub numbered : AreNumberedBelow a.opened.items a.next
   pub few : length a.opened.items ≤ CURSORS_MAX
   pub space : CURSORS_MAX ≤ vec_capacity a.opened
-  pub named : those_named a.opened.items a.retired.items ≡ a.retired.items
+  pub named : IsTrue (are_named a.opened.items a.retired.items)

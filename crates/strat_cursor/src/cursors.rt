@@ -2,14 +2,14 @@
 
 ghost use Rattle.std.specs.List.{position};
 ghost use Rattle.std.specs.Option.{option_copied};
-ghost use Rattle.std.specs.Prelude.{◌≡◌, ◌<◌, ◌≤◌, ◌+◌, ◌-◌, ◌^◌, ◌==◌, ◌↔◌, ℕ, [], false, length, Contains, IfOk, OnOk, OnErr, IfSome, IsErrOf};
+ghost use Rattle.std.specs.Prelude.{◌≡◌, ◌<◌, ◌≤◌, ◌+◌, ◌-◌, ◌^◌, ◌==◌, ◌↔◌, ℕ, [], false, length, Contains, IfOk, OnOk, OnErr, IfSome, IsErrOf, IsTrue, vec_capacity};
 ghost use Rattle.strat_arena.specs.PoolView.{shares_at, count_shared};
 ghost use Rattle.strat_base.specs.declared.limits.TheConstants.{CURSORS_MAX as the_most};
 ghost use Rattle.strat_crash.specs.Faults.{HasCause};
 ghost use Rattle.strat_crash.specs.Image.{Image};
 ghost use Rattle.strat_crash.specs.Moments.{Exposes};
 ghost use Rattle.strat_model.specs.Pairs.{Pairs};
-ghost use Rattle.strat_cursor.specs.Cursors.{OpenCursor, IsMapPinned, MayGoOn, TellsNext, arrays_named, closed_at, is_array_named, is_opened, moved_at, retired_by, those_named};
+ghost use Rattle.strat_cursor.specs.Cursors.{OpenCursor, IsMapPinned, MayGoOn, TellsNext, are_named, arrays_named, closed_at, is_array_named, is_opened, moved_at, retired_by, those_named};
 ghost use Rattle.strat_cursor.specs.CursorFaults.{as_next_fault};
 ghost use Rattle.strat_cursor.specs.Looking.{LooksThrough, NamesNoBlock};
 ghost use Rattle.strat_cursor.specs.Pins.{AreHeld, ArePinned, IsSamePool, IsStarted, MayBePinned, SharesFollow, arrays_asked};
@@ -110,6 +110,14 @@ fn is_named(opened: &[Cursor], id: u64) -> bool
     opened.iter().any(|c| c.names(id))
 }
 
+/// Lets go of each array that no cursor names.
+fn keep_named(retired: &mut Vec<ArrayDesc>, opened: &[Cursor])
+    ensures ok { retired.new.items ≡ those_named opened.now retired.old.items }
+    ensures room { vec_capacity retired.new ≡ vec_capacity retired.old }
+{
+    retired.retain(|a| is_named(opened, a.id));
+}
+
 impl Cursors {
     /// No cursors, and room for 64.
     pub fn new(alloc: Global) -> Result<Cursors, NoMemory>
@@ -141,7 +149,7 @@ impl Cursors {
     /// The arrays that are kept for open cursors. O(1).
     pub fn retired(&self) -> &[ArrayDesc]
         ensures ok { result.now ≡ self.now.retired }
-        ensures kept { those_named self.now.opened self.now.retired ≡ self.now.retired }
+        ensures kept { IsTrue (are_named self.now.opened self.now.retired) }
     {
         &self.retired
     }
@@ -244,8 +252,7 @@ impl Cursors {
         };
         let cursor = self.opened.remove(place);
         cursor.release(pool);
-        let opened = &self.opened;
-        self.retired.retain(|a| is_named(opened, a.id));
+        keep_named(&mut self.retired, &self.opened);
         true
     }
 
