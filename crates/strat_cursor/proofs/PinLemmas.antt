@@ -1,16 +1,17 @@
 -- What cursors hold on to, as shares and arenas change.
 use Rattle.std.proofs.Common.{◌≡◌, ◌<◌, ◌≤◌, ◌+◌, ℕ, zero, suc, Bool, true, false, cond, not, eqb, ◌⊎◌, inl, inr, List, [], ◌∷◌, ◌++◌, Option, Some, None, length, get_or, take, drop, refl, sym, ap, ◌∙◌, subst, arith}
-use Rattle.std.specs.List.{Contains, count_by, flat_map, filter, filter_map}
+use Rattle.std.specs.List.{Contains, count_by, flat_map, filter, filter_map, cons_option, list_all}
 use Rattle.std.specs.Option.{IfSome}
 use Rattle.std.proofs.lemmas.Bool.{eq-eqb}
 use Rattle.std.proofs.lemmas.List.Sums.{sum_by-append, sum_by-cons}
 use Rattle.std.proofs.lemmas.List.{append_assoc}
 use Rattle.strat_arena.specs.PoolView.{pool_entry, arena_at, shares_at}
-use Rattle.strat_arena.specs.Items.{entries_of}
+use Rattle.strat_arena.specs.Items.{entries_of, have_pairs}
 use Rattle.strat_arena.specs.declared.pool.PoolEntry.{PoolEntry}
-use Rattle.strat_base.proofs.ListFacts.{Among, among_split, filter_among, find_some}
-use Rattle.strat_base.specs.Tree.{Parents}
-use Rattle.strat_base.specs.Entries.{Entry}
+use Rattle.strat_base.proofs.ListFacts.{Among, among_split, among_left, among_right, filter_among, find_some}
+use Rattle.strat_base.specs.Tree.{Parents, below}
+use Rattle.strat_base.specs.Entries.{Entry, is_ascending}
+use Rattle.strat_base.specs.EntryBytes.{fits_fields}
 use Rattle.strat_base.specs.declared.descriptors.ArrayDesc.{ArrayDesc}
 use Rattle.strat_base.specs.declared.descriptors.LevelDesc.{LevelDesc}
 use Rattle.strat_level.specs.Memtable.{ItemList, Memtable, entries_held, ListStands}
@@ -148,3 +149,82 @@ module _ (old new : List PoolEntry) (cursors : List OpenCursor) (number i : ℕ)
       (arenas_stay old new (without_cursor number cursors) (λ n some. gives.arenas n (let less = left n in omega arith)) left)
       left
       (λ c among. held.stand c (among_contained cursors c (filter_among (λ (x : OpenCursor). not (eqb x.number number)) cursors c among).0))
+
+-- a copy of a list stands and reads as the list
+copy_stands : (pool : List PoolEntry) (of list : ItemList) → IsCopyOf of list → ListStands pool of → ListStands pool list × (entries_held pool list ≡ entries_held pool of)
+copy_stands pool of list copy stands =
+    let reads : entries_held pool list ≡ entries_held pool of = λ i. entries_of (arena_at pool (copy.arena i)).pairs (copy.items i) in (
+      record {
+        shared = subst (λ n. 0 < shares_at pool n) (sym copy.arena) stands.shared;
+        slots = (λ i. have_pairs (arena_at pool (copy.arena i)).pairs (copy.items i)) ∙ stands.slots;
+        ascending = ap (λ (es : List Entry). is_ascending es) reads ∙ stands.ascending;
+        lawful = ap (λ (es : List Entry). list_all fits_fields es) reads ∙ stands.lawful;
+      },
+      reads,
+    )
+
+copy_pinned : (pool : List PoolEntry) (parents : Parents) (of list : ItemList) → IsCopyOf of list → ListStands pool of × IsListKnown pool parents of
+    → ListStands pool list × IsListKnown pool parents list
+copy_pinned pool parents of list copy there =
+    let copied = copy_stands pool of list copy there.0 in (copied.0, ap (λ (es : List Entry). are_known parents es) copied.1 ∙ there.1)
+
+copies_pinned : (pool : List PoolEntry) (parents : Parents) (of : Option Memtable) (list : Option ItemList) → IsCopyIfAny of list
+    → IfSome of (λ z. ListStands pool z.list × IsListKnown pool parents z.list) → IfSome list (ListStands pool) × IfSome list (IsListKnown pool parents)
+copies_pinned pool parents None None copy there = (tt, tt)
+copies_pinned pool parents None (Some list) copy there = absurd copy
+copies_pinned pool parents (Some of) None copy there = absurd copy
+copies_pinned pool parents (Some of) (Some list) copy there = copy_pinned pool parents of.list list copy there
+
+-- what is asked at a version is there
+asked_of_levels : (parents : Parents) (v : ℕ) (levels : List LevelDesc) (a : ArrayDesc) → Among a (filter_map (λ level. desc_for parents level v) levels)
+    → Among a (flat_map (λ (level : LevelDesc). level.arrays) levels)
+asked_of_levels parents v [] a among = among
+asked_of_levels parents v (level ∷ levels) a among =
+    by (desc_for parents level v) refl (asked_of_levels parents v levels a) among
+  where
+    by : (o : Option ArrayDesc) → desc_for parents level v ≡ o
+        → (Among a (filter_map (λ x. desc_for parents x v) levels) → Among a (flat_map (λ (x : LevelDesc). x.arrays) levels))
+        → Among a (cons_option o (filter_map (λ x. desc_for parents x v) levels))
+        → Among a (level.arrays ++ flat_map (λ (x : LevelDesc). x.arrays) levels)
+    by None is rest among = among_right level.arrays (flat_map (λ (x : LevelDesc). x.arrays) levels) a (rest among)
+    by (Some x) is rest (inl here) =
+        among_left level.arrays (flat_map (λ (y : LevelDesc). y.arrays) levels) a
+        (subst (λ (y : ArrayDesc). Among y level.arrays) (sym here) (find_some (is_for (below parents v level.horizon)) level.arrays x is).0)
+    by (Some x) is rest (inr later) = among_right level.arrays (flat_map (λ (x : LevelDesc). x.arrays) levels) a (rest later)
+
+pub asked_there : (parents : Parents) (v : ℕ) (levels : List (Option LevelDesc)) (a : ArrayDesc) → Among a (arrays_asked parents levels v) → Among a (arrays_there levels)
+asked_there parents v levels a among = asked_of_levels parents v (levels_there levels) a among
+
+module _ (old new : List PoolEntry) (cursors : List OpenCursor) (c : OpenCursor) (taken : TakesShares old new (arenas_of c)) where
+  pub started_follow : SharesFollow old new cursors (cursors ++ c ∷ [])
+  started_follow = record { shares = λ n. omega (arith, taken.shares n, shares_more cursors c n); arenas = λ n some. taken.arenas n }
+
+  stays : (d : OpenCursor) → ListsStay old new d
+  stays d list arena stands =
+      let some = stands.shared in
+      let more = taken.shares list.arena in
+      stands_while old new list (taken.arenas list.arena) (omega arith) stands
+
+  pub started_pinned : (parents : Parents) (of : Memtable) (sealed : Option Memtable) (levels : List (Option LevelDesc)) (version : ℕ)
+      → ArePinned old parents cursors → MayBePinned old parents of sealed levels version → IsCopyOf of.list c.zero × IsCopyIfAny sealed c.sealed
+      → c.arrays ≡ arrays_asked parents levels version → c.version ≡ version → length c.arrays ≤ 22 → ArePinned new parents (cursors ++ c ∷ [])
+  started_pinned parents of sealed levels version pinned may copies arrays at few =
+      let first = copy_pinned old parents of.list c.zero copies.0 may.first in
+      let second = copies_pinned old parents sealed c.sealed copies.1 may.second in
+      let readable : MayBeFound c.arrays = record {
+        each = λ a there.
+          may.arrays.each a (among_contained (arrays_there levels) a
+          (asked_there parents version levels a (subst (λ (x : List ArrayDesc). Among a x) arrays (contained_at a c.arrays there.0 there.1 there.2))))
+      } in
+      let known : c.version < length parents = subst (λ v. v < length parents) (sym at) may.known in
+      let here : ListsStand old c × IsPinned old parents c =
+      (record { zero = first.0; sealed = second.0 }, record { zero = first.1; sealed = second.1; arrays = readable; few = few; version = known }) in
+      pins_kept old new parents (cursors ++ c ∷ []) (λ d among. stays d)
+      (λ n. omega (arith, taken.shares n, shares_more cursors c n, pinned.held.shares n))
+      (λ d among. elim (among_split cursors (c ∷ []) d among) [
+        | inl older ↦ let at_place = among_contained cursors d older in (pinned.held.stand d at_place, pinned.each d at_place)
+        | inr last ↦ elim last [
+          | inl same ↦ subst (λ (x : OpenCursor). ListsStand old x × IsPinned old parents x) (sym same) here
+          | inr none ↦ absurd none
+        ]
+      ])
