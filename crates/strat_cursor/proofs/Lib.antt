@@ -1,3 +1,4 @@
+pub mod FaultLemmas
 pub mod NextLemmas
 pub mod OpenedLemmas
 pub mod PageReads

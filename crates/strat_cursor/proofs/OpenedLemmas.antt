@@ -252,12 +252,36 @@ started_keeps cursors c next most retired numbered few named is = record {
   named = named_more cursors (cursors ++ c ∷ []) retired (named_front cursors c) named;
 }
 
+-- later numbers are greater
+number_later : (n : ℕ) (cursors : List OpenCursor) (x : OpenCursor) → AllByRecursion (λ y. nat_cmp n y ≡ Less) (map {A = OpenCursor} (λ c. c.number) cursors)
+    → Among x cursors → n < x.number
+number_later n [] x all among = absurd among
+number_later n (c ∷ cursors) x all (inl here) =
+    let lt : n < c.number = ranked n c.number Less (sym all.0) in subst (λ (y : OpenCursor). n < y.number) (sym here) lt
+number_later n (c ∷ cursors) x all (inr there) = number_later n cursors x all.1 there
+
+-- a number is that of one cursor alone
+one_of_number : (cursors : List OpenCursor) (i : ℕ) (d x : OpenCursor) (n : ℕ) → IsStrictlySortedBy nat_cmp (map {A = OpenCursor} (λ c. c.number) cursors)
+    → i < length cursors → (get_or cursors i d).number ≡ n → Among x cursors → x.number ≡ n → x ≡ get_or cursors i d
+unfolding IsStrictlySortedBy
+one_of_number [] i d x n sorted within is among also = absurd among
+one_of_number (c ∷ cursors) zero d x n sorted within is (inl here) also = here
+one_of_number (c ∷ cursors) zero d x n sorted within is (inr there) also =
+    let lt : c.number < x.number = number_later c.number cursors x sorted.0 there in absurd (omega arith)
+one_of_number (c ∷ cursors) (suc i) d x n sorted within is (inl here) also =
+    let lt : c.number < (get_or cursors i d).number = number_later c.number cursors (get_or cursors i d) sorted.0 (element_at cursors i d (omega arith)) in
+    let same : x.number ≡ c.number = ap (λ (y : OpenCursor). y.number) here in
+    absurd (omega arith)
+one_of_number (c ∷ cursors) (suc i) d x n sorted within is (inr there) also = one_of_number cursors i d x n sorted.1 (omega arith) is there also
+
 -- where a number stands among cursors, and what they are without it
 pub record IsFoundAt (cursors : List OpenCursor) (n i : ℕ) (d : OpenCursor) : Type 0 where
   pub within : i < length cursors
   pub number : (get_or cursors i d).number ≡ n
   pub opened : is_opened n cursors ≡ true
   pub rest : without_cursor n cursors ≡ take i cursors ++ drop (suc i) cursors
+  pub only : (x : OpenCursor) → Contains cursors x → x.number ≡ n → x ≡ get_or cursors i d
+  pub moved : (more : Bool) (told : Pairs) → moved_at n more told cursors ≡ set cursors i (moved_on more told (get_or cursors i d))
 
 pub found_at : (cursors : List OpenCursor) (next n i : ℕ) (d : OpenCursor) → AreNumberedBelow cursors next
     → Some i ≡ position (λ (c : OpenCursor). eqb c.number n) cursors → IsFoundAt cursors n i d
@@ -269,4 +293,6 @@ found_at cursors next n i d numbered is =
       number = number;
       opened = place_some (λ (c : OpenCursor). eqb c.number n) cursors i d (sym is);
       rest = (at_its_place n (λ c. c) cursors i d numbered.ascending at.0 number).0;
+      only = λ x there also. one_of_number cursors i d x n numbered.ascending at.0 number (contained_at x cursors there.0 there.1 there.2) also;
+      moved = λ more told. (at_its_place n (moved_on more told) cursors i d numbered.ascending at.0 number).1;
     }
