@@ -25,13 +25,13 @@ use Rattle.strat_cursor.specs.Cursors.{OpenCursor, zeros_pinned, without_cursor}
 use Rattle.strat_cursor.specs.Pins.{arena_pinned, arenas_of, shares_of, SharesFollow, ListsStand, AreHeld, IsListKnown, IsPinned, ArePinned, MayBePinned, TakesShares, GivesShares, IsCopyOf, IsCopyIfAny, arrays_asked}
 
 -- how many shares a cursor has in an arena
-abbrev takes : OpenCursor → ℕ → ℕ
+abbrev pub takes : OpenCursor → ℕ → ℕ
 takes c n = count_by (λ a. eqb a n) (arenas_of c)
 
-shares_first : (c : OpenCursor) (cursors : List OpenCursor) (n : ℕ) → shares_of (c ∷ cursors) n ≡ takes c n + shares_of cursors n
+pub shares_first : (c : OpenCursor) (cursors : List OpenCursor) (n : ℕ) → shares_of (c ∷ cursors) n ≡ takes c n + shares_of cursors n
 shares_first c cursors n = sum_by-append (λ (a : ℕ). cond (eqb a n) 1 0) (arenas_of c) (flat_map arenas_of cursors)
 
-shares_more : (cursors : List OpenCursor) (c : OpenCursor) (n : ℕ) → shares_of (cursors ++ c ∷ []) n ≡ shares_of cursors n + takes c n
+pub shares_more : (cursors : List OpenCursor) (c : OpenCursor) (n : ℕ) → shares_of (cursors ++ c ∷ []) n ≡ shares_of cursors n + takes c n
 shares_more [] c n = shares_first c [] n ∙ (let none : shares_of [] n ≡ 0 = refl in omega arith)
 shares_more (d ∷ cursors) c n =
     omega (arith, shares_first d (cursors ++ c ∷ []) n, shares_more cursors c n, shares_first d cursors n)

@@ -2,6 +2,7 @@
 #![tactic(auto)]
 
 mod cursor;
+pub mod cursor_laws;
 mod cursors;
 mod desks;
 mod scanning;
