@@ -1,4 +1,5 @@
 pub mod FaultLemmas
+pub mod HoldingLemmas
 pub mod NextLemmas
 pub mod OpenedLemmas
 pub mod PageReads

@@ -176,7 +176,7 @@ copies_pinned pool parents (Some of) None copy there = absurd copy
 copies_pinned pool parents (Some of) (Some list) copy there = copy_pinned pool parents of.list list copy there
 
 -- what is asked at a version is there
-asked_of_levels : (parents : Parents) (v : ℕ) (levels : List LevelDesc) (a : ArrayDesc) → Among a (filter_map (λ level. desc_for parents level v) levels)
+pub asked_of_levels : (parents : Parents) (v : ℕ) (levels : List LevelDesc) (a : ArrayDesc) → Among a (filter_map (λ level. desc_for parents level v) levels)
     → Among a (flat_map (λ (level : LevelDesc). level.arrays) levels)
 asked_of_levels parents v [] a among = among
 asked_of_levels parents v (level ∷ levels) a among =

@@ -1,11 +1,13 @@
 //! Laws of open cursors. Each is the contract of a function that does nothing.
 
 ghost use Rattle.std.specs.List.{list_any};
-ghost use Rattle.std.specs.Prelude.{◌≡◌, ◌<◌, ◌≤◌, ◌+◌, ◌*◌, ◌==◌, ◌++◌, ◌∷◌, ℕ, Bool, true, false, not, List, [], length, filter, Option, option_map, Contains};
-ghost use Rattle.strat_arena.specs.PoolView.{arena_at, shares_at};
+ghost use Rattle.std.specs.Prelude.{◌≡◌, ◌<◌, ◌≤◌, ◌+◌, ◌*◌, ◌==◌, ◌++◌, ◌∷◌, ℕ, Bool, true, false, not, List, [], length, count_by, filter, Option, option_map, Contains};
+ghost use Rattle.strat_arena.specs.PoolView.{arena_at, count_shared, shares_at};
 ghost use Rattle.strat_arena.specs.declared.pool.PoolEntry.{PoolEntry};
+ghost use Rattle.strat_array.specs.Kept.{Blocks};
 ghost use Rattle.strat_base.specs.Tree.{Parents, with_child, IsTree};
 ghost use Rattle.strat_base.specs.declared.descriptors.ArrayDesc.{ArrayDesc};
+ghost use Rattle.strat_base.specs.declared.descriptors.LevelDesc.{LevelDesc};
 ghost use Rattle.strat_crash.specs.Blocks.{AgreeOn};
 ghost use Rattle.strat_crash.specs.Image.{Image};
 ghost use Rattle.strat_format.specs.Arrays.{blocks_of};
@@ -15,9 +17,10 @@ ghost use Rattle.strat_model.specs.Step.{advanced, next_pairs, refuses};
 ghost use Rattle.strat_model.specs.Table.{Cursor, Table};
 ghost use Rattle.strat_model.specs.declared.replies.Refusal.TheVariants as why;
 ghost use Rattle.strat_model.specs.declared.replies.Reply.TheVariants as reply;
-ghost use Rattle.strat_cursor.specs.Cursors.{OpenCursor, CursorsView, IsMapPinned, TellsNext, arrays_named, is_opened, moved_at, without_cursor};
+ghost use Rattle.strat_cursor.specs.Cursors.{OpenCursor, CursorsView, IsMapPinned, MayGoOn, TellsNext, arrays_named, is_opened, moved_at, without_cursor};
 ghost use Rattle.strat_cursor.specs.CursorTable.{AreCursorsOf};
-ghost use Rattle.strat_cursor.specs.Pins.{ArePinned, IsStarted, SharesFollow, shares_of};
+ghost use Rattle.strat_cursor.specs.Looking.{AreInOrder, HaveOwnIds, AreCachedFrom, arrays_there};
+ghost use Rattle.strat_cursor.specs.Pins.{ArePinned, IsStarted, SharesFollow, arrays_asked, shares_of};
 ghost use Rattle.strat_cursor.specs.Ranges.{IsMapSeen, sealed_held};
 
 /// Cursors may go on, and have the same pairs left, where each list that stood in the pool stands and reads as before, as
@@ -98,4 +101,21 @@ pub fn a_started_cursor_has_its_range_left()
         → AreCursorsOf f parents before old.opened rows
         → AreCursorsOf f parents after new.opened
         (rows ++ record { number = old.next; left = range m lo hi } ∷ []) }
+{}
+
+/// A cursor has two shares at most, and there are as many arenas as have shares, at most.
+pub fn cursors_hold_few_arenas()
+    ensures fits { (cursors : List OpenCursor) (n : ℕ) → shares_of cursors n ≤ 2 * length cursors }
+    ensures len { (pool : List PoolEntry) (own : List ℕ) (cursors : List OpenCursor)
+        → ((n : ℕ) → shares_at pool n ≤ count_by (λ a. a == n) own + shares_of cursors n)
+        → count_shared pool ≤ length own + 2 * length cursors }
+{}
+
+/// A cursor may go on at its start where a look-up in the levels may be made.
+pub fn a_started_cursor_may_go_on()
+    ensures kept { (f : Image) (next : ℕ) (parents : Parents) (levels : List (Option LevelDesc))
+        (v : ℕ) (c : OpenCursor) (cached : Blocks)
+        → c.arrays ≡ arrays_asked parents levels v
+        → AreInOrder f (arrays_there levels) → HaveOwnIds (arrays_there levels)
+        → AreCachedFrom f next (arrays_there levels) cached → MayGoOn f next c cached }
 {}

@@ -1,0 +1,154 @@
+-- How many arenas and shares there are at most, and what a cursor may read from its start on.
+use Rattle.std.proofs.Common.{◌≡◌, ◌<◌, ◌≤◌, ◌+◌, ◌*◌, ◌&&◌, ◌||◌, ◌⊎◌, ℕ, zero, suc, Bool, true, false, not, cond, eqb, ltb, inl, inr, List, [], ◌∷◌, ◌++◌, Option, Some, None, length, map, get_or, refl, sym, ap, ◌∙◌, subst, arith, true≢false, length-append}
+use Rattle.std.specs.List.{Contains, list_any, flat_map, filter_map, cons_option, count_by, slice_get}
+use Rattle.std.proofs.lemmas.Bool.{cases_Bool, and_parts, and_from, eq-eqb, eqb-true, or_left, or_right, not-true, not_from_false}
+use Rattle.std.proofs.lemmas.List.Sums.{sum_by-append, sum_by-cons, count_by-le-length}
+use Rattle.std.proofs.Math.Dec.{eqb-zero-suc, eqb-suc-zero, eqb-suc-suc}
+use Rattle.strat_arena.specs.PoolView.{pool_entry, shares_at, count_shared, is_shared}
+use Rattle.strat_arena.specs.declared.pool.PoolEntry.{PoolEntry}
+use Rattle.strat_array.specs.Kept.{Blocks}
+use Rattle.strat_base.proofs.ListFacts.{Among, among_left, among_right, any_from, any_among, none_at, find_some}
+use Rattle.strat_base.specs.Entries.{Entry, is_tagged}
+use Rattle.strat_base.specs.Tree.{Parents, below}
+use Rattle.strat_base.specs.declared.descriptors.ArrayDesc.{ArrayDesc}
+use Rattle.strat_base.specs.declared.descriptors.LevelDesc.{LevelDesc}
+use Rattle.strat_crash.specs.Image.{Image}
+use Rattle.strat_level.specs.Levels.{desc_for, is_for}
+use Rattle.strat_recovery.proofs.BadLemmas.{contained_at}
+use Rattle.strat_state.specs.Level.{is_distinct}
+use Rattle.strat_cursor.specs.Cursors.{OpenCursor, MayGoOn}
+use Rattle.strat_cursor.specs.Looking.{AreInOrder, HaveOwnIds, AreCachedFrom, arrays_there, levels_there}
+use Rattle.strat_cursor.specs.Pins.{arena_pinned, arenas_of, shares_of, arrays_asked}
+use Rattle.strat_cursor.proofs.PinLemmas.{among_contained, asked_of_levels, asked_there}
+
+arenas_few : (c : OpenCursor) → length (arenas_of c) ≤ 2
+arenas_few c = by c.sealed
+  where
+    by : (s : Option _) → length (c.zero.arena ∷ arena_pinned s) ≤ 2
+    by None = omega arith
+    by (Some list) = omega arith
+
+holders_few : (cursors : List OpenCursor) → length (flat_map arenas_of cursors) ≤ 2 * length cursors
+holders_few [] = omega arith
+holders_few (c ∷ cursors) = omega (arith, arenas_few c, holders_few cursors, length-append (arenas_of c) (flat_map arenas_of cursors))
+
+-- cursors have two shares each at most
+pub shares_few : (cursors : List OpenCursor) (n : ℕ) → shares_of cursors n ≤ 2 * length cursors
+shares_few cursors n = omega (arith, holders_few cursors, count_by-le-length (λ (a : ℕ). eqb a n) (flat_map arenas_of cursors))
+
+-- numbers one less, without those that were 0
+less_one : List ℕ → List ℕ
+less_one [] = []
+less_one (zero ∷ ns) = less_one ns
+less_one (suc n ∷ ns) = n ∷ less_one ns
+
+times : ℕ → List ℕ → ℕ
+times n ns = count_by (λ a. eqb a n) ns
+
+times_first : (n a : ℕ) (ns : List ℕ) → count_by (λ x. eqb x n) (a ∷ ns) ≡ cond (eqb a n) 1 0 + count_by (λ x. eqb x n) ns
+times_first n a ns = sum_by-cons (λ (x : ℕ). cond (eqb x n) 1 0) a ns
+
+times_less : (n : ℕ) (ns : List ℕ) → count_by (λ a. eqb a n) (less_one ns) ≡ count_by (λ a. eqb a (suc n)) ns
+unfolding less_one
+times_less n [] = refl
+times_less n (zero ∷ ns) = omega (arith, times_less n ns, times_first (suc n) zero ns, ap {B = ℕ} (λ (b : Bool). cond b 1 0) (eqb-zero-suc n))
+times_less n (suc a ∷ ns) = omega (arith, times_less n ns, times_first (suc n) (suc a) ns, times_first n a (less_one ns), ap {B = ℕ} (λ (b : Bool). cond b 1 0) (eqb-suc-suc a n))
+
+length_less : (ns : List ℕ) → length ns ≡ count_by (λ a. eqb a 0) ns + length (less_one ns)
+unfolding less_one
+length_less [] = refl
+length_less (zero ∷ ns) = omega (arith, length_less ns, times_first 0 zero ns)
+length_less (suc a ∷ ns) = omega (arith, length_less ns, times_first 0 (suc a) ns, ap {B = ℕ} (λ (b : Bool). cond b 1 0) (eqb-suc-zero a))
+
+-- as many arenas are in a pool as hold shares, at most
+held_by : (pool : List PoolEntry) (holders : List ℕ) → ((n : ℕ) → shares_at pool n ≤ count_by (λ a. eqb a n) holders) → count_shared pool ≤ length holders
+held_by [] holders shares = omega arith
+held_by (e ∷ pool) holders shares =
+    let rest : count_shared pool ≤ length (less_one holders) = held_by pool (less_one holders) (λ n. omega (arith, shares (suc n), times_less n holders)) in
+    let first : e.shares ≤ count_by (λ a. eqb a 0) holders = shares 0 in
+    omega (arith, rest, length_less holders, sum_by-cons (λ (x : PoolEntry). cond (is_shared x) 1 0) e pool, one_if e.shares (count_by (λ a. eqb a 0) holders) first)
+  where
+    one_if : (s n : ℕ) → s ≤ n → cond (ltb 0 s) 1 0 ≤ n
+    one_if zero n le = omega arith
+    one_if (suc s) n le = elim (cases_Bool (ltb 0 (suc s))) [
+      | inl yes' ↦ omega (arith, ap {B = ℕ} (λ (b : Bool). cond b 1 0) yes')
+      | inr no' ↦ omega (arith, ap {B = ℕ} (λ (b : Bool). cond b 1 0) no')
+    ]
+
+pub pool_few : (pool : List PoolEntry) (own : List ℕ) (cursors : List OpenCursor) → ((n : ℕ) → shares_at pool n ≤ count_by (λ a. eqb a n) own + shares_of cursors n)
+    → count_shared pool ≤ length own + 2 * length cursors
+pool_few pool own cursors shares =
+    omega (
+      arith,
+      held_by pool (own ++ flat_map arenas_of cursors) (λ n. omega (arith, shares n, sum_by-append (λ (a : ℕ). cond (eqb a n) 1 0) own (flat_map arenas_of cursors))),
+      length-append own (flat_map arenas_of cursors),
+      holders_few cursors,
+    )
+
+ids : List ArrayDesc → List ℕ
+ids arrays = map (λ a. a.id) arrays
+
+not_tagged : (arrays : List ArrayDesc) (a : ArrayDesc) (id : ℕ) → is_tagged (map (λ x. x.id) arrays) id ≡ false → Among a arrays → eqb a.id id ≡ false
+not_tagged [] a id none among = absurd among
+not_tagged (x ∷ arrays) a id none (inl here) = ap (λ (y : ArrayDesc). eqb y.id id) here ∙ (or_parts (eqb x.id id) (is_tagged (map (λ y. y.id) arrays) id) none).0
+  where
+    or_parts : (p q : Bool) → (p || q) ≡ false → (p ≡ false) × (q ≡ false)
+    or_parts true q e = absurd (true≢false e)
+    or_parts false q e = (refl, e)
+not_tagged (x ∷ arrays) a id none (inr there) = not_tagged arrays a id (by (eqb x.id id) none) there
+  where
+    by : (p : Bool) → (p || is_tagged (map (λ y. y.id) arrays) id) ≡ false → is_tagged (map (λ y. y.id) arrays) id ≡ false
+    by true e = absurd (true≢false e)
+    by false e = e
+
+tagged_none : (arrays : List ArrayDesc) (id : ℕ) → ((a : ArrayDesc) → Among a arrays → eqb a.id id ≡ false) → is_tagged (map (λ x. x.id) arrays) id ≡ false
+tagged_none [] id each = refl
+tagged_none (x ∷ arrays) id each = λ i. each x (inl refl) i || tagged_none arrays id (λ a among. each a (inr among)) i
+
+-- arrays behind others are distinct, and none of them has the number of one of these
+distinct_behind : (front rest : List ArrayDesc) → is_distinct (map (λ a. a.id) (front ++ rest)) ≡ true
+    → (is_distinct (map (λ a. a.id) rest) ≡ true) × ((a : ArrayDesc) → Among a front → is_tagged (map (λ x. x.id) rest) a.id ≡ false)
+distinct_behind [] rest distinct = (distinct, λ a among. absurd among)
+distinct_behind (x ∷ front) rest distinct =
+    let parts = and_parts (not (is_tagged (map (λ a. a.id) (front ++ rest)) x.id)) (is_distinct (map (λ a. a.id) (front ++ rest))) distinct in
+    let none = not-true (is_tagged (map (λ a. a.id) (front ++ rest)) x.id) parts.0 in
+    let behind = distinct_behind front rest parts.1 in (
+      behind.0,
+      λ a among. elim among [
+        | inl here ↦ subst (λ (y : ArrayDesc). is_tagged (map (λ z. z.id) rest) y.id ≡ false) (sym here)
+          (tagged_none rest x.id (λ b in_rest. not_tagged (front ++ rest) b x.id none (among_right front rest b in_rest)))
+        | inr there ↦ behind.1 a there
+      ],
+    )
+
+asked_distinct : (parents : Parents) (v : ℕ) (levels : List LevelDesc) → is_distinct (map (λ a. a.id) (flat_map (λ (level : LevelDesc). level.arrays) levels)) ≡ true
+    → is_distinct (map (λ a. a.id) (filter_map (λ level. desc_for parents level v) levels)) ≡ true
+asked_distinct parents v [] distinct = refl
+asked_distinct parents v (level ∷ levels) distinct =
+    let behind = distinct_behind level.arrays (flat_map (λ (x : LevelDesc). x.arrays) levels) distinct in
+    by (desc_for parents level v) refl behind.1 (asked_distinct parents v levels behind.0)
+  where
+    by : (o : Option ArrayDesc) → desc_for parents level v ≡ o
+        → ((a : ArrayDesc) → Among a level.arrays → is_tagged (map (λ x. x.id) (flat_map (λ (x : LevelDesc). x.arrays) levels)) a.id ≡ false)
+        → is_distinct (map (λ a. a.id) (filter_map (λ x. desc_for parents x v) levels)) ≡ true
+        → is_distinct (map (λ a. a.id) (cons_option o (filter_map (λ x. desc_for parents x v) levels))) ≡ true
+    by None is apart rest = rest
+    by (Some a) is apart rest =
+        and_from (not (is_tagged (map (λ x. x.id) (filter_map (λ x. desc_for parents x v) levels)) a.id)) (is_distinct (map (λ x. x.id) (filter_map (λ x. desc_for parents x v) levels)))
+        (not_from_false (is_tagged (map (λ x. x.id) (filter_map (λ x. desc_for parents x v) levels)) a.id)
+        (tagged_none (filter_map (λ x. desc_for parents x v) levels) a.id
+        (λ b among. not_tagged (flat_map (λ (x : LevelDesc). x.arrays) levels) b a.id (apart a (find_some (is_for (below parents v level.horizon)) level.arrays a is).0) (asked_of_levels parents v levels b among))))
+        rest
+
+-- a cursor may go on where a look-up in the levels of its start may
+pub asked_may_go_on : (f : Image) (next : ℕ) (parents : Parents) (levels : List (Option LevelDesc)) (v : ℕ) (c : OpenCursor) (cached : Blocks)
+    → c.arrays ≡ arrays_asked parents levels v → AreInOrder f (arrays_there levels) → HaveOwnIds (arrays_there levels) → AreCachedFrom f next (arrays_there levels) cached
+    → MayGoOn f next c cached
+asked_may_go_on f next parents levels v c cached is ordered ids cached_from =
+    let there : (a : ArrayDesc) → Contains c.arrays a → Contains (arrays_there levels) a = λ a at.
+      among_contained (arrays_there levels) a (asked_there parents v levels a (subst (λ (x : List ArrayDesc). Among a x) is (contained_at a c.arrays at.0 at.1 at.2))) in
+    record {
+      ordered = record { each = λ a at. ordered.each a (there a at) };
+      ids = subst (λ (x : List ArrayDesc). HaveOwnIds x) (sym is) (asked_distinct parents v (levels_there levels) ids);
+      same = record { old = cached_from.old; same = λ a index block x at. cached_from.same a index block x (there a at) };
+    }
