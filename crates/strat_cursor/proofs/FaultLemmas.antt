@@ -50,7 +50,7 @@ looks_named old new c d cursors one there looks = record {
     | inr read ↦ inr (
       read.0,
       among_contained (arrays_named cursors) read.0
-      (among_in_flat (λ (y : OpenCursor). y.arrays) cursors one read.0 (contained_at one cursors there.0 there.1 there.2) (contained_at read.0 one.arrays read.1.0 read.1.1 read.1.2)),
+          (among_in_flat (λ (y : OpenCursor). y.arrays) cursors one read.0 (contained_at one cursors there.0 there.1 there.2) (contained_at read.0 one.arrays read.1.0 read.1.1 read.1.2)),
       read.2,
     )
   ];

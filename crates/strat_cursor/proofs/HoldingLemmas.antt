@@ -116,7 +116,7 @@ distinct_behind (x ∷ front) rest distinct =
       behind.0,
       λ a among. elim among [
         | inl here ↦ subst (λ (y : ArrayDesc). is_tagged (map (λ z. z.id) rest) y.id ≡ false) (sym here)
-          (tagged_none rest x.id (λ b in_rest. not_tagged (front ++ rest) b x.id none (among_right front rest b in_rest)))
+            (tagged_none rest x.id (λ b in_rest. not_tagged (front ++ rest) b x.id none (among_right front rest b in_rest)))
         | inr there ↦ behind.1 a there
       ],
     )
@@ -146,7 +146,7 @@ pub asked_may_go_on : (f : Image) (next : ℕ) (parents : Parents) (levels : Lis
     → MayGoOn f next c cached
 asked_may_go_on f next parents levels v c cached is ordered ids cached_from =
     let there : (a : ArrayDesc) → Contains c.arrays a → Contains (arrays_there levels) a = λ a at.
-      among_contained (arrays_there levels) a (asked_there parents v levels a (subst (λ (x : List ArrayDesc). Among a x) is (contained_at a c.arrays at.0 at.1 at.2))) in
+    among_contained (arrays_there levels) a (asked_there parents v levels a (subst (λ (x : List ArrayDesc). Among a x) is (contained_at a c.arrays at.0 at.1 at.2))) in
     record {
       ordered = record { each = λ a at. ordered.each a (there a at) };
       ids = subst (λ (x : List ArrayDesc). HaveOwnIds x) (sym is) (asked_distinct parents v (levels_there levels) ids);

@@ -201,7 +201,7 @@ pub closed_keeps : (n : ℕ) (cursors : List OpenCursor) (next most : ℕ) (reti
 closed_keeps n cursors next most retired numbered few = record {
   numbered = record {
     ascending = subst (λ (x : List ℕ). IsStrictlySortedBy nat_cmp x) (sym (numbers_filter n cursors))
-    (IsStrictlySortedBy-filter nat_cmp (λ m. not (eqb m n)) (map {A = OpenCursor} (λ c. c.number) cursors) numbered.ascending);
+        (IsStrictlySortedBy-filter nat_cmp (λ m. not (eqb m n)) (map {A = OpenCursor} (λ c. c.number) cursors) numbered.ascending);
     below = below_filter next n cursors numbered.below;
   };
   few = omega (arith, few, length_filter (λ (c : OpenCursor). not (eqb c.number n)) cursors);

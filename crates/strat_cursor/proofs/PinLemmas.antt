@@ -121,7 +121,7 @@ pub pins_kept : (old new : List PoolEntry) (parents : Parents) (cursors : List O
 pins_kept old new parents cursors stay shares each = record {
   held = held_kept old new cursors stay shares (λ c among. (each c among).0);
   each = λ c at. let among = contained_at c cursors at.0 at.1 at.2 in
-    pinned_kept old new c (stay c among) parents (each c among).0 (each c among).1;
+      pinned_kept old new c (stay c among) parents (each c among).0 (each c among).1;
 }
 
 -- an element of a list stands in it
@@ -213,8 +213,8 @@ module _ (old new : List PoolEntry) (cursors : List OpenCursor) (c : OpenCursor)
       let second = copies_pinned old parents sealed c.sealed copies.1 may.second in
       let readable : MayBeFound c.arrays = record {
         each = λ a there.
-          may.arrays.each a (among_contained (arrays_there levels) a
-          (asked_there parents version levels a (subst (λ (x : List ArrayDesc). Among a x) arrays (contained_at a c.arrays there.0 there.1 there.2))))
+            may.arrays.each a (among_contained (arrays_there levels) a
+            (asked_there parents version levels a (subst (λ (x : List ArrayDesc). Among a x) arrays (contained_at a c.arrays there.0 there.1 there.2))));
       } in
       let known : c.version < length parents = subst (λ v. v < length parents) (sym at) may.known in
       let here : ListsStand old c × IsPinned old parents c =

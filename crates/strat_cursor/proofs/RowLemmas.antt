@@ -88,10 +88,10 @@ module _ (parents : Parents) (p : ℕ) (tree : IsTree parents) (within : p < len
   tree_pinned = record {
     held = pinned.held;
     each = λ c there.
-      let at = pinned.each c there in
-      let older = at.version in
-      let longer : c.version < length (with_child parents p) = omega (arith, length-append parents (Some p ∷ [])) in
-      record { zero = all_grown parents p (entries_held pool c.zero) at.zero; sealed = sealed_grown pool parents p c.sealed at.sealed; arrays = at.arrays; few = at.few; version = longer };
+        let at = pinned.each c there in
+        let older = at.version in
+        let longer : c.version < length (with_child parents p) = omega (arith, length-append parents (Some p ∷ [])) in
+        record { zero = all_grown parents p (entries_held pool c.zero) at.zero; sealed = sealed_grown pool parents p c.sealed at.sealed; arrays = at.arrays; few = at.few; version = longer };
   }
 
   pub tree_rows : (f : Image) (rows : List Cursor) → AreCursorsOf f parents pool cursors rows → AreCursorsOf f (with_child parents p) pool cursors rows
@@ -100,10 +100,10 @@ module _ (parents : Parents) (p : ℕ) (tree : IsTree parents) (within : p < len
       (λ c among m reads. record {
         ordered = reads.ordered;
         each = λ key.
-          reads.each key
-          ∙ ap (λ (e : Option Entry). option_and_then (λ x. x.value) e)
-          (sym (first_same parents (with_child parents p) (zeros_pinned pool c ++ map (content_on f) c.arrays) c.version key
-          (path_kept parents tree p within c.version (pinned.each c (among_contained cursors c among)).version)));
+            reads.each key
+            ∙ ap (λ (e : Option Entry). option_and_then (λ x. x.value) e)
+            (sym (first_same parents (with_child parents p) (zeros_pinned pool c ++ map (content_on f) c.arrays) c.version key
+            (path_kept parents tree p within c.version (pinned.each c (among_contained cursors c among)).version)));
       })
       are
 
@@ -121,9 +121,9 @@ image_rows f g parents pool cursors rows agree are =
     (λ c among m reads. record {
       ordered = reads.ordered;
       each = λ key.
-        reads.each key
-        ∙ ap (λ (lists : List (List Entry)). option_and_then (λ x. x.value) (first_live parents (zeros_pinned pool c ++ lists) c.version key))
-        (sym (contents_stay f g c.arrays
-        (λ a named. agree a (among_contained (arrays_named cursors) a (among_in_flat (λ (x : OpenCursor). x.arrays) cursors c a among named)))));
+          reads.each key
+          ∙ ap (λ (lists : List (List Entry)). option_and_then (λ x. x.value) (first_live parents (zeros_pinned pool c ++ lists) c.version key))
+          (sym (contents_stay f g c.arrays
+          (λ a named. agree a (among_contained (arrays_named cursors) a (among_in_flat (λ (x : OpenCursor). x.arrays) cursors c a among named)))));
     })
     are

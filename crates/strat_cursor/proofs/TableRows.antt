@@ -106,6 +106,7 @@ module _ (f : Image) (parents : Parents) (pool : List PoolEntry) where
       where
         Told : Option Cursor → Type 0
         Told o = (r : Cursor) × (o ≡ Some r) × (page r.left limit ≡ record { reply = reply.Pairs more; pairs = told })
+
         by : (b : Bool) → eqb c.number n ≡ b → (is_opened n cursors ≡ true → Told (find {X = Cursor} (λ r. eqb r.number n) rows)) → Told (find {X = Cursor} (λ r. eqb r.number n) (row ∷ rows))
         by true on rest =
             let next = tells c (inl refl) (eqb-true c.number n on) are.0.pairs are.0.reads in (
@@ -145,7 +146,7 @@ table_told f parents pool cursors t n limit told more are is tells =
     λ c among. tells c (among_contained cursors c among) in
     let row = row_told f parents pool n limit told more cursors t.cursors each are is in (
       ap (λ (o : Option Cursor). option_map_or (λ (c : Cursor). record { answer = page c.left limit; table = record t { cursors = advanced t.cursors n limit } }) o (refuses t why.UnknownCursor)) row.1
-      ∙ ap (λ (a : Answer). record { answer = a; table = record t { cursors = advanced t.cursors n limit } }) row.2,
+          ∙ ap (λ (a : Answer). record { answer = a; table = record t { cursors = advanced t.cursors n limit } }) row.2,
       rows_moved f parents pool n limit told more cursors t.cursors each are,
     )
 

@@ -61,7 +61,11 @@ pub(crate) fn bound_of(alloc: Global, lo: &[u8]) -> Result<Vec<u8>, NoMemory>
     ensures room { IfOk result (λ b. 256 ≤ vec_capacity b) }
 {
     let mut bound = Vec::new(alloc);
-    bound.reserve(if lo.len() < NEXT_KEY_MAX { NEXT_KEY_MAX } else { lo.len() })?;
+    bound.reserve(if lo.len() < NEXT_KEY_MAX {
+        NEXT_KEY_MAX
+    } else {
+        lo.len()
+    })?;
     bound.extend_from_slice(lo)?;
     Ok(bound)
 }
@@ -145,7 +149,17 @@ impl Cursor {
             sealed: self.sealed.as_ref(),
             levels: Picked::Pinned(&self.arrays),
         };
-        scan(disk, cache, &view, self.version, from, &self.hi, limit, desks, out)
+        scan(
+            disk,
+            cache,
+            &view,
+            self.version,
+            from,
+            &self.hi,
+            limit,
+            desks,
+            out,
+        )
     }
 
     /// Goes on behind the pairs that were told, where others follow. O(1).

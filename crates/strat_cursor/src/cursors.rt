@@ -146,6 +146,13 @@ impl Cursors {
         self.opened.len()
     }
 
+    /// Whether as many are open as there may be. O(1).
+    fn is_full(&self) -> bool
+        ensures ok { result ≡ (length self.now.opened == the_most) }
+    {
+        self.opened.len() == CURSORS_MAX
+    }
+
     /// The arrays that are kept for open cursors. O(1).
     pub fn retired(&self) -> &[ArrayDesc]
         ensures ok { result.now ≡ self.now.retired }
@@ -185,7 +192,7 @@ impl Cursors {
             ↔ (length self.old.opened ≡ the_most) }
         ensures err { OnErr result ((self.new ≡ self.old) × IsSamePool pool.old pool.new) }
     {
-        if self.opened.len() == CURSORS_MAX {
+        if self.is_full() {
             return Err(CursorFault::CursorLimit);
         }
         let number = self.next;

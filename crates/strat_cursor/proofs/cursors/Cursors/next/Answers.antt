@@ -16,10 +16,11 @@ use Rattle.strat_cursor.proofs.cursors.Cursors.next.Goals.{After-index_mut, Afte
 
 pub returns-in_default-clause-found : goal.returns-in_default-clause-found
 returns-in_default-clause-found g c =
-    rw (← c.self.view_is)
-    (λ is. place_none (λ (x : OpenCursor). eqb x.number c.args.number) c.self.inside.opened.items
-    (ap (λ (xs : List OpenCursor). position (λ (x : OpenCursor). eqb x.number c.args.number) xs) (sym c.deref.ensures.value) ∙ sym c.in_default.ensures.ok),
-    λ none. refl)
+    rw (← c.self.view_is) (
+      λ is. place_none (λ (x : OpenCursor). eqb x.number c.args.number) c.self.inside.opened.items
+          (ap (λ (xs : List OpenCursor). position (λ (x : OpenCursor). eqb x.number c.args.number) xs) (sym c.deref.ensures.value) ∙ sym c.in_default.ensures.ok),
+      λ none. refl,
+    )
 
 found : (g : Over) (c : After-index_mut g) → IsFoundAt c.self.inside.opened.items c.args.number c.in-Some.place c.index_mut.result.now
 found g c =

@@ -1,4 +1,5 @@
-use Rattle.std.proofs.Common.{◌≡◌, ◌≤◌, ◌<◌, ◌+◌, ◌++◌, ◌∷◌, [], List, length, refl, sym, ap, ◌∙◌, subst, arith}
+use Rattle.std.proofs.Common.{◌≡◌, ◌≤◌, ◌<◌, ◌+◌, ◌++◌, ◌∷◌, [], List, eqb, length, refl, sym, ap, ◌∙◌, subst, arith}
+use Rattle.std.proofs.lemmas.Bool.{eqb-false}
 use Rattle.strat_base.specs.declared.descriptors.ArrayDesc.{ArrayDesc}
 use Rattle.strat_cursor.specs.Cursors.{OpenCursor, CursorsView, AreNumberedBelow, are_named}
 use Rattle.strat_cursor.specs.Pins.{ArePinned}
@@ -8,7 +9,8 @@ use Rattle.strat_cursor.proofs.cursors.Cursors.start.Goals as goal
 
 pub invariant_of-self : goal.invariant_of-self
 invariant_of-self c =
-    let few : length c.self.inside.opened.items < 64 = omega (arith, c.self.invariant.few, c.len.ensures, c.if-len-eq-CURSORS_MAX.false) in
+    let apart = eqb-false (length c.self.inside.opened.items) 64 (ap (λ (v : CursorsView). eqb (length v.opened) 64) c.self.view_is ∙ sym c.is_full.ensures.ok ∙ c.if-is_full.false) in
+    let few : length c.self.inside.opened.items < 64 = omega (arith, c.self.invariant.few, apart) in
     let kept = started_keeps c.self.inside.opened.items c.in_ok-cursor.cursor c.self.inside.next 64 c.self.inside.retired.items c.self.invariant.numbered few c.self.invariant.named
     (ap (λ (x : OpenCursor). x.number) c.in_ok-cursor.ensures.ok) in
     let more : c.push_reserved.new.self.items ≡ c.self.inside.opened.items ++ c.in_ok-cursor.cursor ∷ [] = c.push_reserved.ensures.items in
