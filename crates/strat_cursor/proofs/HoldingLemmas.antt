@@ -6,13 +6,18 @@ use Rattle.std.proofs.lemmas.List.Sums.{sum_by-append, sum_by-cons, count_by-le-
 use Rattle.std.proofs.Math.Dec.{eqb-zero-suc, eqb-suc-zero, eqb-suc-suc}
 use Rattle.strat_arena.specs.PoolView.{pool_entry, shares_at, count_shared, is_shared}
 use Rattle.strat_arena.specs.declared.pool.PoolEntry.{PoolEntry}
-use Rattle.strat_array.specs.Kept.{Blocks}
-use Rattle.strat_base.proofs.ListFacts.{Among, among_left, among_right, any_from, any_among, none_at, find_some}
+use Rattle.strat_array.specs.Kept.{Blocks, IsBlockRead}
+use Rattle.strat_array.proofs.EntriesOnLemmas.{entries_on-kept}
+use Rattle.strat_base.proofs.ListFacts.{Among, among_left, among_right, any_from, any_among, none_at, find_some, get_among}
 use Rattle.strat_base.specs.Entries.{Entry, is_tagged}
 use Rattle.strat_base.specs.Tree.{Parents, below}
 use Rattle.strat_base.specs.declared.descriptors.ArrayDesc.{ArrayDesc}
 use Rattle.strat_base.specs.declared.descriptors.LevelDesc.{LevelDesc}
+use Rattle.strat_crash.specs.Blocks.{AgreeOn}
 use Rattle.strat_crash.specs.Image.{Image}
+use Rattle.strat_crash.proofs.ImageLemmas.{window_same}
+use Rattle.strat_format.specs.Arrays.{block_on, blocks_of}
+use Rattle.strat_format.specs.Block.{block_in}
 use Rattle.strat_level.specs.Levels.{desc_for, is_for}
 use Rattle.strat_recovery.proofs.BadLemmas.{contained_at}
 use Rattle.strat_state.specs.Level.{is_distinct}
@@ -152,3 +157,45 @@ asked_may_go_on f next parents levels v c cached is ordered ids cached_from =
       ids = subst (λ (x : List ArrayDesc). HaveOwnIds x) (sym is) (asked_distinct parents v (levels_there levels) ids);
       same = record { old = cached_from.old; same = λ a index block x at. cached_from.same a index block x (there a at) };
     }
+
+-- what look-ups in other arrays add to the cache leaves a cursor's blocks in it as they are
+pub goes_on_beside : (f : Image) (next : ℕ) (c : OpenCursor) (others : List ArrayDesc) (old new : Blocks) → MayGoOn f next c old
+    → ((k : ℕ × ℕ) (x : List Entry) → Contains new.entries (k, x)
+    → Contains old.entries (k, x) ⊎ ((b : ArrayDesc) × Contains others b × IsBlockRead (Some f) b.id (blocks_of b.extents) k x))
+    → ((b : ArrayDesc) → Contains others b → b.id < next)
+    → ((a b : ArrayDesc) → Contains c.arrays a → Contains others b → b.id ≡ a.id → b ≡ a) → MayGoOn f next c new
+goes_on_beside f next c others old new goes added below one = record {
+  ordered = goes.ordered;
+  ids = goes.ids;
+  same = record {
+    old = λ k x at. elim (added k x at) [
+      | inl before ↦ goes.same.old k x before
+      | inr read ↦ let less = below read.0 read.1 in let mine = read.2.mine in omega arith
+    ];
+    same = λ a index block x there at place. elim (added (a.id, index) x at) [
+      | inl before ↦ goes.same.same a index block x there before place
+      | inr read ↦
+          let here : read.0 ≡ a = one a read.0 there read.1 (sym read.2.mine) in
+          let its : slice_get (blocks_of a.extents) index ≡ Some read.2.block = subst (λ (y : ArrayDesc). slice_get (blocks_of y.extents) index ≡ Some read.2.block) here read.2.place in
+          let same_block : block ≡ read.2.block = some_same block read.2.block (sym place ∙ its) in
+          ap (λ n. block_on f n) same_block ∙ read.2.read f refl
+    ];
+  };
+}
+  where
+    some_same : (a b : ℕ) → ◌≡◌ {A = Option ℕ} (Some a) (Some b) → a ≡ b
+    some_same a b e = cc
+
+-- a cursor may go on in an image that has the same bytes in the blocks of its arrays
+pub goes_on_in : (f g : Image) (next : ℕ) (c : OpenCursor) (cached : Blocks) → ((a : ArrayDesc) → Contains c.arrays a → AgreeOn (blocks_of a.extents) f g)
+    → MayGoOn f next c cached → MayGoOn g next c cached
+goes_on_in f g next c cached agree goes = record {
+  ordered = record { each = λ a at. let there = goes.ordered.each a at in (there.0, entries_on-kept f g (blocks_of a.extents) (agree a at) ∙ there.1, there.2) };
+  ids = goes.ids;
+  same = record {
+    old = goes.same.old;
+    same = λ a index block x there at place.
+      ap block_in (window_same f g (4096 * block) 4096 (agree a there block (among_contained (blocks_of a.extents) block (get_among (blocks_of a.extents) index block place))))
+      ∙ goes.same.same a index block x there at place;
+  };
+}

@@ -22,7 +22,7 @@ use Rattle.strat_recovery.proofs.BadLemmas.{contained_at}
 use Rattle.strat_cursor.specs.Looking.{MayBeFound, arrays_there, levels_there}
 use Rattle.strat_cursor.specs.Ranges.{sealed_held}
 use Rattle.strat_cursor.specs.Cursors.{OpenCursor, zeros_pinned, without_cursor}
-use Rattle.strat_cursor.specs.Pins.{arena_pinned, arenas_of, shares_of, SharesFollow, ListsStand, AreHeld, IsListKnown, IsPinned, ArePinned, MayBePinned, TakesShares, GivesShares, IsCopyOf, IsCopyIfAny, arrays_asked}
+use Rattle.strat_cursor.specs.Pins.{arena_pinned, arenas_of, shares_of, SharesFollow, ListsStand, HoldShares, IsListKnown, IsPinned, ArePinned, MayBePinned, TakesShares, GivesShares, IsCopyOf, IsCopyIfAny, arrays_asked}
 
 -- how many shares a cursor has in an arena
 abbrev pub takes : OpenCursor → ℕ → ℕ
@@ -110,7 +110,7 @@ arenas_stay old new cursors same shares c among list arena stands =
 
 -- cursors of others are held as these are, where their lists stay
 pub held_kept : (old new : List PoolEntry) (cursors : List OpenCursor) → ((c : OpenCursor) → Among c cursors → ListsStay old new c)
-    → ((n : ℕ) → shares_of cursors n ≤ shares_at new n) → ((c : OpenCursor) → Among c cursors → ListsStand old c) → AreHeld new cursors
+    → ((n : ℕ) → shares_of cursors n ≤ shares_at new n) → ((c : OpenCursor) → Among c cursors → ListsStand old c) → HoldShares new cursors
 held_kept old new cursors stay shares stand = record {
   stand = λ c at. let among = contained_at c cursors at.0 at.1 at.2 in (lists_kept old new c (stay c among) (stand c among)).0;
   shares = shares;
@@ -133,7 +133,7 @@ among_contained (y ∷ ys) x (inr there) = let at = among_contained ys x there i
 module _ (old new : List PoolEntry) (cursors : List OpenCursor) (number i : ℕ) (d : OpenCursor) (within : i < length cursors)
     (rest : without_cursor number cursors ≡ take i cursors ++ drop (suc i) cursors) where
   -- a cursor has its shares
-  pub closed_room : AreHeld old cursors → (n : ℕ) → takes (get_or cursors i d) n ≤ shares_at old n
+  pub closed_room : HoldShares old cursors → (n : ℕ) → takes (get_or cursors i d) n ≤ shares_at old n
   closed_room held n = omega (arith, shares_less cursors i d n within, held.shares n)
 
   closed_shares : (n : ℕ) → shares_of (without_cursor number cursors) n + takes (get_or cursors i d) n ≡ shares_of cursors n
@@ -142,7 +142,7 @@ module _ (old new : List PoolEntry) (cursors : List OpenCursor) (number i : ℕ)
   pub closed_follow : GivesShares old new (arenas_of (get_or cursors i d)) → SharesFollow old new cursors (without_cursor number cursors)
   closed_follow gives = record { shares = λ n. omega (arith, closed_shares n, gives.shares n); arenas = gives.arenas }
 
-  pub closed_held : AreHeld old cursors → GivesShares old new (arenas_of (get_or cursors i d)) → AreHeld new (without_cursor number cursors)
+  pub closed_held : HoldShares old cursors → GivesShares old new (arenas_of (get_or cursors i d)) → HoldShares new (without_cursor number cursors)
   closed_held held gives =
       let left : (n : ℕ) → shares_of (without_cursor number cursors) n ≤ shares_at new n = λ n. omega (arith, closed_shares n, gives.shares n, held.shares n) in
       held_kept old new (without_cursor number cursors)

@@ -16,5 +16,5 @@ cursor_seen a = record {
 }
 
 -- there is room for the key after any key
-abbrev pub HasKeyRoom : Inside → Type 0
-HasKeyRoom a = IfSome a.from (λ bound. 256 ≤ vec_capacity bound)
+abbrev pub HasBoundRoom : Inside → Type 0
+HasBoundRoom a = IfSome a.from (λ bound. 256 ≤ vec_capacity bound)

@@ -40,7 +40,7 @@ pub record ListsStand (pool : List PoolEntry) (c : OpenCursor) : Type 0 where
   pub sealed : IfSome c.sealed (ListStands pool)
 
 -- the lists of these cursors stand, and each cursor has its shares
-pub record AreHeld (pool : List PoolEntry) (cursors : List OpenCursor) : Type 0 where
+pub record HoldShares (pool : List PoolEntry) (cursors : List OpenCursor) : Type 0 where
   pub stand : (c : OpenCursor) → Contains cursors c → ListsStand pool c
   pub shares : (n : ℕ) → shares_of cursors n ≤ shares_at pool n
 
@@ -69,7 +69,7 @@ pub record MayBePinned (pool : List PoolEntry) (parents : Parents) (zero : Memta
 -- these cursors may go on
 pub record ArePinned (pool : List PoolEntry) (parents : Parents) (cursors : List OpenCursor)
     : Type 0 where
-  pub held : AreHeld pool cursors
+  pub held : HoldShares pool cursors
   pub each : (c : OpenCursor) → Contains cursors c → IsPinned pool parents c
 
 -- shares in these arenas were taken, and all arenas are as they were

@@ -48,11 +48,11 @@ impl Model for Cursor {
 
     ghost Value = { OpenCursor };
 
-    ghost use Rattle.strat_cursor.specs.CursorFields.{cursor_seen, HasKeyRoom};
+    ghost use Rattle.strat_cursor.specs.CursorFields.{cursor_seen, HasBoundRoom};
 
     ghost view = { cursor_seen };
 
-    ghost invariant = { HasKeyRoom };
+    ghost invariant = { HasBoundRoom };
 }
 
 /// A bound of a range, with room for the key after any key.

@@ -1,10 +1,11 @@
 //! Laws of open cursors. Each is the contract of a function that does nothing.
 
 ghost use Rattle.std.specs.List.{list_any};
-ghost use Rattle.std.specs.Prelude.{◌≡◌, ◌<◌, ◌≤◌, ◌+◌, ◌*◌, ◌==◌, ◌++◌, ◌∷◌, ℕ, Bool, true, false, not, List, [], length, count_by, filter, Option, option_map, Contains};
+ghost use Rattle.std.specs.Prelude.{◌≡◌, ◌<◌, ◌≤◌, ◌+◌, ◌*◌, ◌==◌, ◌++◌, ◌∷◌, ℕ, Bool, true, false, not, List, [], length, count_by, filter, Option, Some, option_map, ◌⊎◌, Contains};
 ghost use Rattle.strat_arena.specs.PoolView.{arena_at, count_shared, shares_at};
 ghost use Rattle.strat_arena.specs.declared.pool.PoolEntry.{PoolEntry};
-ghost use Rattle.strat_array.specs.Kept.{Blocks};
+ghost use Rattle.strat_array.specs.Kept.{Blocks, IsBlockRead};
+ghost use Rattle.strat_base.specs.Entries.{Entry};
 ghost use Rattle.strat_base.specs.Tree.{Parents, with_child, IsTree};
 ghost use Rattle.strat_base.specs.declared.descriptors.ArrayDesc.{ArrayDesc};
 ghost use Rattle.strat_base.specs.declared.descriptors.LevelDesc.{LevelDesc};
@@ -48,13 +49,28 @@ pub fn cursors_stand_while_the_tree_grows()
         → AreCursorsOf f (with_child parents p) pool cursors rows) }
 {}
 
-/// Cursors have the same pairs left in images that have the same bytes in the blocks of their arrays.
+/// Cursors have the same pairs left, and may go on, in images that have the same bytes in the blocks of their arrays.
 pub fn cursors_read_the_same_where_blocks_stay()
     ensures kept { (f g : Image) (parents : Parents) (pool : List PoolEntry)
         (cursors : List OpenCursor) (rows : List Cursor)
         → ((a : ArrayDesc) → Contains (arrays_named cursors) a
         → AgreeOn (blocks_of a.extents) f g)
         → AreCursorsOf f parents pool cursors rows → AreCursorsOf g parents pool cursors rows }
+    ensures same { (f g : Image) (next : ℕ) (c : OpenCursor) (cached : Blocks)
+        → ((a : ArrayDesc) → Contains c.arrays a → AgreeOn (blocks_of a.extents) f g)
+        → MayGoOn f next c cached → MayGoOn g next c cached }
+{}
+
+/// A cursor may go on after blocks of other arrays came into the cache, where an array's number says which it is.
+pub fn cursors_go_on_beside_look_ups()
+    ensures kept { (f : Image) (next : ℕ) (c : OpenCursor) (others : List ArrayDesc)
+        (old new : Blocks) → MayGoOn f next c old
+        → ((k : ℕ × ℕ) (x : List Entry) → Contains new.entries (k, x)
+        → Contains old.entries (k, x) ⊎ ((b : ArrayDesc) × Contains others b
+        × IsBlockRead (Some f) b.id (blocks_of b.extents) k x))
+        → ((b : ArrayDesc) → Contains others b → b.id < next)
+        → ((a b : ArrayDesc) → Contains c.arrays a → Contains others b → b.id ≡ a.id → b ≡ a)
+        → MayGoOn f next c new }
 {}
 
 /// What open cursors do is what a table does with its own: as many are there, a number is one of them in both, the page

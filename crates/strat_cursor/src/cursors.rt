@@ -12,7 +12,7 @@ ghost use Rattle.strat_model.specs.Pairs.{Pairs};
 ghost use Rattle.strat_cursor.specs.Cursors.{OpenCursor, IsMapPinned, MayGoOn, TellsNext, are_named, arrays_named, closed_at, is_array_named, is_opened, moved_at, retired_by, those_named};
 ghost use Rattle.strat_cursor.specs.CursorFaults.{as_next_fault};
 ghost use Rattle.strat_cursor.specs.Looking.{LooksThrough, NamesNoBlock};
-ghost use Rattle.strat_cursor.specs.Pins.{AreHeld, ArePinned, IsSamePool, IsStarted, MayBePinned, SharesFollow, arrays_asked};
+ghost use Rattle.strat_cursor.specs.Pins.{HoldShares, ArePinned, IsSamePool, IsStarted, MayBePinned, SharesFollow, arrays_asked};
 ghost use Rattle.strat_cursor.specs.declared.cursors.CursorFault.TheVariants as start_fault;
 ghost use Rattle.strat_cursor.specs.declared.cursors.NextFault.TheVariants as next_fault;
 
@@ -180,7 +180,7 @@ impl Cursors {
         requires found { MayBePinned pool.old tree.now.parents zero.now (option_copied sealed)
             levels.now version }
         requires room { (n : ℕ) → shares_at pool.old n + 1 < 2 ^ 32 - 1 }
-        requires fits { self.old.next < 2 ^ 63 }
+        requires fits { self.old.next ≤ 2 ^ 63 }
         ensures ok { IfOk result (λ n. (n ≡ self.old.next)
             × IsStarted self.old self.new version lo.now hi.now zero.now
             (option_copied sealed.entry) (arrays_asked tree.now.parents levels.now version)) }
@@ -247,10 +247,10 @@ impl Cursors {
     /// Closes a cursor: its shares go back, and the retired arrays that no other one names are kept no longer. Answers
     /// whether there was one. O(retired arrays * arrays of all cursors).
     pub fn close(&mut self, pool: &mut ArenaPool, number: u64) -> bool
-        requires kept { AreHeld pool.old self.old.opened }
+        requires kept { HoldShares pool.old self.old.opened }
         ensures ok { result ≡ is_opened number self.old.opened }
         ensures end { self.new ≡ closed_at number self.old }
-        ensures kept { AreHeld pool.new self.new.opened }
+        ensures kept { HoldShares pool.new self.new.opened }
         ensures same { SharesFollow pool.old pool.new self.old.opened self.new.opened }
         ensures len { count_shared pool.new ≤ count_shared pool.old }
     {

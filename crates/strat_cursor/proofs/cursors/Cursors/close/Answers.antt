@@ -4,7 +4,7 @@ use Rattle.strat_arena.specs.PoolView.{shares_at}
 use Rattle.strat_base.specs.declared.descriptors.ArrayDesc.{ArrayDesc}
 use Rattle.strat_cursor.specs.Cursors.{OpenCursor, CursorsView, AreNumberedBelow, are_named, is_opened, those_named, without_cursor, closed_at}
 use Rattle.strat_cursor.specs.CursorsFields.{cursors_seen}
-use Rattle.strat_cursor.specs.Pins.{AreHeld, GivesShares, SharesFollow, arenas_of}
+use Rattle.strat_cursor.specs.Pins.{HoldShares, GivesShares, SharesFollow, arenas_of}
 use Rattle.strat_cursor.proofs.OpenedLemmas.{IsFoundAt, found_at, place_none, closed_none, closed_keeps}
 use Rattle.strat_cursor.proofs.PinLemmas.{closed_room, closed_follow, closed_held}
 use Rattle.strat_cursor.proofs.cursors.Cursors.close.Goals as goal
@@ -32,8 +32,8 @@ found c =
 left : (c : After-remove-cursor) → c.remove-cursor.new.self.items ≡ without_cursor c.args.number c.self.inside.opened.items
 left c = c.remove-cursor.ensures.items ∙ sym (found c).rest
 
-held : (c : After-remove-cursor) → AreHeld c.args.pool.now c.self.inside.opened.items
-held c = subst (λ (v : CursorsView). AreHeld c.args.pool.now v.opened) (sym c.self.view_is) c.requires.kept
+held : (c : After-remove-cursor) → HoldShares c.args.pool.now c.self.inside.opened.items
+held c = subst (λ (v : CursorsView). HoldShares c.args.pool.now v.opened) (sym c.self.view_is) c.requires.kept
 
 gives : (c : After-keep_named) → GivesShares c.args.pool.now c.release.new.pool (arenas_of (get_or c.self.inside.opened.items c.in-Some.place c.remove-cursor.result))
 gives c = subst (λ (x : OpenCursor). GivesShares c.args.pool.now c.release.new.pool (arenas_of x)) c.remove-cursor.ensures.value c.release.ensures.same
