@@ -1,10 +1,9 @@
 -- Faults of a cursor from those of a reading, and what a reading of one cursor's arrays is to those of all.
-use Rattle.std.proofs.Common.{◌≡◌, ℕ, Bool, true, false, inl, inr, List, Option, Result, Ok, Err, refl, sym, ap, ◌∙◌, true≢false}
+use Rattle.std.proofs.Common.{◌≡◌, ℕ, Bool, true, false, inl, inr, List, Result, Ok, Err, sym, ap, ◌∙◌, true≢false}
 use Rattle.std.specs.List.{Contains}
 use Rattle.std.specs.Result.{IsErrAnd, IsErrOf}
 use Rattle.strat_array.specs.Kept.{Blocks}
 use Rattle.strat_base.proofs.ListFacts.{among_in_flat}
-use Rattle.strat_base.specs.declared.descriptors.ArrayDesc.{ArrayDesc}
 use Rattle.strat_base.specs.declared.failures.Fault.{Fault}
 use Rattle.strat_base.specs.declared.failures.Fault.TheVariants as fault
 use Rattle.strat_crash.specs.Moments.{DiskView}

@@ -1,14 +1,14 @@
 -- How many arenas and shares there are at most, and what a cursor may read from its start on.
-use Rattle.std.proofs.Common.{◌≡◌, ◌<◌, ◌≤◌, ◌+◌, ◌*◌, ◌&&◌, ◌||◌, ◌⊎◌, ℕ, zero, suc, Bool, true, false, not, cond, eqb, ltb, inl, inr, List, [], ◌∷◌, ◌++◌, Option, Some, None, length, map, get_or, refl, sym, ap, ◌∙◌, subst, arith, true≢false, length-append}
-use Rattle.std.specs.List.{Contains, list_any, flat_map, filter_map, cons_option, count_by, slice_get}
-use Rattle.std.proofs.lemmas.Bool.{cases_Bool, and_parts, and_from, eq-eqb, eqb-true, or_left, or_right, not-true, not_from_false}
+use Rattle.std.proofs.Common.{◌≡◌, ◌<◌, ◌≤◌, ◌+◌, ◌*◌, ◌||◌, ◌⊎◌, ℕ, zero, suc, Bool, true, false, not, cond, eqb, ltb, inl, inr, List, [], ◌∷◌, ◌++◌, Option, Some, None, length, map, refl, sym, ap, ◌∙◌, subst, arith, true≢false, length-append}
+use Rattle.std.specs.List.{Contains, flat_map, filter_map, cons_option, count_by, slice_get}
+use Rattle.std.proofs.lemmas.Bool.{cases_Bool, and_parts, and_from, not-true, not_from_false}
 use Rattle.std.proofs.lemmas.List.Sums.{sum_by-append, sum_by-cons, count_by-le-length}
 use Rattle.std.proofs.Math.Dec.{eqb-zero-suc, eqb-suc-zero, eqb-suc-suc}
-use Rattle.strat_arena.specs.PoolView.{pool_entry, shares_at, count_shared, is_shared}
+use Rattle.strat_arena.specs.PoolView.{shares_at, count_shared, is_shared}
 use Rattle.strat_arena.specs.declared.pool.PoolEntry.{PoolEntry}
 use Rattle.strat_array.specs.Kept.{Blocks, IsBlockRead}
 use Rattle.strat_array.proofs.EntriesOnLemmas.{entries_on-kept}
-use Rattle.strat_base.proofs.ListFacts.{Among, among_left, among_right, any_from, any_among, none_at, find_some, get_among}
+use Rattle.strat_base.proofs.ListFacts.{Among, among_right, find_some, get_among}
 use Rattle.strat_base.specs.Entries.{Entry, is_tagged}
 use Rattle.strat_base.specs.Tree.{Parents, below}
 use Rattle.strat_base.specs.declared.descriptors.ArrayDesc.{ArrayDesc}
@@ -46,9 +46,6 @@ less_one : List ℕ → List ℕ
 less_one [] = []
 less_one (zero ∷ ns) = less_one ns
 less_one (suc n ∷ ns) = n ∷ less_one ns
-
-times : ℕ → List ℕ → ℕ
-times n ns = count_by (λ a. eqb a n) ns
 
 times_first : (n a : ℕ) (ns : List ℕ) → count_by (λ x. eqb x n) (a ∷ ns) ≡ cond (eqb a n) 1 0 + count_by (λ x. eqb x n) ns
 times_first n a ns = sum_by-cons (λ (x : ℕ). cond (eqb x n) 1 0) a ns
@@ -89,9 +86,6 @@ pool_few pool own cursors shares =
       length-append own (flat_map arenas_of cursors),
       holders_few cursors,
     )
-
-ids : List ArrayDesc → List ℕ
-ids arrays = map (λ a. a.id) arrays
 
 not_tagged : (arrays : List ArrayDesc) (a : ArrayDesc) (id : ℕ) → is_tagged (map (λ x. x.id) arrays) id ≡ false → Among a arrays → eqb a.id id ≡ false
 not_tagged [] a id none among = absurd among
@@ -195,7 +189,7 @@ goes_on_in f g next c cached agree goes = record {
   same = record {
     old = goes.same.old;
     same = λ a index block x there at place.
-      ap block_in (window_same f g (4096 * block) 4096 (agree a there block (among_contained (blocks_of a.extents) block (get_among (blocks_of a.extents) index block place))))
-      ∙ goes.same.same a index block x there at place;
+        ap block_in (window_same f g (4096 * block) 4096 (agree a there block (among_contained (blocks_of a.extents) block (get_among (blocks_of a.extents) index block place))))
+        ∙ goes.same.same a index block x there at place;
   };
 }

@@ -1,12 +1,12 @@
 -- A page of a cursor is a page of its view.
-use Rattle.std.proofs.Common.{◌≡◌, ℕ, Bool, List, [], ◌∷◌, Option, Some, None, Result, Ok, Err, refl, sym, ap, subst}
+use Rattle.std.proofs.Common.{◌≡◌, ℕ, Bool, List, ◌∷◌, Option, Some, Result, Ok, Err, sym, subst}
 use Rattle.std.specs.Result.{IfOk}
 use Rattle.strat_array.specs.Kept.{Blocks}
 use Rattle.strat_base.specs.Entries.{Entry}
 use Rattle.strat_base.specs.declared.descriptors.ArrayDesc.{ArrayDesc}
 use Rattle.strat_base.specs.declared.failures.Fault.{Fault}
 use Rattle.strat_crash.specs.Image.{Image}
-use Rattle.strat_level.specs.Memtable.{ItemList, entries_held}
+use Rattle.strat_level.specs.Memtable.{entries_held}
 use Rattle.strat_model.specs.Pairs.{Pairs}
 use Rattle.strat_cursor.specs.Looking.{AreInOrder, HaveOwnIds, AreCachedFrom}
 use Rattle.strat_cursor.specs.Ranges.{arrays_in_view, arrays_picked, sealed_held, IsMapSeen, IsPageOf}

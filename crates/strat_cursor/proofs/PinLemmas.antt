@@ -1,11 +1,10 @@
 -- What cursors hold on to, as shares and arenas change.
-use Rattle.std.proofs.Common.{◌≡◌, ◌<◌, ◌≤◌, ◌+◌, ℕ, zero, suc, Bool, true, false, cond, not, eqb, ◌⊎◌, inl, inr, List, [], ◌∷◌, ◌++◌, Option, Some, None, length, get_or, take, drop, refl, sym, ap, ◌∙◌, subst, arith}
-use Rattle.std.specs.List.{Contains, count_by, flat_map, filter, filter_map, cons_option, list_all}
+use Rattle.std.proofs.Common.{◌≡◌, ◌<◌, ◌≤◌, ◌+◌, ℕ, zero, suc, Bool, cond, not, eqb, inl, inr, List, [], ◌∷◌, ◌++◌, Option, Some, None, length, get_or, take, drop, refl, sym, ap, ◌∙◌, subst, arith}
+use Rattle.std.specs.List.{Contains, count_by, flat_map, filter_map, cons_option, list_all}
 use Rattle.std.specs.Option.{IfSome}
 use Rattle.std.proofs.lemmas.Bool.{eq-eqb}
 use Rattle.std.proofs.lemmas.List.Sums.{sum_by-append, sum_by-cons}
-use Rattle.std.proofs.lemmas.List.{append_assoc}
-use Rattle.strat_arena.specs.PoolView.{pool_entry, arena_at, shares_at}
+use Rattle.strat_arena.specs.PoolView.{arena_at, shares_at}
 use Rattle.strat_arena.specs.Items.{entries_of, have_pairs}
 use Rattle.strat_arena.specs.declared.pool.PoolEntry.{PoolEntry}
 use Rattle.strat_base.proofs.ListFacts.{Among, among_split, among_left, among_right, filter_among, find_some}

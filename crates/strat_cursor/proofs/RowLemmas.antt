@@ -1,35 +1,30 @@
 -- The cursors of a table, as pools, trees and images change, and as cursors are opened, read and closed.
-use Rattle.std.proofs.Common.{◌≡◌, ◌<◌, ◌≤◌, ◌+◌, ◌*◌, ◌&&◌, ◌||◌, ℕ, zero, suc, Bool, true, false, not, cond, eqb, ltb, inl, inr, List, [], ◌∷◌, ◌++◌, Option, Some, None, length, map, take, drop, refl, sym, ap, ◌∙◌, subst, arith, true≢false, length-append}
-use Rattle.std.specs.List.{Contains, filter, find, list_any, list_all, flat_map, slice_get, count_by}
-use Rattle.std.specs.Option.{option_and_then, option_map, option_or, unwrap_or, option_map_or, IfSome}
-use Rattle.std.proofs.lemmas.Bool.{cases_Bool, lt-ltb, ltb-true}
-use Rattle.strat_arena.specs.PoolView.{arena_at, shares_at}
+use Rattle.std.proofs.Common.{◌≡◌, ◌<◌, ◌≤◌, ◌+◌, ◌&&◌, ℕ, zero, true, not, eqb, ltb, inl, inr, List, [], ◌∷◌, ◌++◌, Option, Some, None, length, map, refl, sym, ap, ◌∙◌, subst, arith, length-append}
+use Rattle.std.specs.List.{Contains, filter, find, list_any}
+use Rattle.std.specs.Option.{option_and_then, option_or, unwrap_or, IfSome}
+use Rattle.std.proofs.lemmas.Bool.{lt-ltb, ltb-true}
+use Rattle.strat_arena.specs.PoolView.{shares_at}
 use Rattle.strat_arena.specs.declared.pool.PoolEntry.{PoolEntry}
-use Rattle.strat_array.specs.Kept.{Blocks}
 use Rattle.strat_base.proofs.ListFacts.{Among, among_in_flat, all_from, all_at}
 use Rattle.strat_base.proofs.TreeLemmas.{path_kept}
-use Rattle.strat_base.specs.Tree.{Parents, path, is_ancestor, is_known, with_child, IsTree}
+use Rattle.strat_base.specs.Tree.{Parents, path, is_known, with_child, IsTree}
 use Rattle.strat_base.specs.Entries.{Entry, is_of}
 use Rattle.strat_base.specs.declared.descriptors.ArrayDesc.{ArrayDesc}
 use Rattle.strat_crash.specs.Blocks.{AgreeOn}
 use Rattle.strat_crash.specs.Image.{Image}
 use Rattle.strat_array.proofs.EntriesOnLemmas.{entries_on-kept}
-use Rattle.strat_format.specs.Arrays.{blocks_of, entries_on}
-use Rattle.strat_level.specs.Memtable.{ItemList, Memtable, entries_held, ListStands}
-use Rattle.strat_model.specs.Pairs.{Pairs, range}
-use Rattle.strat_model.specs.Step.{advanced, page}
-use Rattle.strat_model.specs.Answer.{Answer}
+use Rattle.strat_format.specs.Arrays.{blocks_of}
+use Rattle.strat_level.specs.Memtable.{ItemList, entries_held}
+use Rattle.strat_model.specs.Pairs.{Pairs}
 use Rattle.strat_model.specs.Table.{Cursor}
 use Rattle.strat_model.specs.declared.replies.Reply.TheVariants as reply
-use Rattle.strat_recovery.proofs.BadLemmas.{contained_at}
 use Rattle.strat_recovery.specs.TableOver.{are_known}
 use Rattle.strat_state.specs.LookUp.{first_live}
-use Rattle.strat_state.specs.Reading.{live_of}
-use Rattle.strat_cursor.specs.Cursors.{OpenCursor, CursorsView, zeros_pinned, pairs_left, range_left, IsMapPinned, TellsNext, arrays_named, is_opened, moved_at, moved_on, without_cursor}
-use Rattle.strat_cursor.specs.CursorTable.{IsCursorOf, AreCursorsOf}
-use Rattle.strat_cursor.specs.Pins.{ListsStand, IsPinned, ArePinned, IsListKnown, shares_of}
-use Rattle.strat_cursor.specs.Ranges.{IsMapSeen, IsPageOf, content_on, seen_in, sealed_held}
-use Rattle.strat_cursor.proofs.PinLemmas.{ListsStay, arenas_stay, lists_kept, pins_kept, among_contained}
+use Rattle.strat_cursor.specs.Cursors.{OpenCursor, zeros_pinned, IsMapPinned, arrays_named}
+use Rattle.strat_cursor.specs.CursorTable.{AreCursorsOf}
+use Rattle.strat_cursor.specs.Pins.{ArePinned, IsListKnown, shares_of}
+use Rattle.strat_cursor.specs.Ranges.{IsMapSeen, content_on}
+use Rattle.strat_cursor.proofs.PinLemmas.{ListsStay, lists_kept, pins_kept, among_contained}
 
 -- a table's cursors stay where the maps of the open ones do
 rows_stay : (f g : Image) (before after : Parents) (old new : List PoolEntry) (cursors : List OpenCursor) (rows : List Cursor)

@@ -1,5 +1,5 @@
 -- The cursors of a table, as open ones are started, read and closed.
-use Rattle.std.proofs.Common.{◌≡◌, ◌<◌, ◌≤◌, ◌+◌, ℕ, zero, suc, Bool, true, false, not, cond, eqb, ◌||◌, inl, inr, List, [], ◌∷◌, ◌++◌, Option, Some, None, length, map, drop, refl, sym, ap, ◌∙◌, subst, arith, true≢false}
+use Rattle.std.proofs.Common.{◌≡◌, ◌≤◌, ◌+◌, ℕ, zero, suc, Bool, true, false, not, cond, eqb, ◌||◌, inl, inr, List, [], ◌∷◌, ◌++◌, Option, Some, None, length, drop, refl, sym, ap, ◌∙◌, subst, arith, true≢false}
 use Rattle.std.specs.List.{Contains, filter, find, list_any}
 use Rattle.std.specs.Option.{option_map, option_map_or, IfSome}
 use Rattle.strat_arena.specs.PoolView.{arena_at, shares_at}
@@ -13,16 +13,16 @@ use Rattle.strat_base.specs.declared.descriptors.ArrayDesc.{ArrayDesc}
 use Rattle.strat_crash.specs.Image.{Image}
 use Rattle.strat_level.specs.Memtable.{ItemList, Memtable, entries_held, ListStands}
 use Rattle.strat_model.specs.Pairs.{Pairs, range}
-use Rattle.strat_model.specs.Step.{Outcome, advanced, next_pairs, page, refuses}
+use Rattle.strat_model.specs.Step.{advanced, next_pairs, page, refuses}
 use Rattle.strat_model.specs.Answer.{Answer}
 use Rattle.strat_model.specs.Table.{Cursor, Table}
 use Rattle.strat_model.specs.declared.replies.Reply.TheVariants as reply
 use Rattle.strat_model.specs.declared.replies.Refusal.TheVariants as why
-use Rattle.strat_cursor.specs.Cursors.{OpenCursor, CursorsView, zeros_pinned, pairs_left, range_left, IsMapPinned, TellsNext, is_opened, moved_at, moved_on, without_cursor}
+use Rattle.strat_cursor.specs.Cursors.{OpenCursor, CursorsView, zeros_pinned, pairs_left, IsMapPinned, TellsNext, is_opened, moved_at, moved_on, without_cursor}
 use Rattle.strat_cursor.specs.CursorTable.{IsCursorOf, AreCursorsOf}
 use Rattle.strat_cursor.specs.Pins.{ArePinned, SharesFollow, IsStarted, IsCopyOf, IsCopyIfAny, shares_of}
-use Rattle.strat_cursor.specs.Ranges.{IsMapSeen, IsPageOf, sealed_held}
-use Rattle.strat_cursor.proofs.PinLemmas.{arenas_stay, among_contained, shares_more, takes}
+use Rattle.strat_cursor.specs.Ranges.{IsMapSeen, sealed_held}
+use Rattle.strat_cursor.proofs.PinLemmas.{arenas_stay, among_contained, shares_more}
 use Rattle.strat_cursor.proofs.RowLemmas.{pool_rows}
 use Rattle.std.proofs.lemmas.Bool.{eqb-true}
 

@@ -1,5 +1,5 @@
 -- The cursors of a table, as open ones give them.
-use Rattle.std.specs.Prelude.{◌≡◌, ℕ, List, [], ◌∷◌}
+use Rattle.std.specs.Prelude.{◌≡◌, List, [], ◌∷◌}
 use Rattle.strat_arena.specs.declared.pool.PoolEntry.{PoolEntry}
 use Rattle.strat_base.specs.Tree.{Parents}
 use Rattle.strat_crash.specs.Image.{Image}

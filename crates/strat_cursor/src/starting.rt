@@ -1,7 +1,7 @@
 //! The start of a cursor: what it pins is copied, and shared.
 
 ghost use Rattle.std.specs.Option.{option_copied};
-ghost use Rattle.std.specs.Prelude.{◌≡◌, ◌<◌, ◌≤◌, ◌+◌, ◌-◌, ◌^◌, ℕ, [], ◌∷◌, ◌++◌, length, Some, IfOk, OnOk, OnErr, IfSome, option_and_then, option_to_list};
+ghost use Rattle.std.specs.Prelude.{◌≡◌, ◌<◌, ◌≤◌, ◌+◌, ◌-◌, ◌^◌, ℕ, ◌∷◌, ◌++◌, length, Some, IfOk, OnOk, OnErr, IfSome, option_and_then, option_to_list};
 ghost use Rattle.strat_arena.specs.PoolView.{shares_at, count_shared};
 ghost use Rattle.strat_level.specs.Levels.{desc_for, level_numbered};
 ghost use Rattle.strat_level.specs.Memtable.{ListStands};

@@ -1,5 +1,4 @@
-use Rattle.std.proofs.Common.{◌<◌, ◌+◌, List, ◌++◌, length, ◌∙◌, ap, arith, sym, take}
-use Rattle.std.proofs.lemmas.List.{take_all}
+use Rattle.std.proofs.Common.{◌<◌, ◌+◌, List, ◌++◌, length, ◌∙◌, ap, arith, sym}
 use Rattle.std.specs.Option.{option_to_list, option_and_then}
 use Rattle.strat_base.specs.declared.descriptors.ArrayDesc.{ArrayDesc}
 use Rattle.strat_level.specs.Levels.{desc_for, level_numbered}

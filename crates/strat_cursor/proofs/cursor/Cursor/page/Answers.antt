@@ -1,4 +1,4 @@
-use Rattle.std.proofs.Common.{rules, refl, sym, ap, ◌∙◌, ◌≡◌, Some}
+use Rattle.std.proofs.Common.{rules, refl, ◌≡◌, Some}
 use Rattle.strat_crash.specs.Moments.{Exposes}
 use Rattle.strat_cursor.specs.CursorFields.{cursor_seen}
 use Rattle.strat_cursor.proofs.PageReads.{page_told}

@@ -1,10 +1,9 @@
-use Rattle.std.proofs.Common.{◌≡◌, ◌≤◌, ◌++◌, ℕ, false, List, Some, None, suc, take, drop, length, eqb, get_or, refl, sym, ap, ◌∙◌, subst, arith}
+use Rattle.std.proofs.Common.{◌≡◌, ◌≤◌, List, length, eqb, get_or, sym, ap, ◌∙◌, subst, arith}
 use Rattle.std.specs.List.{position, count_by}
 use Rattle.strat_arena.specs.PoolView.{shares_at}
-use Rattle.strat_base.specs.declared.descriptors.ArrayDesc.{ArrayDesc}
-use Rattle.strat_cursor.specs.Cursors.{OpenCursor, CursorsView, AreNumberedBelow, are_named, is_opened, those_named, without_cursor, closed_at}
+use Rattle.strat_cursor.specs.Cursors.{OpenCursor, CursorsView, AreNumberedBelow, are_named, those_named, without_cursor}
 use Rattle.strat_cursor.specs.CursorsFields.{cursors_seen}
-use Rattle.strat_cursor.specs.Pins.{HoldShares, GivesShares, SharesFollow, arenas_of}
+use Rattle.strat_cursor.specs.Pins.{HoldShares, GivesShares, arenas_of}
 use Rattle.strat_cursor.proofs.OpenedLemmas.{IsFoundAt, found_at, place_none, closed_none, closed_keeps}
 use Rattle.strat_cursor.proofs.PinLemmas.{closed_room, closed_follow, closed_held}
 use Rattle.strat_cursor.proofs.cursors.Cursors.close.Goals as goal

@@ -1,10 +1,7 @@
-use Rattle.std.proofs.Common.{◌≡◌, ◌≤◌, ℕ, Bool, List, true, length, eqb, get_or, refl, sym, ap, ◌∙◌, subst, arith}
+use Rattle.std.proofs.Common.{◌≡◌, ◌≤◌, List, length, eqb, refl, sym, ap, ◌∙◌, subst}
 use Rattle.std.proofs.Math.ListN.{set}
 use Rattle.std.specs.List.{position, Contains}
-use Rattle.strat_crash.specs.Image.{Image}
-use Rattle.strat_model.specs.Pairs.{Pairs}
-use Rattle.strat_base.specs.declared.descriptors.ArrayDesc.{ArrayDesc}
-use Rattle.strat_cursor.specs.Cursors.{OpenCursor, CursorsView, AreNumberedBelow, are_named, is_opened, moved_on, moved_at, IsMapPinned, MayGoOn, TellsNext}
+use Rattle.strat_cursor.specs.Cursors.{OpenCursor, CursorsView, AreNumberedBelow, are_named, moved_on, moved_at, IsMapPinned, MayGoOn, TellsNext}
 use Rattle.strat_cursor.specs.Looking.{NamesNoBlock}
 use Rattle.strat_cursor.specs.CursorsFields.{cursors_seen}
 use Rattle.strat_cursor.specs.Pins.{ArePinned}
@@ -12,7 +9,7 @@ use Rattle.strat_cursor.proofs.OpenedLemmas.{IsFoundAt, found_at, place_none, mo
 use Rattle.strat_cursor.proofs.FaultLemmas.{found_err, found_ok, damaged_err, looks_named}
 use Rattle.strat_cursor.proofs.cursors.Cursors.next.Given.{Over}
 use Rattle.strat_cursor.proofs.cursors.Cursors.next.Goals as goal
-use Rattle.strat_cursor.proofs.cursors.Cursors.next.Goals.{After-index_mut, After-next, In_ok-more}
+use Rattle.strat_cursor.proofs.cursors.Cursors.next.Goals.{After-index_mut, In_ok-more}
 
 pub returns-in_default-clause-found : goal.returns-in_default-clause-found
 returns-in_default-clause-found g c =
