@@ -1,5 +1,5 @@
 -- What cursors hold on to, as shares and arenas change.
-use Rattle.std.proofs.Common.{◌≡◌, ◌<◌, ◌≤◌, ◌+◌, ℕ, zero, suc, Bool, cond, not, eqb, inl, inr, List, [], ◌∷◌, ◌++◌, Option, Some, None, length, get_or, take, drop, refl, sym, ap, ◌∙◌, subst, arith}
+use Rattle.std.proofs.Common.{◌≡◌, ◌<◌, ◌≤◌, ◌+◌, ℕ, zero, suc, Bool, false, true, cond, not, eqb, inl, inr, List, [], ◌∷◌, ◌++◌, Option, Some, None, length, get_or, take, drop, refl, sym, ap, ◌∙◌, subst, arith}
 use Rattle.std.specs.List.{Contains, count_by, flat_map, filter_map, cons_option, list_all}
 use Rattle.std.specs.Option.{IfSome}
 use Rattle.std.proofs.lemmas.Bool.{eq-eqb}
@@ -20,7 +20,8 @@ use Rattle.strat_recovery.specs.TableOver.{are_known}
 use Rattle.strat_recovery.proofs.BadLemmas.{contained_at}
 use Rattle.strat_cursor.specs.Looking.{MayBeFound, arrays_there, levels_there}
 use Rattle.strat_cursor.specs.Ranges.{sealed_held}
-use Rattle.strat_cursor.specs.Cursors.{OpenCursor, zeros_pinned, without_cursor}
+use Rattle.strat_cursor.specs.Cursors.{OpenCursor, zeros_pinned, without_cursor, moved_at, moved_on}
+use Rattle.strat_model.specs.Pairs.{Pairs}
 use Rattle.strat_cursor.specs.Pins.{arena_pinned, arenas_of, shares_of, SharesFollow, ListsStand, HoldShares, IsListKnown, IsPinned, ArePinned, MayBePinned, TakesShares, GivesShares, IsCopyOf, IsCopyIfAny, arrays_asked}
 
 -- how many shares a cursor has in an arena
@@ -227,3 +228,69 @@ module _ (old new : List PoolEntry) (cursors : List OpenCursor) (c : OpenCursor)
           | inr none ↦ absurd none
         ]
       ])
+
+shares_without : (number : ℕ) (cursors : List OpenCursor) (n : ℕ) → shares_of (without_cursor number cursors) n ≤ shares_of cursors n
+shares_without number [] n = omega arith
+shares_without number (c ∷ cursors) n = by (shares_without number cursors n) (not (eqb c.number number))
+  where
+    by : shares_of (without_cursor number cursors) n ≤ shares_of cursors n → (b : Bool)
+        → shares_of (cond b (c ∷ without_cursor number cursors) (without_cursor number cursors)) n ≤ shares_of (c ∷ cursors) n
+    by rest true = omega (arith, rest, shares_first c (without_cursor number cursors) n, shares_first c cursors n)
+    by rest false = omega (arith, rest, shares_first c cursors n)
+
+-- cursors but for one may go on as all may
+pub pinned_without : (pool : List PoolEntry) (parents : Parents) (number : ℕ) (cursors : List OpenCursor) → ArePinned pool parents cursors
+    → ArePinned pool parents (without_cursor number cursors)
+pinned_without pool parents number cursors pinned =
+    let older : (c : OpenCursor) → Contains (without_cursor number cursors) c → Contains cursors c = λ c at.
+      among_contained cursors c (filter_among (λ (x : OpenCursor). not (eqb x.number number)) cursors c (contained_at c (without_cursor number cursors) at.0 at.1 at.2)).0 in
+    record {
+      held = record { stand = λ c at. pinned.held.stand c (older c at); shares = λ n. omega (arith, shares_without number cursors n, pinned.held.shares n) };
+      each = λ c at. pinned.each c (older c at);
+    }
+
+pub closed_pinned : (old new : List PoolEntry) (parents : Parents) (number : ℕ) (cursors : List OpenCursor) → HoldShares new (without_cursor number cursors)
+    → SharesFollow old new cursors (without_cursor number cursors) → ArePinned old parents cursors → ArePinned new parents (without_cursor number cursors)
+closed_pinned old new parents number cursors held follow pinned =
+    let less = pinned_without old parents number cursors pinned in
+    pins_kept old new parents (without_cursor number cursors)
+    (arenas_stay old new (without_cursor number cursors) (λ n some. follow.arenas n (let h = held.shares n in omega arith)) held.shares)
+    held.shares
+    (λ c among. let at = among_contained (without_cursor number cursors) c among in (less.held.stand c at, less.each c at))
+
+shares_moved : (number : ℕ) (more : Bool) (told : Pairs) (cursors : List OpenCursor) (n : ℕ) → shares_of (moved_at number more told cursors) n ≡ shares_of cursors n
+shares_moved number more told [] n = refl
+shares_moved number more told (c ∷ cursors) n = by (eqb c.number number) (shares_moved number more told cursors n)
+  where
+    by : (b : Bool) → shares_of (moved_at number more told cursors) n ≡ shares_of cursors n
+        → shares_of (cond b (moved_on more told c) c ∷ moved_at number more told cursors) n ≡ shares_of (c ∷ cursors) n
+    by true rest = omega (arith, rest, shares_first (moved_on more told c) (moved_at number more told cursors) n, shares_first c cursors n)
+    by false rest = omega (arith, rest, shares_first c (moved_at number more told cursors) n, shares_first c cursors n)
+
+-- what holds of cursors wherever they go on holds of them after a page
+pub each_moved : (P : OpenCursor → Type 0) (number : ℕ) (more : Bool) (told : Pairs) (cursors : List OpenCursor)
+    → ((c : OpenCursor) → P c → P (moved_on more told c)) → ((c : OpenCursor) → Among c cursors → P c) → (c : OpenCursor) → Among c (moved_at number more told cursors) → P c
+each_moved P number more told [] goes each c among = absurd among
+each_moved P number more told (d ∷ cursors) goes each c (inl here) = subst P (sym here) (by (eqb d.number number))
+  where
+    by : (b : Bool) → P (cond b (moved_on more told d) d)
+    by true = goes d (each d (inl refl))
+    by false = each d (inl refl)
+each_moved P number more told (d ∷ cursors) goes each c (inr there) = each_moved P number more told cursors goes (λ x among. each x (inr among)) c there
+
+-- cursors may go on after one of them told a page
+pub pinned_moved : (pool : List PoolEntry) (parents : Parents) (number : ℕ) (more : Bool) (told : Pairs) (cursors : List OpenCursor) → ArePinned pool parents cursors
+    → ArePinned pool parents (moved_at number more told cursors)
+pinned_moved pool parents number more told cursors pinned =
+    let each : (c : OpenCursor) → Contains (moved_at number more told cursors) c → ListsStand pool c × IsPinned pool parents c = λ c at.
+      each_moved (λ x. ListsStand pool x × IsPinned pool parents x) number more told cursors
+      (λ x both. (
+        record { zero = both.0.zero; sealed = both.0.sealed },
+        record { zero = both.1.zero; sealed = both.1.sealed; arrays = both.1.arrays; few = both.1.few; version = both.1.version },
+      ))
+      (λ x among. let there = among_contained cursors x among in (pinned.held.stand x there, pinned.each x there))
+      c (contained_at c (moved_at number more told cursors) at.0 at.1 at.2) in
+    record {
+      held = record { stand = λ c at. (each c at).0; shares = λ n. omega (arith, shares_moved number more told cursors n, pinned.held.shares n) };
+      each = λ c at. (each c at).1;
+    }

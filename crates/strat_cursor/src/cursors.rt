@@ -4,6 +4,7 @@ ghost use Rattle.std.specs.List.{position};
 ghost use Rattle.std.specs.Option.{option_copied};
 ghost use Rattle.std.specs.Prelude.{◌≡◌, ◌<◌, ◌≤◌, ◌+◌, ◌-◌, ◌^◌, ◌==◌, ◌↔◌, ℕ, [], false, length, Contains, IfOk, OnOk, OnErr, IfSome, IsErrOf, IsTrue, vec_capacity};
 ghost use Rattle.strat_arena.specs.PoolView.{shares_at, count_shared};
+ghost use Rattle.strat_base.specs.Tree.{Parents};
 ghost use Rattle.strat_base.specs.declared.limits.TheConstants.{CURSORS_MAX as the_most};
 ghost use Rattle.strat_crash.specs.Faults.{HasCause};
 ghost use Rattle.strat_crash.specs.Image.{Image};
@@ -225,6 +226,7 @@ impl Cursors {
             → c.number ≡ number → (f : Image) (next : ℕ) (m : Pairs)
             → Exposes (D.view disk.old) f → MayGoOn f next c cache.old
             → IsMapPinned f tree.now.parents pool.now c m → TellsNext m c limit out.new more) }
+        ensures kept { ArePinned pool.now tree.now.parents self.new.opened }
         ensures end { IfOk result (λ more. self.new
             ≡ record self.old { opened = moved_at number more out.new self.old.opened }) }
         ensures found { IsErrOf result next_fault.UnknownCursor
@@ -250,7 +252,9 @@ impl Cursors {
         requires kept { HoldShares pool.old self.old.opened }
         ensures ok { result ≡ is_opened number self.old.opened }
         ensures end { self.new ≡ closed_at number self.old }
-        ensures kept { HoldShares pool.new self.new.opened }
+        ensures kept { HoldShares pool.new self.new.opened × ((parents : Parents)
+            → ArePinned pool.old parents self.old.opened
+            → ArePinned pool.new parents self.new.opened) }
         ensures same { SharesFollow pool.old pool.new self.old.opened self.new.opened }
         ensures len { count_shared pool.new ≤ count_shared pool.old }
     {

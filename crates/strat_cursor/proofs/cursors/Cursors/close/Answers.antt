@@ -3,9 +3,9 @@ use Rattle.std.specs.List.{position, count_by}
 use Rattle.strat_arena.specs.PoolView.{shares_at}
 use Rattle.strat_cursor.specs.Cursors.{OpenCursor, CursorsView, AreNumberedBelow, are_named, those_named, without_cursor}
 use Rattle.strat_cursor.specs.CursorsFields.{cursors_seen}
-use Rattle.strat_cursor.specs.Pins.{HoldShares, GivesShares, arenas_of}
+use Rattle.strat_cursor.specs.Pins.{ArePinned, HoldShares, GivesShares, arenas_of}
 use Rattle.strat_cursor.proofs.OpenedLemmas.{IsFoundAt, found_at, place_none, closed_none, closed_keeps}
-use Rattle.strat_cursor.proofs.PinLemmas.{closed_room, closed_follow, closed_held}
+use Rattle.strat_cursor.proofs.PinLemmas.{closed_room, closed_follow, closed_held, closed_pinned}
 use Rattle.strat_cursor.proofs.cursors.Cursors.close.Goals as goal
 use Rattle.strat_cursor.proofs.cursors.Cursors.close.Goals.{After-remove-cursor, After-keep_named}
 
@@ -67,8 +67,13 @@ returns-clause-end c =
 
 pub returns-clause-kept : goal.returns-clause-kept
 returns-clause-kept c =
-    rw (left (goal.at.returns-clause-kept c).After-remove-cursor)
-    (closed_held c.args.pool.now c.release.new.pool c.self.inside.opened.items c.args.number c.in-Some.place c.remove-cursor.result (found (goal.at.returns-clause-kept c).After-remove-cursor).within (found (goal.at.returns-clause-kept c).After-remove-cursor).rest (held (goal.at.returns-clause-kept c).After-remove-cursor) (gives c))
+    let at = (goal.at.returns-clause-kept c).After-remove-cursor in
+    let stays = closed_held c.args.pool.now c.release.new.pool c.self.inside.opened.items c.args.number c.in-Some.place c.remove-cursor.result (found at).within (found at).rest (held at) (gives c) in
+    let follow = closed_follow c.args.pool.now c.release.new.pool c.self.inside.opened.items c.args.number c.in-Some.place c.remove-cursor.result (found at).within (found at).rest (gives c) in
+    rw (left at)
+    (stays, λ parents pinned.
+      closed_pinned c.args.pool.now c.release.new.pool parents c.args.number c.self.inside.opened.items stays follow
+      (subst (λ (v : CursorsView). ArePinned c.args.pool.now parents v.opened) (sym c.self.view_is) pinned))
 
 pub returns-clause-same : goal.returns-clause-same
 returns-clause-same c =

@@ -6,6 +6,7 @@ use Rattle.strat_cursor.specs.Looking.{NamesNoBlock}
 use Rattle.strat_cursor.specs.CursorsFields.{cursors_seen}
 use Rattle.strat_cursor.specs.Pins.{ArePinned}
 use Rattle.strat_cursor.proofs.OpenedLemmas.{IsFoundAt, found_at, place_none, moved_keeps}
+use Rattle.strat_cursor.proofs.PinLemmas.{pinned_moved}
 use Rattle.strat_cursor.proofs.FaultLemmas.{found_err, found_ok, damaged_err, looks_named}
 use Rattle.strat_cursor.proofs.cursors.Cursors.next.Given.{Over}
 use Rattle.strat_cursor.proofs.cursors.Cursors.next.Goals as goal
@@ -89,3 +90,9 @@ returns-clause-ok g c = λ one open_there number f next m shown goes reads.
     (c.in_ok-more.ensures.ok f next m shown
     (subst (λ (x : OpenCursor). MayGoOn f next x c.args.cache.now) (sym same) goes)
     (subst (λ (x : OpenCursor). IsMapPinned f c.args.tree.now.parents c.args.pool.now x m) (sym same) reads))
+
+pub returns-clause-kept : goal.returns-clause-kept
+returns-clause-kept g c =
+    rw (moved g (goal.at.returns-clause-kept g c).In_ok-more)
+    (pinned_moved c.args.pool.now c.args.tree.now.parents c.args.number c.in_ok-more.more c.next.new.out c.self.inside.opened.items
+    (subst (λ (v : CursorsView). ArePinned c.args.pool.now c.args.tree.now.parents v.opened) (sym c.self.view_is) c.requires.kept))
