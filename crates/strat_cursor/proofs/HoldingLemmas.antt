@@ -8,7 +8,7 @@ use Rattle.strat_arena.specs.PoolView.{shares_at, count_shared, is_shared}
 use Rattle.strat_arena.specs.declared.pool.PoolEntry.{PoolEntry}
 use Rattle.strat_array.specs.Kept.{Blocks, IsBlockRead}
 use Rattle.strat_array.proofs.EntriesOnLemmas.{entries_on-kept}
-use Rattle.strat_base.proofs.ListFacts.{Among, among_right, find_some, get_among}
+use Rattle.strat_base.proofs.ListFacts.{Among, among_right, find_some, get_among, among_flat, among_in_flat, filter_among}
 use Rattle.strat_base.specs.Entries.{Entry, is_tagged}
 use Rattle.strat_base.specs.Tree.{Parents, below}
 use Rattle.strat_base.specs.declared.descriptors.ArrayDesc.{ArrayDesc}
@@ -21,10 +21,11 @@ use Rattle.strat_format.specs.Block.{block_in}
 use Rattle.strat_level.specs.Levels.{desc_for, is_for}
 use Rattle.strat_recovery.proofs.BadLemmas.{contained_at}
 use Rattle.strat_state.specs.Level.{is_distinct}
-use Rattle.strat_cursor.specs.Cursors.{OpenCursor, MayGoOn}
+use Rattle.strat_model.specs.Pairs.{Pairs}
+use Rattle.strat_cursor.specs.Cursors.{OpenCursor, MayGoOn, moved_at, moved_on, without_cursor, arrays_named}
 use Rattle.strat_cursor.specs.Looking.{AreInOrder, HaveOwnIds, AreCachedFrom, arrays_there, levels_there}
 use Rattle.strat_cursor.specs.Pins.{arena_pinned, arenas_of, shares_of, arrays_asked}
-use Rattle.strat_cursor.proofs.PinLemmas.{among_contained, asked_of_levels, asked_there}
+use Rattle.strat_cursor.proofs.PinLemmas.{among_contained, asked_of_levels, asked_there, each_moved}
 
 arenas_few : (c : OpenCursor) → length (arenas_of c) ≤ 2
 arenas_few c = by c.sealed
@@ -193,3 +194,31 @@ goes_on_in f g next c cached agree goes = record {
         ∙ goes.same.same a index block x there at place;
   };
 }
+
+-- cursors may go on after one of them told a page
+pub goes_on_moved : (f : Image) (next : ℕ) (cached : Blocks) (n : ℕ) (more : Bool) (told : Pairs) (cursors : List OpenCursor)
+    → ((c : OpenCursor) → Contains cursors c → MayGoOn f next c cached) → (c : OpenCursor) → Contains (moved_at n more told cursors) c → MayGoOn f next c cached
+goes_on_moved f next cached n more told cursors each c at =
+    each_moved (λ x. MayGoOn f next x cached) n more told cursors
+    (λ x goes. record { ordered = goes.ordered; ids = goes.ids; same = goes.same })
+    (λ x among. each x (among_contained cursors x among)) c (contained_at c (moved_at n more told cursors) at.0 at.1 at.2)
+
+pub goes_on_without : (f : Image) (next : ℕ) (cached : Blocks) (n : ℕ) (cursors : List OpenCursor)
+    → ((c : OpenCursor) → Contains cursors c → MayGoOn f next c cached) → (c : OpenCursor) → Contains (without_cursor n cursors) c → MayGoOn f next c cached
+goes_on_without f next cached n cursors each c at =
+    each c (among_contained cursors c (filter_among (λ (x : OpenCursor). not (eqb x.number n)) cursors c (contained_at c (without_cursor n cursors) at.0 at.1 at.2)).0)
+
+-- the arrays that cursors name after one of them told a page
+pub names_moved : (n : ℕ) (more : Bool) (told : Pairs) (cursors : List OpenCursor) → arrays_named (moved_at n more told cursors) ≡ arrays_named cursors
+names_moved n more told [] = refl
+names_moved n more told (c ∷ cursors) = λ i. by (eqb c.number n) i ++ names_moved n more told cursors i
+  where
+    by : (b : Bool) → (cond b (moved_on more told c) c).arrays ≡ c.arrays
+    by true = refl
+    by false = refl
+
+pub names_without : (n : ℕ) (cursors : List OpenCursor) (a : ArrayDesc) → Contains (arrays_named (without_cursor n cursors)) a → Contains (arrays_named cursors) a
+names_without n cursors a at =
+    let named = among_flat (λ (c : OpenCursor). c.arrays) (without_cursor n cursors) a (contained_at a (arrays_named (without_cursor n cursors)) at.0 at.1 at.2) in
+    among_contained (arrays_named cursors) a
+    (among_in_flat (λ (c : OpenCursor). c.arrays) cursors named.0 a (filter_among (λ (x : OpenCursor). not (eqb x.number n)) cursors named.0 named.1).0 named.2)

@@ -243,7 +243,7 @@ pub pinned_without : (pool : List PoolEntry) (parents : Parents) (number : ℕ) 
     → ArePinned pool parents (without_cursor number cursors)
 pinned_without pool parents number cursors pinned =
     let older : (c : OpenCursor) → Contains (without_cursor number cursors) c → Contains cursors c = λ c at.
-      among_contained cursors c (filter_among (λ (x : OpenCursor). not (eqb x.number number)) cursors c (contained_at c (without_cursor number cursors) at.0 at.1 at.2)).0 in
+    among_contained cursors c (filter_among (λ (x : OpenCursor). not (eqb x.number number)) cursors c (contained_at c (without_cursor number cursors) at.0 at.1 at.2)).0 in
     record {
       held = record { stand = λ c at. pinned.held.stand c (older c at); shares = λ n. omega (arith, shares_without number cursors n, pinned.held.shares n) };
       each = λ c at. pinned.each c (older c at);
@@ -283,13 +283,13 @@ pub pinned_moved : (pool : List PoolEntry) (parents : Parents) (number : ℕ) (m
     → ArePinned pool parents (moved_at number more told cursors)
 pinned_moved pool parents number more told cursors pinned =
     let each : (c : OpenCursor) → Contains (moved_at number more told cursors) c → ListsStand pool c × IsPinned pool parents c = λ c at.
-      each_moved (λ x. ListsStand pool x × IsPinned pool parents x) number more told cursors
-      (λ x both. (
-        record { zero = both.0.zero; sealed = both.0.sealed },
-        record { zero = both.1.zero; sealed = both.1.sealed; arrays = both.1.arrays; few = both.1.few; version = both.1.version },
-      ))
-      (λ x among. let there = among_contained cursors x among in (pinned.held.stand x there, pinned.each x there))
-      c (contained_at c (moved_at number more told cursors) at.0 at.1 at.2) in
+    each_moved (λ x. ListsStand pool x × IsPinned pool parents x) number more told cursors
+    (λ x both. (
+      record { zero = both.0.zero; sealed = both.0.sealed },
+      record { zero = both.1.zero; sealed = both.1.sealed; arrays = both.1.arrays; few = both.1.few; version = both.1.version },
+    ))
+    (λ x among. let there = among_contained cursors x among in (pinned.held.stand x there, pinned.each x there))
+    c (contained_at c (moved_at number more told cursors) at.0 at.1 at.2) in
     record {
       held = record { stand = λ c at. (each c at).0; shares = λ n. omega (arith, shares_moved number more told cursors n, pinned.held.shares n) };
       each = λ c at. (each c at).1;

@@ -22,7 +22,7 @@ use Rattle.strat_cursor.specs.Cursors.{OpenCursor, CursorsView, zeros_pinned, pa
 use Rattle.strat_cursor.specs.CursorTable.{IsCursorOf, AreCursorsOf}
 use Rattle.strat_cursor.specs.Pins.{ArePinned, SharesFollow, IsStarted, IsCopyOf, IsCopyIfAny, shares_of}
 use Rattle.strat_cursor.specs.Ranges.{IsMapSeen, sealed_held}
-use Rattle.strat_cursor.proofs.PinLemmas.{arenas_stay, among_contained, shares_more}
+use Rattle.strat_cursor.proofs.PinLemmas.{arenas_stay, among_contained, shares_more, pinned_without}
 use Rattle.strat_cursor.proofs.RowLemmas.{pool_rows}
 use Rattle.std.proofs.lemmas.Bool.{eqb-true}
 
@@ -193,3 +193,14 @@ table_started f parents before after old new v lo hi of sealed arrays m rows pin
     subst (λ (x : List OpenCursor). AreCursorsOf f parents after x (rows ++ record { number = old.next; left = range m lo hi } ∷ [])) (sym more)
     (rows_more f parents after old.opened rows c (record { number = old.next; left = range m lo hi }) others
     (record { pairs = m; reads = reads; row_is = λ i. record { number = (sym started.rest i).number; left = pairs_left m (sym started.rest i) } }))
+
+-- a closed cursor is gone from the table, and the others have what they had
+pub table_closed : (f : Image) (parents : Parents) (before after : List PoolEntry) (cursors : List OpenCursor) (rows : List Cursor) (n : ℕ)
+    → ArePinned before parents cursors → ArePinned after parents (without_cursor n cursors) → SharesFollow before after cursors (without_cursor n cursors)
+    → AreCursorsOf f parents before cursors rows
+    → AreCursorsOf f parents after (without_cursor n cursors) (filter {X = Cursor} (λ row. not (eqb row.number n)) rows)
+table_closed f parents before after cursors rows n pinned pinned_after follow are =
+    pool_rows parents before after (without_cursor n cursors)
+    (arenas_stay before after (without_cursor n cursors) (λ a some. follow.arenas a (let h = pinned_after.held.shares a in omega arith)) pinned_after.held.shares)
+    pinned_after.held.shares (pinned_without before parents n cursors pinned) f
+    (filter {X = Cursor} (λ row. not (eqb row.number n)) rows) (rows_less f parents before n cursors rows are)

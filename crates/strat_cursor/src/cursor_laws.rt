@@ -119,6 +119,33 @@ pub fn a_started_cursor_has_its_range_left()
         (rows ++ record { number = old.next; left = range m lo hi } ∷ []) }
 {}
 
+/// A closed cursor is gone from the table, and the others have what they had.
+pub fn a_closed_cursor_leaves_the_others()
+    ensures kept { (f : Image) (parents : Parents) (before after : List PoolEntry)
+        (cursors : List OpenCursor) (rows : List Cursor) (n : ℕ)
+        → ArePinned before parents cursors → ArePinned after parents (without_cursor n cursors)
+        → SharesFollow before after cursors (without_cursor n cursors)
+        → AreCursorsOf f parents before cursors rows
+        → AreCursorsOf f parents after (without_cursor n cursors)
+        (filter (λ row. not (row.number == n)) rows) }
+{}
+
+/// A page and a close of one cursor leave what all cursors need to go on, and no arrays are named that were not.
+pub fn cursors_go_on_after_others_did()
+    ensures kept { (f : Image) (next : ℕ) (cached : Blocks) (n : ℕ) (more : Bool) (told : Pairs)
+        (cursors : List OpenCursor)
+        → ((c : OpenCursor) → Contains cursors c → MayGoOn f next c cached)
+        → (c : OpenCursor) → Contains (moved_at n more told cursors) c → MayGoOn f next c cached }
+    ensures end { (f : Image) (next : ℕ) (cached : Blocks) (n : ℕ) (cursors : List OpenCursor)
+        → ((c : OpenCursor) → Contains cursors c → MayGoOn f next c cached)
+        → (c : OpenCursor) → Contains (without_cursor n cursors) c → MayGoOn f next c cached }
+    ensures same { (n : ℕ) (more : Bool) (told : Pairs) (cursors : List OpenCursor)
+        → arrays_named (moved_at n more told cursors) ≡ arrays_named cursors }
+    ensures found { (n : ℕ) (cursors : List OpenCursor) (a : ArrayDesc)
+        → Contains (arrays_named (without_cursor n cursors)) a
+        → Contains (arrays_named cursors) a }
+{}
+
 /// A cursor has two shares at most, and there are as many arenas as have shares, at most.
 pub fn cursors_hold_few_arenas()
     ensures fits { (cursors : List OpenCursor) (n : ℕ) → shares_of cursors n ≤ 2 * length cursors }

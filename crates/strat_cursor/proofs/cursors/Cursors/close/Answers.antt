@@ -70,10 +70,12 @@ returns-clause-kept c =
     let at = (goal.at.returns-clause-kept c).After-remove-cursor in
     let stays = closed_held c.args.pool.now c.release.new.pool c.self.inside.opened.items c.args.number c.in-Some.place c.remove-cursor.result (found at).within (found at).rest (held at) (gives c) in
     let follow = closed_follow c.args.pool.now c.release.new.pool c.self.inside.opened.items c.args.number c.in-Some.place c.remove-cursor.result (found at).within (found at).rest (gives c) in
-    rw (left at)
-    (stays, λ parents pinned.
-      closed_pinned c.args.pool.now c.release.new.pool parents c.args.number c.self.inside.opened.items stays follow
-      (subst (λ (v : CursorsView). ArePinned c.args.pool.now parents v.opened) (sym c.self.view_is) pinned))
+    rw (left at) (
+      stays,
+      λ parents pinned.
+          closed_pinned c.args.pool.now c.release.new.pool parents c.args.number c.self.inside.opened.items stays follow
+          (subst (λ (v : CursorsView). ArePinned c.args.pool.now parents v.opened) (sym c.self.view_is) pinned),
+    )
 
 pub returns-clause-same : goal.returns-clause-same
 returns-clause-same c =
