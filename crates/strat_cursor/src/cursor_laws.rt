@@ -24,8 +24,8 @@ ghost use Rattle.strat_cursor.specs.Looking.{AreInOrder, HaveOwnIds, AreCachedFr
 ghost use Rattle.strat_cursor.specs.Pins.{ArePinned, IsStarted, SharesFollow, arrays_asked, shares_of};
 ghost use Rattle.strat_cursor.specs.Ranges.{IsMapSeen, sealed_held};
 
-/// Cursors may go on, and have the same pairs left, where each list that stood in the pool stands and reads as before, as
-/// after a put, and so where each arena that they share stays, as after releases and starts of others.
+/// Cursors may go on, and have the same pairs left, where each list that stood in the pool stands and reads as
+/// before, as after a put, and so where each arena that they share stays, as after releases and starts of others.
 pub fn cursors_stand_while_their_lists_do()
     ensures ok { (old new : List PoolEntry) (parents : Parents) (cursors : List OpenCursor)
         → ((list : ItemList) → ListStands old list
@@ -103,8 +103,8 @@ pub fn cursors_do_as_a_table_says()
         (without_cursor n cursors) (filter (λ row. not (row.number == n)) rows) }
 {}
 
-/// A started cursor is the table's next one: it has the range left of the map that is seen at its start. The others have
-/// what they had.
+/// A started cursor is the table's next one: it has the range left of the map that is seen at its start. The others
+/// have what they had.
 pub fn a_started_cursor_has_its_range_left()
     ensures kept { (f : Image) (parents : Parents) (before after : List PoolEntry)
         (old new : CursorsView) (v : ℕ) (lo hi : List ℕ) (first : Memtable)

@@ -277,7 +277,8 @@ impl Cursors {
         Ok(())
     }
 
-    /// Keeps the descriptor of an array that no level names any more, where an open cursor names it. It takes no memory.
+    /// Keeps the descriptor of an array that no level names any more, where an open cursor names it. It takes no
+    /// memory.
     pub fn retire(&mut self, desc: ArrayDesc)
         requires room { length self.old.retired < self.old.room }
         ensures ok { self.new ≡ retired_by desc self.old }
