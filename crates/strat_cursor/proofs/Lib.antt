@@ -8,3 +8,12 @@ pub mod TurnLemmas
 pub mod SeenLemmas
 pub mod TellLemmas
 pub mod BeginLemmas
+pub mod FaultLemmas
+pub mod HoldingLemmas
+pub mod NextLemmas
+pub mod OpenedLemmas
+pub mod PageReads
+pub mod PinLemmas
+pub mod RowLemmas
+pub mod StartLemmas
+pub mod TableRows

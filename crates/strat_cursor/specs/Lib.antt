@@ -3,6 +3,12 @@ pub mod Contest
 pub mod DeskFields
 pub mod Looking
 pub mod Picking
+pub mod CursorFaults
+pub mod CursorFields
+pub mod CursorsFields
+pub mod Cursors
+pub mod CursorTable
+pub mod Pins
 pub mod Ranges
 pub mod Sources
 pub mod Turning

@@ -2,13 +2,18 @@
 #![tactic(auto)]
 
 mod contest;
+mod cursor;
+pub mod cursor_laws;
+mod cursors;
 mod desks;
 mod picking;
 mod scanning;
 mod sources;
+mod starting;
 mod turn;
 mod view;
 
+pub use cursors::{CursorFault, Cursors, NextFault};
 pub use desks::Desks;
 pub use scanning::scan;
 pub use view::{Picked, View};

@@ -6,6 +6,7 @@ use strat_level::{Levels, ZeroView};
 use strat_tree::Tree;
 
 /// Levels 1 to 22, or of each the one array that is read, the shallowest level's first.
+#[derive(Drop)]
 pub enum Picked<'a> {
     /// The levels of a store, of each of which the array for the version is read.
     Live(&'a Levels),
@@ -15,6 +16,7 @@ pub enum Picked<'a> {
 
 /// Level 0, a sealed level 0 where there is one, and the levels, as a reader goes through them. The keys and values of
 /// level 0 lie in the pool.
+#[derive(Drop)]
 pub struct View<'a> {
     pub tree: &'a Tree,
     pub pool: &'a ArenaPool,
