@@ -5,7 +5,7 @@ use Rattle.strat_model.specs.Command.{request_of}
 use Rattle.strat_model.specs.Spelling.{reply_body}
 use Rattle.strat_model.specs.Stream.{frame}
 use Rattle.strat_model.specs.Answer.{as_told}
-use Rattle.strat_serve.proofs.AnswerLemmas.{answered, told_faulty, told_damaged}
+use Rattle.strat_serve.proofs.AnswerLemmas.{answered, fails_as_met, told_faulty, told_damaged}
 use Rattle.strat_serve.proofs.answering.answer.Goals as goal
 
 pub returns-in-Ok-clause-ok : goal.returns-in-Ok-clause-ok
@@ -25,3 +25,7 @@ returns-in-Err-clause-ok g c =
 pub returns-in-Ok-clause-damaged : goal.returns-in-Ok-clause-damaged
 returns-in-Ok-clause-damaged g c =
     λ b e. c.apply-reply.ensures.damaged b (told_damaged c.apply-reply.result c.fault_told.result b c.fault_told.ensures e)
+
+pub returns-in-Ok-clause-cause : goal.returns-in-Ok-clause-cause
+returns-in-Ok-clause-cause g c =
+    fails_as_met c.apply-reply.result c.fault_told.result (g.D.Disk.faults c.args.disk.now) (g.D.Disk.faults c.apply-reply.new.disk) c.fault_told.ensures c.apply-reply.ensures.cause
