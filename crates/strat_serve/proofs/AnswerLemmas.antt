@@ -1,9 +1,8 @@
 -- One body, answered.
 use Rattle.std.proofs.Common.{◌≡◌, ◌≤◌, ℕ, zero, suc, Bool, true, false, List, [], ◌∷◌, Option, Some, None, refl, sym, ap, subst, ◌∙◌, ◌⊎◌, inl, inr, arith}
-use Rattle.std.specs.Prelude.{if◌then◌else◌, IsSome, is_some}
+use Rattle.std.specs.Prelude.{if◌then◌else◌, is_some}
 use Rattle.strat_base.specs.declared.failures.Fault.{Fault}
 use Rattle.strat_base.specs.declared.failures.Fault.TheVariants as fault
-use Rattle.strat_crash.specs.Blocks.{AgreeOn}
 use Rattle.strat_crash.specs.Image.{Image}
 use Rattle.strat_crash.specs.Moments.{DiskView, Images, Since}
 use Rattle.strat_crash.specs.Trail.{At, Trail}
@@ -23,14 +22,12 @@ use Rattle.strat_model.specs.Step.{step}
 use Rattle.strat_model.specs.Stream.{frame}
 use Rattle.strat_model.specs.Table.{Table, bare}
 use Rattle.strat_model.specs.Run.{Position, Response, position_after, is_change, takes_memory}
-use Rattle.strat_promote.specs.Job.{blocks_listed}
 use Rattle.strat_recovery.specs.StateTable.{table_of}
 use Rattle.strat_standing.specs.Contents.{Contents, contents_state}
 use Rattle.strat_standing.specs.Standing.{ShowsTable}
 use Rattle.strat_standing.proofs.FreeLemmas.{shows_contents}
-use Rattle.strat_store.specs.Applying.{is_fault, ran_short, IsAnsweredBy, IsShortOf, IsBrokenBy, IsAppliedTo, FollowsStep, FailsAsTold, IsDamagedIn}
-use Rattle.strat_store.specs.Held.{Held, StandsWith, IsConsistent, position_with}
-use Rattle.strat_cursor.specs.Looking.{arrays_there}
+use Rattle.strat_store.specs.Applying.{is_fault, ran_short, IsAnsweredBy, IsShortOf, IsBrokenBy, IsAppliedTo, FollowsStep, FailsAsTold}
+use Rattle.strat_store.specs.Held.{Held, StandsWith, position_with}
 use Rattle.strat_serve.specs.Session.{IsAnswered, IsToldBy, ContinuesWith, StopsWith, FailsAsMet, fault_told}
 
 -- what a reply tells of faults

@@ -1,5 +1,5 @@
 -- What a command leaves of the superblock and the manifest of a store.
-use Rattle.std.proofs.Common.{◌≡◌, ◌≢◌, ◌≤◌, ◌<◌, ◌-◌, ◌&&◌, ℕ, Bool, true, false, inl, inr, length, Option, Some, None, refl, sym, ap, ◌∙◌, subst, arith, true≢false}
+use Rattle.std.proofs.Common.{◌≡◌, ◌≤◌, ◌<◌, ◌-◌, ◌&&◌, Bool, true, false, inl, inr, length, Option, Some, None, refl, sym, ap, ◌∙◌, subst, arith, true≢false}
 use Rattle.strat_array.specs.Kept.{Blocks}
 use Rattle.strat_base.specs.Change.{Change}
 use Rattle.strat_base.specs.Change as change
@@ -8,7 +8,6 @@ use Rattle.strat_base.specs.declared.failures.Trouble.TheVariants as trouble
 use Rattle.strat_crash.specs.Moments.{DiskView, Passes, TearsOnly, OnlyReads}
 use Rattle.strat_format.specs.Chained.{Chained}
 use Rattle.strat_format.specs.Layout.{region_at, region_size}
-use Rattle.strat_format.specs.SuperBlock.{Super}
 use Rattle.strat_gate.specs.SuperView.{super_of}
 use Rattle.strat_manifest.specs.ManifestView.{manifest_of}
 use Rattle.strat_model.specs.Answer.{accepts}

@@ -1,5 +1,5 @@
 -- What a store holds of a disk whatever its arrays hold: the superblock and the manifest stay there, or others are published.
-use Rattle.std.proofs.Common.{◌≡◌, ◌≢◌, ◌≤◌, ◌<◌, ◌+◌, ◌-◌, ◌*◌, ℕ, zero, suc, Bool, true, false, cond, eqb, inl, inr, List, [], ◌∷◌, ◌++◌, length, Option, Some, None, Ok, Err, refl, sym, ap, ◌∙◌, subst, arith, true≢false}
+use Rattle.std.proofs.Common.{◌≡◌, ◌≢◌, ◌≤◌, ◌<◌, ◌+◌, ◌-◌, ◌*◌, ℕ, zero, suc, Bool, true, false, cond, eqb, inl, inr, List, [], ◌∷◌, ◌++◌, Option, Some, None, Ok, Err, refl, sym, ap, ◌∙◌, subst, arith, true≢false}
 use Rattle.std.specs.Prelude.{IsSome, IfSome, option_map}
 use Rattle.std.proofs.lemmas.Bool.{cases_lt, le-ltb, ltb-false}
 use Rattle.strat_base.specs.declared.descriptors.Extent.{Extent}
@@ -34,7 +34,7 @@ use Rattle.strat_standing.proofs.ListLemmas.{among_contained}
 use Rattle.strat_standing.proofs.LocalLemmas.{SameOn}
 use Rattle.strat_standing.proofs.PlaceLemmas.{places, newest_chosen, newest_local, named_behind}
 use Rattle.strat_store.specs.Held.{Held, IsConsistent, IsOnDisk, contents_held}
-use Rattle.strat_store.specs.Publishing.{IsWrittenTo, LaysSuperblock, WritesManifest, is_in_front}
+use Rattle.strat_store.specs.Publishing.{IsWrittenTo, LaysSuperblock, WritesManifest}
 use Rattle.strat_store.specs.Settling.{KeepsPublished, WritesBeside, held_next}
 
 -- a manifest is read again while the blocks of its chain stay

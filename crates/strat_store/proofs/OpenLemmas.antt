@@ -158,9 +158,9 @@ module _ (before synced read now : DiskView) (r : Recovered) (syncs : OnlyReads 
       each_then read now before.moment (λ c. Images before c ⊎ Outside (region_at r.sb.mem (other_region r.sb.region)) 1 f c) passes
       (λ c since. inl (all.images.each c since))
       (λ c since.
-          let t = torn.each c since in
-          let is : t.0 ≡ f = settled_at read f (all.same ∙ exposed) (reads_keep_durable synced read looks settled) t.0 t.1 in
-          inr (subst (λ (d : Image). Outside (region_at r.sb.mem (other_region r.sb.region)) 1 d c) is t.2))
+      let t = torn.each c since in
+      let is : t.0 ≡ f = settled_at read f (all.same ∙ exposed) (reads_keep_durable synced read looks settled) t.0 t.1 in
+      inr (subst (λ (d : Image). Outside (region_at r.sb.mem (other_region r.sb.region)) 1 d c) is t.2))
 
   gate_alone : (f : Image) → Exposes before f → ChangesGateAlone before now f r.slot (super_of r.sb)
   gate_alone f exposed = record { newest = (found f exposed).newest; images = at_gate f exposed }
