@@ -12,8 +12,8 @@ use Rattle.strat_merge.specs.Runs.{head_at}
 use Rattle.strat_merge.specs.Bracket.{is_ahead, IsBracket, IsTournament, PlayedBeside}
 use Rattle.strat_merge.proofs.BracketLemmas.{root_first, root_last, beside_leaf}
 use Rattle.std.proofs.lemmas.List.{length-set}
-use Rattle.strat_cursor.specs.Contest.{keyed, contenders, head_in, Leads, NoneAhead}
-use Rattle.strat_cursor.specs.Sources.{head_of}
+use Rattle.strat_cursor.specs.Contest.{keyed, contenders, head_in, LeadsAll, NoneAhead}
+use Rattle.strat_cursor.specs.Sources.{first_at_source}
 use Rattle.strat_cursor.specs.declared.desks.Desk.{Desk}
 use Rattle.strat_cursor.specs.declared.sources.Source.{Source}
 
@@ -41,7 +41,7 @@ contender_at pool (s ∷ sources) (d ∷ desks) (suc i) = contender_at pool sour
 
 -- the source of another number has what it had
 pub contender_other : (pool : List PoolEntry) (sources : List Source) (desks : List Desk) (w i : ℕ) (d : Desk) → i ≢ w → head_in pool sources (set desks w d) i ≡ head_in pool sources desks i
-contender_other pool sources desks w i d apart = ap (λ (o : Option Desk). option_and_then (λ s. option_and_then (λ x. head_of pool s x) o) (slice_get sources i)) (other desks w i apart)
+contender_other pool sources desks w i d apart = ap (λ (o : Option Desk). option_and_then (λ s. option_and_then (λ x. first_at_source pool s x) o) (slice_get sources i)) (other desks w i apart)
   where
     other : (ds : List Desk) (n k : ℕ) → k ≢ n → slice_get (set ds n d) k ≡ slice_get ds k
     other [] n k off = refl
@@ -74,7 +74,7 @@ module _ (pool : List PoolEntry) (sources : List Source) (desks : List Desk) (wi
   pub root_low : 0 < length sources → get_or winners 1 0 < length sources
   root_low some = let nodes : length winners ≡ 2 * length sources = won_bracket.nodes in won_bracket.low 1 (omega arith)
 
-  pub root_leads : Leads pool sources desks (get_or winners 1 0)
+  pub root_leads : LeadsAll pool sources desks (get_or winners 1 0)
   root_leads = λ i.
       (λ j. is_ahead (sym (contender_at pool sources desks i) j) i (sym (contender_at pool sources desks (get_or winners 1 0)) j) (get_or winners 1 0))
       ∙ root_first (contenders pool sources desks) winners won (get_or winners 1 0) refl i

@@ -29,8 +29,8 @@ use Rattle.strat_merge.proofs.OrderLemmas.{behind_le, behind_lt, key_le, first_l
 use Rattle.strat_state.specs.LookUp.{first_live}
 use Rattle.strat_state.specs.Reading.{live_of}
 use Rattle.strat_cursor.specs.Ahead.{is_to_come}
-use Rattle.strat_cursor.specs.Contest.{keyed, head_in, Leads}
-use Rattle.strat_cursor.specs.Sources.{HasHead, StandsIn, content_of, left_of, head_of, lists_of, entry_held}
+use Rattle.strat_cursor.specs.Contest.{keyed, head_in, LeadsAll}
+use Rattle.strat_cursor.specs.Sources.{HasHead, StandsIn, content_of, left_at_source, first_at_source, lists_of, entry_held}
 use Rattle.strat_cursor.specs.Turning.{AreSettled, AreUpTo}
 use Rattle.strat_cursor.specs.declared.desks.Desk.{Desk}
 use Rattle.strat_cursor.specs.declared.sources.Source.{Source}
@@ -95,7 +95,7 @@ entry_is None array block index entries held = absurd (cc)
 entry_is (Some kept) array block index entries held = held_has (Some kept) array block entries (λ es. slice_get kept.1 index ≡ slice_get es index) held refl
 
 -- what a source has at hand is the first that it has left
-head_first : (f : Image) (c : Blocks) (pool : List PoolEntry) (s : Source) (d : Desk) → HasHead s d → StandsIn f c s d.scratch → head_of pool s d ≡ slice_get (left_of f pool s d) 0
+head_first : (f : Image) (c : Blocks) (pool : List PoolEntry) (s : Source) (d : Desk) → HasHead s d → StandsIn f c s d.scratch → first_at_source pool s d ≡ slice_get (left_at_source f pool s d) 0
 head_first f c pool source.None d has stands = refl
 head_first f c pool (source.Zero list) d has stands = sym (drop_first (entries_held pool list.now) d.item)
 head_first f c pool (source.Array a) d has stands =
@@ -110,7 +110,7 @@ head_first f c pool (source.Array a) d has stands =
     ] refl
 
 -- the leader's key is least, and before it in number all keys are greater
-module _ (pool : List PoolEntry) (sources : List Source) (desks : List Desk) (w : ℕ) (e : Entry) (leads : Leads pool sources desks w) (here : head_in pool sources desks w ≡ Some e) where
+module _ (pool : List PoolEntry) (sources : List Source) (desks : List Desk) (w : ℕ) (e : Entry) (leads : LeadsAll pool sources desks w) (here : head_in pool sources desks w ≡ Some e) where
   lead_at : (i : ℕ) (h : Entry) → head_in pool sources desks i ≡ Some h → is_ahead (Some (keyed h)) i (Some (keyed e)) w ≡ false
   lead_at i h at = (λ j. is_ahead (option_map keyed (sym at j)) i (option_map keyed (sym here j)) w) ∙ leads i
 
@@ -131,10 +131,10 @@ module _ (f : Image) (c : Blocks) (pool : List PoolEntry) (parents : Parents) (t
   desk_for i s at = get_within desks i (omega (arith, settled.same, got_low sources i s at))
 
   -- what a source says of a key to come is what it has left
-  says : (i : ℕ) (s : Source) (d : Desk) (key : List ℕ) → slice_get sources i ≡ Some s → slice_get desks i ≡ Some d → is_to_come lo last key ≡ true → live_of parents (content_of f pool s) v key ≡ find (is_seen_at parents key v) (left_of f pool s d)
+  says : (i : ℕ) (s : Source) (d : Desk) (key : List ℕ) → slice_get sources i ≡ Some s → slice_get desks i ≡ Some d → is_to_come lo last key ≡ true → live_of parents (content_of f pool s) v key ≡ find (is_seen_at parents key v) (left_at_source f pool s d)
   says i s d key at there come = sym (first_is_live parents tree (content_of f pool s) (up.ordered i s at) key v) ∙ sym ((up.each i s d at there).0.same key come)
 
-  first_of : (i : ℕ) (s : Source) (d : Desk) → slice_get sources i ≡ Some s → slice_get desks i ≡ Some d → head_in pool sources desks i ≡ slice_get (left_of f pool s d) 0
+  first_of : (i : ℕ) (s : Source) (d : Desk) → slice_get sources i ≡ Some s → slice_get desks i ≡ Some d → head_in pool sources desks i ≡ slice_get (left_at_source f pool s d) 0
   first_of i s d at there = head_here pool sources desks i s d at there ∙ head_first f c pool s d (settled.each i s d at there).1.held (up.each i s d at there).1
 
   -- a source whose first key is above a key says nothing of it
@@ -144,8 +144,8 @@ module _ (f : Image) (c : Blocks) (pool : List PoolEntry) (parents : Parents) (t
       let first = first_of i s desk.0 at desk.1 in
       says i s desk.0 key at desk.1 come
       ∙ elim (option_cases (head_in pool sources desks i)) [
-        | inl none ↦ none_empty parents v key (left_of f pool s desk.0) (sym first ∙ none)
-        | inr some ↦ none_above parents v key (left_of f pool s desk.0) some.0 (up.each i s desk.0 at desk.1).0.ordered (sym first ∙ some.1) (above some.0 some.1)
+        | inl none ↦ none_empty parents v key (left_at_source f pool s desk.0) (sym first ∙ none)
+        | inr some ↦ none_above parents v key (left_at_source f pool s desk.0) some.0 (up.each i s desk.0 at desk.1).0.ordered (sym first ∙ some.1) (above some.0 some.1)
       ]
 
   got_mapped : (i : ℕ) (es : List Entry) → slice_get (map (content_of f pool) sources) i ≡ Some es → (s : Source) × (slice_get sources i ≡ Some s) × (es ≡ content_of f pool s)
@@ -170,7 +170,7 @@ module _ (f : Image) (c : Blocks) (pool : List PoolEntry) (parents : Parents) (t
       let s = got_mapped i es at in
       ap (λ (l : List Entry). live_of parents l v key) s.2 ∙ silent i s.0 key s.1 come (above i))
 
-  module _ (w : ℕ) (e : Entry) (leads : Leads pool sources desks w) (here : head_in pool sources desks w ≡ Some e) where
+  module _ (w : ℕ) (e : Entry) (leads : LeadsAll pool sources desks w) (here : head_in pool sources desks w ≡ Some e) where
     path_of : (o : Option Entry) → o ≡ Some e → IfSome o (λ d. IsTrue (is_ancestor parents d.version v)) → is_ancestor parents e.version v ≡ true
     path_of None is path = absurd (cc)
     path_of (Some d) is path = let same : d ≡ e = cc in subst (λ (x : Entry). is_ancestor parents x.version v ≡ true) same path
@@ -184,9 +184,9 @@ module _ (f : Image) (c : Blocks) (pool : List PoolEntry) (parents : Parents) (t
     lead_seen s at come =
         let desk = desk_for w s at in
         let first = sym (first_of w s desk.0 at desk.1) ∙ here in
-        let path : is_ancestor parents e.version v ≡ true = path_of (head_of pool s desk.0) (sym (head_here pool sources desks w s desk.0 at desk.1) ∙ here) (settled.each w s desk.0 at desk.1).1.on_path in
+        let path : is_ancestor parents e.version v ≡ true = path_of (first_at_source pool s desk.0) (sym (head_here pool sources desks w s desk.0 at desk.1) ∙ here) (settled.each w s desk.0 at desk.1).1.on_path in
         first_at parents v e.key (map (content_of f pool) sources) w (content_of f pool s) e (map_got w s at)
-        (says w s desk.0 e.key at desk.1 come ∙ found_first parents v (left_of f pool s desk.0) e first path)
+        (says w s desk.0 e.key at desk.1 come ∙ found_first parents v (left_at_source f pool s desk.0) e first path)
         (λ i es low there.
         let t = got_mapped i es there in
         ap (λ (l : List Entry). live_of parents l v e.key) t.2 ∙ silent i t.0 e.key t.1 come (λ h hat. lead_lt pool sources desks w e leads here i h low hat))
@@ -196,4 +196,4 @@ module _ (f : Image) (c : Blocks) (pool : List PoolEntry) (parents : Parents) (t
     lead_from s at =
         let desk = desk_for w s at in
         let first = sym (first_of w s desk.0 at desk.1) ∙ here in
-        all_at (is_from lo) e (left_of f pool s desk.0) (up.each w s desk.0 at desk.1).0.from (get_among (left_of f pool s desk.0) 0 e first)
+        all_at (is_from lo) e (left_at_source f pool s desk.0) (up.each w s desk.0 at desk.1).0.from (get_among (left_at_source f pool s desk.0) 0 e first)

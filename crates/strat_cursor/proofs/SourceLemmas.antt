@@ -34,7 +34,7 @@ use Rattle.strat_level.specs.Memtable.{entries_held, ListStands}
 use Rattle.strat_level.specs.Places.{IsStart}
 use Rattle.strat_cursor.specs.Ahead.{is_after, is_to_come}
 use Rattle.strat_cursor.specs.Looking.{MayBeAsked, LooksThrough, NamesNoBlock}
-use Rattle.strat_cursor.specs.Sources.{PassesOver, is_due, left_behind, entry_held, lists_of, left_of, content_of, head_of, StandsIn, IsUpTo, IsSpent, HasHead, arrays_at, steps_left}
+use Rattle.strat_cursor.specs.Sources.{PassesUndue, is_due, left_behind, entry_held, lists_of, left_at_source, content_of, first_at_source, StandsIn, IsUpTo, IsSpent, HasHead, arrays_at, steps_left}
 use Rattle.strat_cursor.specs.declared.desks.Desk.{Desk}
 use Rattle.strat_cursor.specs.declared.sources.Source.{Source}
 use Rattle.strat_cursor.specs.declared.sources.Source.TheVariants as source
@@ -65,7 +65,7 @@ pub record IsBegun (parents : Parents) (v : ℕ) (lo : List ℕ) (entries left :
   pub ordered : IsTrue (is_ascending left)
   pub from : IsTrue (list_all (is_from lo) left)
 
-begun : (parents : Parents) (v : ℕ) (lo : List ℕ) (entries left : List Entry) → is_ascending entries ≡ true → PassesOver parents v [] (filter (is_from lo) entries) left → IsBegun parents v lo entries left
+begun : (parents : Parents) (v : ℕ) (lo : List ℕ) (entries left : List Entry) → is_ascending entries ≡ true → PassesUndue parents v [] (filter (is_from lo) entries) left → IsBegun parents v lo entries left
 begun parents v lo entries left up passes = record {
   same = λ key come. passes.same key refl ∙ find_above parents v lo key (and_parts (not (is_lt (key_cmp key lo))) true come).0 entries;
   ordered = passes.ordered (ascending_filter (is_from lo) entries up);
@@ -126,11 +126,11 @@ starts_from entries lo i lawful start =
     ]
 
 module _ (f : Image) (pool : List PoolEntry) (parents : Parents) (v : ℕ) (lo : List ℕ) where
-  up_to : (s : Source) (desk : Desk) → IsBegun parents v lo (content_of f pool s) (left_of f pool s desk) → IsUpTo f pool parents v lo [] s desk
+  up_to : (s : Source) (desk : Desk) → IsBegun parents v lo (content_of f pool s) (left_at_source f pool s desk) → IsUpTo f pool parents v lo [] s desk
   up_to s desk is = record { same = is.same; ordered = is.ordered; from = is.from }
 
   -- level 0 begins
-  pub zero_begins : (s : Source) (list : _) (desk : Desk) → s ≡ source.Zero list → ListStands pool list.now → PassesOver parents v [] (filter (is_from lo) (entries_held pool list.now)) (drop desk.item (entries_held pool list.now))
+  pub zero_begins : (s : Source) (list : _) (desk : Desk) → s ≡ source.Zero list → ListStands pool list.now → PassesUndue parents v [] (filter (is_from lo) (entries_held pool list.now)) (drop desk.item (entries_held pool list.now))
       → IsUpTo f pool parents v lo [] s desk
   zero_begins s list desk is stands passes =
       subst (λ (x : Source). IsUpTo f pool parents v lo [] x desk) (sym is)
@@ -153,7 +153,7 @@ module _ (f : Image) (pool : List PoolEntry) (parents : Parents) (v : ℕ) (lo :
 
   -- an array begins
   pub array_begins : (old new : DiskView) (s : Source) (a : _) (c d : Blocks) (desk : Desk) (r : Option Place) (p : Place) → s ≡ source.Array a → old.content ≡ Some f → MayBeAsked f c a.now
-      → ((lists : List (List Entry)) → ArrayStands old.content a.now.id (blocks_of a.now.extents) c None lists → IsTrue (is_ascending (all_in lists)) → PassesOver parents v [] (filter (is_from lo) (all_in lists)) (left_behind lists r))
+      → ((lists : List (List Entry)) → ArrayStands old.content a.now.id (blocks_of a.now.extents) c None lists → IsTrue (is_ascending (all_in lists)) → PassesUndue parents v [] (filter (is_from lo) (all_in lists)) (left_behind lists r))
       → Looks old new a.now.id (blocks_of a.now.extents) c d None desk.scratch → desk.there ≡ is_some r → desk.place ≡ unwrap_or r p
       → IsUpTo f pool parents v lo [] s desk × StandsIn f d s desk.scratch
   array_begins old new s a c d desk r p is exposed may passes looks there place =
@@ -201,12 +201,12 @@ module _ (parents : Parents) (v : ℕ) (last : List ℕ) (entries : List Entry) 
   pub item_low : item < length entries
   item_low = let there = spent_there last (slice_get entries item) spent in get_low entries item there.0 there.1
 
-  pub items_go : PassesOver parents v last (drop (item + 1) entries) (drop next entries) → PassesOver parents v last (drop item entries) (drop next entries)
+  pub items_go : PassesUndue parents v last (drop (item + 1) entries) (drop next entries) → PassesUndue parents v last (drop item entries) (drop next entries)
   items_go passes =
       let there = spent_there last (slice_get entries item) spent in
       passes_trans parents v last (drop item entries) (drop (item + 1) entries) (drop next entries)
       (passes_one parents v last (drop item entries) (drop (item + 1) entries) there.0
-      (subst (λ (l : List Entry). PassesOver parents v last (drop item entries) l) (drop_at entries item there.0 there.1 item_low) (passes_none parents v last (drop item entries)))
+      (subst (λ (l : List Entry). PassesUndue parents v last (drop item entries) l) (drop_at entries item there.0 there.1 item_low) (passes_none parents v last (drop item entries)))
       (spent_off parents v last there.0 there.2))
       passes
 
@@ -220,18 +220,18 @@ there_true last true o spent = (refl, spent)
 there_true last false o spent = absurd spent
 
 module _ (f : Image) (pool : List PoolEntry) (parents : Parents) (v : ℕ) (last : List ℕ) where
-  pub array_there : (s : Source) (a : _) (desk : Desk) → s ≡ source.Array a → HasHead s desk → IsSpent last (head_of pool s desk) → (desk.there ≡ true) × HoldsPlace desk.scratch a.now.id desk.place × (desk.place.index < 454) × IsSpent last (entry_held desk.scratch desk.place.index)
+  pub array_there : (s : Source) (a : _) (desk : Desk) → s ≡ source.Array a → HasHead s desk → IsSpent last (first_at_source pool s desk) → (desk.there ≡ true) × HoldsPlace desk.scratch a.now.id desk.place × (desk.place.index < 454) × IsSpent last (entry_held desk.scratch desk.place.index)
   array_there s a desk is has spent =
       let has' = subst (λ (x : Source). HasHead x desk) is has in
-      let parts = there_true last desk.there (entry_held desk.scratch desk.place.index) (subst (λ (x : Source). IsSpent last (head_of pool x desk)) is spent) in
+      let parts = there_true last desk.there (entry_held desk.scratch desk.place.index) (subst (λ (x : Source). IsSpent last (first_at_source pool x desk)) is spent) in
       let both = has' parts.0 in
       (parts.0, both.0, both.1, parts.1)
 
-  pub array_goes : (old new : DiskView) (s : Source) (a : _) (c d : Blocks) (desk after : Desk) (next : Place) (r : Option Place) → s ≡ source.Array a → old.content ≡ Some f → StandsIn f c s desk.scratch → HasHead s desk → IsSpent last (head_of pool s desk)
+  pub array_goes : (old new : DiskView) (s : Source) (a : _) (c d : Blocks) (desk after : Desk) (next : Place) (r : Option Place) → s ≡ source.Array a → old.content ≡ Some f → StandsIn f c s desk.scratch → HasHead s desk → IsSpent last (first_at_source pool s desk)
       → next.block ≡ desk.place.block → next.index ≡ desk.place.index + 1
-      → ((lists : List (List Entry)) → ArrayStands old.content a.now.id (blocks_of a.now.extents) c desk.scratch lists → PassesOver parents v last (left_from lists next) (left_behind lists r))
+      → ((lists : List (List Entry)) → ArrayStands old.content a.now.id (blocks_of a.now.extents) c desk.scratch lists → PassesUndue parents v last (left_from lists next) (left_behind lists r))
       → Looks old new a.now.id (blocks_of a.now.extents) c d desk.scratch after.scratch → after.there ≡ is_some r → after.place ≡ unwrap_or r desk.place
-      → PassesOver parents v last (left_of f pool s desk) (left_of f pool s after) × StandsIn f d s after.scratch
+      → PassesUndue parents v last (left_at_source f pool s desk) (left_at_source f pool s after) × StandsIn f d s after.scratch
   array_goes old new s a c d desk after next r is exposed stands has spent block index passes looks there place =
       let head = array_there s a desk is has spent in
       let e = spent_there last (entry_held desk.scratch desk.place.index) head.3 in
@@ -240,16 +240,16 @@ module _ (f : Image) (pool : List PoolEntry) (parents : Parents) (v : ℕ) (last
       subst (λ (o : Option Image). ArrayStands o a.now.id (blocks_of a.now.extents) c desk.scratch lists) (sym exposed) (subst (λ (x : Source). StandsIn f c x desk.scratch) is stands) in
       let split : left_from lists desk.place ≡ e.0 ∷ left_from lists next =
       left_held old.content a.now.id (blocks_of a.now.extents) c desk.scratch lists now desk.place e.0 head.1 (held_is_entry desk.scratch desk.place.index e.0 e.1) next block index in
-      let first : PassesOver parents v last (left_from lists desk.place) (left_from lists next) =
-      passes_one parents v last (left_from lists desk.place) (left_from lists next) e.0 (subst (λ (l : List Entry). PassesOver parents v last (left_from lists desk.place) l) split (passes_none parents v last (left_from lists desk.place))) (spent_off parents v last e.0 e.2) in
+      let first : PassesUndue parents v last (left_from lists desk.place) (left_from lists next) =
+      passes_one parents v last (left_from lists desk.place) (left_from lists next) e.0 (subst (λ (l : List Entry). PassesUndue parents v last (left_from lists desk.place) l) split (passes_none parents v last (left_from lists desk.place))) (spent_off parents v last e.0 e.2) in
       let both = passes_trans parents v last (left_from lists desk.place) (left_from lists next) (left_behind lists r) first (passes lists now) in
-      let before : left_of f pool (source.Array a) desk ≡ left_from lists desk.place = ap (λ (b : Bool). cond b (left_from lists desk.place) []) head.0 in
-      let behind : left_of f pool (source.Array a) after ≡ left_behind lists r = left_stood f pool parents v last a.now r desk.place after there place in
-      let here : PassesOver parents v last (left_of f pool (source.Array a) desk) (left_of f pool (source.Array a) after) =
-      subst (λ (l : List Entry). PassesOver parents v last (left_of f pool (source.Array a) desk) l) (sym behind) (subst (λ (l : List Entry). PassesOver parents v last l (left_behind lists r)) (sym before) both) in
+      let before : left_at_source f pool (source.Array a) desk ≡ left_from lists desk.place = ap (λ (b : Bool). cond b (left_from lists desk.place) []) head.0 in
+      let behind : left_at_source f pool (source.Array a) after ≡ left_behind lists r = left_stood f pool parents v last a.now r desk.place after there place in
+      let here : PassesUndue parents v last (left_at_source f pool (source.Array a) desk) (left_at_source f pool (source.Array a) after) =
+      subst (λ (l : List Entry). PassesUndue parents v last (left_at_source f pool (source.Array a) desk) l) (sym behind) (subst (λ (l : List Entry). PassesUndue parents v last l (left_behind lists r)) (sym before) both) in
       let stays : ArrayStands (Some f) a.now.id (blocks_of a.now.extents) d after.scratch lists =
       subst (λ (o : Option Image). ArrayStands o a.now.id (blocks_of a.now.extents) d after.scratch lists) (looks.disk.same ∙ exposed) (stands_after old new a.now.id (blocks_of a.now.extents) c d desk.scratch after.scratch lists looks now) in (
-        subst (λ (x : Source). PassesOver parents v last (left_of f pool x desk) (left_of f pool x after)) (sym is) here,
+        subst (λ (x : Source). PassesUndue parents v last (left_at_source f pool x desk) (left_at_source f pool x after)) (sym is) here,
         subst (λ (x : Source). StandsIn f d x after.scratch) (sym is) stays,
       )
 
@@ -267,16 +267,16 @@ names_source content s a b is none =
     subst (λ (x : Source). NamesNoBlock content (arrays_at x) b) (sym is) (names_one content (a.now ∷ []) a.now b (only_one a.now) none)
 
 -- level 0 goes on
-pub zero_goes : (f : Image) (pool : List PoolEntry) (parents : Parents) (v : ℕ) (last : List ℕ) (s : Source) (list : _) (desk after : Desk) → s ≡ source.Zero list → IsSpent last (head_of pool s desk)
-    → PassesOver parents v last (drop (desk.item + 1) (entries_held pool list.now)) (drop after.item (entries_held pool list.now)) → PassesOver parents v last (left_of f pool s desk) (left_of f pool s after)
+pub zero_goes : (f : Image) (pool : List PoolEntry) (parents : Parents) (v : ℕ) (last : List ℕ) (s : Source) (list : _) (desk after : Desk) → s ≡ source.Zero list → IsSpent last (first_at_source pool s desk)
+    → PassesUndue parents v last (drop (desk.item + 1) (entries_held pool list.now)) (drop after.item (entries_held pool list.now)) → PassesUndue parents v last (left_at_source f pool s desk) (left_at_source f pool s after)
 zero_goes f pool parents v last s list desk after is spent passes =
-    subst (λ (x : Source). PassesOver parents v last (left_of f pool x desk) (left_of f pool x after)) (sym is)
-    (items_go parents v last (entries_held pool list.now) desk.item after.item (subst (λ (x : Source). IsSpent last (head_of pool x desk)) is spent) passes)
+    subst (λ (x : Source). PassesUndue parents v last (left_at_source f pool x desk) (left_at_source f pool x after)) (sym is)
+    (items_go parents v last (entries_held pool list.now) desk.item after.item (subst (λ (x : Source). IsSpent last (first_at_source pool x desk)) is spent) passes)
 
-pub zero_steps : (pool : List PoolEntry) (parents : Parents) (v : ℕ) (last : List ℕ) (s : Source) (list : _) (desk after : Desk) → s ≡ source.Zero list → IsSpent last (head_of pool s desk) → desk.item + 1 ≤ after.item → steps_left pool s after < steps_left pool s desk
+pub zero_steps : (pool : List PoolEntry) (parents : Parents) (v : ℕ) (last : List ℕ) (s : Source) (list : _) (desk after : Desk) → s ≡ source.Zero list → IsSpent last (first_at_source pool s desk) → desk.item + 1 ≤ after.item → steps_left pool s after < steps_left pool s desk
 zero_steps pool parents v last s list desk after is spent further =
     subst (λ (x : Source). steps_left pool x after < steps_left pool x desk) (sym is)
-    (let low : desk.item < length (entries_held pool list.now) = item_low parents v last (entries_held pool list.now) desk.item after.item (subst (λ (x : Source). IsSpent last (head_of pool x desk)) is spent) in
+    (let low : desk.item < length (entries_held pool list.now) = item_low parents v last (entries_held pool list.now) desk.item after.item (subst (λ (x : Source). IsSpent last (first_at_source pool x desk)) is spent) in
     omega (arith, low, further))
 
 -- the scratch of a desk is the one that was looked with

@@ -19,9 +19,9 @@ use Rattle.strat_array.specs.Walk.{is_seen_at}
 use Rattle.strat_array.proofs.FindLemmas.{left_held}
 use Rattle.strat_array.proofs.KeptLemmas.{looks_refl, looks_trans, stands_after}
 use Rattle.strat_cursor.specs.Ahead.{is_after}
-use Rattle.strat_cursor.specs.Sources.{PassesOver, is_due, left_behind, entry_held, places_ahead}
+use Rattle.strat_cursor.specs.Sources.{PassesUndue, is_due, left_behind, entry_held, places_ahead}
 
-pub passes_none : (parents : Parents) (v : ℕ) (last : List ℕ) (entries : List Entry) → PassesOver parents v last entries entries
+pub passes_none : (parents : Parents) (v : ℕ) (last : List ℕ) (entries : List Entry) → PassesUndue parents v last entries entries
 passes_none parents v last entries = record { same = λ key after. refl; ordered = λ up. up; among = λ p all. all }
 
 -- what is not due says nothing of a key to come
@@ -34,7 +34,7 @@ not_due parents v last key e off after = elim (cases_Bool (is_seen_at parents ke
       absurd (true≢false (sym due ∙ off))
 ]
 
-pub passes_one : (parents : Parents) (v : ℕ) (last : List ℕ) (old rest : List Entry) (e : Entry) → PassesOver parents v last old (e ∷ rest) → is_due parents v last e ≡ false → PassesOver parents v last old rest
+pub passes_one : (parents : Parents) (v : ℕ) (last : List ℕ) (old rest : List Entry) (e : Entry) → PassesUndue parents v last old (e ∷ rest) → is_due parents v last e ≡ false → PassesUndue parents v last old rest
 passes_one parents v last old rest e passes off = record {
   same = λ key after.
       sym (ap (λ (b : Bool). cond b (Some e) (find (is_seen_at parents key v) rest)) (not_due parents v last key e off after)) ∙ passes.same key after;
@@ -42,7 +42,7 @@ passes_one parents v last old rest e passes off = record {
   among = λ p all. (and_parts (p e) (list_all p rest) (passes.among p all)).1;
 }
 
-pub passes_trans : (parents : Parents) (v : ℕ) (last : List ℕ) (old mid new : List Entry) → PassesOver parents v last old mid → PassesOver parents v last mid new → PassesOver parents v last old new
+pub passes_trans : (parents : Parents) (v : ℕ) (last : List ℕ) (old mid new : List Entry) → PassesUndue parents v last old mid → PassesUndue parents v last mid new → PassesUndue parents v last old new
 passes_trans parents v last old mid new first second = record {
   same = λ key after. second.same key after ∙ first.same key after;
   ordered = λ up. second.ordered (first.ordered up);
@@ -51,11 +51,11 @@ passes_trans parents v last old mid new first second = record {
 
 -- in a list of items
 module _ (parents : Parents) (v : ℕ) (last : List ℕ) (entries : List Entry) (from i : ℕ) where
-  pub passes_item : (e : Entry) → ((d : Entry) → e ≡ get_or entries i d) → i < length entries → PassesOver parents v last (drop from entries) (drop i entries) → is_due parents v last e ≡ false
-      → PassesOver parents v last (drop from entries) (drop (i + 1) entries)
+  pub passes_item : (e : Entry) → ((d : Entry) → e ≡ get_or entries i d) → i < length entries → PassesUndue parents v last (drop from entries) (drop i entries) → is_due parents v last e ≡ false
+      → PassesUndue parents v last (drop from entries) (drop (i + 1) entries)
   passes_item e is within passes off =
       passes_one parents v last (drop from entries) (drop (i + 1) entries) e
-      (subst (λ (l : List Entry). PassesOver parents v last (drop from entries) l) (drop_more entries i e within ∙ ap (λ (x : Entry). x ∷ drop (i + 1) entries) (sym (is e))) passes) off
+      (subst (λ (l : List Entry). PassesUndue parents v last (drop from entries) l) (drop_more entries i e within ∙ ap (λ (x : Entry). x ∷ drop (i + 1) entries) (sym (is e))) passes) off
 
 -- a step of a walk leaves no more places
 pub near_ahead : (place at : Place) → IsNear place at → at.block < 2 ^ 32 → places_ahead at ≤ places_ahead place
@@ -95,7 +95,7 @@ item_past parents v (x ∷ xs) (suc i) past = item_past parents v xs i (omega ar
 -- a walk over an array so far
 pub record Standing (old now : DiskView) (array : ℕ) (blocks : List ℕ) (c d : Blocks) (s t : Option Kept) (parents : Parents) (v : ℕ) (last : List ℕ) (first place : Place) : Type 0 where
   pub looks : Looks old now array blocks c d s t
-  pub passes : (lists : List (List Entry)) → ArrayStands old.content array blocks c s lists → PassesOver parents v last (left_from lists first) (left_from lists place)
+  pub passes : (lists : List (List Entry)) → ArrayStands old.content array blocks c s lists → PassesUndue parents v last (left_from lists first) (left_from lists place)
 
 pub standing_begins : (v0 : DiskView) (array : ℕ) (blocks : List ℕ) (c : Blocks) (s : Option Kept) (parents : Parents) (v : ℕ) (last : List ℕ) (place : Place) → Standing v0 v0 array blocks c c s s parents v last place place
 standing_begins v0 array blocks c s parents v last place = record { looks = looks_refl v0 array blocks c s; passes = λ lists stands. passes_none parents v last (left_from lists place) }
@@ -106,11 +106,11 @@ module _ (old mid now : DiskView) (array : ℕ) (blocks : List ℕ) (c d e : Blo
   stood_on = looks_trans old mid now array blocks c d e s t u standing.looks looks
 
   pub stood : (r : Option Place) → ((lists : List (List Entry)) → ArrayStands mid.content array blocks d t lists → Settles lists place r)
-      → (lists : List (List Entry)) → ArrayStands old.content array blocks c s lists → PassesOver parents v last (left_from lists first) (left_behind lists r)
+      → (lists : List (List Entry)) → ArrayStands old.content array blocks c s lists → PassesUndue parents v last (left_from lists first) (left_behind lists r)
   stood None settles lists stands =
-      subst (λ (l : List Entry). PassesOver parents v last (left_from lists first) l) (settles lists (stands_after old mid array blocks c d s t lists standing.looks stands)) (standing.passes lists stands)
+      subst (λ (l : List Entry). PassesUndue parents v last (left_from lists first) l) (settles lists (stands_after old mid array blocks c d s t lists standing.looks stands)) (standing.passes lists stands)
   stood (Some at) settles lists stands =
-      subst (λ (l : List Entry). PassesOver parents v last (left_from lists first) l) (settles lists (stands_after old mid array blocks c d s t lists standing.looks stands)) (standing.passes lists stands)
+      subst (λ (l : List Entry). PassesUndue parents v last (left_from lists first) l) (settles lists (stands_after old mid array blocks c d s t lists standing.looks stands)) (standing.passes lists stands)
 
   module _ (at : Place) (settles : (lists : List (List Entry)) → ArrayStands mid.content array blocks d t lists → Settles lists place (Some at)) (holds : HoldsPlace u array at) (entry : Entry)
       (entry_is : IfSome u (λ kept. (x : Entry) → entry ≡ get_or kept.1 at.index x)) where
@@ -121,7 +121,7 @@ module _ (old mid now : DiskView) (array : ℕ) (blocks : List ℕ) (c d e : Blo
           let mid' = stands_after old mid array blocks c d s t lists standing.looks stands in
           let now' = stands_after mid now array blocks d e t u lists looks mid' in
           passes_one parents v last (left_from lists first) (left_from lists next) entry
-          (subst (λ (l : List Entry). PassesOver parents v last (left_from lists first) l)
+          (subst (λ (l : List Entry). PassesUndue parents v last (left_from lists first) l)
           (settles lists mid' ∙ left_held now.content array blocks e u lists now' at entry holds entry_is next block index)
           (standing.passes lists stands)) off;
     }

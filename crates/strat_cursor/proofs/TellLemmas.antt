@@ -18,7 +18,7 @@ use Rattle.strat_crash.specs.Moments.{DiskView}
 use Rattle.strat_merge.proofs.OrderLemmas.{not_before_itself}
 use Rattle.strat_model.specs.Pairs.{Pair, Pairs, value_of, is_between, range}
 use Rattle.strat_cursor.specs.Ahead.{is_after, range_after}
-use Rattle.strat_cursor.specs.Contest.{head_in, Leads, NoneAhead}
+use Rattle.strat_cursor.specs.Contest.{head_in, LeadsAll, NoneAhead}
 use Rattle.strat_cursor.specs.Looking.{LooksThrough, HaveOwnIds}
 use Rattle.strat_cursor.specs.Picking.{AreSourcesOf}
 use Rattle.strat_cursor.specs.Ranges.{arrays_in_view, arrays_picked, IsMapSeen, IsPageOf}
@@ -120,7 +120,7 @@ module _ (old now : DiskView) (view : View) (tree : IsTree view.tree.now.parents
       (range_done lo hi last m (λ key is. value_is f m seen key None (none_seen f d view.pool.now view.tree.now.parents tree v lo last sources desks settled both.0 key (range_come lo hi last key is) (λ i h at. let two : Some h ≡ None = sym at ∙ none i in absurd (cc)))))
       few
 
-  module _ (w : ℕ) (low : w < length sources) (e : Entry) (fits : fits_fields e ≡ true) (leads : Leads view.pool.now sources desks w) (here : head_in view.pool.now sources desks w ≡ Some e) where
+  module _ (w : ℕ) (low : w < length sources) (e : Entry) (fits : fits_fields e ≡ true) (leads : LeadsAll view.pool.now sources desks w) (here : head_in view.pool.now sources desks w ≡ Some e) where
     -- the least key is not below hi: all was told
     pub past_left : (limit : ℕ) → is_under hi e.key ≡ false → length out ≤ limit → (f : Image) (lo : List ℕ) (m : Pairs) → old.content ≡ Some f → HaveOwnIds (arrays_in_view view.levels)
         → AreUpTo f c view.pool.now view.tree.now.parents v lo first sources from → IsMapSeen f view.tree.now.parents (zeros_in view) (arrays_picked view.tree.now.parents view.levels v) v m → IsPageOf (before ++ range_after m lo hi first) limit out false
@@ -190,7 +190,7 @@ entry_some (Some e) some = (e, refl)
 -- a scan that ended
 pub ended : (old now : DiskView) (view : View) (tree : IsTree view.tree.now.parents) (v : ℕ) (hi : List ℕ) (sources : List Source) (c d : Blocks) (first last : List ℕ) (from desks : List Desk) (before out : Pairs) (are : AreSourcesOf view v sources)
     (telling : Telling old now view v hi sources c d first last from desks before out) (settled : AreSettled view.tree.now.parents v view.pool.now sources desks)
-    (w : ℕ) (low : w < length sources) (e : Entry) (fits : fits_fields e ≡ true) (leads : Leads view.pool.now sources desks w) (here : head_in view.pool.now sources desks w ≡ Some e) (limit : ℕ) (next : List ℕ) (told : Pairs) (more : Bool)
+    (w : ℕ) (low : w < length sources) (e : Entry) (fits : fits_fields e ≡ true) (leads : LeadsAll view.pool.now sources desks w) (here : head_in view.pool.now sources desks w ≡ Some e) (limit : ℕ) (next : List ℕ) (told : Pairs) (more : Bool)
     → length out ≤ limit → HandlesKey e hi limit last next out told (Some more) → (f : Image) (lo : List ℕ) (m : Pairs) → old.content ≡ Some f → HaveOwnIds (arrays_in_view view.levels)
     → AreUpTo f c view.pool.now view.tree.now.parents v lo first sources from → IsMapSeen f view.tree.now.parents (zeros_in view) (arrays_picked view.tree.now.parents view.levels v) v m → IsPageOf (before ++ range_after m lo hi first) limit told more
 ended old now view tree v hi sources c d first last from desks before out are telling settled w low e fits leads here limit next told true few handles f lo m exposed own up seen =

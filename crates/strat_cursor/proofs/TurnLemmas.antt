@@ -17,7 +17,7 @@ use Rattle.strat_format.specs.Arrays.{blocks_of, block_on}
 use Rattle.strat_cursor.specs.Ahead.{is_after, is_to_come}
 use Rattle.strat_cursor.specs.Contest.{head_in, AreAtHand}
 use Rattle.strat_cursor.specs.Looking.{LooksThrough, HaveOwnIds}
-use Rattle.strat_cursor.specs.Sources.{PassesOver, MayBeRead, IsSettledAt, IsUpTo, StandsIn, arrays_at, left_of, head_of, lists_of}
+use Rattle.strat_cursor.specs.Sources.{PassesUndue, MayBeRead, IsSettledAt, IsUpTo, StandsIn, arrays_at, left_at_source, first_at_source, lists_of}
 use Rattle.strat_cursor.specs.Turning.{AreSettled, AreUpTo, IsLater, sum_over}
 use Rattle.strat_cursor.specs.declared.desks.Desk.{Desk}
 use Rattle.strat_cursor.specs.declared.sources.Source.{Source}
@@ -94,7 +94,7 @@ module _ (f : Image) (pool : List PoolEntry) (parents : Parents) (v : ℕ) (lo p
   up_later d up = record { same = λ key come. up.same key (later_come lo prev last key later come); ordered = up.ordered; from = up.from }
 
   -- and after entries were passed over
-  up_passed : (d e : Desk) → IsUpTo f pool parents v lo prev s d → PassesOver parents v last (left_of f pool s d) (left_of f pool s e) → IsUpTo f pool parents v lo last s e
+  up_passed : (d e : Desk) → IsUpTo f pool parents v lo prev s d → PassesUndue parents v last (left_at_source f pool s d) (left_at_source f pool s e) → IsUpTo f pool parents v lo last s e
   up_passed d e up passes = record {
     same = λ key come. passes.same key (and_parts (not (is_lt (key_cmp key lo))) (is_after last key) come).1 ∙ up.same key (later_come lo prev last key later come);
     ordered = passes.ordered up.ordered;
@@ -104,7 +104,7 @@ module _ (f : Image) (pool : List PoolEntry) (parents : Parents) (v : ℕ) (lo p
 pub up_next : (old new : DiskView) (arrays : List ArrayDesc) (f : Image) (c d : Blocks) (pool : List PoolEntry) (parents : Parents) (v : ℕ) (lo prev last : List ℕ) (sources : List Source) (desks : List Desk) (w : ℕ) (s : Source) (before after : Desk)
     → old.content ≡ Some f → HaveOwnIds arrays → LooksThrough old new arrays c d → ((i : ℕ) (t : Source) → slice_get sources i ≡ Some t → (a : ArrayDesc) → Contains (arrays_at t) a → Contains arrays a) → IsLater prev last
     → AreUpTo f c pool parents v lo prev sources desks → slice_get sources w ≡ Some s → slice_get desks w ≡ Some before
-    → (StandsIn f c s before.scratch → PassesOver parents v last (left_of f pool s before) (left_of f pool s after) × StandsIn f d s after.scratch)
+    → (StandsIn f c s before.scratch → PassesUndue parents v last (left_at_source f pool s before) (left_at_source f pool s after) × StandsIn f d s after.scratch)
     → AreUpTo f d pool parents v lo last sources (set desks w after)
 up_next old new arrays f c d pool parents v lo prev last sources desks w s before after exposed own looks of later up here there goes = record {
   ordered = up.ordered;
@@ -144,10 +144,10 @@ sum_has h (x ∷ sources) (y ∷ desks) zero s d here there =
     omega (arith, now)
 sum_has h (x ∷ sources) (y ∷ desks) (suc w) s d here there = let rest = sum_has h sources desks w s d here there in omega (arith, rest)
 
-pub head_here : (pool : List PoolEntry) (sources : List Source) (desks : List Desk) (w : ℕ) (s : Source) (d : Desk) → slice_get sources w ≡ Some s → slice_get desks w ≡ Some d → head_in pool sources desks w ≡ head_of pool s d
+pub head_here : (pool : List PoolEntry) (sources : List Source) (desks : List Desk) (w : ℕ) (s : Source) (d : Desk) → slice_get sources w ≡ Some s → slice_get desks w ≡ Some d → head_in pool sources desks w ≡ first_at_source pool s d
 head_here pool sources desks w s d here there =
-    ap (λ (o : Option Source). option_and_then (λ t. option_and_then (λ x. head_of pool t x) (slice_get desks w)) o) here
-    ∙ ap (λ (o : Option Desk). option_and_then (λ x. head_of pool s x) o) there
+    ap (λ (o : Option Source). option_and_then (λ t. option_and_then (λ x. first_at_source pool t x) (slice_get desks w)) o) here
+    ∙ ap (λ (o : Option Desk). option_and_then (λ x. first_at_source pool s x) o) there
 
 -- a desk by its number
 pub desk_at : (desks : List Desk) (count w : ℕ) (d : Desk) → length desks ≡ count → w < count → slice_get desks w ≡ Some (get_or desks w d)

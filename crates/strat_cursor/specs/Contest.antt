@@ -4,7 +4,7 @@ use Rattle.strat_arena.specs.declared.pool.PoolEntry.{PoolEntry}
 use Rattle.strat_base.specs.Entries.{Entry}
 use Rattle.strat_merge.specs.Bracket.{is_ahead}
 use Rattle.strat_merge.specs.Runs.{RunView}
-use Rattle.strat_cursor.specs.Sources.{MayBeRead, HasHead, head_of}
+use Rattle.strat_cursor.specs.Sources.{MayBeRead, HasHead, first_at_source}
 use Rattle.strat_cursor.specs.declared.desks.Desk.{Desk}
 use Rattle.strat_cursor.specs.declared.sources.Source.{Source}
 
@@ -25,7 +25,7 @@ contender head = record {
 -- the first entry that the source of a number has left
 abbrev pub head_in : List PoolEntry → List Source → List Desk → ℕ → Option Entry
 head_in pool sources desks i =
-    option_and_then (λ s. option_and_then (λ d. head_of pool s d) (slice_get desks i))
+    option_and_then (λ s. option_and_then (λ d. first_at_source pool s d) (slice_get desks i))
     (slice_get sources i)
 
 -- what a tournament sees of sources
@@ -33,7 +33,7 @@ abbrev pub contenders : List PoolEntry → List Source → List Desk → List Ru
 contenders pool [] desks = []
 contenders pool (s ∷ sources) [] = []
 contenders pool (s ∷ sources) (d ∷ desks) =
-    contender (head_of pool s d) ∷ contenders pool sources desks
+    contender (first_at_source pool s d) ∷ contenders pool sources desks
 
 -- each source can be read, and the first entry that it has left is at hand
 pub record AreAtHand (pool : List PoolEntry) (sources : List Source) (desks : List Desk)
@@ -43,8 +43,8 @@ pub record AreAtHand (pool : List PoolEntry) (sources : List Source) (desks : Li
       → slice_get desks i ≡ Some d → MayBeRead pool s × HasHead s d
 
 -- no source is ahead of the one of a number
-abbrev pub Leads : List PoolEntry → List Source → List Desk → ℕ → Type 0
-Leads pool sources desks w = (i : ℕ)
+abbrev pub LeadsAll : List PoolEntry → List Source → List Desk → ℕ → Type 0
+LeadsAll pool sources desks w = (i : ℕ)
     → is_ahead (option_map keyed (head_in pool sources desks i)) i
     (option_map keyed (head_in pool sources desks w)) w ≡ false
 

@@ -37,7 +37,8 @@ content_on f a = unwrap_or (entries_on f (blocks_of a.extents)) []
 
 -- the entry of a key that is found at a version in these lists of level 0, the newest first, and then
 -- in these arrays, the shallowest level's first
-abbrev pub seen_in : Image → Parents → List (List Entry) → List ArrayDesc → ℕ → List ℕ → Option Entry
+abbrev pub seen_in : Image → Parents → List (List Entry) → List ArrayDesc → ℕ → List ℕ
+    → Option Entry
 seen_in f parents zeros arrays v key =
     first_live parents (zeros ++ map (content_on f) arrays) v key
 

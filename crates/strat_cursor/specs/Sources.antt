@@ -23,7 +23,7 @@ use Rattle.strat_cursor.specs.declared.sources.Source.{Source}
 use Rattle.strat_cursor.specs.declared.sources.Source.TheVariants as source
 
 -- what is left after entries were passed over that say nothing of the keys after one
-pub record PassesOver (parents : Parents) (v : ℕ) (last : List ℕ) (old new : List Entry)
+pub record PassesUndue (parents : Parents) (v : ℕ) (last : List ℕ) (old new : List Entry)
     : Type 0 where
   pub same : (key : List ℕ) → IsTrue (is_after last key)
       → find (is_seen_at parents key v) new ≡ find (is_seen_at parents key v) old
@@ -51,10 +51,10 @@ content_of f pool (source.Zero list) = entries_held pool list.now
 content_of f pool (source.Array a) = content_on f a.now
 
 -- the entries that a source has left
-abbrev pub left_of : Image → List PoolEntry → Source → Desk → List Entry
-left_of f pool source.None desk = []
-left_of f pool (source.Zero list) desk = drop desk.item (entries_held pool list.now)
-left_of f pool (source.Array a) desk =
+abbrev pub left_at_source : Image → List PoolEntry → Source → Desk → List Entry
+left_at_source f pool source.None desk = []
+left_at_source f pool (source.Zero list) desk = drop desk.item (entries_held pool list.now)
+left_at_source f pool (source.Array a) desk =
     if desk.there then left_from (lists_of f a.now) desk.place else []
 
 -- the entries from a place on, where there is one
@@ -76,10 +76,10 @@ abbrev pub entry_held : Option Kept → ℕ → Option Entry
 entry_held s i = option_and_then (λ kept. slice_get kept.1 i) s
 
 -- the first entry that a source has left, as it is at hand
-abbrev pub head_of : List PoolEntry → Source → Desk → Option Entry
-head_of pool source.None desk = None
-head_of pool (source.Zero list) desk = slice_get (entries_held pool list.now) desk.item
-head_of pool (source.Array a) desk =
+abbrev pub first_at_source : List PoolEntry → Source → Desk → Option Entry
+first_at_source pool source.None desk = None
+first_at_source pool (source.Zero list) desk = slice_get (entries_held pool list.now) desk.item
+first_at_source pool (source.Array a) desk =
     if desk.there then entry_held desk.scratch desk.place.index else None
 
 -- a source can be read
@@ -99,7 +99,7 @@ HasHead (source.Array a) desk =
 pub record IsSettledAt (parents : Parents) (v : ℕ) (pool : List PoolEntry) (s : Source)
     (desk : Desk) : Type 0 where
   pub held : HasHead s desk
-  pub on_path : IfSome (head_of pool s desk) (λ e. IsTrue (is_ancestor parents e.version v))
+  pub on_path : IfSome (first_at_source pool s desk) (λ e. IsTrue (is_ancestor parents e.version v))
 
 -- in an image the blocks of a source's array are kept as they stand there
 abbrev pub StandsIn : Image → Blocks → Source → Option Kept → Type 0
@@ -118,10 +118,10 @@ MayBeBegun f c (source.Array a) = MayBeAsked f c a.now
 pub record IsUpTo (f : Image) (pool : List PoolEntry) (parents : Parents) (v : ℕ)
     (lo last : List ℕ) (s : Source) (desk : Desk) : Type 0 where
   pub same : (key : List ℕ) → IsTrue (is_to_come lo last key)
-      → find (is_seen_at parents key v) (left_of f pool s desk)
+      → find (is_seen_at parents key v) (left_at_source f pool s desk)
       ≡ find (is_seen_at parents key v) (content_of f pool s)
-  pub ordered : IsTrue (is_ascending (left_of f pool s desk))
-  pub from : IsTrue (list_all (is_from lo) (left_of f pool s desk))
+  pub ordered : IsTrue (is_ascending (left_at_source f pool s desk))
+  pub from : IsTrue (list_all (is_from lo) (left_at_source f pool s desk))
 
 -- the first entry that a source has left is of no key to come
 abbrev pub IsSpent : List ℕ → Option Entry → Type 0
@@ -139,14 +139,15 @@ abbrev pub reads_left : Source → Desk → ℕ
 reads_left source.None desk = 0
 reads_left (source.Zero list) desk = 0
 reads_left (source.Array a) desk =
-    if desk.there then blocks_ahead desk.scratch a.now.id (length (blocks_of a.now.extents)) desk.place
+    if desk.there
+    then blocks_ahead desk.scratch a.now.id (length (blocks_of a.now.extents)) desk.place
     else 0
 
 -- how many blocks a source reads at most until it has none left, where an array has fewer than 2^n
-abbrev pub reads_of : ℕ → Source → ℕ
-reads_of n source.None = 0
-reads_of n (source.Zero list) = 0
-reads_of n (source.Array a) = n + 1 + length (blocks_of a.now.extents)
+abbrev pub reads_of_source : ℕ → Source → ℕ
+reads_of_source n source.None = 0
+reads_of_source n (source.Zero list) = 0
+reads_of_source n (source.Array a) = n + 1 + length (blocks_of a.now.extents)
 
 -- each of these arrays has fewer blocks than 2^n
 abbrev pub HaveFewBlocks : ℕ → List ArrayDesc → Type 0

@@ -6,7 +6,7 @@ ghost use Rattle.strat_base.specs.EntryBytes.{fits_fields};
 ghost use Rattle.strat_base.specs.EntryView.{entry_of};
 ghost use Rattle.strat_merge.specs.Bracket.{is_ahead, winner_of, IsBracket, IsTournament, PlayedBeside};
 ghost use Rattle.strat_merge.specs.Runs.{head_at};
-ghost use Rattle.strat_cursor.specs.Contest.{contenders, head_in, keyed, Leads, NoneAhead, AreAtHand};
+ghost use Rattle.strat_cursor.specs.Contest.{contenders, head_in, keyed, LeadsAll, NoneAhead, AreAtHand};
 
 use crate::desks::Desk;
 use crate::sources::{Source, head};
@@ -33,7 +33,8 @@ pub(crate) fn head_in<'a>(
 /// Whether an entry's key is below another's, or the same and the number of its source less.
 #[tactic(auto, using(crate::proofs::ContestLemmas::keyed_ahead))]
 fn is_before(e: &Entry<'_>, a: usize, f: &Entry<'_>, b: usize) -> bool
-    ensures ok { result ≡ is_ahead (Some (keyed (entry_of e.now))) a (Some (keyed (entry_of f.now))) b }
+    ensures ok { result ≡ is_ahead (Some (keyed (entry_of e.now))) a
+        (Some (keyed (entry_of f.now))) b }
 {
     e.key.cmp(f.key).then(a.cmp(&b)).is_lt()
 }
@@ -117,7 +118,8 @@ pub(crate) fn replay(
     requires kept { AreAtHand pool.now sources.now desks.now }
     requires found { IsBracket (length sources.now) winners.old }
     requires fits { node < 2 * length sources.now }
-    requires same { PlayedBeside (contenders pool.now sources.now desks.now) winners.old (node / 2) }
+    requires same { PlayedBeside (contenders pool.now sources.now desks.now) winners.old
+        (node / 2) }
     ensures ok { IsTournament (contenders pool.now sources.now desks.now) winners.new }
 {
     let mut k = node / 2;
@@ -149,7 +151,7 @@ pub(crate) fn leader(
     requires fits { 0 < length sources.now }
     ensures found { IfSome result (λ w. (w < length sources.now)
         × IsSome (head_in pool.now sources.now desks.now w)) }
-    ensures ok { IfSome result (λ w. Leads pool.now sources.now desks.now w) }
+    ensures ok { IfSome result (λ w. LeadsAll pool.now sources.now desks.now w) }
     ensures none { IfNone result (NoneAhead pool.now sources.now desks.now) }
 {
     let winner = winners[1];

@@ -62,13 +62,13 @@ pub struct Desks {
 
 impl Model for Desks {
     ghost use Rattle.std.specs.Prelude.{⊤, vec_capacity};
-    ghost use Rattle.strat_cursor.specs.DeskFields.{HasRoom};
+    ghost use Rattle.strat_cursor.specs.DeskFields.{HasScanRoom};
 
     ghost Value = { ⊤ };
 
     ghost view = { λ d. tt };
 
-    ghost invariant = { λ d. HasRoom d.desks.items d.winners.items (vec_capacity d.last) };
+    ghost invariant = { λ d. HasScanRoom d.desks.items d.winners.items (vec_capacity d.last) };
 }
 
 /// A desk for each place that a range may be read from.

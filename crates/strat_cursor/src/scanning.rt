@@ -10,9 +10,9 @@ ghost use Rattle.strat_model.specs.Pairs.{Pairs};
 ghost use Rattle.strat_cursor.specs.Ahead.{range_after};
 ghost use Rattle.strat_cursor.specs.Contest.{contenders};
 ghost use Rattle.strat_cursor.specs.Picking.{AreSourcesOf};
-ghost use Rattle.strat_cursor.specs.Sources.{reads_left, reads_of, HaveFewBlocks};
+ghost use Rattle.strat_cursor.specs.Sources.{reads_left, reads_of_source, HaveFewBlocks};
 ghost use Rattle.strat_cursor.specs.Turning.{AreSettled, AreUpTo, sum_over};
-ghost use Rattle.strat_cursor.specs.DeskFields.{HasRoom};
+ghost use Rattle.strat_cursor.specs.DeskFields.{HasScanRoom};
 ghost use Rattle.strat_cursor.specs.Looking.{LooksThrough, NamesNoBlock, HaveOwnIds};
 ghost use Rattle.strat_cursor.specs.Ranges.{arrays_in_view, arrays_picked, IsMapSeen, IsPageOf};
 ghost use Rattle.strat_cursor.specs.Views.{ViewStands, IsReadable, TellsPage, zeros_in};
@@ -53,10 +53,11 @@ fn begin_all<D: Disk>(
         → NamesNoBlock (D.view disk.old).content (arrays_in_view view.now.levels) b }
     ensures cause { HasCause Device (D.faults disk.old) (D.faults disk.new) result }
     ensures reads { (n : ℕ) → HaveFewBlocks n (arrays_in_view view.now.levels)
-        → ReadsAtMost (sum_by (reads_of n) sources.now) (D.reads disk.old) (D.reads disk.new) }
+        → ReadsAtMost (sum_by (reads_of_source n) sources.now)
+        (D.reads disk.old) (D.reads disk.new) }
     ensures room { OnOk result ((n : ℕ) → HaveFewBlocks n (arrays_in_view view.now.levels)
         → D.reads disk.new + sum_over reads_left sources.now desks.new
-        ≤ D.reads disk.old + sum_by (reads_of n) sources.now) }
+        ≤ D.reads disk.old + sum_by (reads_of_source n) sources.now) }
 {
     for i in 0..sources.len() {
         begin(
@@ -141,20 +142,21 @@ fn scan_sources<D: Disk>(
 ) -> Result<bool, Fault>
     requires fits { v < length view.now.tree.now.parents }
     requires same { AreSourcesOf view.now v sources.now }
-    requires kept { HasRoom desks.old winners.old (vec_capacity last.old) }
+    requires kept { HasScanRoom desks.old winners.old (vec_capacity last.old) }
     requires room { (limit ≤ 256) × (out.old ≡ []) }
     ensures ok { IfOk result (λ more. (f : Image) (next : ℕ) → Exposes (D.view disk.old) f
         → IsReadable f next view.now cache.old
         → TellsPage f view.now v lo.now hi.now limit out.new more) }
     ensures len { IfOk result (λ more. length out.new ≤ limit) }
-    ensures kept { HasRoom desks.new winners.new (vec_capacity last.new) }
+    ensures kept { HasScanRoom desks.new winners.new (vec_capacity last.new) }
     ensures same { LooksThrough (D.view disk.old) (D.view disk.new)
         (arrays_in_view view.now.levels) cache.old cache.new }
     ensures damaged { (b : ℕ) → IsErrOf result (Damaged b)
         → NamesNoBlock (D.view disk.old).content (arrays_in_view view.now.levels) b }
     ensures cause { HasCause Device (D.faults disk.old) (D.faults disk.new) result }
     ensures reads { (n : ℕ) → HaveFewBlocks n (arrays_in_view view.now.levels)
-        → ReadsAtMost (sum_by (reads_of n) sources.now) (D.reads disk.old) (D.reads disk.new) }
+        → ReadsAtMost (sum_by (reads_of_source n) sources.now)
+        (D.reads disk.old) (D.reads disk.new) }
 {
     last.clear();
     begin_all(disk, cache, view, sources, v, lo, desks)?;
@@ -190,7 +192,8 @@ fn scan_with<D: Disk>(
         → NamesNoBlock (D.view disk.old).content (arrays_in_view view.now.levels) b }
     ensures cause { HasCause Device (D.faults disk.old) (D.faults disk.new) result }
     ensures reads { (n : ℕ) → HaveFewBlocks n (arrays_in_view view.now.levels)
-        → ReadsAtMost (sum_by (reads_of n) sources.now) (D.reads disk.old) (D.reads disk.new) }
+        → ReadsAtMost (sum_by (reads_of_source n) sources.now)
+        (D.reads disk.old) (D.reads disk.new) }
 {
     scan_sources(
         disk,

@@ -18,7 +18,7 @@ ghost use Rattle.strat_base.specs.Tree.{is_ancestor};
 ghost use Rattle.strat_level.specs.Memtable.{ListStands, entries_held};
 ghost use Rattle.strat_array.specs.Steps.{blocks_ahead, left_from, HoldsPlace};
 ghost use Rattle.strat_cursor.specs.Ahead.{is_after};
-ghost use Rattle.strat_cursor.specs.Sources.{MayBeRead, HasHead, head_of, entry_held, is_due, arrays_at, left_of, steps_left, reads_left, reads_of, HaveFewBlocks, IsSettledAt, IsUpTo, IsSpent, MayBeBegun, StandsIn, left_behind, places_ahead, blocks_behind, PassesOver};
+ghost use Rattle.strat_cursor.specs.Sources.{MayBeRead, HasHead, first_at_source, entry_held, is_due, arrays_at, left_at_source, steps_left, reads_left, reads_of_source, HaveFewBlocks, IsSettledAt, IsUpTo, IsSpent, MayBeBegun, StandsIn, left_behind, places_ahead, blocks_behind, PassesUndue};
 
 use crate::desks::Desk;
 use strat_arena::ArenaPool;
@@ -75,7 +75,7 @@ pub(crate) fn head<'a>(
 ) -> Option<Entry<'a>>
     requires kept { MayBeRead pool.now source.now }
     requires found { HasHead source.now desk.now }
-    ensures ok { option_map entry_of result ≡ head_of pool.now source.now desk.now }
+    ensures ok { option_map entry_of result ≡ first_at_source pool.now source.now desk.now }
     ensures fits { IfSome result (λ e. IsTrue (fits_fields (entry_of e))) }
 {
     match source {
@@ -114,8 +114,9 @@ fn stand_item(
 ) -> usize
     requires kept { ListStands pool.now list.now }
     requires fits { v < length tree.now.parents }
-    ensures ok { PassesOver tree.now.parents v last.now
-        (drop item (entries_held pool.now list.now)) (drop result (entries_held pool.now list.now)) }
+    ensures ok { PassesUndue tree.now.parents v last.now
+        (drop item (entries_held pool.now list.now))
+        (drop result (entries_held pool.now list.now)) }
     ensures found { IfSome (slice_get (entries_held pool.now list.now) result)
         (λ e. IsTrue (is_ancestor tree.now.parents e.version v)) }
     ensures end { item ≤ result }
@@ -152,7 +153,7 @@ fn stand_place<D: Disk>(
     ensures ok { IfOk result (λ r. (lists : List (List TheEntry))
         → ArrayStands (D.view disk.old).content desc.now.id (blocks_of desc.now.extents)
         cache.old scratch.old lists
-        → PassesOver tree.now.parents v last.now (left_from lists place) (left_behind lists r)) }
+        → PassesUndue tree.now.parents v last.now (left_from lists place) (left_behind lists r)) }
     ensures end { IfOk result (λ r. IfSome r (λ at. places_ahead at ≤ places_ahead place)) }
     ensures same { Looks (D.view disk.old) (D.view disk.new)
         desc.now.id (blocks_of desc.now.extents) cache.old cache.new scratch.old scratch.new }
@@ -199,7 +200,7 @@ fn begin_place<D: Disk>(
         → ArrayStands (D.view disk.old).content desc.now.id (blocks_of desc.now.extents)
         cache.old None lists
         → IsTrue (is_ascending (all_in lists))
-        → PassesOver tree.now.parents v [] (filter (is_from lo.now) (all_in lists))
+        → PassesUndue tree.now.parents v [] (filter (is_from lo.now) (all_in lists))
         (left_behind lists r)) }
     ensures same { Looks (D.view disk.old) (D.view disk.new)
         desc.now.id (blocks_of desc.now.extents) cache.old cache.new None scratch.new }
@@ -223,7 +224,7 @@ fn begin_place<D: Disk>(
 fn begin_item(pool: &ArenaPool, list: &ZeroView, tree: &Tree, v: Version, lo: &[u8]) -> usize
     requires kept { ListStands pool.now list.now }
     requires fits { v < length tree.now.parents }
-    ensures ok { PassesOver tree.now.parents v []
+    ensures ok { PassesUndue tree.now.parents v []
         (filter (is_from lo.now) (entries_held pool.now list.now))
         (drop result (entries_held pool.now list.now)) }
     ensures found { IfSome (slice_get (entries_held pool.now list.now) result)
@@ -258,10 +259,10 @@ pub(crate) fn begin<D: Disk>(
         → NamesNoBlock (D.view disk.old).content (arrays_at source.now) b }
     ensures cause { HasCause Device (D.faults disk.old) (D.faults disk.new) result }
     ensures reads { (n : ℕ) → HaveFewBlocks n (arrays_at source.now)
-        → ReadsAtMost (reads_of n source.now) (D.reads disk.old) (D.reads disk.new) }
+        → ReadsAtMost (reads_of_source n source.now) (D.reads disk.old) (D.reads disk.new) }
     ensures room { OnOk result ((n : ℕ) → HaveFewBlocks n (arrays_at source.now)
         → D.reads disk.new + reads_left source.now desk.new
-        ≤ D.reads disk.old + reads_of n source.now) }
+        ≤ D.reads disk.old + reads_of_source n source.now) }
 {
     match source {
         Source::None => Ok(()),
@@ -291,13 +292,13 @@ pub(crate) fn advance<D: Disk>(
 ) -> Result<(), Fault>
     requires kept { MayBeRead pool.now source.now }
     requires fits { v < length tree.now.parents }
-    requires held { HasHead source.now desk.old }
-    requires found { IsSpent last.now (head_of pool.now source.now desk.old) }
+    requires same { HasHead source.now desk.old }
+    requires found { IsSpent last.now (first_at_source pool.now source.now desk.old) }
     ensures found { OnOk result (IsSettledAt tree.now.parents v pool.now source.now desk.new) }
     ensures ok { OnOk result ((f : Image) → Exposes (D.view disk.old) f
         → StandsIn f cache.old source.now desk.old.scratch
-        → PassesOver tree.now.parents v last.now (left_of f pool.now source.now desk.old)
-        (left_of f pool.now source.now desk.new)
+        → PassesUndue tree.now.parents v last.now (left_at_source f pool.now source.now desk.old)
+        (left_at_source f pool.now source.now desk.new)
         × StandsIn f cache.new source.now desk.new.scratch) }
     ensures end { OnOk result (steps_left pool.now source.now desk.new
         < steps_left pool.now source.now desk.old) }

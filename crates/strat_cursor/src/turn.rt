@@ -129,14 +129,12 @@ pub(crate) fn go_on<D: Disk>(
     requires fits { (v < length view.now.tree.now.parents) × (w < length sources.now) }
     requires same { AreSourcesOf view.now v sources.now }
     requires kept { AreSettled view.now.tree.now.parents v view.now.pool.now
-        sources.now desks.old }
-    requires found { IsTournament (contenders view.now.pool.now sources.now desks.old)
-        winners.old }
+        sources.now desks.old
+        × IsTournament (contenders view.now.pool.now sources.now desks.old) winners.old }
     requires room { IsSpent last.now (head_in view.now.pool.now sources.now desks.old w) }
     ensures kept { OnOk result (AreSettled view.now.tree.now.parents v view.now.pool.now
-        sources.now desks.new) }
-    ensures found { OnOk result (IsTournament
-        (contenders view.now.pool.now sources.now desks.new) winners.new) }
+        sources.now desks.new
+        × IsTournament (contenders view.now.pool.now sources.now desks.new) winners.new) }
     ensures len { (length desks.new ≡ length desks.old)
         × IsBracket (length sources.now) winners.new }
     ensures ok { OnOk result ((f : Image) (lo prev : List ℕ) → Exposes (D.view disk.old) f
@@ -145,8 +143,10 @@ pub(crate) fn go_on<D: Disk>(
         sources.now desks.old
         → AreUpTo f cache.new view.now.pool.now view.now.tree.now.parents v lo last.now
         sources.now desks.new) }
-    ensures end { OnOk result (sum_over (steps_left view.now.pool.now) sources.now desks.new
-        < sum_over (steps_left view.now.pool.now) sources.now desks.old) }
+    ensures end { OnOk result ((sum_over (steps_left view.now.pool.now) sources.now desks.new
+        < sum_over (steps_left view.now.pool.now) sources.now desks.old)
+        × (D.reads disk.new + sum_over reads_left sources.now desks.new
+        ≤ D.reads disk.old + sum_over reads_left sources.now desks.old)) }
     ensures same { LooksThrough (D.view disk.old) (D.view disk.new)
         (arrays_in_view view.now.levels) cache.old cache.new }
     ensures damaged { (b : ℕ) → IsErrOf result (Damaged b)
@@ -154,8 +154,6 @@ pub(crate) fn go_on<D: Disk>(
     ensures cause { HasCause Device (D.faults disk.old) (D.faults disk.new) result }
     ensures reads { ReadsAtMost (sum_over reads_left sources.now desks.old)
         (D.reads disk.old) (D.reads disk.new) }
-    ensures room { OnOk result (D.reads disk.new + sum_over reads_left sources.now desks.new
-        ≤ D.reads disk.old + sum_over reads_left sources.now desks.old) }
 {
     advance(
         disk,

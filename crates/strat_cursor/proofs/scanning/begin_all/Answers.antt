@@ -2,7 +2,7 @@ use Rattle.std.proofs.Common.{refl, ◌∙◌, arith}
 use Rattle.std.proofs.lemmas.List.{length-set}
 use Rattle.strat_array.proofs.SearchLemmas.{err_of}
 use Rattle.strat_cursor.specs.Ranges.{arrays_in_view}
-use Rattle.strat_cursor.specs.Sources.{reads_left, reads_of}
+use Rattle.strat_cursor.specs.Sources.{reads_left, reads_of_source}
 use Rattle.strat_cursor.proofs.ContestLemmas.{get_here}
 use Rattle.strat_cursor.proofs.ThroughLemmas.{through_more, through_trans, names_more, names_earlier}
 use Rattle.strat_cursor.proofs.BeginLemmas.{begins, begins_more, all_settled, all_up, sum_begins, sum_more, sum_ends, sum_rest, few_at}
@@ -42,7 +42,7 @@ returns-in_err-begin-clause-reads g c =
     let of = (c.requires.same.each c.loop-i.i c.index-sources-i.result here) in
     λ n few.
     let own = c.begin.ensures.reads n (few_at n _ (arrays_in_view c.args.view.now.levels) of.there few) in
-    let rest = sum_rest (reads_of n) c.args.sources.now c.loop-i.i c.index-sources-i.result here in
+    let rest = sum_rest (reads_of_source n) c.args.sources.now c.loop-i.i c.index-sources-i.result here in
     record { later = omega (arith, own.later, c.loop-i.invariant.later n few); bound = omega (arith, own.bound, rest, c.loop-i.invariant.reads n few) }
 
 pub loop-i-preserved : goal.loop-i-preserved
@@ -59,7 +59,7 @@ loop-i-preserved g c =
       reads = λ n few.
           let own = c.in_ok-begin.ensures.room n (few_at n _ (arrays_in_view c.args.view.now.levels) of.there few) in
           let more = sum_more c.loop-i.i reads_left c.args.sources.now c.loop-i.desks c.index-sources-i.result c.begin.new.desk here (omega (arith, c.loop-i-test.true, c.loop-i.invariant.same, c.requires.room)) in
-          let rest = sum_rest (reads_of n) c.args.sources.now c.loop-i.i c.index-sources-i.result here in
+          let rest = sum_rest (reads_of_source n) c.args.sources.now c.loop-i.i c.index-sources-i.result here in
           omega (arith, own, more, rest, c.loop-i.invariant.reads n few);
     }
 

@@ -1,6 +1,6 @@
 use Rattle.std.proofs.Common.{◌≡◌, ◌≤◌, ◌+◌, ℕ, length, drop, sum_by}
 use Rattle.strat_cursor.specs.Ranges.{arrays_in_view}
-use Rattle.strat_cursor.specs.Sources.{reads_left, reads_of, HaveFewBlocks}
+use Rattle.strat_cursor.specs.Sources.{reads_left, reads_of_source, HaveFewBlocks}
 use Rattle.strat_cursor.proofs.BeginLemmas.{Beginning, sum_first}
 use Rattle.strat_cursor.proofs.scanning.begin_all.Given as goal
 
@@ -10,5 +10,5 @@ invariant-loop-i g l = record {
   same : length l.desks ≡ length l.initial.desks;
   faults : g.D.Disk.faults l.disk ≡ g.D.Disk.faults l.initial.disk;
   later : (n : ℕ) → HaveFewBlocks n (arrays_in_view l.view.levels) → g.D.Disk.reads l.initial.disk ≤ g.D.Disk.reads l.disk;
-  reads : (n : ℕ) → HaveFewBlocks n (arrays_in_view l.view.levels) → g.D.Disk.reads l.disk + sum_first l.i reads_left l.sources l.desks + sum_by (reads_of n) (drop l.i l.sources) ≤ g.D.Disk.reads l.initial.disk + sum_by (reads_of n) l.sources;
+  reads : (n : ℕ) → HaveFewBlocks n (arrays_in_view l.view.levels) → g.D.Disk.reads l.disk + sum_first l.i reads_left l.sources l.desks + sum_by (reads_of_source n) (drop l.i l.sources) ≤ g.D.Disk.reads l.initial.disk + sum_by (reads_of_source n) l.sources;
 }

@@ -33,14 +33,14 @@ loop-w-preserved g c =
       telling =
           tells_on _ _ c.args.view.now c.count-versions.ensures.kept c.args.v c.args.hi.now c.args.sources.now _ _ _ _ _ _ _ _ c.requires.same c.loop-w.invariant.telling c.loop-w.invariant.settled c.in-Some.w c.in-Some.ensures.found.0 e.0
           (c.handle_head.ensures.fits e.0 e.1) c.in-Some.ensures.ok e.1 _ c.args.limit c.go_on.new.cache c.handle_head.new.last.items c.go_on.new.desks c.handle_head.new.out handles on.same (rw (sym c.deref.ensures.value) on.ok);
-      settled = on.kept;
-      won = on.found;
+      settled = on.kept.0;
+      won = on.kept.1;
       few = handled_len e.0 c.args.hi.now c.args.limit _ _ _ _ c.loop-w.invariant.few handles;
       room = c.handle_head.ensures.room;
       same = on.len.0 ∙ c.loop-w.invariant.same;
       faults = on.cause.ok ∙ c.loop-w.invariant.faults;
       later = omega (arith, on.reads.later, c.loop-w.invariant.later);
-      reads = omega (arith, on.room, c.loop-w.invariant.reads);
+      reads = omega (arith, on.end.1, c.loop-w.invariant.reads);
     }
 
 pub returns-in_err-go_on-clause-same : goal.returns-in_err-go_on-clause-same

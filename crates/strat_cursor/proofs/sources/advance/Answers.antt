@@ -24,7 +24,7 @@ returns-in-Zero-clause-end g c = zero_steps c.args.pool.now c.args.tree.now.pare
 pub returns-in_ok-at-in-Array-clause-ok : goal.returns-in_ok-at-in-Array-clause-ok
 returns-in_ok-at-in-Array-clause-ok g c = λ f exposed stands.
     array_goes f c.args.pool.now c.args.tree.now.parents c.args.v c.args.last.now (g.D.Disk.view c.args.disk.now) (g.D.Disk.view c.stand_place.new.disk) c.args.source.now c.in-Array.desc c.args.cache.now c.stand_place.new.cache c.args.desk.now c.stand.new.self c.next-next.result c.in_ok-at-in-Array.at c.in-Array.is exposed stands
-    c.requires.held c.requires.found (ap (λ (p : Place). p.block) c.next-next.ensures.ok) (ap (λ (p : Place). p.index) c.next-next.ensures.ok) c.in_ok-at-in-Array.ensures.ok (looks_desk _ _ _ _ _ _ _ _ _ (ap (λ (d : Desk). d.scratch) c.stand.ensures.ok) c.stand_place.ensures.same)
+    c.requires.same c.requires.found (ap (λ (p : Place). p.block) c.next-next.ensures.ok) (ap (λ (p : Place). p.index) c.next-next.ensures.ok) c.in_ok-at-in-Array.ensures.ok (looks_desk _ _ _ _ _ _ _ _ _ (ap (λ (d : Desk). d.scratch) c.stand.ensures.ok) c.stand_place.ensures.same)
     (ap (λ (d : Desk). d.there) c.stand.ensures.ok) (ap (λ (d : Desk). d.place) c.stand.ensures.ok)
 
 pub returns-in_ok-at-in-Array-clause-same : goal.returns-in_ok-at-in-Array-clause-same

@@ -3,7 +3,7 @@ use Rattle.strat_base.specs.Entries.{Entry}
 use Rattle.strat_format.specs.Arrays.{blocks_of}
 use Rattle.strat_array.proofs.KeptLemmas.{looks_trans, stands_after}
 use Rattle.strat_array.proofs.SearchLemmas.{no_block_same, err_of, if_ok_then}
-use Rattle.strat_cursor.specs.Sources.{PassesOver, left_behind}
+use Rattle.strat_cursor.specs.Sources.{PassesUndue, left_behind}
 use Rattle.strat_cursor.proofs.sources.begin_place.Goals as goal
 
 pub returns-in_err-place-clause-damaged : goal.returns-in_err-place-clause-damaged
@@ -12,7 +12,7 @@ returns-in_err-place-clause-damaged g c = λ b torn. c.in_err-place.ensures.dama
 pub returns-clause-ok : goal.returns-clause-ok
 returns-clause-ok g c =
     if_ok_then c.stand_place.result c.stand_place.ensures.ok (λ r answers lists stands up.
-    subst (λ (l : List Entry). PassesOver c.args.tree.now.parents c.args.v [] l (left_behind lists r)) (c.in_ok-place.ensures.ok lists stands up)
+    subst (λ (l : List Entry). PassesUndue c.args.tree.now.parents c.args.v [] l (left_behind lists r)) (c.in_ok-place.ensures.ok lists stands up)
     (answers lists (stands_after _ _ _ _ _ _ _ _ lists c.in_ok-place.ensures.same stands)))
 
 pub returns-clause-damaged : goal.returns-clause-damaged
