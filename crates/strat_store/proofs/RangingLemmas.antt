@@ -206,8 +206,8 @@ module _ (v : DiskView) (s : Held) (levels : List Level) (whole : IsConsistent s
     there n lo hi limit out (Ok more) is tells none names =
         let may = whole_read s whole in
         let told : IsPageOf (range (table_pairs n) lo hi) limit out more =
-            tells w.stands.content s.chained.manifest.next_array w.stands.exposed (ordered v s levels whole w) may.own (cached v s levels whole w) (table_pairs n)
-            (map_seen w.stands.content s.memory.parents s.memory.entries s.levels n (table_pairs n) (table_asked n is)) in
+        tells w.stands.content s.chained.manifest.next_array w.stands.exposed (ordered v s levels whole w) may.own (cached v s levels whole w) (table_pairs n)
+        (map_seen w.stands.content s.memory.parents s.memory.entries s.levels n (table_pairs n) (table_asked n is)) in
         inl (page_told (range (table_pairs n) lo hi) limit out more told ∙ sym (stepped n lo hi limit is), stays v s levels whole w now d looks leaves)
     there n lo hi limit out (Err fault.Device) is tells none names =
         inr (ap (as_told (reply.Refused why.DeviceFault)) none, refl, ap (λ (a : Answer). accepts a.reply) (stepped n lo hi limit is))

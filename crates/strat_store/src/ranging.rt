@@ -22,7 +22,6 @@ ghost use Rattle.strat_store.specs.Recovering.{held_of};
 use crate::recovering::Recovered;
 use strat_array::Cache;
 use strat_base::{Fault, PairBuf, Version};
-
 use strat_cursor::{Desks, Picked, View, scan};
 use strat_disk::Disk;
 use strat_model::{Refusal, Reply};

@@ -38,7 +38,7 @@ use crate::recovering::{Recovered, open};
 use std::alloc::Global;
 use std::marker::Model;
 use strat_array::{Cache, Scratch};
-use strat_base::{Change, PairBuf, Version};
+use strat_base::{Change, NoMemory, PairBuf, Version};
 use strat_cursor::Desks;
 use strat_disk::Disk;
 use strat_model::{Command, Refusal, Reply};
@@ -211,6 +211,17 @@ fn answer<D: Disk>(
     }
 }
 
+/// What look-ups and scans work with: a cache of 256 blocks, which takes memory as it fills, and room for 25 blocks. The
+/// only error is want of memory.
+fn make_room(alloc: Global) -> Result<(Cache, Scratch, Desks), NoMemory>
+    ensures ok { IfOk result (λ room. room.0 ≡ empty_cache 256) }
+{
+    let cache = Cache::new(alloc, CACHED_MAX)?;
+    let scratch = Scratch::new(alloc)?;
+    let desks = Desks::new(alloc)?;
+    Ok((cache, scratch, desks))
+}
+
 impl Store {
     /// Whether a fault left the store unfit for use.
     pub fn is_spent(&self) -> bool
@@ -306,17 +317,17 @@ impl Store {
             (chain_length s.sb.length + region_blocks s.sb.mem + 4)
             (D.reads disk.old) (D.reads disk.new)) }
     {
-        let cache = Cache::new(alloc, CACHED_MAX)?;
-        let scratch = Scratch::new(alloc)?;
-        let desks = Desks::new(alloc)?;
-        let held = open(alloc, disk)?;
-        Ok(Store {
-            alloc,
-            held,
-            cache,
-            scratch,
-            desks,
-            spent: false,
-        })
+        let (cache, scratch, desks) = make_room(alloc)?;
+        match open(alloc, disk) {
+            Ok(held) => Ok(Store {
+                alloc,
+                held,
+                cache,
+                scratch,
+                desks,
+                spent: false,
+            }),
+            Err(fault) => Err(fault),
+        }
     }
 }

@@ -4,9 +4,9 @@ use Rattle.strat_store.specs.Following.{IsOpenedAs}
 use Rattle.strat_store.specs.Recovering.{held_of}
 use Rattle.strat_store.proofs.store.Store.attach.Goals as goal
 
-pub returns-clause-ok : goal.returns-clause-ok
-returns-clause-ok g c = (
-  subst (λ (cached : Blocks). IsOpenedAs (g.D.Disk.view c.args.disk.now) (g.D.Disk.view c.open.new.disk) (held_of c.in_ok-held.held cached)) (sym c.in_ok-cache.ensures.ok) (c.in_ok-held.ensures.ok 256),
+pub returns-in-Ok-clause-ok : goal.returns-in-Ok-clause-ok
+returns-in-Ok-clause-ok g c = (
+  subst (λ (cached : Blocks). IsOpenedAs (g.D.Disk.view c.args.disk.now) (g.D.Disk.view c.open.new.disk) (held_of c.in-Ok.held cached)) (sym c.in_ok-cache.ensures.ok) (c.in-Ok.ensures.ok 256),
   c.in_ok-cache.ensures.ok,
-  c.in_ok-held.ensures.kept c.in_ok-cache.cache,
+  c.in-Ok.ensures.kept c.in_ok-cache.cache,
 )
