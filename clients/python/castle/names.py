@@ -7,6 +7,7 @@ import re
 from typing import Callable, Dict, Iterator, List, MutableMapping
 
 from .errors import NameFault, UnknownName
+from .files import sync_folder, write_whole
 
 NAME = re.compile(r"[^\W\d][\w.-]{0,63}")
 
@@ -19,9 +20,9 @@ class Names(MutableMapping[str, int]):
     letters, digits, `_`, `.` and `-`, and begins with a letter or `_`. A version may have several names.
     """
 
-    def __init__(self, store: str, check: Callable[[int], object]) -> None:
-        """The names of the store at this path. `check` fails for a version that is not there."""
-        self.path = store + ".names"
+    def __init__(self, path: str, store: str, check: Callable[[int], object]) -> None:
+        """The names in the file at this path. `check` fails for a version that the store doesn't have."""
+        self.path = path
         self._store = store
         self._check = check
         self._versions: Dict[str, int] = {}
@@ -52,10 +53,7 @@ class Names(MutableMapping[str, int]):
         return len(self._versions)
 
     def __setitem__(self, name: str, version: int) -> None:
-        if not NAME.fullmatch(name):
-            raise NameFault(f"{name!r} can't be a name",
-                            "A name is 1 to 64 letters, digits, _, . and -, and begins with a letter or _.",
-                            file=self._store)
+        self.check(name)
         self._check(version)
         self._write({**self._versions, name: version})
 
@@ -63,6 +61,13 @@ class Names(MutableMapping[str, int]):
         left = dict(self._versions)
         del left[name]
         self._write(left)
+
+    def check(self, name: str) -> None:
+        """Fails for a name that no version can have."""
+        if not NAME.fullmatch(name):
+            raise NameFault(f"{name!r} can't be a name",
+                            "A name is 1 to 64 letters, digits, _, . and -, and begins with a letter or _.",
+                            file=self._store)
 
     def of(self, version: int) -> List[str]:
         """The names of a version, in the order of the alphabet."""
@@ -77,14 +82,8 @@ class Names(MutableMapping[str, int]):
 
     def _write(self, versions: Dict[str, int]) -> None:
         """Writes them for good, and only then has them."""
-        new = self.path + ".new"
         lines = sorted((version, name) for name, version in versions.items())
-        with open(new, "w", encoding="utf-8") as file:
-            file.writelines(f"{name} {version}\n" for version, name in lines)
-            file.flush()
-            os.fsync(file.fileno())
-        os.replace(new, self.path)
-        sync_folder(self.path)
+        write_whole(self.path, [f"{name} {version}\n" for version, name in lines])
         self._versions = versions
 
 
@@ -93,12 +92,3 @@ def remove_names(store: str) -> None:
     if os.path.exists(store + ".names"):
         os.remove(store + ".names")
         sync_folder(store)
-
-
-def sync_folder(path: str) -> None:
-    """Makes the name of a file last."""
-    folder = os.open(os.path.dirname(path) or ".", os.O_RDONLY | os.O_DIRECTORY)
-    try:
-        os.fsync(folder)
-    finally:
-        os.close(folder)

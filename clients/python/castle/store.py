@@ -56,7 +56,7 @@ class Store:
             self._lock.release()
             raise
         try:
-            self.names = Names(real, self.info)
+            self.names = Names(real + ".names", self.path, self.info)
             self._commands = Commands(self._program, self.names)
             self._open()
         except BaseException:
