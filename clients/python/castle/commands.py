@@ -14,7 +14,7 @@ Version = Union[int, str]
 
 def data_of(data: Data) -> bytes:
     """The bytes of a key or a value; text is UTF-8."""
-    return data.encode() if isinstance(data, str) else bytes(data)
+    return data.encode() if isinstance(data, str) else bytes(memoryview(data))
 
 
 class Commands:

@@ -295,6 +295,12 @@ class ProgramMissing(CastleError):
     remedy = "Run this from a checkout, give a program, or name one by CASTLE_PROGRAM."
 
 
+class WrongProtocol(CastleError):
+    """A reply can't be read, or is not to the command; the store has to be opened again."""
+
+    remedy = "The program is not castle, or of another build than this package."
+
+
 class StoreMissing(CastleError):
     """There is no file at this path."""
 

@@ -5,6 +5,7 @@ from __future__ import annotations
 import os
 import select
 import signal
+import struct
 import subprocess
 import sys
 from collections import deque
@@ -153,14 +154,16 @@ class Program:
             if stop > end:
                 break
             if not pending or tag != answered and status != errors.FrameTooLong.status:
-                raise errors.CastleError(f"a reply has tag {tag}, which is not that of the command",
-                                         "The program speaks another protocol.", file=self.file)
+                self._distrust(f"a reply has tag {tag}, which is not that of the command")
             frame = pending.popleft()
             answered = (answered + 1) & frames.NUMBER_MAX
             if status == found:
                 sink.append(data[at + 11:stop])
             elif status < frames.LEAST_REFUSAL:
-                sink.append(frames.answer(status, data[at + 9:stop]))
+                try:
+                    sink.append(frames.answer(status, data[at + 9:stop]))
+                except (ValueError, IndexError, struct.error):
+                    self._distrust(f"a reply of status {status} can't be read")
             else:
                 sink.append(errors.refusal(status, data[at + 9:stop], self.file, frames.describe(frame)))
             at = stop
@@ -178,6 +181,11 @@ class Program:
             self._poll.unregister(self._pipes[2])
             self._has_errors = False
 
+    def _distrust(self, what: str) -> NoReturn:
+        """Takes no more replies, since one was not as the protocol has it."""
+        self._end = errors.WrongProtocol(what, file=self.file)
+        raise self._end
+
     def _fail(self) -> NoReturn:
         """The program ended before it was asked to."""
         status = self._wait()
@@ -193,25 +201,27 @@ class Program:
 
     def finish(self) -> int:
         """Ends its input, waits until it has ended, and tells its status. Replies that nobody waited for are dropped."""
-        assert self._child.stdin and self._child.stdout and self._child.stderr
         if self._end is None:
             self._end = errors.StoreClosed(file=self.file)
-        if not self._child.stdin.closed:
-            if self._writes:
-                self._poll.unregister(self._pipes[0])
-                self._writes = False
-            self._child.stdin.close()
-            while os.read(self._pipes[1], CHUNK):
-                pass
-            self._wait()
-            self._child.stdout.close()
-            self._child.stderr.close()
-        return self._child.wait()
+        inp, out, _ = self._pipes
+        if self._writes:
+            self._poll.unregister(inp)
+            self._writes = False
+        assert self._child.stdin and self._child.stdout and self._child.stderr
+        self._child.stdin.close()
+        while not self._child.stdout.closed:
+            for pipe, _ in self._poll.poll():
+                if pipe != out:
+                    self._read_errors()
+                elif not os.read(out, CHUNK):
+                    self._poll.unregister(out)
+                    self._child.stdout.close()
+        status = self._wait()
+        self._child.stderr.close()
+        return status
 
     def stop(self) -> None:
         """Ends it by a signal, with what it started, as while the launcher builds it."""
-        try:
+        if self._child.poll() is None:
             os.killpg(self._child.pid, signal.SIGTERM)
-        except ProcessLookupError:
-            pass
         self.finish()

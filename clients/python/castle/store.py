@@ -90,7 +90,12 @@ class Store:
             if os.path.exists(real) and not overwrite:
                 raise errors.StoreExists(file=file)
             words = ["format", real, str(mem), str(changes), str(versions)]
-            status = Program(find_program(program), words, file, [lock.descriptor]).finish()
+            running = Program(find_program(program), words, file, [lock.descriptor])
+            try:
+                status = running.finish()
+            except BaseException:
+                running.stop()
+                raise
             if status != 0:
                 raise errors.ended(status, file, "format")
             remove_names(real)
