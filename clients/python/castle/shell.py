@@ -79,6 +79,8 @@ class Shell:
         for number, line in enumerate(lines, 1):
             try:
                 self.run(line)
+            except BrokenPipeError:
+                raise  # nobody reads the output
             except (CastleError, Wrong, OSError) as error:
                 self.out.flush()
                 print(f"castle-shell: line {number}: {described(error)}", file=sys.stderr)
