@@ -15,20 +15,20 @@ class Lock:
     was killed before.
     """
 
-    def __init__(self, path: str) -> None:
-        """Takes it, or fails at once. `path` is the store's own, without symbolic links."""
+    def __init__(self, path: str, file: str) -> None:
+        """Takes it, or fails at once. `path` is the store's own, without symbolic links; errors call it `file`."""
         try:
             self.descriptor = os.open(path + ".lock", os.O_RDWR | os.O_CREAT | os.O_CLOEXEC, 0o666)
         except OSError as error:
             raise CastleError(f"the lock {path}.lock can't be opened: {error.strerror}",
-                              "Mend the folder, or its permissions.", file=path) from error
+                              "Mend the folder, or its permissions.", file=file) from error
         try:
             fcntl.flock(self.descriptor, fcntl.LOCK_EX | fcntl.LOCK_NB)
-        except OSError as error:
+        except OSError:
             holder = os.read(self.descriptor, 20).decode("ascii", "replace").strip()
             os.close(self.descriptor)
             raise StoreLocked(f"the store is open already{f', by process {holder}' if holder else ''}",
-                              file=path) from error
+                              file=file) from None
         os.ftruncate(self.descriptor, 0)
         os.write(self.descriptor, f"{os.getpid()}\n".encode())
 

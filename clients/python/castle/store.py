@@ -48,7 +48,7 @@ class Store:
         real = os.path.realpath(self.path)
         if not os.path.exists(real):
             raise errors.StoreMissing(file=self.path)
-        self._lock = Lock(real)
+        self._lock = Lock(real, self.path)
         self._closed = False
         try:
             self._program = Program(find_program(program), ["serve", real], self.path, [self._lock.descriptor])
@@ -85,7 +85,7 @@ class Store:
         folder = os.path.dirname(real)
         if not os.path.isdir(folder):
             raise errors.StoreMissing(f"there is no folder {folder}", "Make it first.", file=file)
-        lock = Lock(real)
+        lock = Lock(real, file)
         try:
             if os.path.exists(real) and not overwrite:
                 raise errors.StoreExists(file=file)
