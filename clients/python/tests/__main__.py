@@ -11,6 +11,10 @@ import sys
 import unittest
 from typing import Any, Iterator, List
 
+sys.path.insert(0, str(pathlib.Path(__file__).resolve().parents[1]))
+
+from castle.program import Program, find_program  # noqa: E402
+
 
 def said(test: unittest.TestCase) -> str:
     """The name of a test as words."""
@@ -48,8 +52,16 @@ def cases(suite: unittest.TestSuite) -> Iterator[unittest.TestCase]:
             yield test
 
 
+def is_built() -> bool:
+    """Has the launcher build the program, and shows how far it is. Without words the program only complains."""
+    return Program(find_program(), [], "the program").finish() not in (126, 127)
+
+
 def main(wanted: List[str]) -> int:
     """Runs them; the exit status."""
+    if not is_built():
+        print("client: FAILED: the program isn't built\n0 passed, 1 failed")
+        return 1
     found = unittest.defaultTestLoader.discover(str(pathlib.Path(__file__).resolve().parent))
     lines = Lines()
     for test in cases(found):
