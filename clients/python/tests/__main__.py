@@ -6,8 +6,10 @@ them. The program is that of CASTLE_PROGRAM, or else the launcher of this checko
 
 from __future__ import annotations
 
+import faulthandler
 import pathlib
 import sys
+import traceback
 import unittest
 from typing import Any, Iterator, List
 
@@ -35,12 +37,17 @@ class Lines(unittest.TestResult):
     def addSkip(self, test: unittest.TestCase, reason: str) -> None:
         print(f"client: skipped: {said(test)}: {reason}", flush=True)
 
-    def _add_failed(self, test: unittest.TestCase, error: Any) -> None:
-        trace = self._exc_info_to_string(error, test)  # type: ignore[attr-defined]
+    def addFailure(self, test: unittest.TestCase, err: Any) -> None:
+        trace = "".join(traceback.format_exception(*err))
         print(f"client: FAILED: {said(test)}:\n{trace}", end="", flush=True)
         self.failed += 1
 
-    addFailure = addError = _add_failed
+    def addError(self, test: unittest.TestCase, err: Any) -> None:
+        self.addFailure(test, err)
+
+    def addSubTest(self, test: unittest.TestCase, subtest: unittest.TestCase, err: Any) -> None:
+        if err is not None:
+            self.addFailure(subtest, err)
 
 
 def cases(suite: unittest.TestSuite) -> Iterator[unittest.TestCase]:
@@ -50,6 +57,9 @@ def cases(suite: unittest.TestSuite) -> Iterator[unittest.TestCase]:
             yield from cases(test)
         else:
             yield test
+
+
+DEADLINE = 900  # seconds for all of them; then it tells where it hangs, and ends
 
 
 def is_built() -> bool:
@@ -62,6 +72,7 @@ def main(wanted: List[str]) -> int:
     if not is_built():
         print("client: FAILED: the program isn't built\n0 passed, 1 failed")
         return 1
+    faulthandler.dump_traceback_later(DEADLINE, exit=True)
     found = unittest.defaultTestLoader.discover(str(pathlib.Path(__file__).resolve().parent))
     lines = Lines()
     for test in cases(found):

@@ -18,8 +18,9 @@ class QuickstartTest(StoreCase):
     def setUp(self) -> None:
         super().setUp()
         program = os.environ.get("CASTLE_PROGRAM") or str(TOP / "castle")
-        for name, path in (("castle", os.path.abspath(program)), ("castle-shell", TOP / "castle-shell"), ("clients", TOP / "clients")):
-            os.symlink(path, os.path.join(self.folder, name))
+        os.symlink(os.path.abspath(program), os.path.join(self.folder, "castle"))
+        for name in ("castle-shell", "clients"):
+            os.symlink(TOP / name, os.path.join(self.folder, name))
 
     def test_the_quickstart_is_as_shown(self) -> None:
         page = (TOP / "docs" / "QUICKSTART.md").read_text(encoding="utf-8")

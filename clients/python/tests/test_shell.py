@@ -1,13 +1,16 @@
 """The shell: scripts, dumps, pictures, and a session at a terminal."""
 
+import importlib.util
 import os
 import pty
 import re
 import select
+import shutil
 import subprocess
 import sys
 import time
-from typing import List, Optional
+import unittest
+from typing import List, Optional, Tuple
 
 from support import DEADLINE, SHELL, StoreCase
 
@@ -91,7 +94,8 @@ class ScriptTest(StoreCase):
         self.assertRegex(self.shell("stat\n")[1], r"^castle-shell: .*a\.store: the store is open already, by process \d+\. ")
 
     def test_usage_is_told(self) -> None:
-        for words, status in (([], 2), (["a", "b"], 2), (["--frob"], 2), (["--help"], 0), (["-h"], 0)):
+        cases: List[Tuple[List[str], int]] = [([], 2), (["a", "b"], 2), (["--frob"], 2), (["--help"], 0), (["-h"], 0)]
+        for words, status in cases:
             ran = subprocess.run([sys.executable, SHELL, *words], capture_output=True, stdin=subprocess.DEVNULL)
             self.assertEqual(ran.returncode, status)
             self.assertIn(b"usage: castle-shell FILE\n", ran.stderr if status else ran.stdout)
@@ -178,6 +182,7 @@ class ScanningTest(StoreCase):
             self.assertIn(text, picture)
 
 
+@unittest.skipUnless(importlib.util.find_spec("readline"), "this Python has no readline")
 class TerminalTest(StoreCase):
     def test_a_session_has_a_prompt_errors_history_and_completion(self) -> None:
         self.made().close()
@@ -205,13 +210,13 @@ class TerminalTest(StoreCase):
         os.write(session.own, b"\x04")
         self.assertEqual(session.close(), 0)
 
+    @unittest.skipUnless(shutil.which("ps"), "ps is not here")
     def test_a_program_that_was_killed_ends_the_session(self) -> None:
         self.made().close()
         session = Session(self.folder, "a.store")
         self.addCleanup(session.child.kill)
         session.until(r"> $")
-        with open(self.path + ".lock", encoding="ascii") as file:
-            client = file.read().strip()
+        client = str(session.child.pid)
         children = subprocess.run(["ps", "-o", "pid=", "--ppid", client], capture_output=True, check=True).stdout.split()
         os.kill(int(children[0]), 9)
         self.assertIn("error: stat: the program was ended by SIGKILL", "\n".join(session.type("stat", None)))

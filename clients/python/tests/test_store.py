@@ -7,6 +7,7 @@ import subprocess
 import sys
 import time
 from pathlib import Path
+from typing import List, Union
 
 from support import StoreCase
 
@@ -37,7 +38,7 @@ class CommandsTest(StoreCase):
         store = self.made()
         store.put(0, "é", "日本")
         self.assertEqual(store.get(0, b"\xc3\xa9"), "日本".encode())
-        store.put(0, bytearray(b"x"), memoryview(b"y"))  # type: ignore[arg-type]
+        store.put(0, bytearray(b"x"), memoryview(b"y"))
         self.assertEqual(store.get(0, "x"), b"y")
         for words in ((0, 5, b""), (0, b"a", None), (None, b"a", b""), (1.0, b"a", b"")):
             with self.assertRaises(TypeError):
@@ -94,7 +95,8 @@ class LockTest(StoreCase):
         store.put(0, "a", "1")
         link = os.path.join(self.folder, "link")
         os.symlink(self.path, link)
-        for path in (self.path, link, Path(self.path)):
+        paths: List[Union[str, Path]] = [self.path, link, Path(self.path)]
+        for path in paths:
             with self.assertRaisesRegex(errors.StoreLocked, f"open already, by process {os.getpid()}. Close it there"):
                 Store(path)
         with self.assertRaises(errors.StoreLocked):

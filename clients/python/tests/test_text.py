@@ -2,7 +2,7 @@
 
 import random
 import unittest
-from typing import List
+from typing import List, Optional, Tuple
 
 import support  # noqa: F401: finds the package
 
@@ -41,8 +41,8 @@ class TextTest(unittest.TestCase):
 
 
 class DumpTest(unittest.TestCase):
-    def lines(self, *pairs: object) -> List[str]:
-        return list(dump.lines_of(pairs, "version 1"))  # type: ignore[arg-type]
+    def lines(self, *pairs: Tuple[bytes, bytes]) -> List[str]:
+        return list(dump.lines_of(pairs, "version 1"))
 
     def test_a_dump_is_lines(self) -> None:
         self.assertEqual("".join(self.lines((b"#a b", b"1\t2"), (b"\\k", b""))),
@@ -57,9 +57,10 @@ class DumpTest(unittest.TestCase):
 
     def test_a_dump_that_is_not_whole_is_refused(self) -> None:
         first, pair, last = self.lines((b"a", b"1"))
-        for lines, line in (([], 0), ([pair, last], 1), ([first, pair], 2), ([first, last], None),
-                            ([first, pair, last, pair], 4), ([first, "a\n", last], 2), ([first, "a\tb\tc\n", last], 2),
-                            ([first, "a\t\\xg0\n", last], 2)):
+        cases: List[Tuple[List[str], Optional[int]]] = [
+            ([], 0), ([pair, last], 1), ([first, pair], 2), ([first, last], None), ([first, pair, last, pair], 4),
+            ([first, "a\n", last], 2), ([first, "a\tb\tc\n", last], 2), ([first, "a\t\\xg0\n", last], 2)]
+        for lines, line in cases:
             with self.assertRaises(DumpFault, msg=str(lines)) as caught:
                 dump.pairs_of(lines, "f.dump")
             self.assertIn("f.dump: ", str(caught.exception))
