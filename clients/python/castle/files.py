@@ -15,9 +15,11 @@ def write_whole(path: str, pieces: Iterable[str]) -> None:
             file.flush()
             os.fsync(file.fileno())
         os.replace(new, path)
-    except BaseException:
-        if os.path.exists(new):
+    except BaseException as error:
+        if os.path.isfile(new):
             os.remove(new)
+        if isinstance(error, OSError):
+            error.filename = path
         raise
     sync_folder(path)
 

@@ -368,8 +368,8 @@ def complete_with(shell: Shell) -> None:
         at = "@" if written.startswith("@") else ""
         if not at and before[0] not in ("use", "info", "diff", "dump", "names"):
             return []
-        names = [f"{at}{name}" for name in shell.store.names if name.startswith(written[len(at):])]
-        return names + [word for word in ("set", "remove") if before == ["names"] and word.startswith(written)]
+        names = [f"{at}{name} " for name in shell.store.names if name.startswith(written[len(at):])]
+        return names + [f"{word} " for word in ("set", "remove") if before == ["names"] and word.startswith(written)]
 
     def complete(written: str, state: int) -> Optional[str]:
         found = sorted(offers(written))
