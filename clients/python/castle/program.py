@@ -9,7 +9,6 @@ import struct
 import subprocess
 import sys
 from collections import deque
-from pathlib import Path
 from typing import Deque, List, NoReturn, Optional, Sequence, Union
 
 from . import errors, frames
@@ -24,10 +23,9 @@ def find_program(given: Optional[str] = None) -> str:
     """The program to run: the one given, that of CASTLE_PROGRAM, the launcher of this checkout, or `castle` on PATH."""
     if given or os.environ.get("CASTLE_PROGRAM"):
         return given or os.environ["CASTLE_PROGRAM"]
-    top = Path(__file__).resolve().parents[3]
-    if (top / "crates.txt").is_file() and os.access(top / "castle", os.X_OK):
-        return str(top / "castle")
-    return "castle"
+    top = os.path.normpath(os.path.join(os.path.realpath(__file__), "..", "..", "..", ".."))
+    launcher = os.path.join(top, "castle")
+    return launcher if os.path.isfile(os.path.join(top, "crates.txt")) and os.access(launcher, os.X_OK) else "castle"
 
 
 class Program:
