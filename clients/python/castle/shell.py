@@ -23,8 +23,9 @@ USAGE = """usage: castle-shell FILE
 Reads commands for the store in FILE: from a terminal with a prompt, and else as a script, which ends at the first
 error. `help` lists the commands. `castle format FILE 64 100000 100` makes a store.
 """
-NOTATION = """Words stand between blanks; "a word with blanks" has quotes. Bytes that are no text are \\xNN, and \\\\ \\" \\n \\t are
-as usual. @3 or @staging at the end names a version, by its number or name; else it is that of the prompt.
+NOTATION = """Words stand between blanks; "a word with blanks" has quotes, as has one that begins with @. Bytes that are no
+text are \\xNN, and \\\\ \\" \\n \\t are as usual. @3 or @staging at the end names a version, by its number or name;
+else it is that of the prompt.
 """
 
 
@@ -256,9 +257,7 @@ class Shell:
         return f"{os.path.basename(self.store.path)}: {counted(len(infos), 'version')}, {changes}"
 
     def diff(self, rest: List[Word]) -> None:
-        before, after = self.version_of(rest[0]), self.version([])
-        if len(rest) == 2 or self._version is None:
-            after = self.version(rest[1:])
+        before, after = self.version_of(rest[0]), self.version(rest[1:])
         removed = added = changed = 0
         for key, old, new in self._until_stopped(self.store.diff(before, after)):
             if new is None:
@@ -320,14 +319,16 @@ COMMANDS: Dict[str, Command] = {
     "put": Command(PAIRS, "put KEY VALUE [@V]", "gives a key a value", Shell.put, 2, 2),
     "get": Command(PAIRS, "get KEY [@V]", "shows the value of a key", Shell.get, 1, 1),
     "delete": Command(PAIRS, "delete KEY [@V]", "takes a key's value away", Shell.delete, 1, 1),
-    "scan": Command(PAIRS, "scan [PREFIX | LOWER UPPER] [@V]", "shows pairs: all, with a prefix, or from LOWER to before UPPER",
-                    Shell.scan, 0, 2),
+    "scan": Command(PAIRS, "scan [PREFIX | LOWER UPPER] [@V]",
+                    "shows pairs: all, with a prefix, or from LOWER to before UPPER", Shell.scan, 0, 2),
     "use": Command(VERSIONS, "use V", "goes to a version, by its number or name", Shell.use, 0, 1),
-    "clone": Command(VERSIONS, "clone [NAME] [@V]", "makes a version with the same pairs, which freezes this one", Shell.clone, 0, 1),
+    "clone": Command(VERSIONS, "clone [NAME] [@V]", "makes a version with the same pairs, which freezes this one",
+                     Shell.clone, 0, 1),
     "names": Command(VERSIONS, "names [set NAME [V] | remove NAME]", "shows names, names a version, or takes a name away",
                      Shell.names, 0, 3),
     "info": Command(VERSIONS, "info [V]", "shows a version's place in the tree", Shell.info, 0, 1),
-    "tree": Command(VERSIONS, "tree [--svg FILE]", "draws the tree of versions, or writes a picture of it", Shell.tree, 0, 2),
+    "tree": Command(VERSIONS, "tree [--svg FILE]", "draws the tree of versions, or writes a picture of it",
+                    Shell.tree, 0, 2),
     "diff": Command(VERSIONS, "diff A [B]", "shows what has to change in A to get B", Shell.diff, 1, 2),
     "stat": Command(VERSIONS, "stat", "shows how many versions and changes there are", Shell.stat, 0, 0),
     "dump": Command(FILES, "dump [V [FILE]]", "writes a version's pairs as lines of text", Shell.dump, 0, 2),

@@ -2,12 +2,12 @@
 
 from __future__ import annotations
 
-from typing import TYPE_CHECKING, ItemsView, Iterator, KeysView, MutableMapping, Tuple, Union, ValuesView
+from typing import TYPE_CHECKING, ItemsView, Iterator, KeysView, MutableMapping, Tuple, ValuesView
+
+from .commands import Data
 
 if TYPE_CHECKING:
     from .store import Store
-
-Data = Union[bytes, str]
 
 
 class VersionView(MutableMapping[Data, bytes]):
@@ -36,7 +36,7 @@ class VersionView(MutableMapping[Data, bytes]):
         self.store.put(self.version, key, value)
 
     def __delitem__(self, key: Data) -> None:
-        self[key]
+        self[key]  # raises KeyError where it has no value
         self.store.delete(self.version, key)
 
     def __contains__(self, key: object) -> bool:
