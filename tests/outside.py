@@ -678,7 +678,8 @@ def the_examples_of_the_readme_are_as_shown(folder):
     blocks = re.findall(r"^```console\n(.*?)^```$", text, re.M | re.S)
     if not blocks:
         raise Wrong("README.md shows no example")
-    os.symlink(LAUNCHER, os.path.join(folder, "castle"))
+    for name in ("castle", "castle-shell"):
+        os.symlink(TOP / name, os.path.join(folder, name))
     for block in blocks:
         for command, shown in re.findall(r"^\$ (.*\n(?:> .*\n)*)((?:(?!\$ ).*\n)*)", block, re.M):
             command = command.replace("\n> ", "\n")

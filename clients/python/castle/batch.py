@@ -1,0 +1,83 @@
+"""Many commands under way at once."""
+
+from __future__ import annotations
+
+from types import TracebackType
+from typing import List, Optional, Type
+
+from . import errors
+from .commands import Commands, Data, Version
+from .program import Program, Result
+
+
+class Batch:
+    """Commands that are sent while earlier ones are answered.
+
+        with store.batch() as batch:
+            for key in keys:
+                batch.get(0, key)
+        values = batch.results
+
+    `results` has what the commands gave, in their order: None for put and delete, the value or None for get, the
+    number for clone, `Info`, `Stat`. They are all there at the end of the `with` block, or after `finish()`; before,
+    those that came so far. A command that was refused has its `Refused` there, and those behind it are carried out
+    none the less. The first refusal is raised at the end, unless the batch was made with `return_exceptions`. A batch
+    is no transaction: where the program ends, `results` has what was acknowledged, and later changes were made or not.
+    """
+
+    def __init__(self, program: Program, commands: Commands, return_exceptions: bool) -> None:
+        self._program = program
+        self._commands = commands
+        self._return_exceptions = return_exceptions
+        self.results: List[Result] = []
+
+    def put(self, version: Version, key: Data, value: Data) -> None:
+        """Gives a key this value at a version."""
+        self._program.turn_to(self.results)
+        self._program.add(self._commands.put(version, key, value))
+
+    def delete(self, version: Version, key: Data) -> None:
+        """Takes a key's value away at a version."""
+        self._program.turn_to(self.results)
+        self._program.add(self._commands.delete(version, key))
+
+    def get(self, version: Version, key: Data) -> None:
+        """Asks for the value of a key at a version."""
+        self._program.turn_to(self.results)
+        self._program.add(self._commands.get(version, key))
+
+    def clone(self, version: Version) -> None:
+        """Makes a version with the same pairs."""
+        self._program.turn_to(self.results)
+        self._program.add(self._commands.clone(version))
+
+    def info(self, version: Version) -> None:
+        """Asks for a version's place in the tree."""
+        self._program.turn_to(self.results)
+        self._program.add(self._commands.info(version))
+
+    def stat(self) -> None:
+        """Asks what the store has."""
+        self._program.turn_to(self.results)
+        self._program.add(self._commands.stat())
+
+    def finish(self) -> List[Result]:
+        """Waits until all is answered, and gives the results."""
+        self._program.turn_to(self.results)
+        self._program.settle()
+        if not self._return_exceptions:
+            for result in self.results:
+                if isinstance(result, errors.Refused):
+                    raise result
+        return self.results
+
+    def __enter__(self) -> "Batch":
+        return self
+
+    def __exit__(self, kind: Optional[Type[BaseException]], error: Optional[BaseException],
+                 trace: Optional[TracebackType]) -> None:
+        try:
+            self.finish()
+        except errors.CastleError:
+            if error is None:
+                raise

@@ -1,0 +1,80 @@
+"""Spells commands for one run of the program: versions by number or name, keys and values as bytes or text."""
+
+from __future__ import annotations
+
+from typing import Union
+
+from . import errors, frames
+from .names import Names
+from .program import Program
+
+Data = Union[bytes, str]
+Version = Union[int, str]
+
+
+def data_of(data: Data) -> bytes:
+    """The bytes of a key or a value; text is UTF-8."""
+    return data.encode() if isinstance(data, str) else bytes(memoryview(data))
+
+
+class Commands:
+    """Each method gives the frame of a command, with the tag that comes next; it has to be the next one added.
+
+    The program refuses what it doesn't take. What would not fit a frame is refused here, by the same exception.
+    """
+
+    def __init__(self, program: Program, names: Names) -> None:
+        self._program = program
+        self._names = names
+
+    def number(self, version: Version) -> int:
+        """The number of a version, which may be given by its name."""
+        if isinstance(version, str):
+            return self._names.version(version)
+        if not isinstance(version, int):
+            raise TypeError(f"a version is a number or a name, and not {version!r}")
+        if not 0 <= version <= frames.NUMBER_MAX:
+            raise errors.UnknownVersion(file=self._program.file, command=f"version {version}")
+        return version
+
+    def _key(self, command: str, key: Data) -> bytes:
+        data = data_of(key)
+        if len(data) > frames.BODY_MAX - 13:
+            raise errors.KeySize(file=self._program.file, command=f"{command} of a key of {len(data)} bytes")
+        return data
+
+    def put(self, version: Version, key: Data, value: Data) -> bytes:
+        """The frame of a put."""
+        number, name, data = self.number(version), self._key("put", key), data_of(value)
+        if len(name) + len(data) > frames.BODY_MAX - 13:
+            kind = errors.KeySize if len(name) > frames.KEY_MAX else errors.ValueSize
+            raise kind(file=self._program.file, command=f"put of {len(name)} and {len(data)} bytes")
+        return frames.put(self._program.tag, number, name, data)
+
+    def delete(self, version: Version, key: Data) -> bytes:
+        """The frame of a delete."""
+        return frames.delete(self._program.tag, self.number(version), self._key("delete", key))
+
+    def get(self, version: Version, key: Data) -> bytes:
+        """The frame of a get. This one is quick where the version is a number and the key bytes."""
+        number = version if type(version) is int and 0 <= version <= frames.NUMBER_MAX else self.number(version)
+        name = key if type(key) is bytes and len(key) <= frames.KEY_MAX else self._key("get", key)
+        return frames.get(self._program.tag, number, name)
+
+    def clone(self, version: Version) -> bytes:
+        """The frame of a clone."""
+        return frames.clone(self._program.tag, self.number(version))
+
+    def scan(self, version: int, lower: bytes, upper: bytes, limit: int) -> bytes:
+        """The frame of a scan."""
+        if len(lower) + len(upper) > frames.BODY_MAX - 15:
+            raise errors.KeySize(file=self._program.file, command=f"scan of version {version}")
+        return frames.scan(self._program.tag, version, lower, upper, limit)
+
+    def info(self, version: Version) -> bytes:
+        """The frame of an info."""
+        return frames.info(self._program.tag, self.number(version))
+
+    def stat(self) -> bytes:
+        """The frame of a stat."""
+        return frames.stat(self._program.tag)

@@ -1,0 +1,57 @@
+"""Pairs as lines of text, and back: a line KEY, tab, VALUE for each, between a first and a last line that begin with #."""
+
+from __future__ import annotations
+
+import re
+from typing import Iterable, Iterator, List
+
+from .errors import DumpFault, TextFault
+from .frames import Pair
+from .text import cell, unescaped
+
+FIRST = "# castle dump 1"
+COMMENT = r"\\x23"  # a key's first # in a line, as the replacement of a pattern
+LAST = re.compile(r"# end, (\d+) pairs?")
+
+
+def lines_of(pairs: Iterable[Pair], title: str) -> Iterator[str]:
+    """The lines of a dump. The title is told in the first one, and means nothing."""
+    count = 0
+    yield f"{FIRST}, {title}\n"
+    for key, value in pairs:
+        yield f"{re.sub('^#', COMMENT, cell(key))}\t{cell(value)}\n"
+        count += 1
+    yield f"# end, {count} pair{'' if count == 1 else 's'}\n"
+
+
+def pairs_of(lines: Iterable[str], file: str) -> List[Pair]:
+    """The pairs of a whole dump. Other lines that begin with # are passed over."""
+    pairs: List[Pair] = []
+    number, end = 0, None
+    for number, line in enumerate(lines, 1):
+        line = line.rstrip("\n")
+        if number == 1 and not line.startswith(FIRST):
+            raise DumpFault("line 1 is not that of a dump", f"A dump begins with {FIRST}.", file=file)
+        if end is not None:
+            raise DumpFault(f"line {number} stands behind the end", "Remove it, or dump again.", file=file)
+        if line.startswith("#"):
+            end = LAST.fullmatch(line)
+            continue
+        pairs.append(_pair(line, number, file))
+    if end is None:
+        raise DumpFault(f"it is cut off behind line {number}", "Dump again: its last line tells how many pairs there are.",
+                        file=file)
+    if int(end[1]) != len(pairs):
+        raise DumpFault(f"it has {len(pairs)} pairs, and its last line says {end[1]}", "Dump again, or mend that line.",
+                        file=file)
+    return pairs
+
+
+def _pair(line: str, number: int, file: str) -> Pair:
+    key, tab, value = line.partition("\t")
+    if not tab or "\t" in value:
+        raise DumpFault(f"line {number} is not a key, one tab and a value", "Mend the line.", file=file)
+    try:
+        return unescaped(key), unescaped(value)
+    except TextFault as fault:
+        raise DumpFault(f"line {number}: {fault.what}", fault.remedy, file=file) from None

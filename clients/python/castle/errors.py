@@ -1,0 +1,347 @@
+"""What can go wrong: an exception for each refusal, and one for each way in which the program ends.
+
+Each message says the file, the command, what is wrong and what to do. The numbers, names and texts are those of
+docs/ERRORS.md.
+"""
+
+from __future__ import annotations
+
+import signal
+from typing import Dict, Optional, Type
+
+
+class CastleError(Exception):
+    """Whatever this package raises. `file` and `command` say where it happened, as far as that is known."""
+
+    what = "it failed"
+    remedy = ""
+
+    def __init__(self, what: str = "", remedy: str = "", *, file: str = "", command: str = "") -> None:
+        self.what = what or self.what
+        self.remedy = remedy or self.remedy
+        self.file = file
+        self.command = command
+        super().__init__(self.what)
+
+    def __str__(self) -> str:
+        place = "".join(f"{part}: " for part in (self.file, self.command) if part)
+        return f"{place}{self.what}{'. ' if self.remedy else ''}{self.remedy}"
+
+
+# Refusals
+
+class Refused(CastleError):
+    """A command was refused. The store is as it was before, and goes on, unless the class says otherwise."""
+
+    status = 0
+
+
+class UnknownVersion(Refused):
+    status = 16
+    what = "the store has no version of this number"
+    remedy = "Use 0 or a number that a clone gave; `stat` tells how many versions there are."
+
+
+class Frozen(Refused):
+    status = 17
+    what = "the version has a child and takes no more puts and deletes"
+    remedy = "Clone it, and write to the clone."
+
+
+class UnknownCursor(Refused):
+    status = 18
+    what = "no open cursor has this number"
+    remedy = "Open another."
+
+
+class VersionLimit(Refused):
+    status = 19
+    what = "the store has as many versions as it was made for"
+    remedy = "Go on with the versions that there are, or make a store for more (V) and load the pairs into it."
+
+
+class ChangeLimit(Refused):
+    status = 20
+    what = "the store took as many changes as it was made for"
+    remedy = "Read on, or make a store for more (C) and load the pairs into it."
+
+
+class CursorLimit(Refused):
+    status = 21
+    what = "64 cursors are open"
+    remedy = "Close one."
+
+
+class Malformed(Refused):
+    status = 22
+    what = "the program doesn't know this command"
+    remedy = "It is of another build than this package: build it anew, or name another one by CASTLE_PROGRAM."
+
+
+class KeySize(Refused):
+    status = 23
+    what = "a key has no byte or more than 255, or a bound has more than 255"
+    remedy = "Give keys 1 to 255 bytes."
+
+
+class ValueSize(Refused):
+    status = 24
+    what = "a value has more than 1,024 bytes"
+    remedy = "Cut it into several keys."
+
+
+class ScanSize(Refused):
+    status = 25
+    what = "a scan asks for no pair, or for more than 256"
+    remedy = "Ask for 1 to 256 pairs at a time."
+
+
+class FrameTooLong(Refused):
+    """The run ends with it."""
+
+    status = 26
+    what = "a frame was longer than 2,048 bytes"
+    remedy = "This is a mistake of the client; what was answered before holds. Open the store again."
+
+
+class NoMemory(Refused):
+    status = 32
+    what = "memory ran out, or the file has no free block left; the change was not made"
+    remedy = "Make room and send it again. Look-ups go on meanwhile."
+
+
+class DeviceFault(Refused):
+    """The run ends with it. A change that met it was made or it was not."""
+
+    status = 33
+    what = "the device failed; a change that met this was made or it was not"
+    remedy = "Mend the cause (a full or broken device), open the store again, and look whether the change is there."
+
+
+class Damaged(Refused):
+    """The run ends with it. `block` is the number of the damaged block."""
+
+    status = 34
+    what = "a block of the file is damaged"
+    remedy = "What is in other blocks can still be read after opening the store again. Restore a copy of the file."
+    block: Optional[int] = None
+
+
+REFUSALS: Dict[int, Type[Refused]] = {
+    kind.status: kind for kind in (
+        UnknownVersion, Frozen, UnknownCursor, VersionLimit, ChangeLimit, CursorLimit, Malformed, KeySize, ValueSize,
+        ScanSize, FrameTooLong, NoMemory, DeviceFault, Damaged)}
+
+
+def refusal(status: int, fields: bytes, file: str, command: str) -> Refused:
+    """The exception for a reply of this status."""
+    kind = REFUSALS.get(status)
+    if kind is None:
+        return Refused(f"refused with the unknown status {status}", Malformed.remedy, file=file, command=command)
+    error = kind(file=file, command=command)
+    if isinstance(error, Damaged) and len(fields) == 4:
+        error.block = int.from_bytes(fields, "big")
+        error.what = f"block {error.block} of the file is damaged"
+    return error
+
+
+# How the program ends
+
+class Ended(CastleError):
+    """The program ended. What it answered before holds; the store has to be opened again."""
+
+    status = 0
+    text = ""
+
+
+class WrongUsage(Ended):
+    status = 1
+    text = "usage: castle format FILE M C V, serve FILE, levels FILE, check FILE, workload FILE SEED COUNT"
+    what = "the program refused its arguments, and touched no file"
+    remedy = "M is 4 to 4096, C is 1 to 16777216, V is 1 to 16384; the path has to be UTF-8."
+
+
+class NotAStore(Ended):
+    status = 2
+    text = "not a store"
+    what = "the file is no store"
+    remedy = "Look at the path. `castle format FILE 64 100000 100` makes a store there, and forgets what the file had."
+
+
+class InputTooLong(Ended):
+    status = 3
+    text = "frame too long"
+    what = "a frame was longer than 2,048 bytes, and the program ended"
+    remedy = "This is a mistake of the client; what was answered before holds. Open the store again."
+
+
+class InputCutOff(Ended):
+    status = 4
+    text = "truncated input"
+    what = "the program's input ended within a command, which changed nothing"
+    remedy = "Open the store again, and send that command again."
+
+
+class DeviceFailed(Ended):
+    status = 5
+    text = "device fault"
+    what = "the file or its folder could not be opened, read, written or synced"
+    remedy = ("Mend the cause (a missing folder or permission, a full or broken device) and open the store again. "
+              "All that was acknowledged is there.")
+
+
+class InputFailed(Ended):
+    status = 6
+    text = "source fault"
+    what = "the program could not read its input"
+    remedy = "What was answered holds. Open the store again."
+
+
+class OutputFailed(Ended):
+    status = 7
+    text = "sink fault"
+    what = "the program could not write its output; changes without a reply may have been made"
+    remedy = "Open the store again, and look whether they are there."
+
+
+class OutOfMemory(Ended):
+    status = 8
+    text = "no memory"
+    what = "there was too little memory to open the store, which is as it was"
+    remedy = "Make room and try again: it takes 0.7 MB, 3.9 KB for each of M and 70 bytes for each of V."
+
+
+class StoreDamaged(Ended):
+    status = 9
+    text = "damaged"
+    what = "the file is a store's, but a block of it is damaged"
+    remedy = "What was answered before holds. Restore a copy of the file; the program has no repair."
+
+
+class InputBudget(Ended):
+    status = 10
+    text = "byte budget"
+    what = "the program took 2^40 bytes, as many as one run may"
+    remedy = "Open the store again."
+
+
+class Unsound(Ended):
+    status = 11
+    text = "unsound"
+    what = "the file breaks a rule of a sound store"
+    remedy = "Restore a copy of the file."
+
+
+class NotBuilt(Ended):
+    status = 126
+    what = "the program could not be proved or built"
+    remedy = "Look at what the launcher said, or name a built program by CASTLE_PROGRAM."
+
+
+class NoKit(Ended):
+    status = 127
+    what = "the Rattle kit's command rt is not found, with which the program is built"
+    remedy = "Put the kit's bin folder on PATH, or name a built program by CASTLE_PROGRAM."
+
+
+class Killed(Ended):
+    """A signal ended the program; `status` is minus its number."""
+
+    remedy = ("All that was acknowledged is in the file; the changes without a reply are there or they are not. "
+              "Open the store again and look.")
+
+
+class Interrupted(Ended):
+    what = "an exception cut off an exchange with the program"
+    remedy = "Open the store again."
+
+
+ENDS: Dict[int, Type[Ended]] = {
+    kind.status: kind for kind in (
+        WrongUsage, NotAStore, InputTooLong, InputCutOff, DeviceFailed, InputFailed, OutputFailed, OutOfMemory,
+        StoreDamaged, InputBudget, Unsound, NotBuilt, NoKit)}
+
+
+def ended(status: int, file: str, command: str) -> Ended:
+    """The exception for a run that ended with this status, or by the signal of minus this number."""
+    if status < 0:
+        try:
+            name = signal.Signals(-status).name
+        except ValueError:
+            name = f"signal {-status}"
+        error: Ended = Killed(f"the program was ended by {name}", file=file, command=command)
+    elif status in ENDS:
+        error = ENDS[status](file=file, command=command)
+    else:
+        error = Ended(f"the program ended with status {status}", "Open the store again.", file=file, command=command)
+    error.status = status
+    return error
+
+
+def again(end: CastleError) -> CastleError:
+    """The same once more, for a command that came after the end."""
+    error = type(end)(end.what, end.remedy, file=end.file)
+    if isinstance(error, Ended) and isinstance(end, Ended):
+        error.status = end.status
+    return error
+
+
+# What the package itself finds
+
+class ProgramMissing(CastleError):
+    """There is no program to run."""
+
+    what = "the program castle is not found"
+    remedy = "Run this from a checkout, give a program, or name one by CASTLE_PROGRAM."
+
+
+class WrongProtocol(CastleError):
+    """A reply can't be read, or is not to the command; the store has to be opened again."""
+
+    remedy = "The program is not castle, or of another build than this package."
+
+
+class StoreMissing(CastleError):
+    """There is no file at this path."""
+
+    what = "there is no such file"
+    remedy = "Look at the path. `castle format FILE 64 100000 100` makes a store there."
+
+
+class StoreExists(CastleError):
+    """A file stands where a store is to be made."""
+
+    what = "a file is there already"
+    remedy = "Take another path, or format with overwrite=True, which forgets what the file has."
+
+
+class StoreLocked(CastleError):
+    """The store is open already. Two programs on one file would destroy it."""
+
+    what = "the store is open already"
+    remedy = "Close it there first; two programs on one file would destroy it."
+
+
+class StoreClosed(CastleError):
+    """The store was closed."""
+
+    what = "the store was closed"
+    remedy = "Open it again."
+
+
+class UnknownName(CastleError):
+    """No version has this name."""
+
+    remedy = "`names` lists the names that there are."
+
+
+class NameFault(CastleError):
+    """A name that a version can't have, or a file of names that can't be read."""
+
+
+class TextFault(CastleError):
+    """Text that stands for no bytes."""
+
+
+class DumpFault(CastleError):
+    """A file that is no whole dump."""

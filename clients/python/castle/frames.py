@@ -1,0 +1,171 @@
+"""The bytes of commands and replies, as docs/PROTOCOL.md has them."""
+
+from __future__ import annotations
+
+import struct
+from typing import List, NamedTuple, Optional, Tuple, Union
+
+from . import text
+
+PUT, DELETE, GET, CLONE, SCAN, INFO, STAT = 1, 2, 3, 4, 5, 6, 10
+DONE, FOUND, ABSENT, PAIRS, MADE, PLACE, COUNTS = 0, 1, 2, 3, 4, 5, 7
+DAMAGED = 34
+LEAST_REFUSAL = 16
+
+BODY_MAX = 2048
+KEY_MAX = 255
+VALUE_MAX = 1024
+PAGE_MAX = 256  # pairs in one reply
+NUMBER_MAX = 2 ** 32 - 1
+NO_PARENT = NUMBER_MAX
+
+Pair = Tuple[bytes, bytes]
+
+# length of the body, tag, opcode or status
+HEAD = struct.Struct(">IIB")
+VERSION_HEAD = struct.Struct(">IIBI")
+KEY_HEAD = struct.Struct(">IIBIH")
+SIZE = struct.Struct(">H")
+NUMBER = struct.Struct(">I")
+PLACE_FIELDS = struct.Struct(">IIB")
+COUNT_FIELDS = struct.Struct(">IIII")
+PAGE_FIELDS = struct.Struct(">BH")
+
+
+class Info(NamedTuple):
+    """A version's place in the tree."""
+
+    parent: Optional[int]
+    """The version that it was cloned from; None for version 0."""
+    depth: int
+    """How many ancestors it has."""
+    frozen: bool
+    """Whether it has a child, and so takes no more puts and deletes."""
+
+
+class Stat(NamedTuple):
+    """What a store has in all."""
+
+    versions: int
+    updates: int
+    """Puts and deletes that were made."""
+    changes: int
+    """Updates and clones that were made; at most as many as the store was made for."""
+    cursors: int
+
+
+class Page(NamedTuple):
+    """The first pairs of a range, in the order of their keys."""
+
+    pairs: List[Pair]
+    more: bool
+    """Whether other pairs of the range follow."""
+
+
+Answer = Union[None, bytes, int, Info, Stat, Page]
+
+
+# Commands. Each is a whole frame.
+
+def put(tag: int, version: int, key: bytes, value: bytes) -> bytes:
+    """The value of a key becomes this one."""
+    sizes = len(key) + len(value)
+    return KEY_HEAD.pack(13 + sizes, tag, PUT, version, len(key)) + key + SIZE.pack(len(value)) + value
+
+
+def delete(tag: int, version: int, key: bytes) -> bytes:
+    """A key has no value any more."""
+    return KEY_HEAD.pack(11 + len(key), tag, DELETE, version, len(key)) + key
+
+
+def get(tag: int, version: int, key: bytes) -> bytes:
+    """Asks for the value of a key."""
+    return KEY_HEAD.pack(11 + len(key), tag, GET, version, len(key)) + key
+
+
+def clone(tag: int, version: int) -> bytes:
+    """Makes a version with the same pairs."""
+    return VERSION_HEAD.pack(9, tag, CLONE, version)
+
+
+def scan(tag: int, version: int, lower: bytes, upper: bytes, limit: int) -> bytes:
+    """Asks for the first pairs from the lower bound on and before the upper one; an empty upper bound is none."""
+    bounds = SIZE.pack(len(lower)) + lower + SIZE.pack(len(upper)) + upper
+    return VERSION_HEAD.pack(11 + len(bounds), tag, SCAN, version) + bounds + SIZE.pack(limit)
+
+
+def info(tag: int, version: int) -> bytes:
+    """Asks for a version's place in the tree."""
+    return VERSION_HEAD.pack(9, tag, INFO, version)
+
+
+def stat(tag: int) -> bytes:
+    """Asks for what the store has."""
+    return HEAD.pack(5, tag, STAT)
+
+
+NAMES = {PUT: "put", DELETE: "delete", GET: "get", CLONE: "clone", SCAN: "scan", INFO: "info", STAT: "stat"}
+
+
+def describe(frame: bytes) -> str:
+    """A command in words, as `put user/1 at version 0`."""
+    opcode = frame[8] if len(frame) > 8 else 0
+    name = NAMES.get(opcode)
+    if name is None or (opcode != STAT and len(frame) < VERSION_HEAD.size):
+        return "a frame that is no command"
+    if opcode == STAT:
+        return name
+    version = NUMBER.unpack_from(frame, HEAD.size)[0]
+    if opcode in (CLONE, INFO):
+        return f"{name} version {version}"
+    if opcode == SCAN:
+        return f"{name} of version {version}"
+    size = SIZE.unpack_from(frame, VERSION_HEAD.size)[0]
+    key = frame[KEY_HEAD.size:KEY_HEAD.size + size]
+    return f"{name} {text.shown(key)} at version {version}"
+
+
+# Replies
+
+def answer(status: int, fields: bytes) -> Answer:
+    """What a reply that is no refusal says."""
+    if status == FOUND:
+        return fields[2:]
+    if status in (DONE, ABSENT):
+        return None
+    if status == MADE:
+        made: int = NUMBER.unpack(fields)[0]
+        return made
+    if status == PLACE:
+        parent, depth, frozen = PLACE_FIELDS.unpack(fields)
+        return Info(None if parent == NO_PARENT else parent, depth, bool(frozen))
+    if status == COUNTS:
+        return Stat(*COUNT_FIELDS.unpack(fields))
+    if status == PAIRS:
+        return page(fields)
+    raise ValueError(f"a reply of status {status}")
+
+
+def page(fields: bytes) -> Page:
+    """The pairs of a reply."""
+    more, count = PAGE_FIELDS.unpack_from(fields)
+    at, pairs = PAGE_FIELDS.size, []
+    for _ in range(count):
+        key_end = at + 2 + SIZE.unpack_from(fields, at)[0]
+        value_end = key_end + 2 + SIZE.unpack_from(fields, key_end)[0]
+        pairs.append((fields[at + 2:key_end], fields[key_end + 2:value_end]))
+        at = value_end
+    return Page(pairs, bool(more))
+
+
+# Bounds of ranges
+
+def after(key: bytes) -> Optional[bytes]:
+    """The least key behind this one; None where there is none."""
+    return key + b"\0" if len(key) < KEY_MAX else prefix_end(key)
+
+
+def prefix_end(prefix: bytes) -> Optional[bytes]:
+    """The least key behind all that begin so; None where there is none."""
+    head = prefix.rstrip(b"\xff")
+    return head[:-1] + bytes([head[-1] + 1]) if head else None

@@ -1,0 +1,225 @@
+"""A store: the program that serves it, with a lock and names beside its file."""
+
+from __future__ import annotations
+
+import os
+from types import TracebackType
+from typing import Iterator, List, NamedTuple, Optional, Type, Union, cast
+
+from . import errors, frames
+from .batch import Batch
+from .commands import Commands, Data, Version, data_of
+from .frames import Info, Pair, Stat
+from .lock import Lock
+from .names import Names, remove_names
+from .program import Program, find_program
+from .view import VersionView
+
+
+class Difference(NamedTuple):
+    """A key whose values in two versions differ."""
+
+    key: bytes
+    before: Optional[bytes]
+    """Its value in the first version; None where it has none."""
+    after: Optional[bytes]
+    """Its value in the second version; None where it has none."""
+
+
+class Store:
+    """An open store.
+
+        with Store("settings.store") as store:
+            store.put(0, "user/1/name", "Ann")
+            staging = store.clone(0)
+
+    A version is a number or a name of `names`. Keys and values are bytes, or text, which is taken as UTF-8; what comes
+    back is bytes. Every method may raise a `Refused` or an `Ended` of `castle.errors`. When a change returns it is in
+    the file for good. A store belongs to one thread.
+    """
+
+    def __init__(self, path: Union[str, "os.PathLike[str]"], program: Optional[str] = None) -> None:
+        """Opens the store of a file: locks it, runs the program on it, and waits until that has opened it.
+
+        `program` is the program or its launcher; else that of CASTLE_PROGRAM, the launcher of this checkout, or
+        `castle` on PATH. The launcher proves and builds the program at its first use, which takes long.
+        """
+        self.path = os.fspath(path)
+        real = os.path.realpath(self.path)
+        if not os.path.exists(real):
+            raise errors.StoreMissing(file=self.path)
+        self._lock = Lock(real, self.path)
+        self._closed = False
+        try:
+            self._program = Program(find_program(program), ["serve", real], self.path, [self._lock.descriptor])
+        except BaseException:
+            self._lock.release()
+            raise
+        try:
+            self.names = Names(real + ".names", self.path, self.info)
+            self._commands = Commands(self._program, self.names)
+            self._open()
+        except BaseException:
+            self._program.stop()
+            self._lock.release()
+            raise
+
+    def _open(self) -> None:
+        """Waits until the program has opened the file; its first answer tells."""
+        try:
+            self.stat()
+        except errors.Ended as error:
+            error.command = "open"
+            raise
+
+    @staticmethod
+    def format(path: Union[str, "os.PathLike[str]"], mem: int, changes: int, versions: int, *,
+               program: Optional[str] = None, overwrite: bool = False) -> None:
+        """Makes a new store in a file, with its limits for life.
+
+        `mem` is M, how many changes its journal takes (4 to 4096): more takes more memory and is faster. `changes` is
+        C, how many it takes in its life (up to 16,777,216), and `versions` is V (up to 16,384). Where a file is there
+        already it is refused, unless `overwrite`: then all that it had is forgotten, its names too.
+        """
+        file, real = os.fspath(path), os.path.realpath(path)
+        folder = os.path.dirname(real)
+        if not os.path.isdir(folder):
+            raise errors.StoreMissing(f"there is no folder {folder}", "Make it first.", file=file)
+        lock = Lock(real, file)
+        try:
+            if os.path.exists(real) and not overwrite:
+                raise errors.StoreExists(file=file)
+            words = ["format", real, str(mem), str(changes), str(versions)]
+            running = Program(find_program(program), words, file, [lock.descriptor])
+            try:
+                status = running.finish()
+            except BaseException:
+                running.stop()
+                raise
+            if status != 0:
+                raise errors.ended(status, file, "format")
+            remove_names(real)
+        finally:
+            lock.release()
+
+    def __enter__(self) -> "Store":
+        return self
+
+    def __exit__(self, kind: Optional[Type[BaseException]], error: Optional[BaseException],
+                 trace: Optional[TracebackType]) -> None:
+        try:
+            self.close()
+        except errors.CastleError:
+            if error is None:
+                raise
+
+    def close(self) -> None:
+        """Ends the program, once it has answered all, and frees the store. To close it again does nothing."""
+        if self._closed:
+            return
+        self._closed = True
+        try:
+            told = self._program.end
+            if told is None:
+                self._program.settle()
+            status = self._program.finish()
+            if status != 0 and told is None:
+                raise errors.ended(status, self.path, "close")
+        finally:
+            self._program.finish()
+            self._lock.release()
+
+    @property
+    def pid(self) -> int:
+        """The process of the program."""
+        return self._program.pid
+
+    # What the program answers
+
+    def put(self, version: Version, key: Data, value: Data) -> None:
+        """Gives a key this value at a version."""
+        self._ask(self._commands.put(version, key, value))
+
+    def delete(self, version: Version, key: Data) -> None:
+        """Takes a key's value away at a version; one that has none stays so."""
+        self._ask(self._commands.delete(version, key))
+
+    def get(self, version: Version, key: Data) -> Optional[bytes]:
+        """The value of a key at a version; None where it has none."""
+        return cast(Optional[bytes], self._ask(self._commands.get(version, key)))
+
+    def clone(self, version: Version) -> int:
+        """Makes a version with the same pairs, and tells its number. The version that it was made of is frozen then."""
+        return cast(int, self._ask(self._commands.clone(version)))
+
+    def info(self, version: Version) -> Info:
+        """A version's place in the tree."""
+        return cast(Info, self._ask(self._commands.info(version)))
+
+    def stat(self) -> Stat:
+        """How many versions, updates and changes the store has."""
+        return cast(Stat, self._ask(self._commands.stat()))
+
+    def scan(self, version: Version, lower: Data = b"", upper: Data = b"", *, prefix: Data = b"") -> Iterator[Pair]:
+        """The pairs of a version, in the order of their keys' bytes, read piece by piece as they are asked for.
+
+        Keys are at or behind `lower`, before `upper` unless that is empty, and begin with `prefix`. Where the version
+        changes meanwhile, each piece shows it as it is then; a frozen version doesn't change.
+        """
+        number, low, high, head = self.number(version), data_of(lower), data_of(upper), data_of(prefix)
+        end = frames.prefix_end(head) or b""
+        low = max(low, head)
+        high = min(high, end) if high and end else high or end
+        return self._pairs(number, low, high)
+
+    def _pairs(self, version: int, lower: bytes, upper: bytes) -> Iterator[Pair]:
+        """The pairs of a range, page by page. A cursor will take the place of the pages."""
+        start: Optional[bytes] = lower
+        while start is not None:
+            page = cast(frames.Page, self._ask(self._commands.scan(version, start, upper, frames.PAGE_MAX)))
+            yield from page.pairs
+            start = frames.after(page.pairs[-1][0]) if page.more else None
+
+    # What is made of that
+
+    def versions(self) -> List[Info]:
+        """The place of each version, in the order of their numbers."""
+        batch = self.batch()
+        for number in range(self.stat().versions):
+            batch.info(number)
+        return cast(List[Info], batch.finish())
+
+    def diff(self, before: Version, after: Version) -> Iterator[Difference]:
+        """The keys whose values differ between two versions, in order."""
+        left, right = self.scan(before), self.scan(after)
+        old, new = next(left, None), next(right, None)
+        while old is not None or new is not None:
+            if new is None or (old is not None and old[0] < new[0]):
+                assert old is not None
+                yield Difference(old[0], old[1], None)
+                old = next(left, None)
+            elif old is None or new[0] < old[0]:
+                yield Difference(new[0], None, new[1])
+                new = next(right, None)
+            else:
+                if old[1] != new[1]:
+                    yield Difference(old[0], old[1], new[1])
+                old, new = next(left, None), next(right, None)
+
+    def at(self, version: Version) -> VersionView:
+        """A version as a mapping: `store.at(3)["k"] = b"v"`."""
+        return VersionView(self, self.number(version))
+
+    def batch(self, return_exceptions: bool = False) -> Batch:
+        """Many commands under way at once; see `Batch`."""
+        return Batch(self._program, self._commands, return_exceptions)
+
+    def number(self, version: Version) -> int:
+        """The number of a version, which may be given by its name."""
+        return self._commands.number(version)
+
+    def _ask(self, frame: bytes) -> frames.Answer:
+        answer = self._program.ask(frame)
+        if isinstance(answer, errors.Refused):
+            raise answer
+        return answer

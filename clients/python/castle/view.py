@@ -1,0 +1,92 @@
+"""A version as a mapping."""
+
+from __future__ import annotations
+
+from typing import TYPE_CHECKING, ItemsView, Iterator, KeysView, MutableMapping, Tuple, ValuesView
+
+from .commands import Data
+
+if TYPE_CHECKING:
+    from .store import Store
+
+
+class VersionView(MutableMapping[Data, bytes]):
+    """The pairs of a version: `view["k"]`, `view["k"] = b"v"`, `del view["k"]`, `"k" in view`, `view.items(b"user/")`.
+
+    Keys are bytes or text; what comes back is bytes, in the order of the keys' bytes. `len` counts by a scan. A change
+    of a frozen version raises `Frozen`.
+    """
+
+    def __init__(self, store: "Store", version: int, prefix: Data = b"") -> None:
+        self.store = store
+        self.version = version
+        self.prefix = prefix
+
+    def pairs(self) -> Iterator[Tuple[bytes, bytes]]:
+        """The pairs whose keys begin with the prefix."""
+        return self.store.scan(self.version, prefix=self.prefix)
+
+    def __getitem__(self, key: Data) -> bytes:
+        value = self.store.get(self.version, key)
+        if value is None:
+            raise KeyError(key)
+        return value
+
+    def __setitem__(self, key: Data, value: Data) -> None:
+        self.store.put(self.version, key, value)
+
+    def __delitem__(self, key: Data) -> None:
+        self[key]  # raises KeyError where it has no value
+        self.store.delete(self.version, key)
+
+    def __contains__(self, key: object) -> bool:
+        return isinstance(key, (bytes, str)) and self.store.get(self.version, key) is not None
+
+    def __iter__(self) -> Iterator[bytes]:
+        return (key for key, _ in self.pairs())
+
+    def __len__(self) -> int:
+        return sum(1 for _ in self.pairs())
+
+    def __repr__(self) -> str:
+        return f"<version {self.version} of {self.store.path}>"
+
+    def keys(self, prefix: Data = b"") -> KeysView[Data]:
+        """The keys that begin with the prefix."""
+        return KeysView(VersionView(self.store, self.version, prefix))
+
+    def items(self, prefix: Data = b"") -> ItemsView[Data, bytes]:
+        """The pairs whose keys begin with the prefix."""
+        return Items(VersionView(self.store, self.version, prefix))
+
+    def values(self, prefix: Data = b"") -> ValuesView[bytes]:
+        """The values of the keys that begin with the prefix."""
+        return Values(VersionView(self.store, self.version, prefix))
+
+    def clear(self) -> None:
+        """Deletes every key."""
+        with self.store.batch() as batch:
+            for key in list(self):
+                batch.delete(self.version, key)
+
+
+class Items(ItemsView[Data, bytes]):
+    """Pairs that are read by one scan, in place of a get for each."""
+
+    def __init__(self, view: VersionView) -> None:
+        super().__init__(view)
+        self._view = view
+
+    def __iter__(self) -> Iterator[Tuple[bytes, bytes]]:
+        return self._view.pairs()
+
+
+class Values(ValuesView[bytes]):
+    """Values that are read by one scan, in place of a get for each."""
+
+    def __init__(self, view: VersionView) -> None:
+        super().__init__(view)
+        self._view = view
+
+    def __iter__(self) -> Iterator[bytes]:
+        return (value for _, value in self._view.pairs())

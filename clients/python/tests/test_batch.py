@@ -1,0 +1,166 @@
+"""Many commands under way. Nothing here scans."""
+
+import itertools
+import os
+import random
+import threading
+from typing import Dict, List, Optional, Tuple
+
+from support import StoreCase
+
+from castle import Info, Stat, errors
+from castle.errors import Refused
+
+
+class Versions:
+    """A plain dictionary of versions, which says what each command should give."""
+
+    def __init__(self, versions_max: int) -> None:
+        self.versions_max = versions_max
+        self.pairs: List[Dict[bytes, bytes]] = [{}]
+        self.parents: List[Optional[int]] = [None]
+        self.updates = self.changes = 0
+
+    def info(self, version: int) -> Info:
+        depth, at = 0, self.parents[version]
+        while at is not None:
+            depth, at = depth + 1, self.parents[at]
+        return Info(self.parents[version], depth, version in self.parents)
+
+    def answer(self, command: str, version: int, *words: bytes) -> object:
+        """What a command gives; a refusal by its class."""
+        if command == "stat":
+            return Stat(len(self.pairs), self.updates, self.changes, 0)
+        if version >= len(self.pairs):
+            return errors.UnknownVersion
+        if command == "get":
+            return self.pairs[version].get(*words)
+        if command == "info":
+            return self.info(version)
+        if command == "clone":
+            if len(self.pairs) == self.versions_max:
+                return errors.VersionLimit
+            self.pairs.append(dict(self.pairs[version]))
+            self.parents.append(version)
+            self.changes += 1
+            return len(self.pairs) - 1
+        if version in self.parents:
+            return errors.Frozen
+        self.updates += 1
+        self.changes += 1
+        if command == "put":
+            self.pairs[version][words[0]] = words[1]
+        else:
+            self.pairs[version].pop(words[0], None)
+        return None
+
+
+def drawn(chance: random.Random, versions: int) -> Tuple[str, int, Tuple[bytes, ...]]:
+    """A command, a version that may be there, and the command's words."""
+    command = chance.choices(("put", "delete", "get", "clone", "info", "stat"), (30, 10, 50, 1, 5, 4))[0]
+    version = chance.randrange(max(0, versions - 6), versions + 1)
+    key = b"key/%d" % chance.randrange(60)
+    words = {"put": (key, chance.randbytes(chance.choice((0, 3, 60, 1024)))), "delete": (key,), "get": (key,)}
+    return command, version, words.get(command, ())
+
+
+def kinds(results: List[object]) -> List[object]:
+    """Results with the class in the place of each refusal."""
+    return [type(result) if isinstance(result, Refused) else result for result in results]
+
+
+class BatchTest(StoreCase):
+    def test_ten_thousand_commands_give_what_a_dictionary_of_versions_does(self) -> None:
+        chance, plain, want = random.Random(22), Versions(60), []
+        store = self.made(256, 100000, 60)
+        with store.batch(return_exceptions=True) as batch:
+            for _ in range(10000):
+                command, version, words = drawn(chance, len(plain.pairs))
+                getattr(batch, command)(*(() if command == "stat" else (version, *words)))
+                want.append(plain.answer(command, version, *words))
+        got = kinds(list(batch.results))
+        self.assertEqual(len(got), 10000)
+        for number, (one, other) in enumerate(zip(got, want)):
+            self.assertEqual(one, other, f"command {number}")
+        seen = {kind for kind in want if isinstance(kind, type)}
+        self.assertEqual(seen, {errors.UnknownVersion, errors.Frozen, errors.VersionLimit})
+        store.close()
+        again = self.opened().batch()
+        for version, pairs in enumerate(plain.pairs):
+            for number in range(60):
+                again.get(version, b"key/%d" % number)
+        self.assertEqual(again.finish(), [pairs.get(b"key/%d" % number) for pairs in plain.pairs for number in range(60)])
+
+    def test_full_pipes_block_nobody(self) -> None:
+        store = self.made()
+        store.put(0, "a", b"v" * 1024)
+        key = b"k" * 255
+        with store.batch() as batch:
+            for _ in range(20000):
+                batch.get(0, b"a")
+                batch.get(0, key)
+        self.assertEqual(batch.results, [b"v" * 1024, None] * 20000)
+
+    def test_the_first_refusal_is_raised_and_the_rest_is_done(self) -> None:
+        store = self.made()
+        with self.assertRaises(errors.UnknownVersion) as caught, store.batch() as batch:
+            batch.put(0, "a", "1")
+            batch.put(7, "b", "2")
+            batch.put(8, "c", "3")
+            batch.put(0, "d", "4")
+        self.assertEqual(caught.exception.command, "put b at version 7")
+        self.assertEqual(kinds(list(batch.results)), [None, errors.UnknownVersion, errors.UnknownVersion, None])
+        self.assertEqual((store.get(0, "a"), store.get(0, "d")), (b"1", b"4"))
+
+    def test_batches_and_single_commands_may_be_mixed(self) -> None:
+        store = self.made()
+        first, second = store.batch(), store.batch()
+        first.put(0, "a", "1")
+        second.get(0, "a")
+        self.assertEqual(store.get(0, "a"), b"1")
+        first.put(0, "a", "2")
+        self.assertEqual(store.get(0, "a"), b"2")
+        second.get(0, "a")
+        first.get(0, "a")
+        self.assertEqual((first.finish(), second.finish()), ([None, None, b"2"], [b"1", b"2"]))
+
+    def test_an_exception_in_the_block_is_not_hidden(self) -> None:
+        store = self.made()
+        with self.assertRaises(ZeroDivisionError), store.batch() as batch:
+            batch.put(0, "a", "1")
+            batch.put(3, "a", "1")
+            raise ZeroDivisionError
+        self.assertEqual(store.get(0, "a"), b"1")
+
+    def test_a_batch_that_is_not_finished_is_carried_out_at_the_close(self) -> None:
+        with self.made() as store:
+            batch = store.batch()
+            batch.put(0, "a", "1")
+        self.assertEqual(batch.results, [None])
+        self.assertEqual(self.opened().get(0, "a"), b"1")
+
+    def test_a_program_killed_amid_a_batch_loses_nothing_acknowledged(self) -> None:
+        chance, amid = random.Random(5), 0
+        for turn in range(5):
+            self.path = os.path.join(self.folder, f"{turn}.store")
+            store = self.made(64, 16_000_000, 10)
+            timer = threading.Timer(0.05 + chance.random() / 4, os.kill, (store.pid, 9))
+            timer.start()
+            with self.assertRaises(errors.Killed) as caught, store.batch() as batch:
+                for number in itertools.count():
+                    batch.put(0, b"%d" % (number % 1000), b"%d" % number)
+            timer.join()
+            done = len(batch.results)
+            self.assertEqual(caught.exception.command, f"put {done % 1000} at version 0")
+            self.assertEqual(set(batch.results), {None} if done else set())
+            store.close()
+            with self.opened() as store:
+                kept = store.stat().changes
+                self.assertGreaterEqual(kept, done)
+                gets = store.batch()
+                for number in range(1000):
+                    gets.get(0, b"%d" % number)
+                last = {number % 1000: b"%d" % number for number in range(kept)}
+                self.assertEqual(gets.finish(), [last.get(number) for number in range(1000)])
+            amid += done > 0
+        self.assertGreater(amid, 0)

@@ -1,0 +1,200 @@
+"""Every refusal, and every way in which the program ends."""
+
+import os
+import re
+import struct
+import subprocess
+import sys
+import time
+import unittest
+from typing import Type
+
+from support import TOP, StoreCase
+
+from castle import Store, errors, frames
+from castle.errors import Ended, Refused
+
+ERRORS = (TOP / "docs" / "ERRORS.md").read_text(encoding="utf-8")
+
+
+class PageTest(unittest.TestCase):
+    def test_refusals_are_those_of_the_page(self) -> None:
+        rows = re.findall(r"^\| (\d+) \| (\w+) \|", ERRORS.split("## Refusals")[1], re.M)
+        self.assertEqual({int(status): name for status, name in rows},
+                         {status: kind.__name__ for status, kind in errors.REFUSALS.items()})
+
+    def test_ends_are_those_of_the_page(self) -> None:
+        rows = re.findall(r"^\| (\d+) \| `?([^`|]*)`? \|", ERRORS.split("## Refusals")[0], re.M)
+        told = {int(status): text for status, text in rows if status != "0"}
+        self.assertEqual(told, {status: kind.text for status, kind in errors.ENDS.items() if status < 126})
+        self.assertIn("126 where the program could not be proved or built, and 127", ERRORS)
+
+    def test_every_message_says_what_and_what_to_do(self) -> None:
+        for kind in (*errors.REFUSALS.values(), *errors.ENDS.values()):
+            error = kind(file="f.store", command="get a at version 0")
+            self.assertRegex(str(error), r"^f\.store: get a at version 0: .+\. [A-Z].+\.$")
+
+
+class RefusalsTest(StoreCase):
+    def refused(self, kind: Type[Refused], *words: object) -> Refused:
+        """The refusal of this kind that a command of the open store raises; the store goes on after it."""
+        name, *rest = words
+        with self.assertRaises(kind) as caught:
+            getattr(self.store, str(name))(*rest)
+        self.assertEqual((caught.exception.file, type(caught.exception)), (self.path, kind))
+        self.store.stat()
+        return caught.exception
+
+    def test_what_a_store_refuses_is_raised(self) -> None:
+        self.store = self.made(4, 4, 2)
+        self.store.put(0, b"a", b"1")
+        self.refused(errors.UnknownVersion, "get", 1, b"a")
+        self.refused(errors.UnknownVersion, "clone", 2 ** 32 - 1)
+        self.refused(errors.UnknownVersion, "get", 2 ** 32, b"a")
+        self.refused(errors.UnknownVersion, "get", -1, b"a")
+        self.assertEqual(self.store.clone(0), 1)
+        error = self.refused(errors.Frozen, "put", 0, b"b", b"2")
+        self.assertEqual(str(error), f"{self.path}: put b at version 0: the version has a child and takes no more puts and "
+                                     "deletes. Clone it, and write to the clone.")
+        self.refused(errors.Frozen, "delete", 0, b"a")
+        self.refused(errors.VersionLimit, "clone", 1)
+        self.store.put(1, b"b", b"2")
+        self.store.put(1, b"b", b"3")
+        self.refused(errors.ChangeLimit, "put", 1, b"b", b"4")
+        self.assertEqual(self.store.get(1, b"b"), b"3")
+
+    def test_sizes_are_refused(self) -> None:
+        self.store = self.made()
+        longest = b"k" * 255
+        for size in (0, 256, 1000, 2048, 100000):
+            for command in (("get",), ("delete",)):
+                self.refused(errors.KeySize, *command, 0, b"k" * size)
+            self.refused(errors.KeySize, "put", 0, b"k" * size, b"")
+        for size in (1025, 1700, 1800, 2048, 100000):
+            self.refused(errors.ValueSize, "put", 0, longest, b"v" * size)
+        self.store.put(0, longest, b"v" * 1024)
+        self.assertEqual(self.store.get(0, longest), b"v" * 1024)
+
+    def test_what_is_no_command_is_malformed(self) -> None:
+        store = self.made()
+        program = store._program
+        self.assertIsInstance(program.ask(frames.HEAD.pack(5, program.tag, 11)), errors.Malformed)
+        self.assertEqual(store.stat().changes, 0)
+
+    def test_a_frame_that_is_too_long_ends_the_run(self) -> None:
+        store = self.made()
+        store.put(0, b"a", b"1")
+        self.assertIsInstance(store._program.ask(struct.pack(">I", 2049)), errors.FrameTooLong)
+        with self.assertRaises(errors.InputTooLong) as caught:
+            store.get(0, b"a")
+        self.assertEqual((caught.exception.status, caught.exception.file), (3, self.path))
+        store.close()
+        self.assertEqual(self.opened().get(0, b"a"), b"1")
+
+    def test_a_damaged_block_is_named_and_ends_the_run(self) -> None:
+        # docs/FORMATS.md: thirteen puts into a store with M 4 leave one array, in block 7
+        store = self.made(4, 100, 10)
+        for number in range(1, 14):
+            store.put(0, f"k{number:02}", b"")
+        store.close()
+        with open(self.path, "r+b") as file:
+            file.seek(7 * 4096)
+            file.write(b"\xff" * 4096)
+        store = self.opened()
+        self.assertEqual(store.get(0, "k13"), b"")
+        with self.assertRaises(errors.Damaged) as caught:
+            store.get(0, "k01")
+        self.assertEqual((caught.exception.block, caught.exception.command), (7, "get k01 at version 0"))
+        with self.assertRaises(errors.StoreDamaged):
+            store.get(0, "k13")
+        store.close()
+        self.assertEqual(self.opened().get(0, "k13"), b"")
+
+    def test_every_refusal_is_an_exception_of_its_own(self) -> None:
+        for status, kind in errors.REFUSALS.items():
+            with self.pretending(f"refuse {status}") as store, self.assertRaises(kind) as caught:
+                store.put(0, b"a", b"1")
+            self.assertEqual((caught.exception.status, caught.exception.command), (status, "put a at version 0"))
+        with self.pretending("refuse 99") as store, self.assertRaisesRegex(Refused, "unknown status 99"):
+            store.get(0, b"a")
+
+
+class EndsTest(StoreCase):
+    def test_every_end_is_an_exception_of_its_own(self) -> None:
+        for status, kind in {**errors.ENDS, 99: Ended}.items():
+            with self.pretending(f"exit {status}") as store:
+                with self.assertRaises(kind) as caught:
+                    store.put(0, b"a", b"1")
+                with self.assertRaises(kind) as later:
+                    store.stat()
+            self.assertEqual((caught.exception.status, caught.exception.command), (status, "put a at version 0"))
+            self.assertEqual((later.exception.status, later.exception.file), (status, caught.exception.file))
+
+    def test_a_reply_to_another_command_is_an_error(self) -> None:
+        for words, what in (("tag", "a reply has tag 77"), ("refuse 12", "a reply of status 12 can't be read"),
+                            ("refuse 4", "a reply of status 4 can't be read"), ("refuse 3", "a reply of status 3 can't be read")):
+            with self.pretending(words) as store:
+                for _ in range(2):
+                    with self.assertRaisesRegex(errors.WrongProtocol, what):
+                        store.get(0, b"a")
+
+    def test_what_the_launcher_says_is_passed_on(self) -> None:
+        words = [sys.executable, "-c", "import sys; sys.path.insert(0, sys.argv[1])\nimport support, castle\n"
+                 "try: castle.Store(sys.argv[2], program=support.PRETENDER)\nexcept castle.errors.NoKit as error: print(error)",
+                 os.path.dirname(os.path.abspath(__file__)), self.written("x", "complain 127")]
+        ran = subprocess.run(words, capture_output=True)
+        self.assertEqual(ran.stderr, b"castle: out of order\n")
+        self.assertIn(b"x: open: the Rattle kit's command rt is not found", ran.stdout)
+
+    def test_a_file_that_is_no_store_is_refused(self) -> None:
+        path = self.written("foreign", "x" * 10000)
+        with self.assertRaisesRegex(errors.NotAStore, "foreign: open: the file is no store. Look at the path."):
+            Store(path)
+        with self.assertRaises(errors.NotAStore):
+            Store(self.written("empty", ""))
+        self.assertEqual(os.path.getsize(path), 10000)
+
+    def test_a_file_that_is_not_there_is_refused_and_not_made(self) -> None:
+        with self.assertRaises(errors.StoreMissing):
+            Store(self.path)
+        self.assertEqual(os.listdir(self.folder), [])
+        with self.assertRaises(errors.StoreMissing):
+            Store.format(os.path.join(self.folder, "none", "a.store"), 4, 10, 10)
+
+    def test_a_folder_is_a_device_fault(self) -> None:
+        os.mkdir(self.path)
+        with self.assertRaises(errors.DeviceFailed):
+            Store(self.path)
+
+    def test_wrong_limits_are_refused_and_touch_nothing(self) -> None:
+        for limits in ((3, 10, 10), (4097, 10, 10), (4, 0, 10), (4, 10, 16385), (-4, 10, 10)):
+            with self.assertRaises(errors.WrongUsage):
+                Store.format(self.path, *limits)
+        self.assertFalse(os.path.exists(self.path))
+
+    def test_a_program_that_is_not_there_is_told(self) -> None:
+        self.written("a.store", "")
+        with self.assertRaisesRegex(errors.ProgramMissing, "CASTLE_PROGRAM"):
+            Store(self.path, program=os.path.join(self.folder, "none"))
+        with self.assertRaises(errors.ProgramMissing):
+            Store(self.path, program=self.written("text", "no program"))
+
+    def test_a_killed_program_is_told_to_each_command_after_it(self) -> None:
+        store = self.made()
+        store.put(0, b"a", b"1")
+        os.kill(store.pid, 9)
+        with self.assertRaisesRegex(errors.Killed, "get a at version 0: the program was ended by SIGKILL. All that was ack"):
+            store.get(0, b"a")
+        with self.assertRaises(errors.Killed) as caught:
+            store.get(0, b"a")
+        self.assertEqual(caught.exception.status, -9)
+        store.close()
+        self.assertEqual(self.opened().get(0, b"a"), b"1")
+
+    def test_a_program_that_was_killed_unseen_is_told_at_the_close(self) -> None:
+        store = self.made()
+        os.kill(store.pid, 9)
+        time.sleep(0.1)
+        with self.assertRaises(errors.Killed):
+            store.close()
+        self.opened()
