@@ -59,10 +59,10 @@ module _ (n : ℕ) (a : ArrayDesc) (plain : is_plain n a ≡ true) where
       let both = and_parts (are_short a.extents && leb a.leads 1000) (list_all (λ v. ltb v n) a.versions) plain in
       (and_parts (are_short a.extents) (leb a.leads 1000) both.0, both.1)
 
-  plain_within : AreWithin a.extents
+  pub plain_within : AreWithin a.extents
   plain_within = short_within a.extents plain_parts.0.0
 
-  plain_low : (v : ℕ) → is_tagged a.versions v ≡ true → v < n
+  pub plain_low : (v : ℕ) → is_tagged a.versions v ≡ true → v < n
   plain_low v tagged = ltb-true v n (all_at (λ w. ltb w n) v a.versions plain_parts.1 (tagged_among a.versions v tagged))
 
 pub plain_readable : (n : ℕ) (arrays : List ArrayDesc) → list_all (is_plain n) arrays ≡ true → AreReadable n arrays
