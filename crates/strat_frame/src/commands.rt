@@ -10,7 +10,9 @@ ghost use Rattle.strat_frame.specs.Fields.{request_in, command_in};
 ghost use Rattle.strat_frame.specs.Faults.{refusal_for};
 
 use crate::buffer::{OutBuf, REPLY_MAX};
-use crate::fields::{sole_u32, u8_then, u32_then, version_and_key, version_and_pair, version_and_range};
+use crate::fields::{
+    sole_u32, u8_then, u32_then, version_and_key, version_and_pair, version_and_range,
+};
 use crate::sizes::size_fault;
 use strat_base::get_u32;
 use strat_model::Command;

@@ -19,11 +19,7 @@ use strat_promote::input::Input;
 use strat_promote::lead_run::LeadRun;
 
 /// A merger of one run, that over the leads of an array of version 0.
-fn merger_of(
-    alloc: Global,
-    disk: &mut MemDisk,
-    desc: &ArrayDesc,
-) -> Result<Merger<Input>, Trouble>
+fn merger_of(alloc: Global, disk: &mut MemDisk, desc: &ArrayDesc) -> Result<Merger<Input>, Trouble>
     ensures kept { IfOk result (λ m. IsUnspent input_seen m) }
 {
     if !is_plain(desc, 1) {
