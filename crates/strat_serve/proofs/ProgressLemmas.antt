@@ -34,7 +34,10 @@ use Rattle.strat_store.specs.Applying.{IsDamagedIn, may_write}
 use Rattle.strat_store.specs.Following.{ChangesGateAlone, FollowsFrom, IsOpenedAs}
 use Rattle.strat_store.specs.Held.{Held, IsConsistent, IsOnDisk, StandsWith, head_held, position_with}
 use Rattle.strat_store.specs.Settling.{carries_out}
+use Rattle.strat_state.specs.State.{IsPaid}
+use Rattle.strat_store.specs.Paying.{IsPaidIn, ArePaidSince}
 use Rattle.strat_store.proofs.OnDiskLemmas.{kept_on, read_on}
+use Rattle.strat_store.proofs.PayingLemmas.{paid_now, paid_reads, paid_then, stored_since}
 use Rattle.strat_serve.specs.Session.{Took, IsAtEnd, Begins, RespondsTo, AreAnsweredBy, IsAnswered, ContinuesWith, StopsWith, FailsAsMet, fault_told}
 use Rattle.strat_serve.specs.World.{World}
 use Rattle.strat_serve.proofs.AnswerLemmas.{told_damaged}
@@ -237,8 +240,8 @@ at_last now tables n start trail c left = trail.each n now.moment c (omega arith
 
 -- a disk that followed tables up to the last of them goes on from it
 goes_from : (before mid now : DiskView) (f : Image) (xs ys : List Table) (x : Table) (n : ℕ) → Passes mid now → FollowsFrom before mid f (xs ++ x ∷ []) (length xs)
-    → Trail ShowsTable now mid.moment (x ∷ ys) n → FollowsFrom before now f (xs ++ x ∷ ys) (length xs + n)
-goes_from before mid now f xs ys x n passes so_far more =
+    → Trail ShowsTable now mid.moment (x ∷ ys) n → (IsPaidIn f → ArePaidSince now mid.moment) → FollowsFrom before now f (xs ++ x ∷ ys) (length xs + n)
+goes_from before mid now f xs ys x n passes so_far more pays =
     let trail = trail_join ShowsTable mid now so_far.synced xs ys x n passes so_far.trail more in
     record {
       synced = so_far.synced;
@@ -249,23 +252,25 @@ goes_from before mid now f xs ys x n passes so_far more =
       until = λ m c low high left. so_far.until m c low high (passes.past m c (omega (arith, high, so_far.till)) left);
       trail = trail;
       left = at_last now (xs ++ x ∷ ys) (length xs + n) so_far.synced trail;
+      stored = stored_since now so_far.synced (xs ++ x ∷ ys) (length xs + n) trail;
+      paid = λ first. paid_then mid now so_far.synced passes (so_far.paid first) (pays first);
     }
 
 -- the disk followed the tables one answer more
 pub follows_more : (before mid now : DiskView) (f : Image) (xs : List Exchange) (t u : Table) (n : ℕ) → Passes mid now → FollowsFrom before mid f (tables_before xs ++ t ∷ []) (length xs)
-    → Trail ShowsTable now mid.moment (t ∷ u ∷ []) n → FollowsFrom before now f (tables_before xs ++ t ∷ u ∷ []) (length xs + n)
-follows_more before mid now f xs t u n passes so_far more =
+    → Trail ShowsTable now mid.moment (t ∷ u ∷ []) n → (IsPaidIn f → ArePaidSince now mid.moment) → FollowsFrom before now f (tables_before xs ++ t ∷ u ∷ []) (length xs + n)
+follows_more before mid now f xs t u n passes so_far more pays =
     let len : length (tables_before xs) ≡ length xs = length-map xs (λ (x : Exchange). bare x.at.table) in
     subst (λ (k : ℕ). FollowsFrom before now f (tables_before xs ++ t ∷ u ∷ []) (k + n)) len
     (goes_from before mid now f (tables_before xs) (u ∷ []) t n passes
-    (subst (λ (k : ℕ). FollowsFrom before mid f (tables_before xs ++ t ∷ []) k) (sym len) so_far) more)
+    (subst (λ (k : ℕ). FollowsFrom before mid f (tables_before xs ++ t ∷ []) k) (sym len) so_far) more (λ first. pays first))
 
 -- and that answer is the last of all so far
 follows_one : (before mid now : DiskView) (f : Image) (xs : List Exchange) (x : Exchange) (t u : Table) → bare x.at.table ≡ t → Passes mid now
-    → FollowsFrom before mid f (tables_before xs ++ t ∷ []) (length xs) → Trail ShowsTable now mid.moment (t ∷ u ∷ []) 1
+    → FollowsFrom before mid f (tables_before xs ++ t ∷ []) (length xs) → Trail ShowsTable now mid.moment (t ∷ u ∷ []) 1 → (IsPaidIn f → ArePaidSince now mid.moment)
     → FollowsFrom before now f (tables_before (xs ++ x ∷ []) ++ u ∷ []) (length (xs ++ x ∷ []))
-follows_one before mid now f xs x t u at passes so_far more =
-    let joined = follows_more before mid now f xs t u 1 passes so_far more in
+follows_one before mid now f xs x t u at passes so_far more pays =
+    let joined = follows_more before mid now f xs t u 1 passes so_far more pays in
     let len : length xs + 1 ≡ length (xs ++ x ∷ []) = sym (length-append xs (x ∷ [])) in
     let earlier : tables_before (xs ++ x ∷ []) ≡ tables_before xs ++ t ∷ [] = map-append (λ (y : Exchange). bare y.at.table) xs (x ∷ []) ∙ ap (λ (v : Table). tables_before xs ++ v ∷ []) at in
     let list : tables_before xs ++ t ∷ u ∷ [] ≡ tables_before (xs ++ x ∷ []) ++ u ∷ [] =
@@ -298,6 +303,13 @@ module _ (v w : DiskView) (old : Held) (body : List ℕ) (met : Option Fault) (n
         let other : is.response.answer.reply ≢ reply.Refused why.DeviceFault = λ f. let g : ◌≡◌ {A = Reply} (reply.Refused (why.Damaged b)) (reply.Refused why.DeviceFault) = sym reply_is ∙ f in cc in
         let same = told.leaves.kept none other in
         kept_on w new old (record { slot = sym same.slot; sb = sym same.sb; chained = sym same.chained; levels = sym same.levels }) (told.leaves.on_disk other on)
+  ]
+
+  -- what a crash leaves since is paid for, where the contents were
+  pub step_paid : (x : Contents) → StandsWith v old x → IsPaid (contents_state x) → ArePaidSince w v.moment
+  step_paid x stands paid = elim is.responds [
+    | inl away ↦ paid_reads v w x stands.stands away.disk paid
+    | inr told ↦ told.leaves.paid x stands paid
   ]
 
   -- and a reply that is none after which a store may have written left the disk as it was
@@ -351,6 +363,12 @@ module _ (start old new : Held) (count : ℕ) (held rest body : List ℕ) (met :
       ∙ ap (λ (x : List ℕ). (flat_map frame p.bodies ++ x) ++ rest) (sym (append-nil (frame body)))
       ∙ ap (λ (x : List ℕ). x ++ rest) (sym (flat_map-append frame p.bodies (body ∷ [])))
 
+  -- what a crash leaves since the last answer is paid for, where the content at the start was
+  pub goes_paid : (f : Image) (t : Table) (so_far : RunSoFar start old before.disk mid.disk f t p.bodies p.answers) → IsPaidIn f → ArePaidSince now.disk mid.disk.moment
+  goes_paid f t so_far first =
+      step_paid mid.disk now.disk old body met new out done.is so_far.contents so_far.stands
+      (paid_now mid.disk so_far.follows.synced so_far.contents so_far.stands.stands so_far.follows.till (so_far.follows.paid first))
+
   -- the run of the table goes on
   run_on : (f : Image) (t : Table) (so_far : RunSoFar start old before.disk mid.disk f t p.bodies p.answers)
       → ContinuesWith mid.disk now.disk old so_far.contents body response new ⊎ StopsWith mid.disk now.disk old so_far.contents body response
@@ -371,7 +389,7 @@ module _ (start old new : Held) (count : ℕ) (held rest body : List ℕ) (met :
         answers_are = map-append (λ (x : Exchange). x.response) so_far.exchanges (latest ∷ []) ∙ ap (λ (l : List Response). l ++ response ∷ []) so_far.answers_are;
         stands = is.stands;
         follows = follows_one before.disk mid.disk now.disk f so_far.exchanges latest (table_of (contents_state so_far.contents)) (table_of (contents_state is.after)) refl
-            done.passes so_far.follows is.trail;
+            done.passes so_far.follows is.trail (goes_paid f t so_far);
       }
 
   -- the answers, with one more

@@ -24,9 +24,10 @@ use Rattle.strat_standing.specs.Standing.{ShowsTable}
 use Rattle.strat_store.specs.Following.{FollowsFrom}
 use Rattle.strat_store.specs.Applying.{may_write}
 use Rattle.strat_store.specs.Held.{Held, IsConsistent, IsOnDisk, head_held, position_with}
+use Rattle.strat_store.proofs.PayingLemmas.{paid_now}
 use Rattle.strat_serve.specs.Session.{Took, IsAtEnd, SendsPrefix, too_long_bytes, AreAnsweredBy, ContinuesWith, StopsWith, fault_told, broken_by, Session, IsSession, AnswersAll, all_responses, output, last_output, earlier_bytes, Sends, EndsFor, FollowsRun, Served}
 use Rattle.strat_serve.specs.World.{World}
-use Rattle.strat_serve.proofs.ProgressLemmas.{Progress, RunSoFar, Answered, tables_before, follows_more, text_more, answered_more, step_responds, step_damaged, step_reads, gate_still, quiet_parts, answers}
+use Rattle.strat_serve.proofs.ProgressLemmas.{Progress, RunSoFar, Answered, tables_before, follows_more, text_more, answered_more, step_responds, step_damaged, step_paid, step_reads, gate_still, quiet_parts, answers}
 use Rattle.strat_serve.proofs.StreamLemmas.{partial_not_long, frames_of}
 
 -- bodies one after the other that fit
@@ -343,7 +344,10 @@ module _ (start old new : Held) (count budget : ℕ) (held rest body : List ℕ)
           broken_is = refl;
           device = stops.answer;
           follows = subst (λ (n : ℕ). FollowsFrom before.disk now.disk g (tables_before so_far.exchanges ++ table_of (contents_state so_far.contents) ∷ bare stops.done.table ∷ []) n) same
-              (follows_more before.disk mid.disk now.disk g so_far.exchanges (table_of (contents_state so_far.contents)) (bare stops.done.table) 0 done.passes so_far.follows stops.trail);
+              (follows_more before.disk mid.disk now.disk g so_far.exchanges (table_of (contents_state so_far.contents)) (bare stops.done.table) 0 done.passes so_far.follows stops.trail
+              (λ first.
+              step_paid mid.disk now.disk old body met new out done.is so_far.contents so_far.stands
+              (paid_now mid.disk so_far.follows.synced so_far.contents so_far.stands.stands so_far.follows.till (so_far.follows.paid first))));
         }
 
     -- the superblock and the manifest of the store, unless the device failed

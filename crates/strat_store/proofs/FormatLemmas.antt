@@ -16,7 +16,7 @@ use Rattle.strat_gate.specs.Laying.{LaysOver, OldOrNew}
 use Rattle.strat_journal.proofs.AloneLemmas.{empty}
 use Rattle.strat_format.specs.Records.{journal_in_one}
 use Rattle.strat_state.specs.Sound.{IsSound}
-use Rattle.strat_state.specs.State.{fresh_state}
+use Rattle.strat_state.specs.State.{deep, fresh_state, IsPaid}
 use Rattle.strat_store.specs.Format.{new_block, IsNewDisk, IsShut, IsNewStore, IsNoneOrNew, super_for}
 use Rattle.strat_store.proofs.NewStoreLemmas.{head_found, state_found}
 use Rattle.strat_store.proofs.ShutLemmas.{StaysBlank}
@@ -91,6 +91,10 @@ fresh_sound mem changes_max versions_max = record {
   ascending = refl;
 }
 
+-- and it has written nothing
+fresh_paid : (mem changes_max versions_max : ℕ) → IsPaid (fresh_state mem changes_max versions_max)
+fresh_paid mem changes_max versions_max = record { shallow = refl; bounded = le-leb (0 + 4 * 0) (4 * deep mem 0 * 0) (omega arith) }
+
 module _ (mem changes_max versions_max : ℕ) (some : 0 < mem) (v : DiskView) (p : Prepared mem v) where
   -- the content with the new superblock in the first block is a new store
   new_store : (c : Image) → Outside 0 4096 p.content c → newest_in c ≡ Ok (Some (0, super_for mem changes_max versions_max)) → IsNewStore mem changes_max versions_max c
@@ -110,6 +114,10 @@ module _ (mem changes_max versions_max : ℕ) (some : 0 < mem) (v : DiskView) (p
         };
         slot = λ up. p.second (sym (out.above 4096 (omega arith)) ∙ up);
         region = λ up. p.other (sym (out.above (region_at mem 1) (omega arith)) ∙ up);
+        paid = λ s reads.
+            let e : Some (fresh_state mem changes_max versions_max) ≡ Some s = sym (state_found c sb refl refl block 0 newest none) ∙ reads in
+            let same : fresh_state mem changes_max versions_max ≡ s = cc in
+            subst IsPaid same (fresh_paid mem changes_max versions_max);
       }
 
   -- the superblock of a new store, with the number of its manifest's block as it was reckoned

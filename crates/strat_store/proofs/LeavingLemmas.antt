@@ -18,12 +18,16 @@ use Rattle.strat_model.specs.declared.replies.Refusal.TheVariants as why
 use Rattle.strat_model.specs.declared.replies.Reply.{Reply}
 use Rattle.strat_model.specs.declared.replies.Reply.TheVariants as reply
 use Rattle.strat_store.specs.Applying.{IsUntouched, change_wanted, is_fault, may_write, refusal_of_trouble}
-use Rattle.strat_store.specs.Held.{Held, IsConsistent, IsOnDisk}
+use Rattle.strat_standing.specs.Contents.{Contents, contents_state}
+use Rattle.strat_state.specs.State.{IsPaid}
+use Rattle.strat_store.specs.Held.{Held, IsConsistent, IsOnDisk, StandsWith}
 use Rattle.strat_store.specs.Memory.{Memory, refusal_of_change, reply_to}
+use Rattle.strat_store.specs.Paying.{ArePaidSince, CountsWritten}
 use Rattle.strat_store.specs.Recovering.{held_of, held_after}
 use Rattle.strat_store.specs.Settling.{ArePublishedAfter, KeepsPublished, HasPublished, LeavesPublished, carries_out}
 use Rattle.strat_store.specs.declared.recovering.Recovered.{Recovered}
 use Rattle.strat_store.proofs.OnDiskLemmas.{kept_on, read_on, logged_on}
+use Rattle.strat_store.proofs.PayingLemmas.{paid_reads}
 
 -- a change that was logged
 pub logged_leaves : (v w : DiskView) (s t : Held) → IsConsistent s → KeepsPublished s t → TearsOnly v w (region_at s.log.mem s.log.active) (region_size s.log.mem) → Passes v w
@@ -53,6 +57,7 @@ untouched_by v w request c r new cached told wanted refuses writes = record {
       let same : c ≡ d = cc in
       let one = refuses q (subst (λ (x : Change). refusal_of_change r.memory x ≡ Some q) (sym same) e) in
       (one.0, refl, one.1);
+  cached = λ d asks. refl;
   calm = by_refusal (refusal_of_change r.memory c) refl;
 }
   where
@@ -76,6 +81,8 @@ left_alone v w s carried told b none reads =
       kept = λ _ _. same;
       next = λ done full. absurd (true≢false (sym done ∙ none));
       on_disk = λ other on. on_spent w s b (read_on v w s on reads);
+      paid = λ x stands paid. paid_reads v w x stands.stands reads paid;
+      counted = λ x stands. inl refl;
     }
 
 -- nor where blocks were cached
@@ -90,31 +97,39 @@ left_cached v w r old new carried told b none reads =
       kept = λ _ _. same;
       next = λ done full. absurd (true≢false (sym done ∙ none));
       on_disk = λ other on. kept_on w s t same (read_on v w s on reads);
+      paid = λ x stands paid. paid_reads v w x stands.stands reads paid;
+      counted = λ x stands. inl refl;
     }
 
 -- a change was carried out, or met a fault, where the journal had room
 pub leaves_room : (v w : DiskView) (s t : Held) (carried : Bool) (told : Reply) (b : Bool) → length s.log.list < s.log.mem → KeepsPublished s t → (IsOnDisk v s → IsOnDisk w t)
+    → ((x : Contents) → StandsWith v s x → IsPaid (contents_state x) → ArePaidSince w v.moment)
     → LeavesPublished v w s carried told (record t { spent = b })
-leaves_room v w s t carried told b room same still =
+leaves_room v w s t carried told b room same still pays =
     let all = keeps_spent s t b same in
     record {
       either = inl all;
       kept = λ _ _. all;
       next = λ done full. absurd (omega (arith, full, room));
       on_disk = λ other on. on_spent w t b (still on);
+      paid = pays;
+      counted = λ x stands. inl (ap (λ (c : Chained). c.manifest) same.chained);
     }
 
 -- a publication gave up
 pub gives_up : (v w : DiskView) (r new : Recovered) (cached : Blocks) (t : Trouble) (told : Refusal) → told ≡ refusal_of_trouble t → KeepsPublished (held_of r cached) (held_of new cached)
     → ((t ≡ trouble.Device → ⊥) → IsOnDisk v (held_of r cached) → IsOnDisk w (held_of new cached))
+    → ((x : Contents) → StandsWith v (held_of r cached) x → IsPaid (contents_state x) → ArePaidSince w v.moment)
     → LeavesPublished v w (held_of r cached) false (reply.Refused told) (held_after new cached (reply.Refused told))
-gives_up v w r new cached t told is same still =
+gives_up v w r new cached t told is same still pays =
     let all = keeps_spent (held_of r cached) (held_of new cached) (is_fault (reply.Refused told)) same in
     record {
       either = inl all;
       kept = λ _ _. all;
       next = λ done full. absurd (true≢false (sym done));
       on_disk = λ other on. on_spent w (held_of new cached) (is_fault (reply.Refused told)) (still (λ e. other (ap (λ (q : Refusal). reply.Refused q) (is ∙ ap refusal_of_trouble e))) on);
+      paid = pays;
+      counted = λ x stands. inl (ap (λ (c : Chained). c.manifest) same.chained);
     }
 
 -- a publication, and then the change
@@ -122,8 +137,10 @@ pub renews : (v u w : DiskView) (r mid new : Recovered) (cached : Blocks) (told 
     → ArePublishedAfter (super_of r.sb) (manifest_of r.published.manifest) r.memory (super_of mid.sb) (manifest_of mid.published.manifest)
     → KeepsPublished (held_of mid cached) (held_of new cached) × (IsOnDisk u (held_of mid cached) → IsOnDisk w (held_of new cached))
     → (accepts told ≡ false → told ≡ reply.Refused why.DeviceFault) → (IsOnDisk v (held_of r cached) → IsOnDisk u (held_of mid cached))
+    → ((x : Contents) → StandsWith v (held_of r cached) x → IsPaid (contents_state x) → ArePaidSince w v.moment)
+    → ((x : Contents) → StandsWith v (held_of r cached) x → CountsWritten (manifest_of r.published.manifest) (manifest_of mid.published.manifest))
     → LeavesPublished v w (held_of r cached) (accepts told) told (held_after new cached told)
-renews v u w r mid new cached told full slot after keeps refused still =
+renews v u w r mid new cached told full slot after keeps refused still pays counts =
     let same = keeps.0 in
     let manifest_is : manifest_of new.published.manifest ≡ manifest_of mid.published.manifest = ap (λ (c : Chained). c.manifest) same.chained in
     let has : HasPublished (held_of r cached) (held_after new cached told) = record {
@@ -143,6 +160,8 @@ renews v u w r mid new cached told full slot after keeps refused still =
       kept = λ none other. absurd (other (refused none));
       next = λ done all. has;
       on_disk = λ other on. on_spent w (held_of new cached) (is_fault told) (keeps.1 (still on));
+      paid = pays;
+      counted = λ x stands. inr (subst (CountsWritten (manifest_of r.published.manifest)) (sym manifest_is) (counts x stands));
     }
 
 -- a command that asks for a change is one

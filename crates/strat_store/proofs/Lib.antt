@@ -29,6 +29,7 @@ pub mod ThreeTests
 pub mod ApplyLemmas
 pub mod SettlingLemmas
 pub mod SettledLemmas
+pub mod PayingLemmas
 pub mod LoggingLemmas
 pub mod ChangingLemmas
 pub mod RenewingLemmas

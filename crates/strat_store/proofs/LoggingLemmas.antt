@@ -1,5 +1,5 @@
 -- A change that joins the journal of contents.
-use Rattle.std.proofs.Common.{◌≡◌, ◌≤◌, ◌<◌, ◌+◌, ◌-◌, ◌*◌, ℕ, zero, suc, Bool, true, false, cond, List, [], ◌∷◌, ◌++◌, length, Option, Some, None, Ok, refl, sym, ap, ◌∙◌, subst, arith, length-append}
+use Rattle.std.proofs.Common.{◌≡◌, ◌≤◌, ◌<◌, ◌+◌, ◌-◌, ◌*◌, ℕ, zero, suc, Bool, true, false, cond, inl, inr, List, [], ◌∷◌, ◌++◌, length, Option, Some, None, Ok, refl, sym, ap, ◌∙◌, subst, arith, length-append}
 use Rattle.std.proofs.lemmas.List.{length-map}
 use Rattle.strat_base.specs.Change.{Change, change_bytes, change_in, is_lawful}
 use Rattle.strat_base.proofs.ChangeLemmas.{length-change_bytes}
@@ -20,11 +20,14 @@ use Rattle.strat_standing.specs.Appending.{IsLogOf, with_batch, AppendsBatch}
 use Rattle.strat_standing.specs.Contents.{Contents, contents_state, named_blocks}
 use Rattle.strat_standing.specs.Standing.{ReadsAs, ShowsTable, LeavesContent, ContentsStand}
 use Rattle.strat_standing.proofs.AcceptedLemmas.{changes_logged, accepted_changes}
-use Rattle.strat_standing.proofs.AppendLemmas.{stands_journal, either_trail, appended_trail, appended_stands}
+use Rattle.strat_standing.proofs.AppendLemmas.{stands_journal, either_reads, either_trail, appended_trail, appended_stands}
 use Rattle.strat_standing.proofs.JournalLemmas.{change_short, journal_parts}
 use Rattle.strat_standing.proofs.ListLemmas.{contained_among}
 use Rattle.strat_standing.proofs.PlaceLemmas.{places, newest_fits, named_behind}
 use Rattle.strat_state.specs.Sound.{IsSound, Takes}
+use Rattle.strat_state.specs.State.{IsPaid}
+use Rattle.strat_store.proofs.PayingLemmas.{paid_as, paid_appended}
+use Rattle.strat_store.specs.Paying.{ArePaidSince}
 
 -- records have at most 1,288 bytes each
 abbrev AreShort : List Logged → Type 0
@@ -105,6 +108,13 @@ module _ (old new : DiskView) (x : Contents) (log added : Log) (change : Change)
     logged_trail =
         subst (λ (cs : List Change). Trail ShowsTable new old.moment (table_of (contents_state x) ∷ table_of (contents_state (with_batch x cs)) ∷ []) 0) one_added
         (either_trail old new x added s added_of appends sound_added)
+
+    -- what each of them leaves is paid for
+    pub logged_paid : IsPaid (contents_state x) → ArePaidSince new old.moment
+    logged_paid paid c since = elim (either_reads old new x added s added_of appends sound_added c since) [
+      | inl none ↦ paid_as c x none paid
+      | inr all ↦ paid_as c (with_batch x added.batch) all (paid_appended x added.batch paid)
+    ]
 
     -- and in the end the contents with the change stand
     pub logged_stands : (joined : Log) → joined ≡ batch_joined added → ((f : Image) → Exposes old f → Stands old added → Stands new joined) → LeavesContent new

@@ -21,7 +21,7 @@ use Rattle.strat_standing.specs.Standing.{ReadsAs, ShowsTable, LeavesContent, Co
 use Rattle.strat_standing.proofs.FreeLemmas.{shows_contents}
 use Rattle.strat_standing.proofs.GateLemmas.{gate_kept, gate_stands, opened_stands}
 use Rattle.strat_standing.proofs.ListLemmas.{contained_among}
-use Rattle.strat_standing.proofs.PartsLemmas.{reads_head, StateParts, state_parts}
+use Rattle.strat_standing.proofs.PartsLemmas.{reads_head, reads_state, StateParts, state_parts}
 use Rattle.strat_standing.proofs.PlaceLemmas.{one_super}
 use Rattle.strat_state.specs.Sound.{IsSound}
 use Rattle.strat_store.specs.declared.opening.AttachFault.{AttachFault}
@@ -29,9 +29,11 @@ use Rattle.strat_store.specs.declared.opening.AttachFault.TheVariants.{Device}
 use Rattle.strat_store.specs.Following.{ChangesGateAlone, FollowsFrom, IsOpenedAs, LeavesOpening}
 use Rattle.strat_store.specs.Held.{contents_held, IsConsistent, StandsWith}
 use Rattle.strat_cursor.specs.Looking.{AreCachedFrom}
+use Rattle.strat_store.specs.Paying.{IsPaidIn, ArePaidSince}
 use Rattle.strat_store.specs.Recovering.{chained_of, head_recovered, held_of, empty_cache, IsRecoveredFrom, ReadsAsSound}
 use Rattle.strat_store.specs.declared.recovering.Recovered.{Recovered}
 use Rattle.strat_store.proofs.OnDiskLemmas.{gate_on}
+use Rattle.strat_store.proofs.PayingLemmas.{paid_as, stored_since}
 
 module _ (old : DiskView) (f : Image) (x : Contents) (sb : Super) (stale : Bool) (exposed : Exposes old f) (durable : IsDurable old) (same : x.sb ≡ sb) (is : ReadsAsSound f stale x) where
   -- each image reads as these contents
@@ -135,6 +137,12 @@ module _ (f : Image) (r : Recovered) (is : IsRecoveredFrom f r) (t : Table) (sho
     trail : Trail ShowsTable now synced.moment (t ∷ []) 0
     trail = trail_of_one ShowsTable now synced.moment t [] on.later shows_later
 
+    -- and is paid for where the content is
+    paid_later : IsPaidIn f → ArePaidSince now synced.moment
+    paid_later paid = each_then read now synced.moment IsPaidIn passes
+        (λ c since. subst IsPaidIn (sym (settled_at synced f there settled c (looks.images.each c since))) paid)
+        (λ c since. paid_as c opened_contents (images c since) (paid (contents_state opened_contents) (reads_state f opened_contents parts.reads)))
+
     pub opened_follows : FollowsFrom before now f (t ∷ []) 0
     opened_follows = record {
       synced = synced.moment;
@@ -145,6 +153,8 @@ module _ (f : Image) (r : Recovered) (is : IsRecoveredFrom f r) (t : Table) (sho
       until = λ m c low high left. syncs.images.each c (record { at = m; from = low; till = high; left = on.past m c high left });
       trail = trail;
       left = λ c left. trail.each 0 now.moment c (omega arith) trail.last (omega arith) left;
+      stored = stored_since now synced.moment (t ∷ []) 0 trail;
+      paid = paid_later;
     }
 
 -- a disk was synced, a store was recovered from it, and the other region was shut

@@ -1,5 +1,5 @@
 -- A publication of a store: the sync, the laying of the next superblock, and the turn of the journal.
-use Rattle.std.proofs.Common.{◌≡◌, ◌≤◌, ◌<◌, ◌+◌, ◌*◌, ℕ, false, [], ◌∷◌, Some, Ok, refl, sym, subst, arith}
+use Rattle.std.proofs.Common.{◌≡◌, ◌≤◌, ◌<◌, ◌+◌, ◌*◌, ℕ, false, inl, inr, [], ◌∷◌, Some, Ok, refl, sym, subst, arith}
 use Rattle.std.proofs.lemmas.Bool.{ltb-false}
 use Rattle.strat_crash.specs.Blocks.{TearsBlocks}
 use Rattle.strat_crash.specs.Image.{Image}
@@ -19,8 +19,11 @@ use Rattle.strat_standing.specs.Standing.{ShowsTable, AreFree, LeavesContent, Co
 use Rattle.strat_standing.proofs.ComputedLemmas.{computed_prepared}
 use Rattle.strat_standing.proofs.FreeLemmas.{read_trail, still_told}
 use Rattle.strat_standing.proofs.PlaceLemmas.{places}
-use Rattle.strat_standing.proofs.PublishLemmas.{unlaid_trail}
+use Rattle.strat_standing.proofs.PublishLemmas.{unlaid_trail, laying_reads, shutting_reads}
 use Rattle.strat_standing.proofs.TurnLemmas.{turned_log, turned_trail, turned_contents}
+use Rattle.strat_state.specs.State.{IsPaid}
+use Rattle.strat_store.proofs.PayingLemmas.{paid_as, paid_reads, paid_then}
+use Rattle.strat_store.specs.Paying.{ArePaidSince}
 use Rattle.strat_store.specs.Publishing.{IsComputed, is_in_front}
 
 -- a call that tears a range in front of a space, on a disk that is durable
@@ -50,6 +53,9 @@ module _ (v0 v1 : DiskView) (slot : ℕ) (sb : Super) (log : Log) (x y : Content
   pub synced_trail : Trail ShowsTable v1 v0.moment (table_of (contents_state x) ∷ []) 0
   synced_trail = read_trail x v0 v1 reads c.stands
 
+  pub synced_paid : IsPaid (contents_state x) → ArePaidSince v1 v0.moment
+  synced_paid paid = paid_reads v0 v1 x c.stands reads paid
+
   module _ (durable : IsDurable v1) (leaves1 : LeavesContent v1) where
     ready : IsPrepared v1 x y
     ready = computed_prepared v0 v1 x y c.made c.taken c.kept c.space c.others c.stands c.was c.next c.says c.used c.manifest reads durable leaves1
@@ -69,6 +75,9 @@ module _ (v0 v1 : DiskView) (slot : ℕ) (sb : Super) (log : Log) (x y : Content
       pub lay_trail : Trail ShowsTable v2 v0.moment (table_of (contents_state x) ∷ []) 0
       lay_trail = unlaid_trail v0 v1 x y (λ b. false) c.stands (none_free x) (reads_tear_none (λ b. false) v0 v1 reads) ready v2 lays
 
+      pub lay_paid : IsPaid (contents_state x) → IsPaid (contents_state y) → ArePaidSince v2 v0.moment
+      lay_paid was is = paid_then v1 v2 v0.moment time (synced_paid was) (λ d since. elim (laying_reads v1 x y ready v2 lays d since) [ inl old ↦ paid_as d x old was | inr new ↦ paid_as d y new is ])
+
       module _ (settled : IsDurable v2) (found : (f : Image) → LaysOver v1 f slot sb → (d : Image) → Images v2 d → newest_in d ≡ Ok (Some (slot, sb)))
           (v3 : DiskView) (shut : TearsOnly v2 v3 (region_at log.mem log.active) 1) (passes : Passes v2 v3) where
         laid : HasLaid v1 v2 y.slot y.sb
@@ -79,6 +88,12 @@ module _ (v0 v1 : DiskView) (slot : ℕ) (sb : Super) (log : Log) (x y : Content
         -- up to the turn
         pub turn_trail : Trail ShowsTable v3 v0.moment (table_of (contents_state x) ∷ []) 0
         turn_trail = turned_trail v1 v2 v3 x y log ready lays laid c.log_is shut passes v0 (λ b. false) c.stands (none_free x) (reads_tear_none (λ b. false) v0 v1 reads)
+
+        shut_there : TearsOnly v2 v3 (region_at x.sb.mem x.sb.region) 1
+        shut_there = subst (λ (m : ℕ). TearsOnly v2 v3 (region_at m x.sb.region) 1) c.log_is.mem (subst (λ (r : ℕ). TearsOnly v2 v3 (region_at log.mem r) 1) c.log_is.active shut)
+
+        pub turn_paid : IsPaid (contents_state x) → IsPaid (contents_state y) → ArePaidSince v3 v0.moment
+        turn_paid was is = paid_then v2 v3 v0.moment passes (lay_paid was is) (λ d since. paid_as d y (shutting_reads v1 x y ready v2 lays laid v3 shut_there passes d since) is)
 
         pub turn_stands : LeavesContent v2 → LeavesContent v3 → ((f : Image) → Exposes v2 f → IsDurable v2 → IsRegionShut v3 log.mem log.active) → ContentsStand v3 y
         turn_stands leaves2 leaves3 none =

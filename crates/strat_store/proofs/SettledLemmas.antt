@@ -104,7 +104,7 @@ published_after s sb here m next there memory ready o same sb_is next_is is = re
 
 -- while free blocks are written
 module _ (v w : DiskView) (s : Held) (x : Contents) (stands : StandsWith v s x) (beside : WritesBeside v w s) where
-  free_here : AreFree beside.free x
+  pub free_here : AreFree beside.free x
   free_here =
       let held : AreFree beside.free (contents_held s x.levels) = record { behind = beside.beside.behind; unnamed = beside.beside.unnamed } in
       subst (λ (y : Contents). AreFree beside.free y) (sym stands.held) held
@@ -179,7 +179,7 @@ made_among (Some l) level a (inr none) there = absurd none
 
 -- the arrays of the next contents are new, or the old ones have them
 module _ (w : DiskView) (s : Held) (x : Contents) (held : x ≡ contents_held s x.levels) (sb : Super) (chained : Chained) (ready : IsReadied w s x sb chained) where
-  next_arrays : (a : ArrayDesc) → Among a (descriptors chained.manifest) → (s.chained.manifest.next_array ≤ a.id) ⊎ Among a (descriptors s.chained.manifest)
+  pub next_arrays : (a : ArrayDesc) → Among a (descriptors chained.manifest) → (s.chained.manifest.next_array ≤ a.id) ⊎ Among a (descriptors s.chained.manifest)
   next_arrays a among =
       let c = ready.computed in
       let next = c.next.next in

@@ -19,9 +19,12 @@ use Rattle.strat_promote.specs.Job.{IsBadInput, blocks_listed}
 use Rattle.strat_recovery.specs.Head.{descriptors}
 use Rattle.strat_standing.proofs.ListLemmas.{contained_among}
 use Rattle.strat_standing.proofs.OccupiedLemmas.{free_beside, named_used}
-use Rattle.strat_standing.specs.Contents.{Contents, named_blocks}
+use Rattle.strat_recovery.proofs.PassedLemmas.{read_passes}
+use Rattle.strat_standing.proofs.PartsLemmas.{reads_state}
+use Rattle.strat_standing.specs.Contents.{Contents, contents_state, named_blocks}
 use Rattle.strat_standing.specs.Occupied.{IsSpaceOf}
 use Rattle.strat_state.specs.Level.{Level}
+use Rattle.strat_state.specs.State.{IsPaid}
 use Rattle.strat_store.specs.Applying.{IsDamagedIn}
 use Rattle.strat_store.specs.Held.{Held, ArePlaced, IsConsistent, StandsWith, contents_held}
 use Rattle.strat_cursor.specs.Looking.{arrays_there}
@@ -85,6 +88,11 @@ readied v w s x space after old_chain target made first size chain m whole stand
     record {
       levels = c.levels;
       computed = subst (λ (n : Contents). IsComputed w (1 - s.slot) n.sb s.log x n) same (subst (λ (k : ℕ). IsComputed w k new.sb s.log x new) slot c.computed);
+      paid = λ paid full.
+          let f = stands.stands.content in
+          let passed = read_passes f (contents_state x) (reads_state f x (stands.stands.reads f stands.stands.left)) in
+          subst (λ (n : Contents). IsPaid (contents_state n)) same
+          (c.paid paid passed.few_updates (omega (arith, full, ap (λ (y : Contents). y.sb.mem) stands.held, ap (λ (y : Contents). length y.journal) stands.held)));
     }
 
 -- the same of a superblock and a manifest that are these

@@ -139,8 +139,8 @@ IsLookedUp now new x request answer =
     × (accepts (step (table_of (contents_state x)) request).answer.reply ≡ true))
 
 -- a command that asks for no change leaves the disk as it was, and a store but for blocks that it cached as they
--- stand there; a change that is refused leaves both as they were, and so does any reply but those after which a store may
--- have written leave the disk
+-- stand there; a change that is refused leaves both as they were, no change caches a block or lets go of one, and any reply
+-- but those after which a store may have written leaves the disk as it was
 pub record IsUntouched (before now : DiskView) (request : Request) (old : Held) (told : Reply)
     (new : Held) : Type 0 where
   pub looks : change_wanted request ≡ None
@@ -149,6 +149,7 @@ pub record IsUntouched (before now : DiskView) (request : Request) (old : Held) 
       → refusal_of_change old.memory c ≡ Some r
       → (told ≡ reply.Refused r) × (new.cached ≡ old.cached)
       × OnlyReads before now
+  pub cached : (c : Change) → change_wanted request ≡ Some c → new.cached ≡ old.cached
   pub calm : may_write told ≡ false → OnlyReads before now
 
 -- contents took the place of others on the disk that a store stands on: they mean the same table

@@ -12,6 +12,7 @@ use Rattle.strat_recovery.specs.StateTable.{table_of}
 use Rattle.strat_standing.specs.Contents.{Contents, contents_state}
 use Rattle.strat_standing.specs.Standing.{ShowsTable}
 use Rattle.strat_store.specs.Held.{Held, head_held, IsOnDisk, StandsWith}
+use Rattle.strat_store.specs.Paying.{IsPaidIn, ArePaidSince, StoreTwoSince}
 
 -- a disk with this content was synced, and from then on followed tables
 pub record FollowsFrom (before now : DiskView) (f : Image) (tables : List Table) (n : ℕ)
@@ -29,6 +30,9 @@ pub record FollowsFrom (before now : DiskView) (f : Image) (tables : List Table)
   pub trail : Trail ShowsTable now synced tables n
   -- which says of now: each image shows a table at place n or behind it
   pub left : (c : Image) → Images now c → (i : ℕ) × (n ≤ i) × At tables i (ShowsTable c)
+  -- each image from then on stores at most two entries for each update, and is paid for if the content is
+  pub stored : StoreTwoSince now synced
+  pub paid : IsPaidIn f → ArePaidSince now synced
 
 -- a disk is left as it was: it has the content of before, and a crash leaves only what it might
 -- have left before

@@ -11,6 +11,7 @@ use Rattle.strat_recovery.specs.Opening.{recover, reads_as}
 use Rattle.strat_format.specs.Chain.{link_bytes}
 use Rattle.strat_format.specs.Manifest.{manifest_bytes, new_manifest}
 use Rattle.strat_standing.specs.Standing.{ShowsTable}
+use Rattle.strat_store.specs.Paying.{IsPaidIn}
 
 -- the superblock of a new store: the first generation, with the manifest in the first free block
 abbrev pub super_for : ℕ → ℕ → ℕ → Super
@@ -41,14 +42,15 @@ pub record IsAtRest (v : DiskView) : Type 0 where
   pub alone : (c : Image) → Images v c → c ≡ content
 
 -- an image is a new store with these limits: recovery finds its head, it reads as the state of a
--- new store and shows the table of one, and the second superblock slot and the second journal
--- region are shut
+-- new store and shows the table of one, the second superblock slot and the second journal region
+-- are shut, and it has paid for what it has written, which is nothing
 pub record IsNewStore (mem changes_max versions_max : ℕ) (c : Image) : Type 0 where
   pub found : recover c ≡ Ok (Some (head_for mem changes_max versions_max))
   pub reads : reads_as c ≡ Some (fresh_state mem changes_max versions_max)
   pub shows : ShowsTable c (fresh changes_max versions_max)
   pub slot : c 4096 ≢ open_flag
   pub region : c (region_at mem 1) ≢ open_flag
+  pub paid : IsPaidIn c
 
 -- a crash leaves one image of the disk, a new store with these limits
 pub record IsNewDisk (mem changes_max versions_max : ℕ) (v : DiskView) : Type 0 where

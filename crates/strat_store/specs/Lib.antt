@@ -2,6 +2,7 @@ pub mod Causes
 pub mod Format
 pub mod Memory
 pub mod MemoryFields
+pub mod Paying
 pub mod Belonging
 pub mod Getting
 pub mod Ranging

@@ -15,11 +15,13 @@ use Rattle.strat_model.specs.Answer.{accepts}
 use Rattle.strat_model.specs.Request.{Request}
 use Rattle.strat_model.specs.Run.{is_change}
 use Rattle.strat_recovery.specs.Head.{parent_numbers}
-use Rattle.strat_standing.specs.Contents.{Contents}
+use Rattle.strat_standing.specs.Contents.{Contents, contents_state}
 use Rattle.strat_standing.specs.Standing.{AreFree}
 use Rattle.strat_state.specs.Level.{Level}
-use Rattle.strat_store.specs.Held.{Held, IsOnDisk, contents_held}
+use Rattle.strat_state.specs.State.{IsPaid}
+use Rattle.strat_store.specs.Held.{Held, IsOnDisk, StandsWith, contents_held}
 use Rattle.strat_store.specs.Memory.{Memory, emptied}
+use Rattle.strat_store.specs.Paying.{ArePaidSince, KeepsCount}
 use Rattle.strat_store.specs.Publishing.{IsComputed, manifest_after}
 
 -- the superblock after one, whose manifest begins in this block and is of so many bytes
@@ -77,6 +79,9 @@ pub record IsReadied (v : DiskView) (s : Held) (x : Contents) (sb : Super) (chai
     : Type 0 where
   pub levels : List Level
   pub computed : IsComputed v (1 - s.slot) sb s.log x (contents_next s sb chained levels)
+  -- they are paid for where those are and the journal is full
+  pub paid : IsPaid (contents_state x) → s.sb.mem ≤ length s.log.list
+      → IsPaid (contents_state (contents_next s sb chained levels))
 
 -- after a superblock, a manifest and what is in memory come these that one promotion leaves: of a level down to some target,
 -- and of a manifest in some blocks
@@ -116,3 +121,9 @@ pub record LeavesPublished (before now : DiskView) (old : Held) (carried : Bool)
   pub kept : carried ≡ false → told ≢ reply.Refused why.DeviceFault → KeepsPublished old new
   pub next : carried ≡ true → old.log.mem ≤ length old.log.list → HasPublished old new
   pub on_disk : told ≢ reply.Refused why.DeviceFault → IsOnDisk before old → IsOnDisk now new
+  -- and where the store stands, what each crash leaves is paid for if its contents are, and its manifest counts what a
+  -- publication wrote
+  pub paid : (x : Contents) → StandsWith before old x → IsPaid (contents_state x)
+      → ArePaidSince now before.moment
+  pub counted : (x : Contents) → StandsWith before old x
+      → KeepsCount old.chained.manifest new.chained.manifest

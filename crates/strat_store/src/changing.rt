@@ -20,10 +20,12 @@ ghost use Rattle.strat_standing.specs.Appending.{IsLogOf, with_batch};
 ghost use Rattle.strat_standing.specs.Contents.{Contents, contents_state, named_blocks};
 ghost use Rattle.strat_standing.specs.Standing.{ShowsTable, ContentsStand};
 ghost use Rattle.strat_state.specs.Sound.{Takes};
+ghost use Rattle.strat_state.specs.State.{IsPaid};
 ghost use Rattle.strat_store.specs.Applying.{IsAppliedTo, FollowsStep, FailsAsTold, IsDamagedIn, is_fault, may_write, refusal_of_trouble};
 ghost use Rattle.strat_store.specs.Held.{IsConsistent, IsOnDisk, StandsWith};
 ghost use Rattle.strat_cursor.specs.Looking.{arrays_there};
 ghost use Rattle.strat_store.specs.Memory.{refusal_of_change};
+ghost use Rattle.strat_store.specs.Paying.{ArePaidSince};
 ghost use Rattle.strat_store.specs.Recovering.{held_of, held_after};
 ghost use Rattle.strat_store.specs.Settling.{KeepsPublished, LeavesPublished};
 
@@ -59,6 +61,9 @@ fn log_change<D: Disk>(
     ensures same { OnOk result ((x : Contents) → ContentsStand (D.view disk.old) x
         → IsLogOf x journal.old → (f g : Image) → Exposes (D.view disk.old) f
         → Exposes (D.view disk.new) g → AgreeOn (named_blocks x) f g) }
+    ensures paid { (x : Contents) → ContentsStand (D.view disk.old) x → IsLogOf x journal.old
+        → Takes (contents_state x) (change_of change.now) → IsPaid (contents_state x)
+        → ArePaidSince (D.view disk.new) (D.view disk.old).moment }
     ensures images { TearsOnly (D.view disk.old) (D.view disk.new)
         (region_at journal.old.mem journal.old.active) (region_size journal.old.mem) }
     ensures time { Passes (D.view disk.old) (D.view disk.new) }
@@ -90,6 +95,9 @@ fn carry_out<D: Disk>(held: &mut Recovered, disk: &mut D, change: &Change<'_>) -
         → KeepsPublished (held_of held.old cached) (held_of held.new cached)
         × (IsOnDisk (D.view disk.old) (held_of held.old cached)
         → IsOnDisk (D.view disk.new) (held_of held.new cached)) }
+    ensures paid { (x : Contents) (cached : Blocks)
+        → StandsWith (D.view disk.old) (held_of held.old cached) x → IsPaid (contents_state x)
+        → ArePaidSince (D.view disk.new) (D.view disk.old).moment }
     ensures damaged { (b : ℕ) → result ≡ reply.Refused (why.Damaged b) → ⊥ }
     ensures same { (held.new.sb.mem ≡ held.old.sb.mem) × (result ≢ reply.Found)
         × (accepts result ≡ false → result ≡ reply.Refused why.DeviceFault)

@@ -21,10 +21,12 @@ ghost use Rattle.strat_standing.specs.Contents.{Contents, contents_state};
 ghost use Rattle.strat_standing.specs.Occupied.{IsSpaceOf};
 ghost use Rattle.strat_standing.specs.Standing.{ShowsTable, ContentsStand};
 ghost use Rattle.strat_state.specs.Level.{Level};
+ghost use Rattle.strat_state.specs.State.{IsPaid};
 ghost use Rattle.strat_store.specs.Applying.{IsDamagedIn, IsPublishedAs, IsOkOrShort};
 ghost use Rattle.strat_store.specs.Held.{IsConsistent, IsOnDisk, StandsWith, contents_held};
 ghost use Rattle.strat_cursor.specs.Looking.{arrays_there};
 ghost use Rattle.strat_store.specs.Memory.{emptied};
+ghost use Rattle.strat_store.specs.Paying.{ArePaidSince, CountsWritten};
 ghost use Rattle.strat_store.specs.Publishing.{IsComputed, LaysSuperblock, WritesManifest, is_in_front, manifest_after};
 ghost use Rattle.strat_store.specs.Recovering.{chained_of, held_of, IsAdmitted};
 ghost use Rattle.strat_store.specs.Settling.{super_after, held_next, ArePublishedAfter, KeepsPublished, MayFollow, WritesBeside, IsReadied};
@@ -204,6 +206,9 @@ fn settle<D: Disk>(held: &mut Recovered, next: Next, disk: &mut D) -> Result<(),
     ensures trail { (x y : Contents) → IsComputed (D.view disk.old) (1 - held.old.slot)
         (super_of next.sb) held.old.journal x y → Trail ShowsTable (D.view disk.new)
         (D.view disk.old).moment (table_of (contents_state x) ∷ []) 0 }
+    ensures paid { (x y : Contents) → IsComputed (D.view disk.old) (1 - held.old.slot)
+        (super_of next.sb) held.old.journal x y → IsPaid (contents_state x)
+        → IsPaid (contents_state y) → ArePaidSince (D.view disk.new) (D.view disk.old).moment }
     ensures end { OnOk result (LaysSuperblock (D.view disk.old) (D.view disk.new)
         held.old.journal.mem (1 - held.old.slot) (super_of next.sb)) }
     ensures err { OnErr result ((cached : Blocks)
@@ -253,6 +258,14 @@ pub(crate) fn publish<D: Disk>(
         → StandsWith (D.view disk.old) (held_of held.old cached) x
         → Trail ShowsTable (D.view disk.new) (D.view disk.old).moment
         (table_of (contents_state x) ∷ []) 0 }
+    ensures paid { (x : Contents) (cached : Blocks)
+        → StandsWith (D.view disk.old) (held_of held.old cached) x
+        → held.old.sb.mem ≤ length held.old.journal.list → IsPaid (contents_state x)
+        → ArePaidSince (D.view disk.new) (D.view disk.old).moment }
+    ensures counted { OnOk result ((x : Contents) (cached : Blocks)
+        → StandsWith (D.view disk.old) (held_of held.old cached) x
+        → CountsWritten (manifest_of held.old.published.manifest)
+        (manifest_of held.new.published.manifest)) }
     ensures kept { IsOkOrShort result → (cached : Blocks)
         → IsConsistent (held_of held.new cached) }
     ensures same { (held.new.sb.mem ≡ held.old.sb.mem)

@@ -23,6 +23,8 @@ ghost use Rattle.strat_standing.specs.Contents.{Contents, contents_state};
 ghost use Rattle.strat_standing.specs.Next.{IsNextOf, HasManifest, arrays_made};
 ghost use Rattle.strat_standing.specs.Occupied.{IsSpaceOf, extents_of, arrays_in};
 ghost use Rattle.strat_standing.specs.Standing.{ShowsTable, ContentsStand};
+ghost use Rattle.strat_state.specs.State.{IsPaid};
+ghost use Rattle.strat_store.specs.Paying.{ArePaidSince};
 ghost use Rattle.strat_store.specs.Publishing.{IsComputed, IsWrittenTo, LaysSuperblock, is_in_front};
 
 use std::alloc::Global;
@@ -100,6 +102,10 @@ pub(crate) fn lay_next<D: Disk>(
     ensures kept { OnOk result ((old new : Contents)
         → IsComputed (D.view disk.old) slot (super_of sb.now) journal.old old new
         → ContentsStand (D.view disk.new) new × IsLogOf new journal.new) }
+    ensures paid { (old new : Contents)
+        → IsComputed (D.view disk.old) slot (super_of sb.now) journal.old old new
+        → IsPaid (contents_state old) → IsPaid (contents_state new)
+        → ArePaidSince (D.view disk.new) (D.view disk.old).moment }
     ensures ok { OnOk result (journal.new ≡ region_begun journal.old) }
     ensures end { OnOk result (journal.old.active ≤ 1 → LaysSuperblock (D.view disk.old)
         (D.view disk.new) journal.old.mem slot (super_of sb.now)) }

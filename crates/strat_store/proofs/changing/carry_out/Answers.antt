@@ -63,3 +63,15 @@ pub returns-clause-end : goal.returns-clause-end
 returns-clause-end g c = λ cached.
     logged_leaves (g.D.Disk.view c.args.disk.now) (g.D.Disk.view c.log_change.new.disk) (held_of c.args.held.now cached) (held_of (record c.args.held.now { journal = c.log_change.new.journal; memory = c.take.new.self }) cached)
     (c.requires.kept cached) (record { slot = refl; sb = refl; chained = refl; levels = refl }) c.log_change.ensures.images c.log_change.ensures.time
+
+pub returns-in_default-clause-paid : goal.returns-in_default-clause-paid
+returns-in_default-clause-paid g c x cached stands =
+    let kept = c.requires.kept cached in
+    c.log_change.ensures.paid x stands.stands (log_of c.args.held.now cached kept x stands.held)
+    (takes c.args.held.now cached kept (g.D.Disk.view c.args.disk.now) x stands _ c.requires.none c.requires.room)
+
+pub returns-clause-paid : goal.returns-clause-paid
+returns-clause-paid g c x cached stands =
+    let kept = c.requires.kept cached in
+    c.log_change.ensures.paid x stands.stands (log_of c.args.held.now cached kept x stands.held)
+    (takes c.args.held.now cached kept (g.D.Disk.view c.args.disk.now) x stands _ c.requires.none c.requires.room)

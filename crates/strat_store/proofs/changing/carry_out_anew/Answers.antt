@@ -4,6 +4,7 @@ use Rattle.strat_base.specs.declared.failures.Trouble.{Trouble}
 use Rattle.strat_base.specs.declared.failures.Trouble.TheVariants as trouble
 use Rattle.strat_store.specs.Recovering.{empty_cache}
 use Rattle.strat_store.proofs.LeavingLemmas.{gives_up, renews, troubled}
+use Rattle.strat_store.proofs.PayingLemmas.{paid_now, paid_then}
 use Rattle.strat_store.proofs.RenewingLemmas.{calm_short, told_up, renewed, renewed_trail, trail_so_far}
 use Rattle.strat_store.proofs.changing.carry_out_anew.Goals as goal
 
@@ -52,6 +53,7 @@ pub returns-in-Err-clause-end : goal.returns-in-Err-clause-end
 returns-in-Err-clause-end g c = λ cached.
     gives_up (g.D.Disk.view c.args.disk.now) (g.D.Disk.view c.publish.new.disk) c.args.held.now c.publish.new.held cached c.in-Err.trouble c.refusal_of.result c.refusal_of.ensures.ok
     (c.in-Err.ensures.same.2 cached) (λ other. c.in-Err.ensures.end (λ e. other (let x : ◌≡◌ {A = Result _ Trouble} (Err c.in-Err.trouble) (Err trouble.Device) = e in cc)) cached)
+    (λ x stands. c.publish.ensures.paid x cached stands (omega (arith, c.requires.room)))
 
 pub returns-clause-end : goal.returns-clause-end
 returns-clause-end g c = λ cached.
@@ -59,6 +61,14 @@ returns-clause-end g c = λ cached.
     renews (g.D.Disk.view c.args.disk.now) (g.D.Disk.view c.publish.new.disk) (g.D.Disk.view c.carry_out.new.disk) c.args.held.now c.publish.new.held c.carry_out.new.held cached c.carry_out.result
     (omega (arith, c.requires.room, kept.log.mem)) c.in_default.ensures.found.0 c.in_default.ensures.found.1 (c.carry_out.ensures.end cached) c.carry_out.ensures.same.2
     (c.in_default.ensures.end (λ e. absurd (cc)) cached)
+    (λ x stands paid.
+    let u = g.D.Disk.view c.publish.new.disk in
+    let v = g.D.Disk.view c.args.disk.now in
+    let p = c.in_default.ensures.ok x cached stands in
+    let first = c.publish.ensures.paid x cached stands (omega (arith, c.requires.room)) paid in
+    paid_then u (g.D.Disk.view c.carry_out.new.disk) v.moment c.carry_out.ensures.time first
+    (c.carry_out.ensures.paid p.after cached p.stands (paid_now u v.moment p.after p.stands.stands c.publish.ensures.time.later first)))
+    (λ x stands. c.in_default.ensures.counted x cached stands)
 
 pub returns-in-Err-clause-same : goal.returns-in-Err-clause-same
 returns-in-Err-clause-same g c = (c.publish.ensures.same.0, λ e. absurd (cc), troubled c.in-Err.trouble c.refusal_of.result c.refusal_of.ensures.ok)

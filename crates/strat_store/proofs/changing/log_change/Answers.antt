@@ -1,5 +1,5 @@
 use Rattle.strat_standing.specs.Appending.{AppendsBatch}
-use Rattle.strat_store.proofs.LoggingLemmas.{logged_agrees, logged_trail, logged_stands}
+use Rattle.strat_store.proofs.LoggingLemmas.{logged_agrees, logged_paid, logged_trail, logged_stands}
 use Rattle.strat_store.proofs.changing.log_change.Given.{Over}
 use Rattle.strat_store.proofs.changing.log_change.Goals as goal
 use Rattle.strat_store.proofs.changing.log_change.Goals.{After-append}
@@ -27,3 +27,13 @@ pub returns-clause-same : goal.returns-clause-same
 returns-clause-same g c x stands of =
     logged_agrees _ (g.D.Disk.view c.append.new.disk) x c.args.journal.now c.add.new.self _ stands of c.requires.none c.add.ensures.ok
     c.requires.fits c.requires.room c.in_ok-append.ensures.durable
+
+pub returns-in_err-append-clause-paid : goal.returns-in_err-append-clause-paid
+returns-in_err-append-clause-paid g c x stands of takes =
+    logged_paid _ (g.D.Disk.view c.append.new.disk) x c.args.journal.now c.add.new.self _ stands of c.requires.none c.add.ensures.ok takes
+    (appends g (goal.at.returns-in_err-append-clause-paid g c).After-append)
+
+pub returns-clause-paid : goal.returns-clause-paid
+returns-clause-paid g c x stands of takes =
+    logged_paid _ (g.D.Disk.view c.append.new.disk) x c.args.journal.now c.add.new.self _ stands of c.requires.none c.add.ensures.ok takes
+    (appends g (goal.at.returns-clause-paid g c).After-append)

@@ -14,10 +14,12 @@ use Rattle.strat_standing.specs.Standing.{ShowsTable}
 use Rattle.strat_store.specs.Applying.{IsPublishedAs}
 use Rattle.strat_store.specs.Held.{Held, IsConsistent, IsOnDisk}
 use Rattle.strat_store.specs.Memory.{Memory, emptied}
+use Rattle.strat_store.specs.Paying.{CountsWritten}
 use Rattle.strat_store.specs.Publishing.{is_in_front}
 use Rattle.strat_store.specs.Recovering.{held_of, empty_cache, chained_of}
 use Rattle.strat_store.proofs.SettlingLemmas.{unwritten}
 use Rattle.strat_store.proofs.OnDiskLemmas.{kept_on, beside_on, published_on}
+use Rattle.strat_store.proofs.PayingLemmas.{paid_beside, paid_then, counts_next}
 use Rattle.strat_store.proofs.SettledLemmas.{consistent_ready, stands_ready, damaged_ready, trail_beside, stands_beside, arrays_kept, one_trail, published_after, published_as, consistent_next, none_damaged}
 use Rattle.strat_store.proofs.publication.publish.Goals as goal
 
@@ -175,3 +177,44 @@ returns-in_err-settle-clause-same g c = (
   on_err c.from_residual-in_err-settle.result _
       (λ cached. let same = c.in_err-settle.ensures.err cached in record { slot = same.slot; sb = same.sb; chained = same.chained; levels = same.levels }),
 )
+
+pub returns-in_err-prepare-clause-paid : goal.returns-in_err-prepare-clause-paid
+returns-in_err-prepare-clause-paid g c = λ x cached stands full paid.
+    let v = g.D.Disk.view c.args.disk.now in
+    paid_beside v v (held_of c.args.held.now cached) x stands (unwritten v (held_of c.args.held.now cached)) paid
+
+pub returns-in_err-next-clause-paid : goal.returns-in_err-next-clause-paid
+returns-in_err-next-clause-paid g c = λ x cached stands full paid.
+    let v = g.D.Disk.view c.args.disk.now in
+    let mid = record c.args.held.now { memory = c.prepare.new.self } in
+    paid_beside v (g.D.Disk.view c.prepare_next.new.disk) (held_of mid cached) x (stands_ready v (held_of c.args.held.now cached) x c.prepare.new.self stands) (c.prepare_next.ensures.images cached) paid
+
+pub returns-in_err-settle-clause-paid : goal.returns-in_err-settle-clause-paid
+returns-in_err-settle-clause-paid g c = λ x cached stands full paid.
+    let v = g.D.Disk.view c.args.disk.now in
+    let mid = record c.args.held.now { memory = c.prepare.new.self } in
+    let here = stands_ready v (held_of c.args.held.now cached) x c.prepare.new.self stands in
+    let ready = c.in_ok-next.ensures.ok x cached here in
+    paid_then (g.D.Disk.view c.prepare_next.new.disk) (g.D.Disk.view c.settle.new.disk) v.moment c.settle.ensures.time
+    (paid_beside v (g.D.Disk.view c.prepare_next.new.disk) (held_of mid cached) x here (c.prepare_next.ensures.images cached) paid)
+    (c.settle.ensures.paid x _ ready.computed paid (ready.paid paid full))
+
+pub returns-clause-paid : goal.returns-clause-paid
+returns-clause-paid g c = λ x cached stands full paid.
+    let v = g.D.Disk.view c.args.disk.now in
+    let mid = record c.args.held.now { memory = c.prepare.new.self } in
+    let here = stands_ready v (held_of c.args.held.now cached) x c.prepare.new.self stands in
+    let ready = c.in_ok-next.ensures.ok x cached here in
+    paid_then (g.D.Disk.view c.prepare_next.new.disk) (g.D.Disk.view c.settle.new.disk) v.moment c.settle.ensures.time
+    (paid_beside v (g.D.Disk.view c.prepare_next.new.disk) (held_of mid cached) x here (c.prepare_next.ensures.images cached) paid)
+    (c.settle.ensures.paid x _ ready.computed paid (ready.paid paid full))
+
+pub returns-clause-counted : goal.returns-clause-counted
+returns-clause-counted g c = λ x cached stands.
+    let v = g.D.Disk.view c.args.disk.now in
+    let mid = record c.args.held.now { memory = c.prepare.new.self } in
+    let here = stands_ready v (held_of c.args.held.now cached) x c.prepare.new.self stands in
+    let whole = consistent_ready (held_of c.args.held.now cached) (Some c.args.held.now.sb.mem) c.prepare.new.self c.in_ok-prepare.ensures.ok (c.requires.kept cached) in
+    let next = c.in_ok-next.next in
+    subst (λ (h : Held). CountsWritten (manifest_of c.args.held.now.published.manifest) h.chained.manifest) (sym (c.in_ok-settle.ensures.ok cached))
+    (counts_next (g.D.Disk.view c.prepare_next.new.disk) (held_of mid cached) x whole here.held (super_of next.sb) (chained_of next.published) (c.in_ok-next.ensures.ok x cached here))

@@ -5,7 +5,7 @@ use Rattle.strat_crash.proofs.BlockLemmas.{reads_tear_none, blocks_trans}
 use Rattle.strat_format.specs.Layout.{region_at}
 use Rattle.strat_store.specs.Publishing.{is_in_front}
 use Rattle.strat_store.proofs.OnDiskLemmas.{laid_superblock}
-use Rattle.strat_store.proofs.PublishingLemmas.{synced_trail, next_of, lay_trail, turn_trail, turn_stands, torn_in_front, gate_in_front, slot_in_front}
+use Rattle.strat_store.proofs.PublishingLemmas.{synced_trail, synced_paid, next_of, lay_trail, lay_paid, turn_trail, turn_paid, turn_stands, torn_in_front, gate_in_front, slot_in_front}
 use Rattle.strat_store.proofs.publishing.lay_next.Given.{Over}
 use Rattle.strat_store.proofs.publishing.lay_next.Goals.{After-sync_written, After-lay, After-turn}
 use Rattle.strat_store.proofs.publishing.lay_next.Goals as goal
@@ -70,3 +70,21 @@ pub returns-clause-end : goal.returns-clause-end
 returns-clause-end g c few =
     laid_superblock _ (g.D.Disk.view c.sync_written.new.disk) (g.D.Disk.view c.lay.new.disk) _ c.args.slot _ c.args.journal.now.mem c.args.journal.now.active c.requires.fits.0
     (synced g (goal.at.returns-clause-end g c).After-sync_written) c.in_ok-sync_written.ensures.ok c.lay.ensures.images c.lay.ensures.time c.in_ok-lay.ensures.found c.turn.ensures.images c.turn.ensures.time few
+
+pub returns-in_err-sync_written-clause-paid : goal.returns-in_err-sync_written-clause-paid
+returns-in_err-sync_written-clause-paid g c old new computed was is = synced_paid _ (g.D.Disk.view c.sync_written.new.disk) _ _ _ old new computed (synced g (goal.at.returns-in_err-sync_written-clause-paid g c).After-sync_written) was
+
+pub returns-in_err-lay-clause-paid : goal.returns-in_err-lay-clause-paid
+returns-in_err-lay-clause-paid g c old new computed =
+    lay_paid _ (g.D.Disk.view c.sync_written.new.disk) _ _ _ old new computed (synced g (goal.at.returns-in_err-lay-clause-paid g c).After-sync_written) c.in_ok-sync_written.ensures.ok (g.met.D.Disk.leaves_content c.sync_written.new.disk)
+    _ c.lay.ensures.images c.lay.ensures.time c.lay.ensures.trail
+
+pub returns-in_err-turn-clause-paid : goal.returns-in_err-turn-clause-paid
+returns-in_err-turn-clause-paid g c old new computed =
+    turn_paid _ (g.D.Disk.view c.sync_written.new.disk) _ _ _ old new computed (synced g (goal.at.returns-in_err-turn-clause-paid g c).After-sync_written) c.in_ok-sync_written.ensures.ok (g.met.D.Disk.leaves_content c.sync_written.new.disk)
+    (g.D.Disk.view c.lay.new.disk) c.lay.ensures.images c.lay.ensures.time c.lay.ensures.trail c.in_ok-lay.ensures.durable c.in_ok-lay.ensures.found _ c.turn.ensures.images c.turn.ensures.time
+
+pub returns-clause-paid : goal.returns-clause-paid
+returns-clause-paid g c old new computed =
+    turn_paid _ (g.D.Disk.view c.sync_written.new.disk) _ _ _ old new computed (synced g (goal.at.returns-clause-paid g c).After-sync_written) c.in_ok-sync_written.ensures.ok (g.met.D.Disk.leaves_content c.sync_written.new.disk)
+    (g.D.Disk.view c.lay.new.disk) c.lay.ensures.images c.lay.ensures.time c.lay.ensures.trail c.in_ok-lay.ensures.durable c.in_ok-lay.ensures.found _ c.turn.ensures.images c.turn.ensures.time

@@ -56,6 +56,7 @@ returns-in-None-clause-same g c =
       record {
         looks = λ none. c.look.ensures.same;
         refused = λ d q asks e. absurd (let x : ◌≡◌ {A = Option Change} None (Some d) = sym c.in-None.ensures ∙ asks in cc);
+        cached = λ d asks. absurd (let x : ◌≡◌ {A = Option Change} None (Some d) = sym c.in-None.ensures ∙ asks in cc);
         calm = λ calm. c.look.ensures.same.disk;
       },
       left_cached (g.D.Disk.view c.args.disk.now) (g.D.Disk.view c.look.new.disk) c.args.held.now c.args.cache.now c.look.new.cache _ c.look.result (is_fault c.look.result)

@@ -1,0 +1,122 @@
+-- What a store pays for its arrays, while changes are carried out and published.
+use Rattle.std.proofs.Common.{◌≡◌, ◌≤◌, ◌<◌, ◌+◌, ◌*◌, ℕ, zero, suc, Bool, true, false, cond, leb, inl, inr, ◌⊎◌, List, [], ◌∷◌, ◌++◌, map, filter, flat_map, Contains, Option, None, Some, refl, sym, ap, ◌∙◌, subst, arith, true≢false}
+use Rattle.std.specs.List.{sum_by, range_with_len}
+use Rattle.std.specs.Option.{option_to_list}
+use Rattle.std.proofs.lemmas.Bool.{le-leb, lt-leb}
+use Rattle.std.proofs.lemmas.List.{append-nil}
+use Rattle.std.proofs.lemmas.List.Concat.{flat_map-append}
+use Rattle.std.proofs.lemmas.List.Elements.{filter-append}
+use Rattle.strat_array.proofs.OrderLemmas.{filter_each, filter_none}
+use Rattle.strat_base.proofs.ListFacts.{Among, among_right, among_in_flat, range_among}
+use Rattle.strat_base.specs.Change.{Change}
+use Rattle.strat_base.specs.declared.descriptors.ArrayDesc.{ArrayDesc}
+use Rattle.strat_base.specs.declared.descriptors.LevelDesc.{LevelDesc}
+use Rattle.strat_crash.proofs.MomentLemmas.{each_then}
+use Rattle.strat_crash.specs.Image.{Image}
+use Rattle.strat_crash.specs.Moments.{DiskView, Since, Passes, OnlyReads}
+use Rattle.strat_crash.specs.Trail.{At, Trail}
+use Rattle.strat_format.specs.Chained.{Chained}
+use Rattle.strat_format.specs.Manifest.{Manifest}
+use Rattle.strat_format.specs.SuperBlock.{Super}
+use Rattle.strat_model.specs.Table.{Table}
+use Rattle.strat_plan.proofs.ListLemmas.{among_map}
+use Rattle.strat_recovery.specs.Head.{descriptors}
+use Rattle.strat_standing.proofs.FreeLemmas.{free_reads}
+use Rattle.strat_standing.proofs.ListLemmas.{contained_among, among_contained}
+use Rattle.strat_standing.proofs.PartsLemmas.{reads_state}
+use Rattle.strat_standing.specs.Appending.{with_batch}
+use Rattle.strat_standing.specs.Contents.{Contents, contents_state}
+use Rattle.strat_standing.specs.Next.{arrays_made}
+use Rattle.strat_standing.specs.Standing.{ReadsAs, ShowsTable, ContentsStand}
+use Rattle.strat_state.proofs.SpaceLemmas.{stored_twice}
+use Rattle.strat_state.specs.State.{State, IsPaid, stored, updates_of}
+use Rattle.strat_store.proofs.GettingLemmas.{whole_read}
+use Rattle.strat_store.proofs.SettledLemmas.{free_here, next_arrays}
+use Rattle.strat_store.proofs.SettlingLemmas.{listed_arrays}
+use Rattle.strat_store.specs.Held.{Held, IsConsistent, StandsWith, contents_held}
+use Rattle.strat_store.specs.Paying.{IsPaidIn, ArePaidSince, StoreTwoSince, CountsWritten}
+use Rattle.strat_store.specs.Settling.{WritesBeside, IsReadied}
+
+-- an image of contents whose state is paid for
+pub paid_as : (c : Image) (x : Contents) → ReadsAs c x → IsPaid (contents_state x) → IsPaidIn c
+paid_as c x r paid s reads =
+    let e : Some (contents_state x) ≡ Some s = sym (reads_state c x r) ∙ reads in
+    let same : contents_state x ≡ s = cc in
+    subst IsPaid same paid
+
+-- changes that join a journal cost nothing
+pub paid_appended : (x : Contents) (cs : List Change) → IsPaid (contents_state x) → IsPaid (contents_state (with_batch x cs))
+paid_appended x cs paid = record { shallow = paid.shallow; bounded = paid.bounded }
+
+-- a call and then another
+pub paid_then : (mid new : DiskView) (start : ℕ) → Passes mid new → ArePaidSince mid start → ArePaidSince new mid.moment → ArePaidSince new start
+paid_then mid new start passes first second = each_then mid new start IsPaidIn passes first second
+
+-- the contents that stand on a disk whose images are paid for
+pub paid_now : (v : DiskView) (start : ℕ) (x : Contents) → ContentsStand v x → start ≤ v.moment → ArePaidSince v start → IsPaid (contents_state x)
+paid_now v start x stands later all =
+    all stands.content (record { at = v.moment; from = later; till = omega arith; left = stands.left }) (contents_state x) (reads_state stands.content x (stands.reads stands.content stands.left))
+
+-- while a disk is only read
+pub paid_reads : (v w : DiskView) (x : Contents) → ContentsStand v x → OnlyReads v w → IsPaid (contents_state x) → ArePaidSince w v.moment
+paid_reads v w x stands reads paid c since = paid_as c x (stands.reads c (reads.images.each c since)) paid
+
+-- and while free blocks are written
+pub paid_beside : (v w : DiskView) (s : Held) (x : Contents) → StandsWith v s x → WritesBeside v w s → IsPaid (contents_state x) → ArePaidSince w v.moment
+paid_beside v w s x stands beside paid c since =
+    paid_as c x (free_reads beside.free x (free_here v w s x stands beside) v w beside.tears stands.stands.reads c since) paid
+
+-- a table that an image shows at some place of a list
+some_at : (tables : List Table) (i : ℕ) (c : Image) → At tables i (ShowsTable c) → (t : Table) × ShowsTable c t
+some_at [] i c at = absurd at
+some_at (t ∷ tables) zero c at = (t, at)
+some_at (t ∷ tables) (suc i) c at = some_at tables i c at
+
+-- on a trail each image stores at most two entries for each update
+pub stored_since : (v : DiskView) (start : ℕ) (tables : List Table) (n : ℕ) → Trail ShowsTable v start tables n → StoreTwoSince v start
+stored_since v start tables n trail c since s reads =
+    let from : start ≤ since.at = since.from in
+    let low : trail.mark 0 ≤ since.at = omega (arith, trail.first, from) in
+    let place = trail.each 0 since.at c (omega arith) low since.till since.left in
+    let shows = some_at tables place.0 c place.2 in
+    let e : Some shows.1.state ≡ Some s = sym shows.1.reads ∙ reads in
+    let same : shows.1.state ≡ s = cc in
+    subst (λ (q : State). stored q ≤ 2 * updates_of q) same (stored_twice shows.1.state shows.1.sound)
+
+-- the arrays of a level that was made, as a list of levels has them
+arrays_of_made : (made : Option LevelDesc) → flat_map (λ (l : LevelDesc). l.arrays) (option_to_list made) ≡ arrays_made made
+arrays_of_made None = refl
+arrays_of_made (Some level) = append-nil level.arrays
+
+-- the next manifest counts what was written
+pub counts_next : (w : DiskView) (s : Held) (x : Contents) → IsConsistent s → x ≡ contents_held s x.levels → (sb : Super) (chained : Chained) → IsReadied w s x sb chained → CountsWritten s.chained.manifest chained.manifest
+counts_next w s x whole held sb chained ready =
+    let c = ready.computed in
+    let next = c.next.next in
+    let n : ℕ = s.chained.manifest.next_array in
+    let arrays : LevelDesc → List ArrayDesc = λ l. l.arrays in
+    let is_new : ArrayDesc → Bool = λ a. leb n a.id in
+    let made : List ArrayDesc = arrays_made c.made in
+    let rest : List ArrayDesc = flat_map arrays c.kept in
+    let same : x.chained.manifest ≡ s.chained.manifest = ap (λ (y : Contents). y.chained.manifest) held in
+    let listed : descriptors chained.manifest ≡ made ++ rest =
+    ap (flat_map arrays) next.levels_are ∙ flat_map-append arrays (option_to_list c.made) c.kept ∙ ap (λ (l : List ArrayDesc). l ++ rest) (arrays_of_made c.made) in
+    let low : (a : ArrayDesc) → Among a rest → is_new a ≡ false = λ a of.
+    let levels : c.taken ++ c.kept ≡ s.chained.manifest.levels = sym next.levels_were ∙ ap (λ (m : Manifest). m.levels) same in
+    let there : Among a (descriptors s.chained.manifest) =
+    subst (λ (ls : List LevelDesc). Among a (flat_map arrays ls)) levels
+    (subst (Among a) (sym (flat_map-append arrays c.taken c.kept)) (among_right (flat_map arrays c.taken) rest a of)) in
+    lt-leb a.id n ((whole_read s whole).few a (subst (λ (rs : List ArrayDesc). Contains rs a) (sym (listed_arrays s whole.placed)) (among_contained (descriptors s.chained.manifest) a there))) in
+    let high : (a : ArrayDesc) → Among a made → is_new a ≡ true = λ a of.
+    let there : Among a.id (map (λ (d : ArrayDesc). d.id) made) = among_map (λ (d : ArrayDesc). d.id) made a of in
+    let from = (range_among x.chained.manifest.next_array (length made) a.id (subst (Among a.id) c.next.fresh.numbered there)).0 in
+    le-leb n a.id (omega (arith, from, ap (λ (m : Manifest). m.next_array) same)) in
+    let chosen : filter is_new (descriptors chained.manifest) ≡ made =
+    ap (filter is_new) listed ∙ filter-append is_new made rest ∙ (λ i. filter_each is_new made high i ++ filter_none is_new rest low i) ∙ append-nil made in
+    record {
+      raised = next.written ∙ (λ i. (same i).written + sum_by (λ (a : ArrayDesc). a.entries) (sym chosen i));
+      others = λ a of old. elim (next_arrays w s x held sb chained ready a (contained_among (descriptors chained.manifest) a of)) [
+        | inl new ↦ absurd (omega (arith, new, old))
+        | inr was ↦ among_contained (descriptors s.chained.manifest) a was
+      ];
+    }
