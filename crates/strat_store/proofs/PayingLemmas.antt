@@ -1,5 +1,5 @@
 -- What a store pays for its arrays, while changes are carried out and published.
-use Rattle.std.proofs.Common.{◌≡◌, ◌≤◌, ◌<◌, ◌+◌, ◌*◌, ℕ, zero, suc, Bool, true, false, cond, leb, inl, inr, ◌⊎◌, List, [], ◌∷◌, ◌++◌, map, filter, flat_map, Contains, Option, None, Some, refl, sym, ap, ◌∙◌, subst, arith, true≢false}
+use Rattle.std.proofs.Common.{◌≡◌, ◌≤◌, ◌<◌, ◌+◌, ◌*◌, ℕ, zero, suc, Bool, true, false, cond, leb, inl, inr, ◌⊎◌, List, [], ◌∷◌, ◌++◌, map, filter, flat_map, Contains, Option, None, Some, refl, sym, ap, ◌∙◌, subst, arith, true≢false, length}
 use Rattle.std.specs.List.{sum_by, range_with_len}
 use Rattle.std.specs.Option.{option_to_list}
 use Rattle.std.proofs.lemmas.Bool.{le-leb, lt-leb}
@@ -106,7 +106,7 @@ counts_next w s x whole held sb chained ready =
     let there : Among a (descriptors s.chained.manifest) =
     subst (λ (ls : List LevelDesc). Among a (flat_map arrays ls)) levels
     (subst (Among a) (sym (flat_map-append arrays c.taken c.kept)) (among_right (flat_map arrays c.taken) rest a of)) in
-    lt-leb a.id n ((whole_read s whole).few a (subst (λ (rs : List ArrayDesc). Contains rs a) (sym (listed_arrays s whole.placed)) (among_contained (descriptors s.chained.manifest) a there))) in
+    lt-leb n a.id ((whole_read s whole).few a (subst (λ (rs : List ArrayDesc). Contains rs a) (sym (listed_arrays s whole.placed)) (among_contained (descriptors s.chained.manifest) a there))) in
     let high : (a : ArrayDesc) → Among a made → is_new a ≡ true = λ a of.
     let there : Among a.id (map (λ (d : ArrayDesc). d.id) made) = among_map (λ (d : ArrayDesc). d.id) made a of in
     let from = (range_among x.chained.manifest.next_array (length made) a.id (subst (Among a.id) c.next.fresh.numbered there)).0 in

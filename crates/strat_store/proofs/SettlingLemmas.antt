@@ -1,5 +1,5 @@
 -- A publication of a store: what is written beside it, and what then takes its place.
-use Rattle.std.proofs.Common.{◌≡◌, ◌<◌, ◌-◌, ℕ, false, inr, List, [], length, Contains, flat_map, Option, refl, sym, ap, ◌∙◌, subst}
+use Rattle.std.proofs.Common.{◌≡◌, ◌<◌, ◌-◌, ℕ, false, inr, List, [], length, Contains, flat_map, Option, refl, sym, ap, ◌∙◌, subst, arith}
 use Rattle.std.proofs.lemmas.List.Elements.{Contains-append_right}
 use Rattle.strat_array.specs.Taking.{AreUsed}
 use Rattle.strat_base.specs.declared.descriptors.ArrayDesc.{ArrayDesc}

@@ -261,7 +261,8 @@ impl Store {
             (request_of command.now) (as_told result out.new) }
         ensures kept { (self.new.spent ≡ is_fault result)
             × (self.new.spent ≡ false → IsConsistent self.new) }
-        ensures len { result ≡ reply.Found → length out.new ≡ 1 }
+        ensures len { (result ≡ reply.Found → length out.new ≡ 1)
+            × (length self.new.cached.entries ≤ self.new.cached.cap) }
         ensures same { (self.new.sb.mem ≡ self.old.sb.mem)
             × IsUntouched (D.view disk.old) (D.view disk.new) (request_of command.now)
             self.old result self.new
@@ -288,6 +289,8 @@ impl Store {
             out,
         );
         self.spent = is_fault(told);
+        // A cache says with its count that it keeps no more blocks than it may.
+        let _ = self.cache.len();
         told
     }
 
