@@ -113,7 +113,8 @@ fn say_summary<D: Disk>(
 /// the line that says so was written. NotAStore, Device, NoMemory: nothing was written. Sink: the front of it was.
 /// O(versions + changes of the journal + arrays and versions of their tags), beside what `read_store` says.
 pub fn write_levels<K: Sink, D: Disk>(alloc: Global, disk: &mut D, sink: &mut K) -> Ended
-    ensures ok { WritesReport levels_text (D.view disk.old) result (K.held sink.old) (K.held sink.new) }
+    ensures ok { WritesReport levels_text (D.view disk.old) result
+        (K.held sink.old) (K.held sink.new) }
     ensures found { ¬ Rose (D.faults disk.old) (D.faults disk.new)
         → ¬ Rose (K.faults sink.old) (K.faults sink.new)
         → (f : Image) → Exposes (D.view disk.old) f
