@@ -9,7 +9,8 @@ import formats
 import model
 from model import CLONE, DELETE, PUT
 
-MEM, CHANGES_MAX, VERSIONS_MAX = 64, 2 ** 24, 2 ** 14  # the limits of the store that the job `workload` makes
+MEM = 64
+LIMITS = MEM, 2 ** 24, 2 ** 14  # M, C and V of the store that the job `workload` makes
 BRANCHED = 128  # as many versions as it makes
 FACTOR, STEP = 6364136223846793005, 1442695040888963407
 
@@ -53,7 +54,7 @@ def frames(seed, count):
 
 def store_after(made):
     """The model of a store of the workload's limits that took these changes, none of which it refuses."""
-    store = model.Store(MEM, CHANGES_MAX, VERSIONS_MAX)
+    store = model.Store(*LIMITS)
     for change in made:
         if store.refusal(*change[:2]) is not None:
             raise ValueError(f"the model refuses {change}")
@@ -75,3 +76,23 @@ def summary_text(seed, contents):
     yield f"levels {len(manifest.levels)} arrays {len(arrays)} stored {stored} written {manifest.written}"
     least = min(arrays, key=lambda array: fractions.Fraction(array.least, array.entries), default=None)
     yield f"density {least.least}/{least.entries}" if least else "density none"
+
+
+# What is promised
+
+def deep(mem, count):
+    """The level of least number that would hold so many leads; an entry moves to no deeper one."""
+    return next(number for number in range(1, formats.LEVELS + 1) if mem << number >= count)
+
+
+def beyond_bounds(contents):
+    """Where a store's levels and what was written go beyond what is promised."""
+    head, manifest, journal = contents.head, contents.manifest, contents.journal
+    count, arrays = manifest.changes + len(journal), formats.arrays_of(manifest)
+    updates = sum(change[0] != CLONE for change, _ in journal)
+    if sum(array.entries for array in arrays) + updates > 2 * (manifest.updates + updates):
+        yield "more entries are stored than two for each update"
+    if any(3 * array.least < array.entries for array in arrays):
+        yield "less than a third of an array is live"
+    if manifest.written > 4 * deep(head.mem, count) * count:
+        yield "more entries were written than four for each change and level"
