@@ -12,6 +12,7 @@ import fcntl
 import itertools
 import os
 import pathlib
+import pty
 import random
 import re
 import resource
@@ -644,8 +645,12 @@ def a_program_that_may_open_no_file_touches_none(folder):
 def the_launcher_passes_words_input_and_status_on(folder):
     for data in (PUT_A + GET_A, hexed("00000801"), PUT_A[:-1]):
         StoreFile(folder).expect_served("through the launcher", [data], program=LAUNCHER)
-    ran = subprocess.run([LAUNCHER], stdin=subprocess.DEVNULL, capture_output=True, timeout=DEADLINE)
-    expect("no words", (ran.stdout, ran.returncode, ran.stderr), (b"", 1, complaint(1)))
+    path = StoreFile(folder).path
+    for words, want in (([], (b"", 1, complaint(1))), (["levels", path], (*formats.levels_printed(bytes_of(path)), b"")),
+                        (["levels", os.path.join(folder, "absent")], (b"", 2, complaint(2))),
+                        (["workload", path, "1", "1000001"], (b"", 1, complaint(1)))):
+        ran = subprocess.run([LAUNCHER, *words], stdin=subprocess.DEVNULL, capture_output=True, timeout=DEADLINE)
+        expect(f"{words}", (ran.stdout, ran.returncode, ran.stderr), want)
 
 
 def the_launcher_refuses_a_file_that_is_a_standard_stream(folder):
@@ -657,6 +662,7 @@ def the_launcher_refuses_a_file_that_is_a_standard_stream(folder):
         (["serve", linked], f"<>{store.path} >/dev/null", "input"),
         (["format", store.path, "4", "100", "10"], f"1<>{linked}", "output"),
         (["format", linked, "4", "100", "10"], f"<{store.path}", "input"),
+        (["levels", store.path], f">>{linked}", "output"), (["workload", store.path, "1", "10"], f">>{store.path}", "output"),
     ):
         ran = subprocess.run(["/bin/sh", "-c", f'"$@" {redirected}', "sh", LAUNCHER, *words], input=PUT_A,
                              capture_output=True, timeout=DEADLINE)
@@ -914,6 +920,32 @@ def worked(path, seed, count, deadline=DEADLINE):
     return out.decode()
 
 
+def at_a_terminal(words, deadline):
+    """Output and status of a run whose complaints go to a terminal, and what that gets to show."""
+    own, other = pty.openpty()
+    shown = []
+
+    def read_on():
+        try:
+            for piece in iter(lambda: os.read(own, 4096), b""):
+                shown.append(piece)
+        except OSError:
+            pass  # nobody has the terminal any more
+
+    reader = threading.Thread(target=read_on)
+    with subprocess.Popen(words, stdin=subprocess.DEVNULL, stdout=subprocess.PIPE, stderr=other) as child:
+        os.close(other)
+        reader.start()
+        try:
+            out, _ = child.communicate(timeout=deadline)
+        except subprocess.TimeoutExpired:
+            child.kill()
+            raise
+    reader.join()
+    os.close(own)
+    return out, child.returncode, b"".join(shown)
+
+
 def text_of(lines):
     return "".join(f"{line}\n" for line in lines)
 
@@ -981,8 +1013,10 @@ def a_workload_of_200_000_changes_keeps_its_bounds(folder):
     memory = "/dev/shm" if os.access("/dev/shm", os.W_OK) else folder
     with tempfile.TemporaryDirectory(dir=memory) as place:
         store = StoreFile(place)
-        text = worked(store.path, 3, 200_000, 1200)
-        expect_bounded("200,000", store.path, 3, text)
+        # the launcher shows meanwhile how far it is
+        out, status, shown = at_a_terminal([LAUNCHER, "workload", store.path, "3", "200000"], 1200)
+        expect("200,000", (status, re.sub(rb"\r\x1b\[K(castle: \d+ MB\r)?", b"", shown)), (0, b""))
+        expect_bounded("200,000", store.path, 3, out.decode())
         store.model = workloads.store_after(workloads.changes(3, 200_000))
         expect_alike("200,000", formats.opened(bytes_of(store.path))[1], store.model)
         store.expect_answers("200,000, served", [*every_pair(store.model), stat(1)])
