@@ -1771,8 +1771,17 @@ def the_bench_finds_both_stores_alike(folder):
     expect("its status", (ran.returncode, ran.stderr.count(b"\n")), (0, 8))
     titles = re.findall(rb"^### `(\w+)`", ran.stdout, re.MULTILINE)
     expect("its tables", titles, [b"puts", b"chain", b"sparse", b"star"])
+    expect("its scans", ran.stdout.count("| µs a scan of 100 | µs a pair, whole version |".encode()), 4)
     rows = re.findall(rb"^\| (40|80) \| (castle|SQLite) \|", ran.stdout, re.MULTILINE)
     expect("its rows", rows, [(b"40", b"castle"), (b"40", b"SQLite"), (b"80", b"castle"), (b"80", b"SQLite")] * 4)
+
+
+def the_wear_is_within_its_bounds(folder):
+    ran = subprocess.run([sys.executable, str(TOP / "bench" / "wear"), "--counts", "100,2000", "--folder", folder],
+                         capture_output=True, timeout=60)
+    expect("its status", (ran.returncode, ran.stderr.count(b"\n")), (0, 2))
+    rows = re.findall(rb"^\| (100|2,000) \| ([\d.]+) \| (\d+) \| ([\d.]+) \| 2 \|", ran.stdout, re.MULTILINE)
+    expect("its rows", rows, [(b"100", b"0.54", b"4", b"0.91"), (b"2,000", b"3.55", b"20", b"1.19")])
 
 
 CHECKS = [
@@ -1845,6 +1854,7 @@ CHECKS = [
     a_folder_or_file_without_leave_is_a_device_fault,
     a_full_device_is_a_device_fault,
     the_bench_finds_both_stores_alike,
+    the_wear_is_within_its_bounds,
 ]
 
 
