@@ -145,7 +145,8 @@ def expect_said(name, data, store):
     """The file opens, breaks no rule of a sound one, and says what the store has."""
     contents = formats.read(data)
     expect(f"{name}, broken rules", list(formats.broken_rules(data, contents)), [])
-    expect(f"{name}, counted in blocks", list(formats.levels_text(formats.recounted(data, contents))), list(formats.levels_text(contents)))
+    counted = formats.recounted(data, contents)
+    expect(f"{name}, counted in blocks", list(formats.levels_text(counted)), list(formats.levels_text(contents)))
     expect_alike(name, formats.store_of(data, contents), store)
     expect_levels(name, data, store)
 
@@ -906,7 +907,8 @@ def outputs_that_fail_end_a_report(folder):
         ran = subprocess.run([PROGRAM, *words], stdout=output, stderr=subprocess.PIPE, timeout=DEADLINE, preexec_fn=limited)
     expect("a full output", (ran.returncode, ran.stderr, bytes_of(taken)), (7, complaint(7), DISTINCT[2].lstrip()[:20].encode()))
     path = os.path.join(folder, "a.store")
-    ran = subprocess.run(["/bin/sh", "-c", '"$@" >&-', "sh", PROGRAM, "workload", path, "1", "100"], capture_output=True, timeout=DEADLINE)
+    ran = subprocess.run(["/bin/sh", "-c", '"$@" >&-', "sh", PROGRAM, "workload", path, "1", "100"], capture_output=True,
+                         timeout=DEADLINE)
     expect("a closed output of workload", (ran.returncode, ran.stderr), (7, complaint(7)))
     expect_said("a closed output of workload, the file", bytes_of(path), workloads.store_after(workloads.changes(1, 100)))
 
@@ -1410,7 +1412,7 @@ def a_killed_run_loses_nothing_that_it_acknowledged(folder):
 
 
 def expect_opened(name, path, data):
-    """Serves a file with these bytes, and has its levels told: as the model does, or with a named status and every byte as it was."""
+    """Has the levels of a file with these bytes told, and serves it: as the model does, or with a named status and its bytes as they were."""
     with open(path, "wb") as file:
         file.write(data)
     expect_told(name, path)

@@ -19,6 +19,6 @@ from .names import Names
 from .store import Difference, Store
 from .view import VersionView
 
-__all__ = ["Array", "Batch", "CastleError", "Difference", "Ended", "Info", "Level", "Levels", "Names", "Refused", "Stat", "Store",
-           "VersionView"]
+__all__ = ["Array", "Batch", "CastleError", "Difference", "Ended", "Info", "Level", "Levels", "Names", "Refused", "Stat",
+           "Store", "VersionView"]
 __version__ = "0.1.0"

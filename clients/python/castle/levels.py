@@ -11,7 +11,7 @@ from .text import counted
 
 
 class Array(NamedTuple):
-    """A sorted run of entries, which some versions are read from. An entry is a key's value, or that it has none, as of a version."""
+    """A sorted run of entries, which some versions are read from. An entry is a key's value, or that it has none."""
 
     id: int
     entries: int
@@ -94,19 +94,24 @@ def _array(line: str) -> Array:
 
 def read(text: str) -> Levels:
     """The levels of which the program printed this. A ValueError tells that it prints no such text."""
-    store, journal, *middle, stored, end = text.split("\n") if text.count("\n") > 2 else 4 * ["-"]
-    found: List[Tuple[List[int], List[Array]]] = []
+    store, journal, *middle, last, end = text.split("\n") if text.count("\n") > 2 else 4 * ["-"]
+    if end:
+        raise ValueError("it ends amid a line")
+    found: List[Tuple[Level, List[Array]]] = []
     for line in middle:
         if line.startswith("level "):
-            found.append((_numbers(LEVEL, line), []))
+            number, horizon, leads, entries = _numbers(LEVEL, line)
+            found.append((Level(number, horizon, leads, entries, ()), []))
         elif found:
             found[-1][1].append(_array(line))
         else:
             raise ValueError("an array stands in front of the levels")
-    if end:
-        raise ValueError("it ends amid a line")
-    levels = tuple(Level(*numbers, tuple(arrays)) for numbers, arrays in found)
-    return Levels(*_numbers(STORE, store), *_numbers(JOURNAL, journal), levels, *_numbers(STORED, stored))
+    generation, mem, changes, changes_max, versions, versions_max = _numbers(STORE, store)
+    journal_changes, journal_updates = _numbers(JOURNAL, journal)
+    stored, updates, written = _numbers(STORED, last)
+    levels = tuple(level._replace(arrays=tuple(arrays)) for level, arrays in found)
+    return Levels(generation, mem, changes, changes_max, versions, versions_max, journal_changes, journal_updates, levels,
+                  stored, updates, written)
 
 
 # Text
@@ -143,8 +148,8 @@ def _bar(array: Array, most: int) -> str:
 
 def heading(levels: Levels) -> str:
     """A store in one line."""
-    return (f"generation {levels.generation:,}, M {levels.mem:,}, {levels.changes:,} of {counted(levels.changes_max, 'change')}, "
-            f"{levels.versions:,} of {counted(levels.versions_max, 'version')}")
+    return (f"generation {levels.generation:,}, M {levels.mem:,}, {levels.changes:,} of "
+            f"{counted(levels.changes_max, 'change')}, {levels.versions:,} of {counted(levels.versions_max, 'version')}")
 
 
 def lines(levels: Levels) -> Iterator[str]:
@@ -171,7 +176,8 @@ LIGHT, DARK = (236, 247, 240), (95, 180, 135)  # the shades of the densities 1/3
 LEVEL_STYLE = STYLE + """  .array { stroke: #2f8f5b; stroke-width: 1; }
   .within { font-size: 11px; }
 """
-LEGEND = "a row is a level, a box an array, as wide as it has entries; the greener it is, the denser, from a third to all of them live"
+LEGEND = ("a row is a level, a box an array, as wide as it has entries; the greener it is, the denser, "
+          "from a third to all of them live")
 
 
 def svg(levels: Levels, title: str) -> Iterator[str]:
@@ -179,12 +185,14 @@ def svg(levels: Levels, title: str) -> Iterator[str]:
     most = max([level.entries for level in levels.levels] + [levels.journal_updates, 1])
     rows = [[max(THIN, BARS * array.entries / most) for array in level.arrays] for level in levels.levels]
     width = MARGIN + LABEL + max([sum(row) for row in rows] + [BARS]) + MARGIN
-    yield from opened(width, HEADING + 3 * MARGIN + (len(rows) + 1) * ROW, f"{title}: {heading(levels)}", LEGEND, LEVEL_STYLE)
+    height = HEADING + 3 * MARGIN + (len(rows) + 1) * ROW
+    yield from opened(width, height, f"{title}: {heading(levels)}", LEGEND, LEVEL_STYLE)
     top = HEADING + MARGIN + (ROW - BOX) / 2
     yield from _label("journal", counted(levels.journal_changes, "change"), top)
     if levels.journal_updates:
         wide = max(THIN, BARS * levels.journal_updates / most)
-        yield from _box(MARGIN + LABEL, top, wide, 'class="row"', ("", counted(levels.journal_updates, "update")), "the journal")
+        texts = "", counted(levels.journal_updates, "update")
+        yield from _box(MARGIN + LABEL, top, wide, 'class="row"', texts, "the journal")
     for level, widths in zip(levels.levels, rows):
         top += ROW
         yield from _label(f"level {level.number}", f"{counted(level.leads, 'lead')}, horizon {level.horizon:,}", top)
@@ -224,5 +232,6 @@ def _box(left: float, top: float, width: float, style: str, texts: Tuple[str, st
            f'height="{BOX}" rx="{min(4.0, width / 2):.1f}"/>\n')
     for text, kind, size, down in zip(texts, ("name", "within"), (13, 11), (17, 32)):
         if text and width_of(text, size) <= width - 4:
-            yield f'<text class="{kind}" x="{left + width / 2:.1f}" y="{top + down:.1f}" text-anchor="middle">{escape(text)}</text>\n'
+            yield (f'<text class="{kind}" x="{left + width / 2:.1f}" y="{top + down:.1f}" text-anchor="middle">'
+                   f'{escape(text)}</text>\n')
     yield "</g>\n"
