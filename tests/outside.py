@@ -915,7 +915,7 @@ def outputs_that_fail_end_a_report(folder):
 
 # Workloads
 
-def worked(path, seed, count, deadline=DEADLINE):
+def worked(path, seed, count, deadline=6 * DEADLINE):
     """What the job `workload` prints, which ends well."""
     out, status, errors = run(["workload", path, str(seed), str(count)], deadline)
     expect(f"workload {seed} {count}", (status, errors), (0, b""))
@@ -975,11 +975,11 @@ def workloads_are_as_the_model_has_them(folder):
         store.expect_answers(f"{name}, served", [*every_pair(store.model), stat(1)])
     # the program draws just the frames that the model draws: the same file comes of them
     run(["format", path, *map(str, workloads.LIMITS)])
-    serve(path, [b"".join(workloads.frames(1, 2000))])
+    serve(path, [b"".join(workloads.frames(1, 2000))], deadline=6 * DEADLINE)
     other = os.path.join(folder, "b.store")
     inside, outside = os.pipe()
     os.write(outside, PUT_A)
-    expect("frames", run(["workload", other, "1", "2000"], stdin=inside)[1], 0)
+    expect("frames", run(["workload", other, "1", "2000"], 6 * DEADLINE, stdin=inside)[1], 0)
     expect("frames, the file", bytes_of(other) == bytes_of(path), True)
     expect("frames, input left", os.read(inside, 100), PUT_A)
     os.close(inside)
