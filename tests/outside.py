@@ -1298,6 +1298,39 @@ def each_refusal_of_a_manifest_has_a_file(folder):
         expect_refused(name, path, formats.file_with(1, HEAD, wrong, [9], blocks), 9)
 
 
+def unsound_files():
+    """Files that open: the rules of a sound one that each breaks, its manifest, and the entries in blocks that it has otherwise."""
+    def entry(key, version):
+        return formats.Entry(b"%d" % key, version, b"v")
+
+    above, own, deep = (ENTRIES[block] for block in (7, 8, 10))
+    wide = with_array(DEEP, versions=(0, 1, 2, 3), tree=with_level(TREE, 1, horizon=4))
+    later = with_level(with_array(NEXT, versions=(2,), tree=wide), 0, horizon=3)
+    several = [own[0], above[1], *(entry(key, 2) for key in range(2, 7))]
+    yield "", TREE, {}
+    yield "b", with_array(NEXT, versions=(1, 2)), {}
+    yield "c", with_array(NEXT, entries=1, leads=1, least=1), {8: own[:1]}
+    yield "d", with_array(NEXT, entries=7, leads=6, least=2)._replace(updates=12), {8: several}
+    yield "cefk", with_array(NEXT, entries=3, leads=2, least=3), {8: [*above, entry(2, 1), entry(3, 0)]}
+    yield "cf", with_array(NEXT, entries=3, leads=2, least=3), {8: [*own, entry(2, 0)]}
+    yield "cgm", with_array(NEXT, least=1, extents=((8, 1), (11, 1))), {8: own[:1], 11: own[:1]}
+    yield "ch", with_array(FIRST, entries=9, leads=9, least=9)._replace(updates=13, changes=13), {7: [entry(key, 0) for key in range(9)]}
+    yield "i", with_level(later, 0, arrays=later.levels[0].arrays[1:]), {8: [entry(0, 2), entry(1, 2)]}
+    yield "j", wide, {}
+    for change in ({"entries": 3}, {"leads": 1}, {"least": 1}):
+        yield "k", with_array(FIRST, **change), {}
+    yield "ckl", with_array(FIRST, entries=3), {7: [*above, entry(2, 0)]}
+    yield "m", with_array(DEEP, extents=((11, 1), (10, 1))), {10: deep[:1], 11: deep[1:]}
+
+
+def the_rules_of_a_sound_file_are_checked(folder):
+    for rules, tree, changed in unsound_files():
+        blocks = {block: formats.block_of(entries) for block, entries in {**ENTRIES, **changed}.items()}
+        data = formats.file_of(1, HEAD._replace(changes_max=100), tree, [9], blocks)
+        told = {why[0] for why in formats.broken_rules(data, formats.read(data))}
+        expect(f"rules {rules}", "".join(sorted(told)), rules)
+
+
 def chains_of_a_manifest_are_followed(folder):
     path = os.path.join(folder, "a.store")
     head = formats.new_head(MEM, 100000, 16384)
@@ -1839,6 +1872,7 @@ CHECKS = [
     kills_amid_promotions_lose_nothing,
     damaged_arrays_are_named,
     each_refusal_of_a_manifest_has_a_file,
+    the_rules_of_a_sound_file_are_checked,
     chains_of_a_manifest_are_followed,
     thousands_of_puts_are_kept,
     a_served_store_takes_the_memory_that_is_said,
