@@ -965,7 +965,7 @@ def workloads_are_as_the_model_has_them(folder):
     want = "workload seed 1 changes 0\nversions 1 updates 0 clones 0\nlevels 0 arrays 0 stored 0 written 0\ndensity none\n"
     expect("no changes", worked(path, 1, 0), want)
     expect("no changes, the file", bytes_of(path) == formats.unpublished(workloads.store_after([])), True)
-    for seed, count in ((0, 1), (1, 64), (1, 65), (2, 128), (2 ** 64 - 1, 500), (2 ** 63, 777), (7, 3000), (1, 2000)):
+    for seed, count in ((0, 1), (1557, 6), (1, 64), (1, 65), (2, 128), (2 ** 64 - 1, 500), (2 ** 63, 777), (7, 3000), (1, 2000)):
         name, store, changes = f"seed {seed}, {count}", StoreFile(folder), list(workloads.changes(seed, count))
         store.expect_served(f"{name}, what was there", [PUT_A])
         store.model = workloads.store_after(changes)
