@@ -1,6 +1,6 @@
-"""The program's own workload in plain Python: its frames, drawn from a seed, what a store then has, and the two texts of it.
+"""The program's own workload in plain Python: its frames, drawn from a seed, what a store then has, and the summary of it.
 
-It is written from the formats of workload frames and of texts, and shares no line with the program.
+It is written from docs/FORMATS.md and shares no line with the program. The text of levels is in `tests/formats.py`.
 """
 
 import fractions
