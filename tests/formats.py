@@ -447,7 +447,22 @@ def listed(versions):
     return ",".join(str(first) if first == last else f"{first}-{last}" for first, last in runs)
 
 
+def recounted(data, contents):
+    """The same contents, but that what they say of arrays is counted in the blocks and not taken from the manifest."""
+    manifest, tree = contents.manifest, contents.manifest.parents
+    levels = [level._replace(arrays=tuple(array_recounted(data, array, tree) for array in level.arrays)) for level in manifest.levels]
+    return contents._replace(manifest=manifest._replace(levels=tuple(levels)))
+
+
+def array_recounted(data, array, parents):
+    entries = entries_of(data, array)
+    live = live_in(entries, parents)
+    return array._replace(entries=len(entries), leads=sum(entry.version in array.versions for entry in entries),
+                          least=min(len(live[version]) for version in array.versions))
+
+
 def levels_text(contents):
+    """The lines that the job prints of a file with these contents."""
     head, manifest, journal = contents.head, contents.manifest, contents.journal
     updates = sum(change[0] != CLONE for change, _ in journal)
     versions = len(manifest.parents) + 1 + len(journal) - updates
@@ -464,6 +479,18 @@ def levels_text(contents):
     yield f"stored {stored} updates {manifest.updates + updates} written {manifest.written}"
 
 
+def levels_printed(data):
+    """What the job `levels` prints of a file with these bytes, and its status."""
+    try:
+        contents = read(data)
+        if contents is None:
+            return b"", model.NOT_A_STORE
+        store_of(data, contents)
+        return "".join(f"{line}\n" for line in levels_text(contents)).encode(), model.ENDED
+    except Damaged as damaged:
+        return b"damaged block %d\n" % damaged.block, model.DAMAGED
+
+
 # What holds of a sound file
 
 def leads_of(level, entries):
@@ -471,9 +498,9 @@ def leads_of(level, entries):
     return {array.id: [entry for entry in entries[array.id] if entry.version in array.versions] for array in level.arrays}
 
 
-def broken_in_array(array, entries, leads, parents):
-    """The rules that an array breaks, of which the leads of its level are given."""
-    live, live_leads = live_in(entries, parents), live_in(leads, parents)
+def broken_in_array(array, entries, leads, live_leads, parents):
+    """The rules that an array breaks, of which the leads of its level are given, and by version those that are live."""
+    live = live_in(entries, parents)
     counts = [len(live[version]) for version in array.versions]
     own = sum(entry.version in array.versions for entry in entries)
     if any(live[version] != live_leads[version] for version in array.versions):
@@ -482,7 +509,7 @@ def broken_in_array(array, entries, leads, parents):
         yield "d: less than a third is live"
     if len(entries) > 2 * own:
         yield "e: more entries than twice the leads"
-    if not set(entries) <= set(leads):
+    if not set(entries) <= leads:
         yield "f: an entry is of no lead"
     if (array.entries, array.leads, array.least) != (len(entries), own, min(counts)):
         yield "k: its numbers are others than those of its entries"
@@ -493,13 +520,13 @@ def broken_in_array(array, entries, leads, parents):
 def broken_in_level(head, manifest, level, entries):
     leads = [entry for found in leads_of(level, entries).values() for entry in found]
     tags = [version for array in level.arrays for version in array.versions]
-    live = live_in(leads, manifest.parents)
+    lead_set, live = set(leads), live_in(leads, manifest.parents)
     if len(set(tags)) < len(tags) or max(tags) >= level.horizon:
         yield "a: tags meet or pass the horizon"
     if any(live[version] and version not in tags for version in range(level.horizon)):
         yield "b: a version with live entries is in no tag"
     for array in level.arrays:
-        yield from broken_in_array(array, entries[array.id], leads, manifest.parents)
+        yield from broken_in_array(array, entries[array.id], lead_set, live, manifest.parents)
     if len({order(entry) for entry in leads}) < len(leads):
         yield "g: two leads of one key and version"
     if len(leads) > head.mem << level.number:

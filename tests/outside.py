@@ -12,6 +12,7 @@ import fcntl
 import itertools
 import os
 import pathlib
+import pty
 import random
 import re
 import resource
@@ -28,6 +29,7 @@ import time
 import formats
 import model
 import promotions
+import workloads
 from model import BLOCK, Store, bodies_of, clone, delete, frame, get, info, page, put, reply, scan, sized, stat, tag_of
 
 TOP = pathlib.Path(__file__).resolve().parent.parent
@@ -67,9 +69,9 @@ def complaint(status):
     return f"castle: {TEXTS[status]}\n".encode() if status else b""
 
 
-def run(words, **how):
+def run(words, deadline=DEADLINE, **how):
     """Output, status and complaint of a run that reads what it is given at once."""
-    ran = subprocess.run([PROGRAM, *words], capture_output=True, timeout=DEADLINE, **how)
+    ran = subprocess.run([PROGRAM, *words], capture_output=True, timeout=deadline, **how)
     return ran.stdout, ran.returncode, ran.stderr
 
 
@@ -143,6 +145,8 @@ def expect_said(name, data, store):
     """The file opens, breaks no rule of a sound one, and says what the store has."""
     contents = formats.read(data)
     expect(f"{name}, broken rules", list(formats.broken_rules(data, contents)), [])
+    counted = formats.recounted(data, contents)
+    expect(f"{name}, counted in blocks", list(formats.levels_text(counted)), list(formats.levels_text(contents)))
     expect_alike(name, formats.store_of(data, contents), store)
     expect_levels(name, data, store)
 
@@ -164,6 +168,15 @@ def expect_levels(name, data, store):
         found = [promotions.Part(array.id, array.versions, array.least, tuple(formats.entries_of(data, array)))
                  for array in level.arrays]
         expect(f"{name}, level {level.number}", (level.horizon, found), (horizon, parts))
+
+
+def expect_told(name, path):
+    """The job `levels` prints what the file's bytes say, with the status that they lead to, and leaves the file alone."""
+    data = bytes_of(path)
+    text, status = formats.levels_printed(data)
+    expect(f"{name}, levels", run(["levels", path]), (text, status, complaint(status)))
+    expect(f"{name}, the file's bytes are the same", bytes_of(path) == data, True)
+    return text.decode()
 
 
 def expect_alike(name, got, store):
@@ -189,6 +202,7 @@ class StoreFile:
         data = bytes_of(self.path)
         if len(self.model.changes) > self.model.limits[0] or self.model.emptied[0]:
             expect_said(name, data, self.model)
+            expect_told(name, self.path)
         elif data != formats.unpublished(self.model):
             raise Wrong(f"{name}: the file doesn't have the bytes of the model")
 
@@ -305,6 +319,8 @@ def a_deleted_key_is_absent_where_it_was_deleted(folder):
 
 
 ABC = put(1, b"a", b"1") + put(2, b"b", b"2") + put(3, b"c", b"3")
+SETTINGS = (put(1, b"user/1/name", b"Ann") + put(2, b"user/2/name", b"Bob") + clone(3) + clone(4)
+            + put(5, b"user/2/name", b"Rob", 1) + delete(6, b"user/1/name", 2))
 
 
 def a_scan_gives_the_pairs_of_a_range(folder):
@@ -330,8 +346,7 @@ def a_scan_gives_the_pairs_of_a_range(folder):
 
 def versions_of_settings_are_scanned_apart(folder):
     store = StoreFile(folder, 64, 100000, 100)
-    data = put(1, b"user/1/name", b"Ann") + put(2, b"user/2/name", b"Bob") + clone(3) + clone(4)
-    store.expect_served("two environments", [data + put(5, b"user/2/name", b"Rob", 1) + delete(6, b"user/1/name", 2)])
+    store.expect_served("two environments", [SETTINGS])
     data = b"".join(scan(v, b"user/", b"user0", 100, v) for v in (1, 2, 0))
     ann, bob, rob = (b"user/1/name", b"Ann"), (b"user/2/name", b"Bob"), (b"user/2/name", b"Rob")
     want = page(1, [ann, rob]) + page(2, [bob]) + page(0, [ann, bob])
@@ -465,6 +480,11 @@ WRONG_WORDS = [
     [b"format", b"f", b"4", b"0", b"10"], [b"format", b"f", b"4", b"16777217", b"10"],
     [b"format", b"f", b"4", b"100", b"0"], [b"format", b"f", b"4", b"100", b"16385"],
     [b"format", b"f", b"4", b"100", b"-1"], [b"format", b"f", b"18446744073709551620", b"100", b"10"],
+    [b"levels"], [b"levels", b""], [b"levels", b"a", b"b"], [b"Levels", b"a"], [b"check", b"a"],
+    [b"workload"], [b"workload", b"f"], [b"workload", b"f", b"1"], [b"workload", b"", b"1", b"0"],
+    [b"workload", b"f", b"1", b"0", b"0"], [b"workload", b"f", b"01", b"0"], [b"workload", b"f", b"1", b"00"],
+    [b"workload", b"f", b"-1", b"0"], [b"workload", b"f", b"1", b"+5"], [b"workload", b"f", b"", b"0"],
+    [b"workload", b"f", b"18446744073709551616", b"0"], [b"workload", b"f", b"1", b"1000001"],
 ]
 
 
@@ -626,8 +646,12 @@ def a_program_that_may_open_no_file_touches_none(folder):
 def the_launcher_passes_words_input_and_status_on(folder):
     for data in (PUT_A + GET_A, hexed("00000801"), PUT_A[:-1]):
         StoreFile(folder).expect_served("through the launcher", [data], program=LAUNCHER)
-    ran = subprocess.run([LAUNCHER], stdin=subprocess.DEVNULL, capture_output=True, timeout=DEADLINE)
-    expect("no words", (ran.stdout, ran.returncode, ran.stderr), (b"", 1, complaint(1)))
+    path = StoreFile(folder).path
+    for words, want in (([], (b"", 1, complaint(1))), (["levels", path], (*formats.levels_printed(bytes_of(path)), b"")),
+                        (["levels", os.path.join(folder, "absent")], (b"", 2, complaint(2))),
+                        (["workload", path, "1", "1000001"], (b"", 1, complaint(1)))):
+        ran = subprocess.run([LAUNCHER, *words], stdin=subprocess.DEVNULL, capture_output=True, timeout=DEADLINE)
+        expect(f"{words}", (ran.stdout, ran.returncode, ran.stderr), want)
 
 
 def the_launcher_refuses_a_file_that_is_a_standard_stream(folder):
@@ -639,6 +663,7 @@ def the_launcher_refuses_a_file_that_is_a_standard_stream(folder):
         (["serve", linked], f"<>{store.path} >/dev/null", "input"),
         (["format", store.path, "4", "100", "10"], f"1<>{linked}", "output"),
         (["format", linked, "4", "100", "10"], f"<{store.path}", "input"),
+        (["levels", store.path], f">>{linked}", "output"), (["workload", store.path, "1", "10"], f">>{store.path}", "output"),
     ):
         ran = subprocess.run(["/bin/sh", "-c", f'"$@" {redirected}', "sh", LAUNCHER, *words], input=PUT_A,
                              capture_output=True, timeout=DEADLINE)
@@ -822,6 +847,197 @@ def publications_stand_where_they_should(folder):
     expect("entries of the blocks", sizes, [3, 1])
 
 
+def levels_are_told_as_the_file_has_them(folder):
+    for number, (mem, frames, text) in enumerate(PUBLISHED):
+        store, _ = store_after(folder, mem, [b"".join(frames)])
+        expect(f"publication {number}", expect_told(f"publication {number}", store.path), text.lstrip())
+        expected = promotions.contents_after(store.model.changes, store.model.limits)
+        expect(f"publication {number}, the model", "\n".join(formats.levels_text(expected)), text.strip())
+    settings = StoreFile(folder, 64, 100000, 100)
+    settings.expect_served("two environments", [SETTINGS])
+    expect("two environments", expect_told("two environments", settings.path), """
+store generation 1 mem 64 changes 6 of 100000 versions 3 of 100
+journal changes 6 updates 4
+stored 4 updates 4 written 0
+""".lstrip())
+    for limits in ((4, 1, 1), (4096, 2 ** 24, 2 ** 14)):
+        expect_told(f"limits {limits}", StoreFile(folder, *limits).path)
+    # a run that was killed behind a publication left the other region open, and it stays so
+    store, contents = store_after(folder, *DISTINCT[:2])
+    other = formats.region_start(4, 1 - contents.head.region) * BLOCK
+    altered(store.path, other, bytes([formats.OPEN]))
+    expect("the other region open", expect_told("the other region open", store.path), DISTINCT[2].lstrip())
+    # what is in blocks of arrays is not looked at, and neither is the input
+    altered(store.path, 7 * BLOCK, bytes(BLOCK))
+    expect("a damaged array", expect_told("a damaged array", store.path), DISTINCT[2].lstrip())
+    inside, outside = os.pipe()
+    os.write(outside, PUT_A)
+    expect("levels, input left", (run(["levels", store.path], stdin=inside)[1], os.read(inside, 100)), (0, PUT_A))
+    os.close(inside)
+    os.close(outside)
+
+
+def levels_of_a_damaged_file_name_the_block(folder):
+    store, contents = store_after(folder, *DISTINCT[:2])
+    data, path = bytes_of(store.path), os.path.join(folder, "a.store")
+    manifest, journal = contents.chain[0] * BLOCK, formats.region_start(4, contents.head.region) * BLOCK
+    for name, place, piece, block in (("a manifest", manifest + 4, b"\xff", 8), ("its link", manifest, b"\1", 8),
+                                      ("a superblock", contents.slot * BLOCK + 9, b"\xff", contents.slot),
+                                      ("a record", journal + 1, b"\xff", journal // BLOCK),
+                                      ("a version that is not there", journal + 5, b"\1", journal // BLOCK)):
+        with open(path, "wb") as file:
+            file.write(data[:place] + piece + data[place + len(piece):])
+        expect(name, expect_told(name, path), f"damaged block {block}\n")
+        expect(f"{name}, its status", run(["levels", path]), (b"damaged block %d\n" % block, 9, complaint(9)))
+    expect("no store", run(["levels", os.path.join(folder, "absent")]), (b"", 2, complaint(2)))
+
+
+def outputs_that_fail_end_a_report(folder):
+    def limited():
+        """Lets a file grow to 20 bytes."""
+        signal.signal(signal.SIGXFSZ, signal.SIG_IGN)
+        resource.setrlimit(resource.RLIMIT_FSIZE, (20, 20))
+
+    store, _ = store_after(folder, *DISTINCT[:2])
+    words = ["levels", store.path]
+    ran = subprocess.run(["/bin/sh", "-c", '"$@" >&-', "sh", PROGRAM, *words], capture_output=True, timeout=DEADLINE)
+    expect("a closed output", (ran.stdout, ran.returncode, ran.stderr), (b"", 7, complaint(7)))
+    taken = os.path.join(folder, "taken")
+    with open(taken, "wb") as output:
+        ran = subprocess.run([PROGRAM, *words], stdout=output, stderr=subprocess.PIPE, timeout=DEADLINE, preexec_fn=limited)
+    expect("a full output", (ran.returncode, ran.stderr, bytes_of(taken)), (7, complaint(7), DISTINCT[2].lstrip()[:20].encode()))
+    path = os.path.join(folder, "a.store")
+    ran = subprocess.run(["/bin/sh", "-c", '"$@" >&-', "sh", PROGRAM, "workload", path, "1", "100"], capture_output=True,
+                         timeout=DEADLINE)
+    expect("a closed output of workload", (ran.returncode, ran.stderr), (7, complaint(7)))
+    expect_said("a closed output of workload, the file", bytes_of(path), workloads.store_after(workloads.changes(1, 100)))
+
+
+# Workloads
+
+def worked(path, seed, count, deadline=6 * DEADLINE):
+    """What the job `workload` prints, which ends well."""
+    out, status, errors = run(["workload", path, str(seed), str(count)], deadline)
+    expect(f"workload {seed} {count}", (status, errors), (0, b""))
+    return out.decode()
+
+
+def at_a_terminal(words, deadline):
+    """Output and status of a run whose complaints go to a terminal, and what that gets to show."""
+    own, other = pty.openpty()
+    shown = []
+
+    def read_on():
+        try:
+            for piece in iter(lambda: os.read(own, 4096), b""):
+                shown.append(piece)
+        except OSError:
+            pass  # nobody has the terminal any more
+
+    reader = threading.Thread(target=read_on)
+    with subprocess.Popen(words, stdin=subprocess.DEVNULL, stdout=subprocess.PIPE, stderr=other) as child:
+        os.close(other)
+        reader.start()
+        try:
+            out, _ = child.communicate(timeout=deadline)
+        except subprocess.TimeoutExpired:
+            child.kill()
+            raise
+    reader.join()
+    os.close(own)
+    return out, child.returncode, b"".join(shown)
+
+
+def text_of(lines):
+    return "".join(f"{line}\n" for line in lines)
+
+
+def every_pair(store):
+    """Scans of all versions, page by page."""
+    for version, pairs in enumerate(store.pairs):
+        keys = sorted(pairs)
+        for place in range(0, max(1, len(keys)), model.PAIRS_MAX):
+            yield scan(version, keys[place] if place else b"", version=version)
+
+
+def workloads_are_as_the_model_has_them(folder):
+    path = os.path.join(folder, "a.store")
+    want = "workload seed 1 changes 0\nversions 1 updates 0 clones 0\nlevels 0 arrays 0 stored 0 written 0\ndensity none\n"
+    expect("no changes", worked(path, 1, 0), want)
+    expect("no changes, the file", bytes_of(path) == formats.unpublished(workloads.store_after([])), True)
+    for seed, count in ((0, 1), (1557, 6), (1, 64), (1, 65), (2, 128), (2 ** 64 - 1, 500), (2 ** 63, 777), (7, 3000), (1, 2000)):
+        name, store, changes = f"seed {seed}, {count}", StoreFile(folder), list(workloads.changes(seed, count))
+        store.expect_served(f"{name}, what was there", [PUT_A])
+        store.model = workloads.store_after(changes)
+        expected = promotions.contents_after(changes, store.model.limits)
+        expect(name, worked(store.path, seed, count), text_of(workloads.summary_text(seed, expected)))
+        store.expect_bytes(name)
+        store.expect_answers(f"{name}, served", [*every_pair(store.model), stat(1)])
+    # the program draws just the frames that the model draws: the same file comes of them
+    run(["format", path, *map(str, workloads.LIMITS)])
+    serve(path, [b"".join(workloads.frames(1, 2000))], deadline=6 * DEADLINE)
+    other = os.path.join(folder, "b.store")
+    inside, outside = os.pipe()
+    os.write(outside, PUT_A)
+    expect("frames", run(["workload", other, "1", "2000"], 6 * DEADLINE, stdin=inside)[1], 0)
+    expect("frames, the file", bytes_of(other) == bytes_of(path), True)
+    expect("frames, input left", os.read(inside, 100), PUT_A)
+    os.close(inside)
+    os.close(outside)
+
+
+def expect_bounded(name, path, seed, text):
+    """The file opens, keeps the rules and the bounds, and the text is that of its blocks."""
+    data = bytes_of(path)
+    contents = formats.recounted(data, formats.read(data))
+    expect(f"{name}, broken rules", list(formats.broken_rules(data, contents)), [])
+    expect(f"{name}, beyond bounds", list(workloads.beyond_bounds(contents)), [])
+    expect(f"{name}, the text", text, text_of(workloads.summary_text(seed, contents)))
+    expect(f"{name}, levels", expect_told(name, path), text_of(formats.levels_text(contents)))
+    return contents
+
+
+def a_long_workload_keeps_its_bounds(folder):
+    store, other = StoreFile(folder), os.path.join(folder, "other.store")
+    text = worked(store.path, 1, 20000, 600)
+    expect("the same text again", worked(other, 1, 20000, 600), text)
+    contents = expect_bounded("20,000", other, 1, text)
+    expect("written", contents.manifest.written <= 720_000, True)
+    changes = list(workloads.changes(1, 20000))
+    store.model = workloads.store_after(changes)
+    store.expect_bytes("20,000")
+    expect("the model's text", text, text_of(workloads.summary_text(1, promotions.contents_after(changes, store.model.limits))))
+    store.expect_answers("20,000, served", [*every_pair(store.model), stat(1)])
+
+
+def a_workload_of_200_000_changes_keeps_its_bounds(folder):
+    # in memory where it can be, since each change is synced twice
+    memory = "/dev/shm" if os.access("/dev/shm", os.W_OK) else folder
+    with tempfile.TemporaryDirectory(dir=memory) as place:
+        store = StoreFile(place)
+        # the launcher shows meanwhile how far it is
+        out, status, shown = at_a_terminal([LAUNCHER, "workload", store.path, "3", "200000"], 1200)
+        expect("200,000", (status, re.sub(rb"\r\x1b\[K(castle: \d+ MB\r)?", b"", shown)), (0, b""))
+        expect_bounded("200,000", store.path, 3, out.decode())
+        store.model = workloads.store_after(workloads.changes(3, 200_000))
+        expect_alike("200,000", formats.opened(bytes_of(store.path))[1], store.model)
+        store.expect_answers("200,000, served", [*every_pair(store.model), stat(1)])
+
+
+def a_workload_that_fails_prints_nothing(folder):
+    def limited(most):
+        """Makes every write behind so many bytes of a file fail, as on a full device."""
+        signal.signal(signal.SIGXFSZ, signal.SIG_IGN)
+        resource.setrlimit(resource.RLIMIT_FSIZE, (most, most))
+
+    path = os.path.join(folder, "a.store")
+    first = formats.first_free(workloads.MEM) * BLOCK
+    # within the journal, within the manifest of format, and behind that
+    for most in (5000, 10000, first + 10, first + BLOCK):
+        got = run(["workload", path, "1", "2000"], preexec_fn=lambda: limited(most))
+        expect(f"{most} bytes", got, (b"", 5, complaint(5)))
+
+
 def drawn_changes(chance, count, versions, keys, clones):
     """Puts, deletes and clones over a store with so many versions; most are accepted."""
     frames = []
@@ -901,6 +1117,7 @@ def expect_prefix(name, path, store, frames, answered):
             break
         store.serve(piece)
     expect_said(name, bytes_of(path), store)
+    expect_told(name, path)
     return store
 
 
@@ -1081,6 +1298,39 @@ def each_refusal_of_a_manifest_has_a_file(folder):
         expect_refused(name, path, formats.file_with(1, HEAD, wrong, [9], blocks), 9)
 
 
+def unsound_files():
+    """Files that open: the rules of a sound one that each breaks, its manifest, and the entries in blocks that it has otherwise."""
+    def entry(key, version):
+        return formats.Entry(b"%d" % key, version, b"v")
+
+    above, own, deep = (ENTRIES[block] for block in (7, 8, 10))
+    wide = with_array(DEEP, versions=(0, 1, 2, 3), tree=with_level(TREE, 1, horizon=4))
+    later = with_level(with_array(NEXT, versions=(2,), tree=wide), 0, horizon=3)
+    several = [own[0], above[1], *(entry(key, 2) for key in range(2, 7))]
+    yield "", TREE, {}
+    yield "b", with_array(NEXT, versions=(1, 2)), {}
+    yield "c", with_array(NEXT, entries=1, leads=1, least=1), {8: own[:1]}
+    yield "d", with_array(NEXT, entries=7, leads=6, least=2)._replace(updates=12), {8: several}
+    yield "cefk", with_array(NEXT, entries=3, leads=2, least=3), {8: [*above, entry(2, 1), entry(3, 0)]}
+    yield "cf", with_array(NEXT, entries=3, leads=2, least=3), {8: [*own, entry(2, 0)]}
+    yield "cgm", with_array(NEXT, least=1, extents=((8, 1), (11, 1))), {8: own[:1], 11: own[:1]}
+    yield "ch", with_array(FIRST, entries=9, leads=9, least=9)._replace(updates=13, changes=13), {7: [entry(key, 0) for key in range(9)]}
+    yield "i", with_level(later, 0, arrays=later.levels[0].arrays[1:]), {8: [entry(0, 2), entry(1, 2)]}
+    yield "j", wide, {}
+    for change in ({"entries": 3}, {"leads": 1}, {"least": 1}):
+        yield "k", with_array(FIRST, **change), {}
+    yield "ckl", with_array(FIRST, entries=3), {7: [*above, entry(2, 0)]}
+    yield "m", with_array(DEEP, extents=((11, 1), (10, 1))), {10: deep[:1], 11: deep[1:]}
+
+
+def the_rules_of_a_sound_file_are_checked(folder):
+    for rules, tree, changed in unsound_files():
+        blocks = {block: formats.block_of(entries) for block, entries in {**ENTRIES, **changed}.items()}
+        data = formats.file_of(1, HEAD._replace(changes_max=100), tree, [9], blocks)
+        told = {why[0] for why in formats.broken_rules(data, formats.read(data))}
+        expect(f"rules {rules}", "".join(sorted(told)), rules)
+
+
 def chains_of_a_manifest_are_followed(folder):
     path = os.path.join(folder, "a.store")
     head = formats.new_head(MEM, 100000, 16384)
@@ -1195,9 +1445,10 @@ def a_killed_run_loses_nothing_that_it_acknowledged(folder):
 
 
 def expect_opened(name, path, data):
-    """Serves a file with these bytes: as the model does, or with a named status and every byte as it was."""
+    """Has the levels of a file with these bytes told, and serves it: as the model does, or with a named status and its bytes as they were."""
     with open(path, "wb") as file:
         file.write(data)
+    expect_told(name, path)
     status, store = formats.opened(data)
     if store is None:
         expect(name, serve(path, [GET_A]), (b"", status, complaint(status)))
@@ -1269,17 +1520,19 @@ def a_published_store_overwritten_with_noise_is_refused_by_name(folder):
 def what_is_no_file_is_refused_by_name(folder):
     inner = os.path.join(folder, "folder")
     os.mkdir(inner)
-    for words in (["serve", inner], ["format", inner, "4", "100", "10"], ["serve", os.path.join(folder, "no", "where")]):
+    for words in (["serve", inner], ["format", inner, "4", "100", "10"], ["levels", inner], ["workload", inner, "1", "0"],
+                  *([job, os.path.join(folder, "no", "where")] for job in ("serve", "levels"))):
         expect(f"{words}", run(words, input=PUT_A), (b"", 5, complaint(5)))
     expect("the folder", os.listdir(inner), [])
     pipe = os.path.join(folder, "pipe")
     os.mkfifo(pipe)
     for path in (pipe, "/dev/null", "/dev/zero"):
-        for words in (["serve", path], ["format", path, "4", "100", "10"]):
+        for words in (["serve", path], ["format", path, "4", "100", "10"], ["levels", path], ["workload", path, "1", "0"]):
             expect(f"{words}", run(words, input=PUT_A), (b"", 5, complaint(5)))
-    absent = os.path.join(folder, "absent")
-    expect("an absent file", run(["serve", absent], input=PUT_A), (b"", 2, complaint(2)))
-    expect("an absent file, now", bytes_of(absent), b"")
+    for job in ("serve", "levels"):
+        absent = os.path.join(folder, f"absent {job}")
+        expect(f"{job}, an absent file", run([job, absent], input=PUT_A), (b"", 2, complaint(2)))
+        expect(f"{job}, an absent file, now", bytes_of(absent), b"")
 
 
 def folders_of(folder):
@@ -1553,8 +1806,17 @@ def the_bench_finds_both_stores_alike(folder):
     expect("its status", (ran.returncode, ran.stderr.count(b"\n")), (0, 8))
     titles = re.findall(rb"^### `(\w+)`", ran.stdout, re.MULTILINE)
     expect("its tables", titles, [b"puts", b"chain", b"sparse", b"star"])
+    expect("its scans", ran.stdout.count("| µs a scan of 100 | µs a pair, whole version |".encode()), 4)
     rows = re.findall(rb"^\| (40|80) \| (castle|SQLite) \|", ran.stdout, re.MULTILINE)
     expect("its rows", rows, [(b"40", b"castle"), (b"40", b"SQLite"), (b"80", b"castle"), (b"80", b"SQLite")] * 4)
+
+
+def the_wear_is_within_its_bounds(folder):
+    ran = subprocess.run([sys.executable, str(TOP / "bench" / "wear"), "--counts", "100,2000", "--folder", folder],
+                         capture_output=True, timeout=60)
+    expect("its status", (ran.returncode, ran.stderr.count(b"\n")), (0, 2))
+    rows = re.findall(rb"^\| (100|2,000) \| ([\d.]+) \| (\d+) \| ([\d.]+) \| 2 \|", ran.stdout, re.MULTILINE)
+    expect("its rows", rows, [(b"100", b"0.54", b"4", b"0.91"), (b"2,000", b"3.55", b"20", b"1.19")])
 
 
 CHECKS = [
@@ -1598,11 +1860,19 @@ CHECKS = [
     a_second_run_has_what_the_first_acknowledged,
     a_store_takes_as_many_changes_as_it_was_made_for,
     publications_stand_where_they_should,
+    levels_are_told_as_the_file_has_them,
+    levels_of_a_damaged_file_name_the_block,
+    outputs_that_fail_end_a_report,
+    workloads_are_as_the_model_has_them,
+    a_long_workload_keeps_its_bounds,
+    a_workload_of_200_000_changes_keeps_its_bounds,
+    a_workload_that_fails_prints_nothing,
     every_array_is_a_third_live,
     random_streams_are_answered_over_several_runs,
     kills_amid_promotions_lose_nothing,
     damaged_arrays_are_named,
     each_refusal_of_a_manifest_has_a_file,
+    the_rules_of_a_sound_file_are_checked,
     chains_of_a_manifest_are_followed,
     thousands_of_puts_are_kept,
     a_served_store_takes_the_memory_that_is_said,
@@ -1620,6 +1890,7 @@ CHECKS = [
     a_folder_or_file_without_leave_is_a_device_fault,
     a_full_device_is_a_device_fault,
     the_bench_finds_both_stores_alike,
+    the_wear_is_within_its_bounds,
 ]
 
 

@@ -5,7 +5,7 @@ It is written from docs/DEFINITIONS.md and shares no line with the program. Wher
 
 import collections
 
-from formats import Entry, live_in, order
+from formats import Array, Contents, Entry, Level, Logged, Manifest, live_in, new_head, order
 from model import CLONE, PUT
 
 # An array is its number, its versions, how many entries are live in that version of it which has the fewest, and its entries
@@ -107,3 +107,18 @@ def after(changes, mem):
             times, emptied, journal = times + 1, emptied_into(emptied, journal, mem), []
         journal.append(change)
     return times, emptied, journal
+
+
+def contents_after(changes, limits):
+    """What a file says after these changes, where no run was cut off and no other change came before; no block is named."""
+    times, emptied, journal = after(changes, limits[0])
+    levels = tuple(Level(number, horizon, tuple(map(described, parts))) for number, (horizon, parts) in sorted(emptied.levels.items()))
+    head = new_head(*limits)._replace(generation=times + 1, region=times % 2)
+    return Contents(times % 2, head, Manifest(*emptied[:5], levels), (), [Logged(change, None) for change in journal])
+
+
+def described(part):
+    """What a manifest says of an array, but for its blocks."""
+    tag = set(part.versions)
+    leads = sum(entry.version in tag for entry in part.entries)
+    return Array(part.id, len(part.entries), leads, part.least, (), part.versions)

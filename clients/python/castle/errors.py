@@ -6,6 +6,7 @@ docs/ERRORS.md.
 
 from __future__ import annotations
 
+import re
 import signal
 from typing import Dict, Optional, Type
 
@@ -212,10 +213,13 @@ class OutOfMemory(Ended):
 
 
 class StoreDamaged(Ended):
+    """`block` is the number of the damaged block, where the program told it."""
+
     status = 9
     text = "damaged"
     what = "the file is a store's, but a block of it is damaged"
     remedy = "What was answered before holds. Restore a copy of the file; the program has no repair."
+    block: Optional[int] = None
 
 
 class InputBudget(Ended):
@@ -262,8 +266,8 @@ ENDS: Dict[int, Type[Ended]] = {
         StoreDamaged, InputBudget, Unsound, NotBuilt, NoKit)}
 
 
-def ended(status: int, file: str, command: str) -> Ended:
-    """The exception for a run that ended with this status, or by the signal of minus this number."""
+def ended(status: int, file: str, command: str, printed: str = "") -> Ended:
+    """The exception for a run that ended with this status, or by the signal of minus this number, after it printed this."""
     if status < 0:
         try:
             name = signal.Signals(-status).name
@@ -275,6 +279,10 @@ def ended(status: int, file: str, command: str) -> Ended:
     else:
         error = Ended(f"the program ended with status {status}", "Open the store again.", file=file, command=command)
     error.status = status
+    found = re.fullmatch(r"damaged block (\d+)\n", printed)
+    if isinstance(error, StoreDamaged) and found:
+        error.block = int(found[1])
+        error.what = f"block {error.block} of the file is damaged"
     return error
 
 

@@ -9,7 +9,7 @@ import struct
 import subprocess
 import sys
 from collections import deque
-from typing import Deque, List, NoReturn, Optional, Sequence, Union
+from typing import Deque, Iterable, List, NoReturn, Optional, Sequence, Tuple, Union
 
 from . import errors, frames
 
@@ -26,6 +26,25 @@ def find_program(given: Optional[str] = None) -> str:
     top = os.path.normpath(os.path.join(os.path.realpath(__file__), "..", "..", "..", ".."))
     launcher = os.path.join(top, "castle")
     return launcher if os.path.isfile(os.path.join(top, "crates.txt")) and os.access(launcher, os.X_OK) else "castle"
+
+
+def pass_on(lines: Iterable[bytes]) -> None:
+    """Passes on what the launcher says on standard error, but not the program's own text, which its status tells."""
+    for line in lines:
+        told = line.decode("utf-8", "replace")
+        if told not in TEXTS:
+            print(told, file=sys.stderr)
+
+
+def printed(program: str, words: Sequence[str], file: str) -> Tuple[str, int]:
+    """What a run of the program prints that reads no input, and its status."""
+    try:
+        ran = subprocess.run([program, *words], stdin=subprocess.DEVNULL, stdout=subprocess.PIPE, stderr=subprocess.PIPE,
+                             restore_signals=False, start_new_session=True)
+    except OSError as error:
+        raise errors.ProgramMissing(f"the program {program} can't be run: {error.strerror}", file=file) from error
+    pass_on(ran.stderr.splitlines())
+    return ran.stdout.decode("utf-8", "replace"), ran.returncode
 
 
 class Program:
@@ -168,13 +187,10 @@ class Program:
         self._in, self._answered = data[at:], answered
 
     def _read_errors(self) -> None:
-        """Passes on what the launcher says on standard error, but not the program's own text, which its status tells."""
+        """Passes on the lines that are on standard error."""
         data = os.read(self._pipes[2], CHUNK)
         *lines, self._said = (self._said + data).split(b"\n")
-        for line in lines:
-            told = line.decode("utf-8", "replace")
-            if told not in TEXTS:
-                print(told, file=sys.stderr)
+        pass_on(lines)
         if not data:
             self._poll.unregister(self._pipes[2])
             self._has_errors = False

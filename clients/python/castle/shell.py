@@ -9,12 +9,12 @@ import sys
 from types import FrameType
 from typing import Callable, Dict, Iterable, Iterator, List, NamedTuple, Optional, TextIO, TypeVar
 
-from . import dump, tree
+from . import dump, levels, tree
 from .errors import CastleError, Ended, Refused
 from .files import write_whole
 from .frames import Info
 from .store import Store
-from .text import Word, shown, words
+from .text import Word, counted, shown, words
 
 Item = TypeVar("Item")
 
@@ -252,6 +252,17 @@ class Shell:
         write_whole(rest[1].text, tree.svg(drawn, keys, self._heading(infos)))
         self.say(f"wrote {rest[1].text}")
 
+    def levels(self, rest: List[Word]) -> None:
+        found = self.store.levels()
+        if not rest:
+            for line in self._until_stopped(levels.lines(found)):
+                self.say(line)
+            return
+        if rest[0].text != "--svg" or len(rest) != 2:
+            raise Wrong(f"usage: {COMMANDS['levels'].usage}")
+        write_whole(rest[1].text, levels.svg(found, os.path.basename(self.store.path)))
+        self.say(f"wrote {rest[1].text}")
+
     def _heading(self, infos: List[Info]) -> str:
         changes = counted(self.store.stat().changes, "change")
         return f"{os.path.basename(self.store.path)}: {counted(len(infos), 'version')}, {changes}"
@@ -331,16 +342,13 @@ COMMANDS: Dict[str, Command] = {
                     Shell.tree, 0, 2),
     "diff": Command(VERSIONS, "diff A [B]", "shows what has to change in A to get B", Shell.diff, 1, 2),
     "stat": Command(VERSIONS, "stat", "shows how many versions and changes there are", Shell.stat, 0, 0),
+    "levels": Command(FILES, "levels [--svg FILE]", "draws what is stored, level by level, or writes a picture of it",
+                      Shell.levels, 0, 2),
     "dump": Command(FILES, "dump [V [FILE]]", "writes a version's pairs as lines of text", Shell.dump, 0, 2),
     "load": Command(FILES, "load FILE [@V]", "puts the pairs of a dump into a version", Shell.load, 1, 1),
     "help": Command(SHELL, "help [COMMAND]", "shows this, or one command", Shell.help, 0, 1),
     "quit": Command(SHELL, "quit", "ends the shell", Shell.quit, 0, 0),
 }
-
-
-def counted(count: int, noun: str) -> str:
-    """As `1 pair`, `2 pairs`."""
-    return f"{count:,} {noun}{'' if count == 1 else 's'}"
 
 
 def described(error: Exception) -> str:

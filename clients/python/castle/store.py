@@ -10,9 +10,10 @@ from . import errors, frames
 from .batch import Batch
 from .commands import Commands, Data, Version, data_of
 from .frames import Info, Pair, Stat
+from .levels import Levels, read
 from .lock import Lock
 from .names import Names, remove_names
-from .program import Program, find_program
+from .program import Program, find_program, printed
 from .view import VersionView
 
 
@@ -49,9 +50,11 @@ class Store:
         if not os.path.exists(real):
             raise errors.StoreMissing(file=self.path)
         self._lock = Lock(real, self.path)
+        self._real = real
         self._closed = False
+        self._found = find_program(program)
         try:
-            self._program = Program(find_program(program), ["serve", real], self.path, [self._lock.descriptor])
+            self._program = Program(self._found, ["serve", real], self.path, [self._lock.descriptor])
         except BaseException:
             self._lock.release()
             raise
@@ -179,6 +182,21 @@ class Store:
             page = cast(frames.Page, self._ask(self._commands.scan(version, start, upper, frames.PAGE_MAX)))
             yield from page.pairs
             start = frames.after(page.pairs[-1][0]) if page.more else None
+
+    def levels(self) -> Levels:
+        """What is in the store's levels and in its journal.
+
+        Another run of the program reads it from the file while this one waits, so it takes an opening more. It looks
+        at no key and no value.
+        """
+        self._program.settle()
+        text, status = printed(self._found, ["levels", self._real], self.path)
+        if status != 0:
+            raise errors.ended(status, self.path, "levels", text)
+        try:
+            return read(text)
+        except ValueError as error:
+            raise errors.WrongProtocol(f"its levels can't be read: {error}", file=self.path, command="levels") from error
 
     # What is made of that
 

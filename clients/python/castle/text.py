@@ -89,3 +89,8 @@ def words(line: str) -> List[Word]:
         while at < len(line) and line[at].isspace():
             at += 1
     return found_words
+
+
+def counted(count: int, noun: str) -> str:
+    """As `1 pair`, `2 pairs`, `3 entries`."""
+    return f"{count:,} {noun if count == 1 else f'{noun[:-1]}ies' if noun.endswith('ry') else f'{noun}s'}"

@@ -5,6 +5,8 @@ from __future__ import annotations
 from typing import Dict, Iterator, List, Mapping, NamedTuple, Optional, Sequence, Tuple
 from xml.sax.saxutils import escape
 
+from .picture import BOX, HEADING, MARGIN, ROW, opened, width_of
+
 WIDTH = 100  # columns, where a chain goes on in a line of its own
 ELIDED = 3  # so many versions in a row without name or branch are drawn as one
 
@@ -89,24 +91,9 @@ class Tree:
                          for place, child in enumerate(reversed(children)))
 
 
-# The picture. Lengths are pixels.
+# The picture
 
-ROW, BOX, GAP, MARGIN, HEADING = 58, 40, 46, 24, 44
-STYLE = """
-  text { font-family: 'DejaVu Sans', Verdana, sans-serif; font-size: 13px; fill: #1f2933; }
-  .heading { font-size: 15px; font-weight: bold; }
-  .name { font-weight: bold; }
-  .small { font-size: 11px; fill: #52606d; }
-  .edge { fill: none; stroke: #9aa5b1; stroke-width: 1.5; }
-  .frozen { fill: #e4e7eb; stroke: #9aa5b1; }
-  .open { fill: #e3f5ea; stroke: #2f8f5b; stroke-width: 1.5; }
-  .row { fill: #ffffff; stroke: #9aa5b1; stroke-dasharray: 4 3; }
-"""
-
-
-def _width(text: str, size: float = 13) -> float:
-    """About how wide text is; a character of another script is as wide as high."""
-    return sum(size * (0.66 if char.isascii() else 1.0) for char in text)
+GAP = 46  # pixels between columns
 
 
 def svg(tree: Tree, keys: Mapping[int, int], heading: str) -> Iterator[str]:
@@ -116,18 +103,12 @@ def svg(tree: Tree, keys: Mapping[int, int], heading: str) -> Iterator[str]:
     widths: Dict[int, float] = {}
     for number, (first, second) in enumerate(texts):
         column = columns[number]
-        widths[column] = max(widths.get(column, 0), _width(first) + 24, _width(second, 11) + 24)
+        widths[column] = max(widths.get(column, 0), width_of(first) + 24, width_of(second, 11) + 24)
     lefts = [float(MARGIN)]
     for column in range(len(widths)):
         lefts.append(lefts[-1] + widths[column] + GAP)
     legend = "green takes puts and deletes, grey is frozen: it has a child"
-    width = max(lefts[-1] - GAP, MARGIN + _width(heading, 15), MARGIN + _width(legend, 11)) + MARGIN
-    height = HEADING + 2 * MARGIN + (max(places) + 1) * ROW
-    yield f'<svg xmlns="http://www.w3.org/2000/svg" width="{width:.0f}" height="{height:.0f}">\n'
-    yield f"<title>{escape(heading)}</title>\n<style>{STYLE}</style>\n"
-    yield '<rect width="100%" height="100%" fill="#ffffff"/>\n'
-    yield f'<text class="heading" x="{MARGIN}" y="{MARGIN + 12}">{escape(heading)}</text>\n'
-    yield f'<text class="small" x="{MARGIN}" y="{MARGIN + 32}">{legend}</text>\n'
+    yield from opened(lefts[-1] - GAP + MARGIN, HEADING + 2 * MARGIN + (max(places) + 1) * ROW, heading, legend)
     tops = [HEADING + MARGIN + place * ROW + (ROW - BOX) / 2 for place in places]
     for number, node in enumerate(tree.nodes):
         right, middle = lefts[columns[number]] + widths[columns[number]], tops[number] + BOX / 2

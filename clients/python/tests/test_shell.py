@@ -74,7 +74,7 @@ class ScriptTest(StoreCase):
                            ("get a @none", "a.store: no version has the name none. Names: no version has one."),
                            ('put "a', "the quotes from column 5 on have no end."), (r"put \q 1", r"\q is no escape"),
                            ("clone 7up", "'7up' can't be a name"), ("load none.dump", "none.dump: No such file or directory"),
-                           ("levels", "unknown command levels")):
+                           ("levels --png a.png", "usage: levels [--svg FILE]")):
             out, complaint, status = self.shell(f"put a 1\n\n{line}\nput b 2\n")
             self.assertEqual((out, status), ("done\n", 1), line)
             self.assertTrue(complaint.startswith("castle-shell: line 3: "), complaint)
@@ -103,8 +103,8 @@ class ScriptTest(StoreCase):
     def test_help_names_every_command(self) -> None:
         self.made().close()
         out, _, _ = self.shell("help\nhelp diff\n")
-        for name in ("put", "get", "delete", "clone", "scan", "info", "stat", "names", "tree", "diff", "dump", "load", "help",
-                     "quit", "use"):
+        for name in ("put", "get", "delete", "clone", "scan", "info", "stat", "names", "tree", "diff", "levels", "dump", "load",
+                     "help", "quit", "use"):
             self.assertRegex(out, rf"(?m)^  {name}\b")
         self.assertTrue(out.endswith("diff A [B]\n    shows what has to change in A to get B\n"))
 

@@ -1,0 +1,237 @@
+"""What is in a store's levels: read from what the program prints, drawn as text and as a picture."""
+
+from __future__ import annotations
+
+import re
+from typing import Iterator, List, NamedTuple, Sequence, Tuple
+from xml.sax.saxutils import escape
+
+from .picture import BOX, HEADING, MARGIN, ROW, STYLE, opened, width_of
+from .text import counted
+
+
+class Array(NamedTuple):
+    """A sorted run of entries, which some versions are read from. An entry is a key's value, or that it has none."""
+
+    id: int
+    entries: int
+    leads: int
+    """Entries that were made at its own versions. The others are copies of those that a version above them sees."""
+    least: int
+    """How many of its entries the one of its versions sees that sees the fewest: a third of them at least."""
+    versions: Tuple[int, ...]
+    """Those that are read from it, ascending."""
+
+    @property
+    def density(self) -> float:
+        """`least` of `entries`."""
+        return self.least / self.entries
+
+
+class Level(NamedTuple):
+    """What was merged at one time. A deeper level, of a greater number, is older and has room for more."""
+
+    number: int
+    horizon: int
+    """How many versions there were then."""
+    leads: int
+    entries: int
+    arrays: Tuple[Array, ...]
+
+
+class Levels(NamedTuple):
+    """A store with its limits, what its journal holds, and its levels that are not empty."""
+
+    generation: int
+    """One more than how often the journal was emptied."""
+    mem: int
+    """M, how many changes the journal takes."""
+    changes: int
+    changes_max: int
+    """C."""
+    versions: int
+    versions_max: int
+    """V."""
+    journal_changes: int
+    journal_updates: int
+    levels: Tuple[Level, ...]
+    stored: int
+    """Entries in all arrays, and updates in the journal: at most two for each update that was made."""
+    updates: int
+    written: int
+    """Entries that were written into arrays since the store was made."""
+
+
+# Reading
+
+STORE = re.compile(r"store generation (\d+) mem (\d+) changes (\d+) of (\d+) versions (\d+) of (\d+)")
+JOURNAL = re.compile(r"journal changes (\d+) updates (\d+)")
+LEVEL = re.compile(r"level (\d+) horizon (\d+) leads (\d+) entries (\d+)")
+ARRAY = re.compile(r"array (\d+) density (\d+)/([1-9]\d*) lead (\d+)/\d+ versions")
+RUNS = re.compile(r"(\d+(-\d+)?,)+")
+STORED = re.compile(r"stored (\d+) updates (\d+) written (\d+)")
+
+
+def _numbers(form: "re.Pattern[str]", line: str) -> List[int]:
+    """The numbers of a line. A ValueError tells that it is another one."""
+    found = form.fullmatch(line)
+    if found is None:
+        raise ValueError(f"the line {line!r}")
+    return [int(number) for number in found.groups()]
+
+
+def _array(line: str) -> Array:
+    head, _, runs = line.rpartition(" ")
+    number, least, entries, leads = _numbers(ARRAY, head)
+    if not RUNS.fullmatch(runs + ","):
+        raise ValueError(f"the versions {runs}")
+    versions: List[int] = []
+    for run in runs.split(","):
+        first, _, last = run.partition("-")
+        versions.extend(range(int(first), int(last or first) + 1))
+    return Array(number, entries, leads, least, tuple(versions))
+
+
+def read(text: str) -> Levels:
+    """The levels of which the program printed this. A ValueError tells that it prints no such text."""
+    store, journal, *middle, last, end = text.split("\n") if text.count("\n") > 2 else 4 * ["-"]
+    if end:
+        raise ValueError("it ends amid a line")
+    found: List[Tuple[Level, List[Array]]] = []
+    for line in middle:
+        if line.startswith("level "):
+            number, horizon, leads, entries = _numbers(LEVEL, line)
+            found.append((Level(number, horizon, leads, entries, ()), []))
+        elif found:
+            found[-1][1].append(_array(line))
+        else:
+            raise ValueError("an array stands in front of the levels")
+    generation, mem, changes, changes_max, versions, versions_max = _numbers(STORE, store)
+    journal_changes, journal_updates = _numbers(JOURNAL, journal)
+    stored, updates, written = _numbers(STORED, last)
+    levels = tuple(level._replace(arrays=tuple(arrays)) for level, arrays in found)
+    return Levels(generation, mem, changes, changes_max, versions, versions_max, journal_changes, journal_updates, levels,
+                  stored, updates, written)
+
+
+# Text
+
+BAR = 24  # columns for the largest array
+LISTED = 40  # columns for an array's versions
+
+
+def listed(versions: Sequence[int]) -> str:
+    """Versions as their runs of following numbers, as `0,2-4`."""
+    runs: List[List[int]] = []
+    for version in versions:
+        if runs and runs[-1][-1] == version - 1:
+            runs[-1][1:] = [version]
+        else:
+            runs.append([version])
+    return ",".join("-".join(map(str, run)) for run in runs)
+
+
+def _shortened(versions: Sequence[int]) -> str:
+    """The same in one word, which breaks off where there are many runs."""
+    whole = listed(versions)
+    if len(whole) <= LISTED:
+        return whole
+    return f"{whole[:whole.rindex(',', 0, LISTED)]},.. ({len(versions):,} in all)"
+
+
+def _bar(array: Array, most: int) -> str:
+    """A bar as long as the array, of which the share that is live is full."""
+    length = max(1, round(BAR * array.entries / most))
+    full = max(1, round(length * array.density)) if array.least else 0
+    return ("█" * full + "░" * (length - full)).ljust(BAR)
+
+
+def heading(levels: Levels) -> str:
+    """A store in one line."""
+    return (f"generation {levels.generation:,}, M {levels.mem:,}, {levels.changes:,} of "
+            f"{counted(levels.changes_max, 'change')}, {levels.versions:,} of {counted(levels.versions_max, 'version')}")
+
+
+def lines(levels: Levels) -> Iterator[str]:
+    """The levels as lines of text. Each array has a bar: its length are its entries, and full is the share that is live."""
+    yield heading(levels)
+    yield f"journal: {counted(levels.journal_changes, 'change')}, {counted(levels.journal_updates, 'update')}"
+    most = max((array.entries for level in levels.levels for array in level.arrays), default=1)
+    for level in levels.levels:
+        yield (f"level {level.number}: {counted(level.leads, 'lead')}, {counted(level.entries, 'entry')}, "
+               f"{counted(len(level.arrays), 'array')}, horizon {level.horizon:,}")
+        rows = [(f"array {array.id}", _bar(array, most), f"live {array.least}/{array.entries}",
+                 f"leads {array.leads}/{array.entries}", f"versions {_shortened(array.versions)}") for array in level.arrays]
+        widths = [max(map(len, column)) for column in zip(*rows)]
+        for row in rows:
+            yield "  " + "  ".join(cell.ljust(width) for cell, width in zip(row, widths)).rstrip()
+    yield (f"stored: {counted(levels.stored, 'entry')} for {counted(levels.updates, 'update')}; "
+           f"{levels.written:,} written since the store was made")
+
+
+# The picture. Lengths are pixels.
+
+LABEL, BARS, THIN = 190, 900, 2  # of a level's label, of the longest row of boxes, and of the thinnest box
+LIGHT, DARK = (236, 247, 240), (95, 180, 135)  # the shades of the densities 1/3 and 1
+LEVEL_STYLE = STYLE + """  .array { stroke: #2f8f5b; stroke-width: 1; }
+  .within { font-size: 11px; }
+"""
+LEGEND = ("a row is a level, a box an array, as wide as it has entries; the greener it is, the denser, "
+          "from a third to all of them live")
+
+
+def svg(levels: Levels, title: str) -> Iterator[str]:
+    """The levels as a picture in SVG, the journal above them: each array with its number, its density and its versions."""
+    most = max([level.entries for level in levels.levels] + [levels.journal_updates, 1])
+    rows = [[max(THIN, BARS * array.entries / most) for array in level.arrays] for level in levels.levels]
+    width = MARGIN + LABEL + max([sum(row) for row in rows] + [BARS]) + MARGIN
+    height = HEADING + 3 * MARGIN + (len(rows) + 1) * ROW
+    yield from opened(width, height, f"{title}: {heading(levels)}", LEGEND, LEVEL_STYLE)
+    top = HEADING + MARGIN + (ROW - BOX) / 2
+    yield from _label("journal", counted(levels.journal_changes, "change"), top)
+    if levels.journal_updates:
+        wide = max(THIN, BARS * levels.journal_updates / most)
+        texts = "", counted(levels.journal_updates, "update")
+        yield from _box(MARGIN + LABEL, top, wide, 'class="row"', texts, "the journal")
+    for level, widths in zip(levels.levels, rows):
+        top += ROW
+        yield from _label(f"level {level.number}", f"{counted(level.leads, 'lead')}, horizon {level.horizon:,}", top)
+        left = float(MARGIN + LABEL)
+        for array, wide in zip(level.arrays, widths):
+            yield from _box(left, top, wide, f'class="array" fill="{_shade(array)}"', _texts(array), _told(array))
+            left += wide
+    last = f"{counted(levels.stored, 'entry')} stored for {counted(levels.updates, 'update')}; {levels.written:,} written"
+    yield f'<text class="small" x="{MARGIN}" y="{top + ROW + MARGIN / 2:.1f}">{last}</text>\n</svg>\n'
+
+
+def _texts(array: Array) -> Tuple[str, str]:
+    """The two lines of a box."""
+    return f"{array.id}: {array.least / array.entries:.0%}", f"v {listed(array.versions)}"
+
+
+def _told(array: Array) -> str:
+    """What is shown where the pointer rests on a box."""
+    return (f"array {array.id}: {counted(array.entries, 'entry')}, {counted(array.leads, 'lead')}, "
+            f"density {array.least}/{array.entries}, versions {_shortened(array.versions)}")
+
+
+def _shade(array: Array) -> str:
+    """The colour of a density."""
+    share = min(1.0, max(0.0, (array.density - 1 / 3) * 1.5))
+    return "#" + "".join(f"{round(light + share * (dark - light)):02x}" for light, dark in zip(LIGHT, DARK))
+
+
+def _label(first: str, second: str, top: float) -> Iterator[str]:
+    yield f'<text class="name" x="{MARGIN}" y="{top + 17:.1f}">{first}</text>\n'
+    yield f'<text class="small" x="{MARGIN}" y="{top + 32:.1f}">{second}</text>\n'
+
+
+def _box(left: float, top: float, width: float, style: str, texts: Tuple[str, str], told: str) -> Iterator[str]:
+    """A box with those of its two lines that fit."""
+    yield (f'<g><title>{escape(told)}</title><rect {style} x="{left:.1f}" y="{top:.1f}" width="{width:.1f}" '
+           f'height="{BOX}" rx="{min(4.0, width / 2):.1f}"/>\n')
+    for text, kind, size, down in zip(texts, ("name", "within"), (13, 11), (17, 32)):
+        if text and width_of(text, size) <= width - 4:
+            yield (f'<text class="{kind}" x="{left + width / 2:.1f}" y="{top + down:.1f}" text-anchor="middle">'
+                   f'{escape(text)}</text>\n')
+    yield "</g>\n"
