@@ -10,7 +10,7 @@ use Rattle.strat_state.specs.State.{tree_after}
 use Rattle.strat_recovery.specs.StateTable.{request_for}
 use Rattle.strat_recovery.specs.Workload.{next_draw, drawn, drawn_change, changes_from}
 use Rattle.strat_serve.specs.declared.drawing.Pick.{Pick}
-use Rattle.strat_serve.specs.Generated.{change_of, frame_bytes_from, left_of}
+use Rattle.strat_serve.specs.Generated.{picked_change, frame_bytes_from, bytes_left}
 
 some_is : (x y : List ℕ) → ◌≡◌ {A = Option (List ℕ)} (Some x) (Some y) → x ≡ y
 some_is x y e = cc
@@ -28,15 +28,15 @@ next_frame count drawn' state parents lt =
 -- a frame that was given whole is followed by that of the next change
 pub refilled : (count drawn' state given now : ℕ) (parents later : Parents) (old new : List ℕ) (p : Pick)
     → length old ≤ given → drawn' < count
-    → change_of (drawn' + 1) p ≡ drawn_change parents (drawn' + 1) (drawn (next_draw state) % 64) (drawn (next_draw (next_draw state))) (drawn (next_draw (next_draw (next_draw state))) % 1000)
-    → later ≡ tree_after parents (change_of (drawn' + 1) p) → now ≡ next_draw (next_draw (next_draw state))
-    → new ≡ frame (command_body (drawn' + 1) (request_for (change_of (drawn' + 1) p)))
-    → left_of count (drawn' + 1) now later new 0 ≡ left_of count drawn' state parents old given
+    → picked_change (drawn' + 1) p ≡ drawn_change parents (drawn' + 1) (drawn (next_draw state) % 64) (drawn (next_draw (next_draw state))) (drawn (next_draw (next_draw (next_draw state))) % 1000)
+    → later ≡ tree_after parents (picked_change (drawn' + 1) p) → now ≡ next_draw (next_draw (next_draw state))
+    → new ≡ frame (command_body (drawn' + 1) (request_for (picked_change (drawn' + 1) p)))
+    → bytes_left count (drawn' + 1) now later new 0 ≡ bytes_left count drawn' state parents old given
 refilled count drawn' state given now parents later old new p whole lt picked tree state_is spelled =
     let third : ℕ = next_draw (next_draw (next_draw state)) in
     let choose : ℕ → Change = λ i. drawn_change parents i (drawn (next_draw state) % 64) (drawn (next_draw (next_draw state))) (drawn third % 1000) in
     let one : drawn' + 1 ≡ suc drawn' = omega arith in
-    let is : change_of (drawn' + 1) p ≡ choose (suc drawn') = picked ∙ ap choose one in
+    let is : picked_change (drawn' + 1) p ≡ choose (suc drawn') = picked ∙ ap choose one in
     let rest : ℕ → ℕ → Parents → List ℕ = λ i s t. frame_bytes_from (suc i) (changes_from (count - i) (suc i) s t) in
     (λ j. spelled j ++ rest (drawn' + 1) (state_is j) (tree j))
     ∙ (λ j. frame (command_body (one j) (request_for (is j))) ++ rest (one j) third (tree_after parents (is j)))

@@ -11,10 +11,10 @@ use Rattle.strat_serve.specs.declared.drawing.Pick.{Pick}
 use Rattle.strat_serve.specs.declared.drawing.Pick.TheVariants as pick
 
 -- the i-th change, as it was drawn
-abbrev pub change_of : ℕ → Pick → Change
-change_of i (pick.Put version key) = Put version (drawn_key key) (decimal i)
-change_of i (pick.Delete version key) = Delete version (drawn_key key)
-change_of i (pick.Clone version) = Clone version
+abbrev pub picked_change : ℕ → Pick → Change
+picked_change i (pick.Put version key) = Put version (drawn_key key) (decimal i)
+picked_change i (pick.Delete version key) = Delete version (drawn_key key)
+picked_change i (pick.Clone version) = Clone version
 
 -- a change that was drawn makes a version
 abbrev pub makes_version : Pick → Bool
@@ -47,8 +47,8 @@ AskFor i _ _ = ⊥
 
 -- the bytes left of a workload of so many changes: of the frame of the last of those drawn, of which
 -- so many bytes were given, and all of the frames of the changes still to be drawn
-abbrev pub left_of : ℕ → ℕ → ℕ → Parents → List ℕ → ℕ → List ℕ
-left_of count drawn state parents frame given =
+abbrev pub bytes_left : ℕ → ℕ → ℕ → Parents → List ℕ → ℕ → List ℕ
+bytes_left count drawn state parents frame given =
     drop given frame
     ++ frame_bytes_from (suc drawn) (changes_from (count - drawn) (suc drawn) state parents)
 

@@ -4,7 +4,7 @@ ghost use Rattle.std.specs.Prelude.{◌≡◌, ◌+◌, ◌≤◌, ◌<◌, ◌%
 ghost use Rattle.strat_base.specs.Tree.{has_child};
 ghost use Rattle.strat_recovery.specs.Workload.{next_draw, drawn, leaf_from, drawn_change};
 ghost use Rattle.strat_state.specs.State.{tree_after};
-ghost use Rattle.strat_serve.specs.Generated.{change_of, makes_version};
+ghost use Rattle.strat_serve.specs.Generated.{picked_change, makes_version};
 
 use arrayvec::ArrayVec;
 
@@ -68,7 +68,7 @@ fn leaf_from(parents: &[Option<u32>], v: u32) -> u32
 fn chosen(parents: &[Option<u32>], kind: u32, of: u32, key: u32) -> Pick
     requires some { 0 < length parents.now }
     requires few { length parents.now ≤ 128 }
-    ensures ok { (i : ℕ) → change_of i result ≡ drawn_change parents.now i kind of key }
+    ensures ok { (i : ℕ) → picked_change i result ≡ drawn_change parents.now i kind of key }
     ensures room { makes_version result ≡ true → length parents.now < 128 }
 {
     let count = parents.len() as u32;
@@ -90,7 +90,7 @@ fn chosen(parents: &[Option<u32>], kind: u32, of: u32, key: u32) -> Pick
 /// Makes the version that a change asks for, if it asks for one.
 fn make_version(parents: &mut ArrayVec<Option<u32>, VERSIONS>, pick: Pick)
     requires { makes_version pick ≡ true → length parents.old.items < 128 }
-    ensures ok { (i : ℕ) → parents.new.items ≡ tree_after parents.old.items (change_of i pick) }
+    ensures ok { (i : ℕ) → parents.new.items ≡ tree_after parents.old.items (picked_change i pick) }
     ensures len { length parents.old.items ≤ length parents.new.items }
 {
     match pick {
@@ -103,10 +103,10 @@ fn make_version(parents: &mut ArrayVec<Option<u32>, VERSIONS>, pick: Pick)
 /// Draws the next change, by three draws, and makes the version that it may ask for.
 pub(crate) fn draw_change(state: &mut u64, parents: &mut ArrayVec<Option<u32>, VERSIONS>) -> Pick
     requires some { 0 < length parents.old.items }
-    ensures ok { (i : ℕ) → change_of i result ≡ drawn_change parents.old.items i
+    ensures ok { (i : ℕ) → picked_change i result ≡ drawn_change parents.old.items i
         (drawn (next_draw state.old) % 64) (drawn (next_draw (next_draw state.old)))
         (drawn (next_draw (next_draw (next_draw state.old))) % 1000) }
-    ensures tree { (i : ℕ) → parents.new.items ≡ tree_after parents.old.items (change_of i result) }
+    ensures tree { (i : ℕ) → parents.new.items ≡ tree_after parents.old.items (picked_change i result) }
     ensures new { state.new ≡ next_draw (next_draw (next_draw state.old)) }
     ensures some { 0 < length parents.new.items }
 {

@@ -8,7 +8,7 @@ ghost use Rattle.strat_model.specs.Stream.{frame};
 ghost use Rattle.strat_recovery.specs.StateTable.{request_for};
 ghost use Rattle.strat_recovery.specs.Workload.{last_digit, drawn_key};
 ghost use Rattle.strat_base.specs.Change.{Put, Delete};
-ghost use Rattle.strat_serve.specs.Generated.{change_of};
+ghost use Rattle.strat_serve.specs.Generated.{picked_change};
 
 use crate::drawing::Pick;
 use arrayvec::ArrayVec;
@@ -109,7 +109,7 @@ fn write_delete(out: &mut ArrayVec<u8, FRAME_MAX>, i: u32, version: u32, key: u3
 
 /// Writes the frame of the i-th change, as it was drawn, in place of what the buffer holds.
 pub(crate) fn write_frame(out: &mut ArrayVec<u8, FRAME_MAX>, i: u32, pick: Pick)
-    ensures ok { out.new.items ≡ frame (command_body i (request_for (change_of i pick))) }
+    ensures ok { out.new.items ≡ frame (command_body i (request_for (picked_change i pick))) }
     ensures len { 0 < length out.new.items }
 {
     match pick {

@@ -3,7 +3,7 @@
 ghost use Rattle.std.specs.Prelude.{◌≡◌, ◌+◌, ◌-◌, ◌≤◌, ◌<◌, ℕ, [], ◌∷◌, ◌++◌, suc, length, drop, take, min, List, Option, IsOk, IfOk, OnErr};
 ghost use Rattle.strat_crash.specs.Faults.{CountsFaults};
 ghost use Rattle.strat_io.specs.Streams.{Gives, Appends};
-ghost use Rattle.strat_serve.specs.Generated.{workload_bytes, left_of, IsGenerating};
+ghost use Rattle.strat_serve.specs.Generated.{workload_bytes, bytes_left, IsGenerating};
 
 use crate::drawing::{VERSIONS, draw_change};
 use crate::framing::{FRAME_MAX, write_frame};
@@ -27,7 +27,7 @@ struct Frames {
 impl Frames {
     /// Before the first draw.
     fn new(seed: u64, count: u32) -> Frames
-        ensures ok { left_of result.count result.drawn result.state result.parents.items
+        ensures ok { bytes_left result.count result.drawn result.state result.parents.items
             result.frame.items result.given ≡ workload_bytes seed count }
         ensures kept { IsGenerating result.count result.drawn result.parents.items
             result.frame.items result.given }
@@ -48,9 +48,9 @@ impl Frames {
     fn refill(&mut self)
         requires { IsGenerating self.old.count self.old.drawn self.old.parents.items
             self.old.frame.items self.old.given }
-        ensures ok { left_of self.new.count self.new.drawn self.new.state self.new.parents.items
+        ensures ok { bytes_left self.new.count self.new.drawn self.new.state self.new.parents.items
             self.new.frame.items self.new.given
-            ≡ left_of self.old.count self.old.drawn self.old.state self.old.parents.items
+            ≡ bytes_left self.old.count self.old.drawn self.old.state self.old.parents.items
             self.old.frame.items self.old.given }
         ensures end { self.new.given ≡ length self.new.frame.items
             → self.new.drawn ≡ self.new.count }
@@ -87,11 +87,11 @@ pub struct GenSource {
 
 impl Model for GenSource {
     ghost use Rattle.std.specs.Prelude.{List, ℕ};
-    ghost use Rattle.strat_serve.specs.Generated.{left_of, IsGenerating};
+    ghost use Rattle.strat_serve.specs.Generated.{bytes_left, IsGenerating};
 
     ghost Value = { List ℕ };
 
-    ghost view = { λ s. left_of s.frames.count s.frames.drawn s.frames.state
+    ghost view = { λ s. bytes_left s.frames.count s.frames.drawn s.frames.state
         s.frames.parents.items s.frames.frame.items s.frames.given };
 
     ghost invariant = { λ s. IsGenerating s.frames.count s.frames.drawn s.frames.parents.items
