@@ -28,6 +28,7 @@ import time
 import formats
 import model
 import promotions
+import workloads
 from model import BLOCK, Store, bodies_of, clone, delete, frame, get, info, page, put, reply, scan, sized, stat, tag_of
 
 TOP = pathlib.Path(__file__).resolve().parent.parent
@@ -465,6 +466,9 @@ WRONG_WORDS = [
     [b"format", b"f", b"4", b"0", b"10"], [b"format", b"f", b"4", b"16777217", b"10"],
     [b"format", b"f", b"4", b"100", b"0"], [b"format", b"f", b"4", b"100", b"16385"],
     [b"format", b"f", b"4", b"100", b"-1"], [b"format", b"f", b"18446744073709551620", b"100", b"10"],
+    [b"levels"], [b"levels", b""], [b"levels", b"f", b"g"], [b"check", b"f"],
+    [b"workload", b"f"], [b"workload", b"f", b"1"], [b"workload", b"", b"1", b"0"], [b"workload", b"f", b"1", b"0", b"0"],
+    [b"workload", b"f", b"01", b"0"], [b"workload", b"f", b"18446744073709551616", b"0"], [b"workload", b"f", b"1", b"1000001"],
 ]
 
 
@@ -932,6 +936,21 @@ def altered(path, place, piece):
     with open(path, "r+b") as file:
         file.seek(place)
         file.write(piece)
+
+
+def workloads_leave_and_say_what_they_draw(folder):
+    for seed, count in ((1, 0), (1, 1), (1557, 6), (2 ** 64 - 1, 65), (7, 300), (1, 2000)):
+        name, path = f"workload {seed} {count}", os.path.join(folder, f"{seed}.{count}.store")
+        said = "".join(line + "\n" for line in workloads.summary(seed, count)).encode()
+        for _ in range(2):
+            expect(name, run(["workload", path, str(seed), str(count)]), (said, 0, b""))
+            data = bytes_of(path)
+            store = Store(workloads.MEM, workloads.CHANGES, workloads.VERSIONS)
+            store.serve(b"".join(workloads.frames(seed, count)))
+            expect_said(name, data, store)
+            levels = "".join(line + "\n" for line in formats.levels_text(formats.read(data))).encode()
+            expect(f"{name}, levels", run(["levels", path]), (levels, 0, b""))
+            expect(f"{name}, bytes behind levels", bytes_of(path), data)
 
 
 def damaged_arrays_are_named(folder):
@@ -1600,6 +1619,7 @@ CHECKS = [
     publications_stand_where_they_should,
     every_array_is_a_third_live,
     random_streams_are_answered_over_several_runs,
+    workloads_leave_and_say_what_they_draw,
     kills_amid_promotions_lose_nothing,
     damaged_arrays_are_named,
     each_refusal_of_a_manifest_has_a_file,

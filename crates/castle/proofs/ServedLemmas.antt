@@ -123,7 +123,7 @@ last_at xs x i P le at =
 -- a new store on a disk that a format left, and what came then
 module _ (d0 d1 d2 : DiskView) (later : Passes d0 d1) (passes : Passes d1 d2)
     (moments : IsBlank d0 → (c : Image) → Since d1 d0.moment c → IsNoneOrNew 64 16777216 16384 c) (disk : IsNewDisk 64 16777216 16384 d1) where
-  content : Image
+  abbrev pub content : Image
   content = disk.rest.content
 
   -- what was possible when it was made is the new store
@@ -178,10 +178,10 @@ module _ (d0 d1 d2 : DiskView) (later : Passes d0 d1) (passes : Passes d1 d2)
   follows_opening (inr stops) = from_follows (fresh 16777216 16384 ∷ []) 0 (stops.follows (fresh 16777216 16384) disk.new.shows)
 
   module _ (seed count : ℕ) (few : count < 2 ^ 32) (first left : Option (List ℕ)) (x y : ℕ) (is_first : first ≡ Some (workload_bytes seed count)) where
-    before : World
+    abbrev pub before : World
     before = world first 0 None 0 d1 x
 
-    now : World
+    abbrev pub now : World
     now = world left 0 None 0 d2 y
 
     gave_up_leaves : (how : Ended) → GaveUp how before now → RefusesFor how d1 d2 → LeavesWorkload seed count how d0 d2
@@ -204,7 +204,7 @@ module _ (d0 d1 d2 : DiskView) (later : Passes d0 d1) (passes : Passes d1 d2)
     gave_up_leaves ended.Unsound gave refuses = absurd gave.ends
 
     module _ (how : Ended) (served : Served 1099511627776 how before now) where
-      s : Session
+      abbrev s : Session
       s = served.session
 
       run : FollowsRun d1 d2 content (fresh 16777216 16384) s

@@ -17,7 +17,7 @@ use Rattle.strat_store.specs.Format.{IsNewDisk, IsBlank, IsNoneOrNew, KeepsOther
 use Rattle.strat_serve.specs.Session.{SendsPrefix, RunOutcome, RefusesFor, EndHasCause, ExposesDamage}
 use Rattle.strat_serve.specs.World.{World, IsCalm}
 use Rattle.strat_crash.specs.Faults.{Rose}
-use Rattle.strat_report.specs.Reporting.{levels_text, Writes, IsComplete}
+use Rattle.strat_report.specs.Reporting.{levels_text, WritesReport, IsComplete}
 use Rattle.castle.specs.Arguments.{Subcommand, Serve, Format, Levels, Workload}
 use Rattle.castle.specs.Working.{EndsWorkload, LeavesWorkload, SendsSummary}
 
@@ -84,7 +84,7 @@ pub record FormatsDisk (mem changes_max versions_max : ℕ) (how : Ended) (befor
 -- a run that reports the levels of a store ended so: it said what recovery finds, and left the disk as it was;
 -- where nothing failed it ended as the content says, and said all of that
 pub record ReportsLevels (how : Ended) (before now : World) : Type 0 where
-  pub writes : Writes levels_text before.disk how before.held now.held
+  pub writes : WritesReport levels_text before.disk how before.held now.held
   pub same : OnlyReads before.disk now.disk
   pub none : how ≡ ended.NotAStore → (f : Image) → Exposes before.disk f → newest_in f ≡ Ok None
   pub cause : EndHasCause how before now

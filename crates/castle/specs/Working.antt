@@ -10,7 +10,7 @@ use Rattle.strat_model.specs.Run.{Position, Transcript, IsTranscript, bodies_of,
 use Rattle.strat_model.specs.Table.{Table, fresh, bare}
 use Rattle.strat_recovery.specs.Head.{Head}
 use Rattle.strat_recovery.specs.Texts as texts
-use Rattle.strat_report.specs.Reporting.{Finds, AppendsFront}
+use Rattle.strat_report.specs.Reporting.{RecoversAs, AppendsFront}
 use Rattle.strat_standing.specs.Standing.{ShowsTable}
 use Rattle.strat_store.specs.Format.{IsBlank, IsNewStore, IsNoneOrNew}
 use Rattle.strat_serve.specs.Generated.{workload_bodies}
@@ -38,13 +38,6 @@ abbrev pub EndsAfterAll : Ended → Type 0
 EndsAfterAll ended.Done = Unit {0}
 EndsAfterAll ended.Sink = Unit {0}
 EndsAfterAll _ = ⊥
-
--- its ends before it sent anything
-abbrev pub EndsUnsent : Ended → Type 0
-EndsUnsent ended.NotAStore = Unit {0}
-EndsUnsent ended.Device = Unit {0}
-EndsUnsent ended.NoMemory = Unit {0}
-EndsUnsent _ = ⊥
 
 -- where a run over the store of a workload begins
 abbrev pub workload_start : Position
@@ -102,7 +95,7 @@ summary_of head seed count = texts.text (texts.summary head seed count)
 abbrev pub SendsSummary :
     Ended → ℕ → ℕ → DiskView → Option (List ℕ) → Option (List ℕ) → Type 0
 SendsSummary ended.Done seed count disk before now =
-    (head : Head) × Finds disk (Ok (Some head)) × Appends before now (summary_of head seed count)
+    (head : Head) × RecoversAs disk (Ok (Some head)) × Appends before now (summary_of head seed count)
 SendsSummary ended.Sink seed count disk before now =
-    (head : Head) × Finds disk (Ok (Some head)) × AppendsFront before now (summary_of head seed count)
+    (head : Head) × RecoversAs disk (Ok (Some head)) × AppendsFront before now (summary_of head seed count)
 SendsSummary _ seed count disk before now = now ≡ before

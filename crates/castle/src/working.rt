@@ -4,9 +4,10 @@ ghost use Rattle.std.specs.Prelude.{◌≡◌, ◌≢◌, ℕ, List, Option};
 ghost use Rattle.strat_crash.specs.Image.{Image};
 ghost use Rattle.strat_crash.specs.Faults.{Rose};
 ghost use Rattle.strat_crash.specs.Moments.{Exposes, Passes};
+ghost use Rattle.strat_report.specs.Reporting.{IsSilent};
 ghost use Rattle.strat_serve.specs.Session.{EndHasCause};
 ghost use Rattle.strat_serve.specs.World.{world};
-ghost use Rattle.castle.specs.Working.{EndsWorkload, EndsUnsent, LeavesWorkload, SendsSummary};
+ghost use Rattle.castle.specs.Working.{EndsWorkload, LeavesWorkload, SendsSummary};
 
 use crate::program::BUDGET;
 use std::alloc::Global;
@@ -60,7 +61,7 @@ pub fn run_workload<K: Sink, D: Disk>(
     ensures end { EndsWorkload result }
     ensures sent { SendsSummary result seed count (D.view disk.new)
         (K.held sink.old) (K.held sink.new) }
-    ensures same { EndsUnsent result → sink.new ≡ sink.old }
+    ensures same { IsSilent result → sink.new ≡ sink.old }
     ensures time { Passes (D.view disk.old) (D.view disk.new) }
     ensures cause { (left : Option (List ℕ)) (source_faults : ℕ) → EndHasCause result
         (world left source_faults (K.held sink.old) (K.faults sink.old)
