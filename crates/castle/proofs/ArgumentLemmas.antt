@@ -15,30 +15,30 @@ and_false : (b : Bool) → b && false ≡ false
 and_false true = refl
 and_false false = refl
 
--- a numeral that is no number of 32 bits is above each of them
-pub number_too_great : {E : Type 0} (least most : ℕ) (word : List ℕ) (r : Result ℕ E) (e : E) → is_numeral word ≡ true → ParsesUnsigned 32 10 word r → r ≡ Err e → most < 2 ^ 32
+-- a numeral that is no number of so many bits is above each of them
+pub number_too_great : {E : Type 0} (w least most : ℕ) (word : List ℕ) (r : Result ℕ E) (e : E) → is_numeral word ≡ true → ParsesUnsigned w 10 word r → r ≡ Err e → most < 2 ^ w
     → None ≡ number_in least most word
-number_too_great least most word r e numeral parses failed few =
+number_too_great w least most word r e numeral parses failed few =
     let value : ℕ = digits_value 10 word in
     let parts = and_parts (ltb 0 (length word)) (all_ascii_digits word && (not (eqb (get_or word 0 0) 48) || eqb (length word) 1)) numeral in
     let rest = and_parts (all_ascii_digits word) (not (eqb (get_or word 0 0) 48) || eqb (length word) 1) parts.1 in
-    let refuses : OkIff (Err e) ((0 < length word) × (value < 2 ^ 32)) value =
-    subst (λ (x : Result ℕ _). OkIff x ((0 < length word) × (value < 2 ^ 32)) value) failed (parse_digits digits 32 word r parses rest.0) in
-    elim (cases_lt value (2 ^ 32)) [
+    let refuses : OkIff (Err e) ((0 < length word) × (value < 2 ^ w)) value =
+    subst (λ (x : Result ℕ _). OkIff x ((0 < length word) × (value < 2 ^ w)) value) failed (parse_digits digits w word r parses rest.0) in
+    elim (cases_lt value (2 ^ w)) [
       | inl fits ↦ absurd (refuses (ltb-true 0 (length word) parts.0, fits))
       | inr great ↦
-          let no : leb value most ≡ false = lt-leb value most (omega arith) in
+          let no : leb value most ≡ false = lt-leb value most (omega (arith, great, few)) in
           sym (ap (λ (b : Bool). cond (is_numeral word && (leb least value && b)) (Some value) None) no
           ∙ ap (λ (b : Bool). cond (is_numeral word && b) (Some value) None) (and_false (leb least value))
           ∙ ap (λ (b : Bool). cond b (Some value) None) (and_false (is_numeral word)))
     ]
 
--- no job has another number of words than two or five
-pub no_subcommand : (words : List (List ℕ)) → length words ≢ 2 → length words ≢ 5 → subcommand_in words ≡ None
-no_subcommand [] two five = refl
-no_subcommand (a ∷ []) two five = refl
-no_subcommand (a ∷ b ∷ []) two five = absurd (two refl)
-no_subcommand (a ∷ b ∷ c ∷ []) two five = refl
-no_subcommand (a ∷ b ∷ c ∷ d ∷ []) two five = refl
-no_subcommand (a ∷ b ∷ c ∷ d ∷ e ∷ []) two five = absurd (five refl)
-no_subcommand (a ∷ b ∷ c ∷ d ∷ e ∷ f ∷ rest) two five = refl
+-- no job has another number of words than two, four or five
+pub no_subcommand : (words : List (List ℕ)) → length words ≢ 2 → length words ≢ 4 → length words ≢ 5 → subcommand_in words ≡ None
+no_subcommand [] two four five = refl
+no_subcommand (a ∷ []) two four five = refl
+no_subcommand (a ∷ b ∷ []) two four five = absurd (two refl)
+no_subcommand (a ∷ b ∷ c ∷ []) two four five = refl
+no_subcommand (a ∷ b ∷ c ∷ d ∷ []) two four five = absurd (four refl)
+no_subcommand (a ∷ b ∷ c ∷ d ∷ e ∷ []) two four five = absurd (five refl)
+no_subcommand (a ∷ b ∷ c ∷ d ∷ e ∷ f ∷ rest) two four five = refl

@@ -29,11 +29,11 @@ two_reads : (r : Read (Option Head)) (x y : Read (Option Head)) → r ≡ x → 
 two_reads r x y e f = sym e ∙ f
 
 -- where no slot is open an opening finds nothing
-finds_none : (f : Image) → newest_in f ≡ Ok None → recover f ≡ Ok None
+pub finds_none : (f : Image) → newest_in f ≡ Ok None → recover f ≡ Ok None
 finds_none f none = ap (λ (r : Read (Option (ℕ × Super))). and_then r (recover_slot f)) none
 
 -- where an image shows a table an opening finds its head
-finds_head : (f : Image) (t : Table) → ShowsTable f t → (h : Head) × (recover f ≡ Ok (Some h))
+pub finds_head : (f : Image) (t : Table) → ShowsTable f t → (h : Head) × (recover f ≡ Ok (Some h))
 finds_head f t shows = let parts = state_parts f shows.state shows.reads in (contents_head parts.contents, reads_head f parts.contents parts.reads)
 
 -- no response tells of a damaged block and of the device
@@ -111,7 +111,7 @@ gave_up_sound how status h is calm (inr nine) = absurd (go how (is ∙ nine) cal
     go ended.Unsound e calm = omega (arith, e)
 
 -- a run over an image that shows a table ends at no damaged block
-never_damaged : (budget : ℕ) (how : Ended) (before now : World) (f : Image) (t : Table) → RunOutcome budget how before now → before.disk.content ≡ Some f → ShowsTable f t
+pub never_damaged : (budget : ℕ) (how : Ended) (before now : World) (f : Image) (t : Table) → RunOutcome budget how before now → before.disk.content ≡ Some f → ShowsTable f t
     → (block : ℕ) → how ≡ ended.Damaged block → ⊥
 never_damaged budget how before now f t (inl gave) exposed shows block is =
     let head = finds_head f t shows in

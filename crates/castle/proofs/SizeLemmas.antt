@@ -4,7 +4,7 @@ use Rattle.std.specs.Prelude.{option_map, option_and_then, bytes_eq, codes, not,
 use Rattle.std.specs.Str.Parse.{digits_value}
 use Rattle.std.proofs.lemmas.Bool.{and_parts, leb-true}
 use Rattle.strat_format.specs.SuperBlock.{AreLimits}
-use Rattle.castle.specs.Arguments.{Subcommand, Format, Serve, is_numeral, number_in, serve_in, format_in, subcommand_in}
+use Rattle.castle.specs.Arguments.{Subcommand, Format, Serve, Levels, Workload, is_numeral, number_in, opening_in, format_in, workload_in, subcommand_in}
 
 -- a choice that gives something was made by its test
 chosen : {A : Type 0} (b : Bool) (x : Option A) (y : A) → cond b x None ≡ Some y → (b ≡ true) × (x ≡ Some y)
@@ -55,18 +55,32 @@ size_in job path mem changes versions p x y z e =
     let v = in_range 1 16384 versions z numbers.2 in
     record { mem_least = m.0; mem_most = m.1; changes_least = c.0; changes_most = c.1; versions_least = v.0; versions_most = v.1 }
 
--- a job of serving makes no store
-serves_only : (job path p : List ℕ) (x y z : ℕ) → serve_in job path ≡ Some (Format p x y z) → ⊥
-serves_only job path p x y z e =
-    let body = chosen (bytes_eq job (codes "serve") && not (length path == 0)) (Some (Serve path)) (Format p x y z) e in
-    let f : ◌≡◌ {A = Option Subcommand} (Some (Serve path)) (Some (Format p x y z)) = body.1 in absurd cc
+-- a job of opening a store makes none
+opens_only : (job path p : List ℕ) (x y z : ℕ) → opening_in job path ≡ Some (Format p x y z) → ⊥
+opens_only job path p x y z e = by_tests (length path == 0) (bytes_eq job (codes "serve")) (bytes_eq job (codes "levels")) e
+  where
+    by_tests : (a b c : Bool) → cond a None (cond b (Some (Serve path)) (cond c (Some (Levels path)) None)) ≡ Some (Format p x y z) → ⊥
+    by_tests true b c e = let f : ◌≡◌ {A = Option Subcommand} None (Some (Format p x y z)) = e in cc
+    by_tests false true c e = let f : ◌≡◌ {A = Option Subcommand} (Some (Serve path)) (Some (Format p x y z)) = e in cc
+    by_tests false false true e = let f : ◌≡◌ {A = Option Subcommand} (Some (Levels path)) (Some (Format p x y z)) = e in cc
+    by_tests false false false e = let f : ◌≡◌ {A = Option Subcommand} None (Some (Format p x y z)) = e in cc
+
+-- nor does one of carrying out a workload
+works_only : (job path seed count p : List ℕ) (x y z : ℕ) → workload_in job path seed count ≡ Some (Format p x y z) → ⊥
+works_only job path seed count p x y z e =
+    by_numbers (number_in 0 18446744073709551615 seed) (number_in 0 1000000 count) (chosen (bytes_eq job (codes "workload") && not (length path == 0)) _ (Format p x y z) e).1
+  where
+    by_numbers : (s n : Option ℕ) → option_and_then (λ s. option_map (λ n. Workload path s n) n) s ≡ Some (Format p x y z) → ⊥
+    by_numbers None n e = let f : ◌≡◌ {A = Option Subcommand} None (Some (Format p x y z)) = e in cc
+    by_numbers (Some s) None e = let f : ◌≡◌ {A = Option Subcommand} None (Some (Format p x y z)) = e in cc
+    by_numbers (Some s) (Some n) e = let f : ◌≡◌ {A = Option Subcommand} (Some (Workload path s n)) (Some (Format p x y z)) = e in cc
 
 -- the numbers of a job of making a store
 pub limits_of : (words : List (List ℕ)) (p : List ℕ) (x y z : ℕ) → subcommand_in words ≡ Some (Format p x y z) → AreLimits x y z
 limits_of [] p x y z e = absurd (let f : ◌≡◌ {A = Option Subcommand} None (Some (Format p x y z)) = e in cc)
 limits_of (a ∷ []) p x y z e = absurd (let f : ◌≡◌ {A = Option Subcommand} None (Some (Format p x y z)) = e in cc)
-limits_of (a ∷ b ∷ []) p x y z e = absurd (serves_only a b p x y z e)
+limits_of (a ∷ b ∷ []) p x y z e = absurd (opens_only a b p x y z e)
 limits_of (a ∷ b ∷ c ∷ []) p x y z e = absurd (let f : ◌≡◌ {A = Option Subcommand} None (Some (Format p x y z)) = e in cc)
-limits_of (a ∷ b ∷ c ∷ d ∷ []) p x y z e = absurd (let f : ◌≡◌ {A = Option Subcommand} None (Some (Format p x y z)) = e in cc)
+limits_of (a ∷ b ∷ c ∷ d ∷ []) p x y z e = absurd (works_only a b c d p x y z e)
 limits_of (a ∷ b ∷ c ∷ d ∷ f ∷ []) p x y z e = size_in a b c d f p x y z e
 limits_of (a ∷ b ∷ c ∷ d ∷ f ∷ g ∷ rest) p x y z e = absurd (let h : ◌≡◌ {A = Option Subcommand} None (Some (Format p x y z)) = e in cc)

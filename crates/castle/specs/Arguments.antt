@@ -6,21 +6,28 @@ use Rattle.strat_base.specs.declared.limits.TheConstants.{MEM_MIN, MEM_MAX, CHAN
 use Rattle.castle.specs.declared.arguments.Subcommand.{Subcommand as Borrowed}
 use Rattle.castle.specs.declared.arguments.Subcommand.TheVariants as borrowed
 
--- what the program is asked to do: to make a store with these limits in a file, or to serve one
+-- what the program is asked to do: to make a store with these limits in a file, to serve one, to report its
+-- levels, or to make one and carry out a workload on it
 pub data Subcommand : Type 0 where
   Format : (path : List ℕ) (mem changes_max versions_max : ℕ) → Subcommand
   Serve : (path : List ℕ) → Subcommand
+  Levels : (path : List ℕ) → Subcommand
+  Workload : (path : List ℕ) (seed count : ℕ) → Subcommand
 
 -- a subcommand of the program, wherever its path lies
 abbrev pub subcommand_seen : Borrowed → Subcommand
 subcommand_seen (borrowed.Format path mem changes_max versions_max) =
     Format path.now mem changes_max versions_max
 subcommand_seen (borrowed.Serve path) = Serve path.now
+subcommand_seen (borrowed.Levels path) = Levels path.now
+subcommand_seen (borrowed.Workload path seed count) = Workload path.now seed count
 
 -- the file of a subcommand
 abbrev pub path_of_subcommand : Subcommand → List ℕ
 path_of_subcommand (Format path mem changes_max versions_max) = path
 path_of_subcommand (Serve path) = path
+path_of_subcommand (Levels path) = path
+path_of_subcommand (Workload path seed count) = path
 
 -- decimal digits, of which the first is 0 only where it is the only one
 abbrev pub is_numeral : List ℕ → Bool
@@ -35,10 +42,13 @@ number_in least most word =
     then Some (digits_value 10 word)
     else None
 
--- the subcommand of serving a store, where these arguments ask for it
-abbrev pub serve_in : List ℕ → List ℕ → Option Subcommand
-serve_in job path =
-    if bytes_eq job (codes "serve") && not (length path == 0) then Some (Serve path) else None
+-- the subcommand of opening a store, to serve it or to report its levels, where these arguments ask
+-- for one
+abbrev pub opening_in : List ℕ → List ℕ → Option Subcommand
+opening_in job path =
+    if length path == 0 then None else
+    if bytes_eq job (codes "serve") then Some (Serve path) else
+    if bytes_eq job (codes "levels") then Some (Levels path) else None
 
 -- the subcommand of making a store, where these arguments ask for it and the numbers among them
 -- are a store's limits
@@ -51,9 +61,20 @@ format_in job path mem changes versions =
     (number_in 1 CHANGES_MAX changes)) (number_in MEM_MIN MEM_MAX mem)
     else None
 
+-- the subcommand of carrying out a workload, where these arguments ask for it and the numbers among
+-- them are a seed and a count of changes
+abbrev pub workload_in : List ℕ → List ℕ → List ℕ → List ℕ → Option Subcommand
+workload_in job path seed count =
+    if bytes_eq job (codes "workload") && not (length path == 0) then
+    option_and_then (λ s.
+    option_map (λ n. Workload path s n) (number_in 0 1000000 count))
+    (number_in 0 18446744073709551615 seed)
+    else None
+
 -- the subcommand that arguments name, where they name one
 abbrev pub subcommand_in : List (List ℕ) → Option Subcommand
-subcommand_in (job ∷ path ∷ []) = serve_in job path
+subcommand_in (job ∷ path ∷ []) = opening_in job path
+subcommand_in (job ∷ path ∷ seed ∷ count ∷ []) = workload_in job path seed count
 subcommand_in (job ∷ path ∷ mem ∷ changes ∷ versions ∷ []) = format_in job path mem changes versions
 subcommand_in _ = None
 

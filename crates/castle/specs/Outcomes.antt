@@ -2,7 +2,8 @@
 use Rattle.std.specs.Prelude.{◌≡◌, ◌≢◌, ◌⊎◌, ℕ, ◌==◌, if◌then◌else◌, List, [], ◌∷◌, ◌++◌, Option, Some, None, Ok, Err, codes}
 use Rattle.strat_format.specs.Damage.{Read}
 use Rattle.strat_crash.specs.Image.{Image}
-use Rattle.strat_crash.specs.Moments.{DiskView, Exposes, Since}
+use Rattle.strat_crash.specs.Moments.{DiskView, Exposes, OnlyReads, Since}
+use Rattle.strat_format.specs.SuperBlock.{newest_in}
 use Rattle.strat_io.specs.Streams.{Appends}
 use Rattle.strat_model.specs.declared.ended.Ended.{Ended}
 use Rattle.strat_model.specs.declared.ended.Ended.TheVariants as ended
@@ -16,7 +17,9 @@ use Rattle.strat_store.specs.Format.{IsNewDisk, IsBlank, IsNoneOrNew, KeepsOther
 use Rattle.strat_serve.specs.Session.{SendsPrefix, RunOutcome, RefusesFor, EndHasCause, ExposesDamage}
 use Rattle.strat_serve.specs.World.{World, IsCalm}
 use Rattle.strat_crash.specs.Faults.{Rose}
-use Rattle.castle.specs.Arguments.{Subcommand, Serve, Format}
+use Rattle.strat_report.specs.Reporting.{levels_text, WritesReport, IsComplete}
+use Rattle.castle.specs.Arguments.{Subcommand, Serve, Format, Levels, Workload}
+use Rattle.castle.specs.Working.{EndsWorkload, LeavesWorkload, SendsSummary}
 
 -- a run ended as its input does, or at the budget, or before it began for want of memory
 abbrev pub EndsAsInput : ℕ → Type 0
@@ -78,6 +81,27 @@ pub record FormatsDisk (mem changes_max versions_max : ℕ) (how : Ended) (befor
       → ¬ Rose before.disk_faults now.disk_faults
       → (status_of how ≡ 0) ⊎ (status_of how ≡ 8)
 
+-- a run that reports the levels of a store ended so: it said what recovery finds, and left the disk as it was;
+-- where nothing failed it ended as the content says, and said all of that
+pub record ReportsLevels (how : Ended) (before now : World) : Type 0 where
+  pub writes : WritesReport levels_text before.disk how before.held now.held
+  pub same : OnlyReads before.disk now.disk
+  pub none : how ≡ ended.NotAStore → (f : Image) → Exposes before.disk f → newest_in f ≡ Ok None
+  pub cause : EndHasCause how before now
+  pub complete : IsCalm before now → (f : Image) → Exposes before.disk f
+      → IsComplete levels_text (recover f) how before.held now.held
+
+-- a run of a workload ended so: it made a store, carried out the workload and said what it came to, or the
+-- store, the disk or the sink gave up
+pub record RunsWorkload (seed count : ℕ) (how : Ended) (before now : World) : Type 0 where
+  pub ends : EndsWorkload how
+  pub left : (f : Image) → Exposes before.disk f
+      → LeavesWorkload seed count how before.disk now.disk
+  pub sends : SendsSummary how seed count now.disk before.held now.held
+  pub cause : EndHasCause how before now
+  pub complete : IsCalm before now → (f : Image) → Exposes before.disk f
+      → (status_of how ≡ 0) ⊎ (status_of how ≡ 8)
+
 -- the program ended with this status, having done what it was asked to do; arguments that name no
 -- subcommand are refused
 abbrev pub Runs : Option Subcommand → ℕ → ℕ → World → World → Type 0
@@ -87,6 +111,10 @@ Runs (Some (Serve path)) budget status before now =
 Runs (Some (Format path mem changes_max versions_max)) budget status before now =
     (how : Ended) × (status ≡ status_of how)
     × FormatsDisk mem changes_max versions_max how before now
+Runs (Some (Levels path)) budget status before now =
+    (how : Ended) × (status ≡ status_of how) × ReportsLevels how before now
+Runs (Some (Workload path seed count)) budget status before now =
+    (how : Ended) × (status ≡ status_of how) × RunsWorkload seed count how before now
 
 -- a run on this disk ended before it read or wrote anything but the disk: with no store, out of
 -- memory, or with a damaged block where recovery finds one
@@ -103,6 +131,10 @@ LeavesAlone (Some (Serve path)) before status source sink disk =
     IsEarly before status → source × sink
 LeavesAlone (Some (Format path mem changes_max versions_max)) before status source sink disk =
     source × ((status ≡ 2) ⊎ (status ≡ 8) ⊎ (status ≡ 9) → sink) × (status ≡ 8 → disk)
+LeavesAlone (Some (Levels path)) before status source sink disk =
+    source × ((status ≡ 2) ⊎ (status ≡ 5) ⊎ (status ≡ 8) → sink)
+LeavesAlone (Some (Workload path seed count)) before status source sink disk =
+    source × ((status ≡ 2) ⊎ (status ≡ 5) ⊎ (status ≡ 8) → sink)
 
 -- the forms of the program's arguments
 abbrev pub usage_text : List ℕ

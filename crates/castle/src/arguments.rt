@@ -4,9 +4,12 @@ ghost use Rattle.std.specs.Prelude.{◌≡◌, map, string_bytes};
 ghost use Rattle.std.specs.Option.{option_copied};
 ghost use Rattle.std.specs.Str.{all_ascii_digits};
 ghost use Rattle.strat_base.specs.Finds.{Finds};
-ghost use Rattle.castle.specs.Arguments.{is_numeral, number_in, subcommand_seen, serve_in, format_in, subcommand_in, path_in};
+ghost use Rattle.castle.specs.Arguments.{is_numeral, number_in, subcommand_seen, opening_in, format_in, workload_in, subcommand_in, path_in};
 
 use strat_base::limits::{CHANGES_MAX, MEM_MAX, MEM_MIN, VERSIONS_MAX};
+
+/// Most changes of a workload.
+const COUNT_MAX: u32 = 1_000_000;
 
 /// What the program is asked to do.
 #[derive(Clone, Copy, Debug, PartialEq, Eq)]
@@ -22,6 +25,17 @@ pub enum Subcommand<'a> {
     /// To serve the store in a file.
     Serve {
         path: &'a str,
+    },
+    /// To report the levels of the store in a file.
+    Levels {
+        path: &'a str,
+    },
+    /// To make a store in a file, and to carry out so many changes on it, which are drawn from this
+    /// seed.
+    Workload {
+        path: &'a str,
+        seed: u64,
+        count: u32,
     },
 }
 
@@ -45,6 +59,19 @@ fn is_numeral(word: &str) -> bool
     !digits.is_empty() && are_digits(digits) && (digits[0] != b'0' || digits.len() == 1)
 }
 
+/// The number of 64 bits that an argument is, where it is a numeral.
+fn long_number(word: &str) -> Option<u64>
+    ensures { result ≡ number_in 0 18446744073709551615 word.now }
+{
+    if !is_numeral(word) {
+        return None;
+    }
+    let Ok(n) = word.parse::<u64>() else {
+        return None;
+    };
+    Some(n)
+}
+
 /// The number that an argument is, where it is a numeral within a range.
 fn number(word: &str, least: u32, most: u32) -> Option<u32>
     ensures { result ≡ number_in least most word.now }
@@ -61,14 +88,21 @@ fn number(word: &str, least: u32, most: u32) -> Option<u32>
     Some(n)
 }
 
-/// The subcommand of serving a store, where these arguments ask for it.
-fn serve_of<'a>(job: &str, path: &'a str) -> Option<Subcommand<'a>>
-    ensures { Finds subcommand_seen result (serve_in job.now path.now) }
+/// The subcommand of opening a store, to serve it or to report its levels, where these arguments
+/// ask for one.
+fn opening_of<'a>(job: &str, path: &'a str) -> Option<Subcommand<'a>>
+    ensures { Finds subcommand_seen result (opening_in job.now path.now) }
 {
-    if job != "serve" || path.is_empty() {
+    if path.is_empty() {
         return None;
     }
-    Some(Subcommand::Serve { path })
+    if job == "serve" {
+        return Some(Subcommand::Serve { path });
+    }
+    if job == "levels" {
+        return Some(Subcommand::Levels { path });
+    }
+    None
 }
 
 /// The subcommand of making a store, where these arguments ask for it and the numbers among them
@@ -97,13 +131,34 @@ fn format_of<'a>(
     })
 }
 
-/// The subcommand that the arguments name, where they name one: `format FILE M C V` or `serve
-/// FILE`.
+/// The subcommand of carrying out a workload, where these arguments ask for it and the numbers among
+/// them are a seed and a count of changes.
+fn workload_of<'a>(
+    job: &str,
+    path: &'a str,
+    seed: &str,
+    count: &str,
+) -> Option<Subcommand<'a>>
+    ensures { Finds subcommand_seen result (workload_in job.now path.now seed.now count.now) }
+{
+    if job != "workload" || path.is_empty() {
+        return None;
+    }
+    let seed = long_number(seed)?;
+    let count = number(count, 0, COUNT_MAX)?;
+    Some(Subcommand::Workload { path, seed, count })
+}
+
+/// The subcommand that the arguments name, where they name one: `format FILE M C V`, `serve
+/// FILE`, `levels FILE` or `workload FILE SEED COUNT`.
 pub fn subcommand_of(words: &[String]) -> Option<Subcommand<'_>>
     ensures { Finds subcommand_seen result (subcommand_in (map string_bytes words.now)) }
 {
     if let [job, path] = words {
-        return serve_of(job.as_str(), path.as_str());
+        return opening_of(job.as_str(), path.as_str());
+    }
+    if let [job, path, seed, count] = words {
+        return workload_of(job.as_str(), path.as_str(), seed.as_str(), count.as_str());
     }
     if let [job, path, mem, changes, versions] = words {
         return format_of(
@@ -131,6 +186,14 @@ pub fn path_of(words: &[String]) -> Option<&str>
             },
         ) => Some(path),
         Some(Subcommand::Serve { path }) => Some(path),
+        Some(Subcommand::Levels { path }) => Some(path),
+        Some(
+            Subcommand::Workload {
+                path,
+                seed: _,
+                count: _,
+            },
+        ) => Some(path),
         None => None,
     }
 }

@@ -5,6 +5,7 @@ mod arguments;
 mod formatting;
 mod links;
 mod program;
+mod working;
 
 use arguments::path_of;
 use links::file_of;

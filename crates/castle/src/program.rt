@@ -8,14 +8,16 @@ ghost use Rattle.castle.specs.Outcomes.{Runs, LeavesAlone, text_of};
 
 use crate::arguments::{Subcommand, subcommand_of};
 use crate::formatting::make_store;
+use crate::working::run_workload;
 use std::alloc::Global;
 use strat_disk::Disk;
 use strat_io::{Sink, Source};
 use strat_model::Ended;
+use strat_report::write_levels;
 use strat_serve::serve;
 
 /// Bytes that one serving run reads at most: 2^40.
-const BUDGET: u64 = 1_099_511_627_776;
+pub(crate) const BUDGET: u64 = 1_099_511_627_776;
 
 /// Runs the subcommand that the program's arguments name, these without the program's own name, and
 /// answers its exit status. Nothing is read or written where they name none.
@@ -23,7 +25,9 @@ const BUDGET: u64 = 1_099_511_627_776;
 /// Serving takes the memory for its buffers, versions, journal and level 0 at its start. A change
 /// makes two writes and two syncs and one insertion into level 0; where the journal is full it is
 /// emptied into the levels first, which takes memory for that time. A get asks level 0 and then, until
-/// one says something, the levels, of each one array at most.
+/// one says something, the levels, of each one array at most. A report of the levels reads what an
+/// opening reads, and no block of an array. A workload makes a store, serves its changes to it and
+/// opens it once more.
 pub fn run<S: Source, K: Sink, D: Disk>(
     alloc: Global,
     words: &[String],
@@ -51,6 +55,14 @@ pub fn run<S: Source, K: Sink, D: Disk>(
                 versions_max,
             },
         ) => make_store(alloc, sink, disk, mem, changes_max, versions_max).status(),
+        Some(Subcommand::Levels { path: _ }) => write_levels(alloc, disk, sink).status(),
+        Some(
+            Subcommand::Workload {
+                path: _,
+                seed,
+                count,
+            },
+        ) => run_workload(alloc, sink, disk, seed, count).status(),
     }
 }
 

@@ -94,6 +94,35 @@ fn stores_are_made_and_served(rt: HostRuntime) -> Result<(), Fail> {
     Ok(())
 }
 
+/// What a new store's levels are.
+const NO_LEVELS: &[u8] = b"store generation 1 mem 4 changes 0 of 100 versions 1 of 10\n\
+journal changes 0 updates 0\n\
+stored 0 updates 0 written 0\n";
+
+#[test]
+fn levels_are_of_a_store(rt: HostRuntime) -> Result<(), Fail> {
+    let mut disk = MemDisk::new(rt.alloc(), &[])?;
+    assert!(rt; ends(rt.alloc(), &mut disk, &["levels", "f"], (&[1], &[1]), 2, b""));
+    assert!(rt; formats(rt.alloc(), &mut disk));
+    assert!(rt; ends(rt.alloc(), &mut disk, &["levels", "f"], (&[1], &[]), 0, NO_LEVELS));
+    Ok(())
+}
+
+/// The summary of a workload of no change.
+const NOTHING: &[u8] = b"workload seed 1 changes 0\n\
+versions 1 updates 0 clones 0\n\
+levels 0 arrays 0 stored 0 written 0\n\
+density none\n";
+
+#[test]
+fn workloads_are_summed_up(rt: HostRuntime) -> Result<(), Fail> {
+    let mut disk = MemDisk::new(rt.alloc(), &[])?;
+    let words = ["workload", "f", "1", "0"];
+    assert!(rt; ends(rt.alloc(), &mut disk, &words, (&[1], &[]), 0, NOTHING));
+    assert!(rt; ends(rt.alloc(), &mut disk, &words, (&[1], &[1]), 7, b""));
+    Ok(())
+}
+
 /// Whether a sink that takes six bytes a call and fails at its second has the front of the line.
 fn cuts_the_line(alloc: Global, disk: &mut MemDisk) -> bool {
     let (Ok(mut source), Ok(mut sink)) = (
@@ -163,12 +192,17 @@ fn is_refused(alloc: Global, texts: &[&str]) -> bool {
 
 #[test]
 fn other_arguments_are_refused(rt: HostRuntime) {
-    let rows: [&[&str]; 9] = [
+    let rows: [&[&str]; 14] = [
         &[],
         &["serve"],
         &["serve", ""],
-        &["levels", "store.bin"],
         &["serve", "store.bin", "now"],
+        &["levels", ""],
+        &["levels", "store.bin", "now"],
+        &["workload", "store.bin"],
+        &["workload", "store.bin", "1"],
+        &["workload", "", "1", "0"],
+        &["workload", "store.bin", "1", "0", "0"],
         &["format"],
         &["format", "f", "4", "100"],
         &["format", "", "4", "100", "10"],
@@ -181,7 +215,7 @@ fn other_arguments_are_refused(rt: HostRuntime) {
 
 #[test]
 fn numbers_out_of_range_are_refused(rt: HostRuntime) {
-    let rows: [&[&str]; 9] = [
+    let rows: [&[&str]; 14] = [
         &["format", "f", "3", "100", "10"],
         &["format", "f", "04", "100", "10"],
         &["format", "f", "+4", "100", "10"],
@@ -191,6 +225,11 @@ fn numbers_out_of_range_are_refused(rt: HostRuntime) {
         &["format", "f", "4", "100", "16385"],
         &["format", "f", "4", "100", ""],
         &["format", "f", "4294967300", "100", "10"],
+        &["workload", "f", "01", "0"],
+        &["workload", "f", "18446744073709551616", "0"],
+        &["workload", "f", "1", "00"],
+        &["workload", "f", "1", "1000001"],
+        &["workload", "f", "-1", "0"],
     ];
     for row in rows {
         assert!(rt; is_refused(rt.alloc(), row));
@@ -208,6 +247,8 @@ fn names(alloc: Global, texts: &[&str], path: &str) -> bool {
 #[test]
 fn arguments_name_a_file(rt: HostRuntime) {
     assert!(rt; names(rt.alloc(), &["serve", "store.bin"], "store.bin"));
+    assert!(rt; names(rt.alloc(), &["levels", "store.bin"], "store.bin"));
+    assert!(rt; names(rt.alloc(), &["workload", "f", "18446744073709551615", "1000000"], "f"));
     assert!(rt;
         names(
             rt.alloc(),

@@ -1,7 +1,12 @@
 pub mod AnswerLemmas
+pub mod AskedForLemmas
 pub mod BeginLemmas
+pub mod DrawingLemmas
+pub mod FramingLemmas
+pub mod GeneratedLemmas
 pub mod GiveUpLemmas
 pub mod ProgressLemmas
 pub mod SendLemmas
 pub mod SessionLemmas
 pub mod StreamLemmas
+pub mod StreamedLemmas

@@ -3,10 +3,12 @@ use Rattle.std.specs.Prelude.{string_bytes, Some}
 use Rattle.castle.specs.Arguments.{Subcommand, subcommand_seen}
 use Rattle.castle.specs.Outcomes.{IsEarly, Runs, LeavesAlone}
 use Rattle.castle.specs.declared.arguments.Subcommand.{Subcommand as Borrowed}
+use Rattle.strat_report.specs.Reporting.{levels_text}
 use Rattle.strat_serve.specs.World.{World, world}
 use Rattle.castle.proofs.CompleteLemmas.{completes, completes_sound, gave_up_by}
 use Rattle.castle.proofs.FormattedLemmas.{formatted_ends, formatting_gave_up}
 use Rattle.castle.proofs.SizeLemmas.{limits_of}
+use Rattle.castle.proofs.SummaryLemmas.{none_reported, report_cause, silent_by, workload_completes}
 use Rattle.castle.proofs.program.run.Given.{Over}
 use Rattle.castle.proofs.program.run.Goals as goal
 
@@ -71,3 +73,53 @@ returns-in-Some-Format-clause-same g c =
     λ is. c.make_store.ensures.same (formatting_gave_up c.make_store.result _ _ _ c.make_store.ensures.ok (subst (λ (n : ℕ). (n ≡ 2) ⊎ (n ≡ 8) ⊎ (n ≡ 9)) c.status-in-Some-Format.ensures is)) in
     subst (λ (s : Option Subcommand). LeavesAlone s (g.D.Disk.view c.args.disk.now) c.status-in-Some-Format.result (c.args.source.now ≡ c.args.source.now) (c.make_store.new.sink ≡ c.args.sink.now) (c.make_store.new.disk ≡ c.args.disk.now)) (sym named)
     (refl, λ is. (early is).0, λ is. (early (inr (inl is))).1)
+
+pub returns-in-Some-Levels-clause-ok : goal.returns-in-Some-Levels-clause-ok
+returns-in-Some-Levels-clause-ok g c =
+    let before = shown g c.args.source.now c.args.sink.now c.args.disk.now in
+    let now = shown g c.args.source.now c.write_levels.new.sink c.write_levels.new.disk in
+    let named = c.in-Some-Levels.ensures ∙ ap (λ (j : Borrowed). Some (subcommand_seen j)) c.in-Some-Levels.field-0-is in
+    let wrote = c.write_levels.ensures in
+    subst (λ (s : Option Subcommand). Runs s 1099511627776 c.status-in-Some-Levels.result before now) (sym named) (
+      c.write_levels.result,
+      c.status-in-Some-Levels.ensures,
+      record {
+        writes = wrote.ok;
+        same = wrote.same;
+        none = none_reported before.disk c.write_levels.result before.held now.held wrote.ok;
+        cause = report_cause levels_text before.disk before.disk now.disk c.write_levels.result before.held now.held before.disk_faults now.disk_faults before.disk_faults
+            before.sink_faults now.sink_faults before.left before.source_faults wrote.ok wrote.cause refl;
+        complete = λ calm. wrote.found calm.disk calm.sink;
+      },
+    )
+
+pub returns-in-Some-Levels-clause-same : goal.returns-in-Some-Levels-clause-same
+returns-in-Some-Levels-clause-same g c =
+    let named = c.in-Some-Levels.ensures ∙ ap (λ (j : Borrowed). Some (subcommand_seen j)) c.in-Some-Levels.field-0-is in
+    subst (λ (s : Option Subcommand). LeavesAlone s (g.D.Disk.view c.args.disk.now) c.status-in-Some-Levels.result (c.args.source.now ≡ c.args.source.now) (c.write_levels.new.sink ≡ c.args.sink.now) (c.write_levels.new.disk ≡ c.args.disk.now)) (sym named)
+    (refl, λ is. c.write_levels.ensures.err (silent_by c.write_levels.result (subst (λ (n : ℕ). (n ≡ 2) ⊎ (n ≡ 5) ⊎ (n ≡ 8)) c.status-in-Some-Levels.ensures is)))
+
+pub returns-in-Some-Workload-clause-ok : goal.returns-in-Some-Workload-clause-ok
+returns-in-Some-Workload-clause-ok g c =
+    let before = shown g c.args.source.now c.args.sink.now c.args.disk.now in
+    let now = shown g c.args.source.now c.run_workload.new.sink c.run_workload.new.disk in
+    let named = c.in-Some-Workload.ensures ∙ ap (λ (j : Borrowed). Some (subcommand_seen j)) c.in-Some-Workload.field-0-is in
+    let ran = c.run_workload.ensures in
+    let cause = ran.cause before.left before.source_faults in
+    subst (λ (s : Option Subcommand). Runs s 1099511627776 c.status-in-Some-Workload.result before now) (sym named) (
+      c.run_workload.result,
+      c.status-in-Some-Workload.ensures,
+      record {
+        ends = ran.end;
+        left = ran.ok;
+        sends = ran.sent;
+        cause = cause;
+        complete = λ calm f exposed. workload_completes c.run_workload.result before now (ran.ok f exposed).ends cause calm.sink calm.disk;
+      },
+    )
+
+pub returns-in-Some-Workload-clause-same : goal.returns-in-Some-Workload-clause-same
+returns-in-Some-Workload-clause-same g c =
+    let named = c.in-Some-Workload.ensures ∙ ap (λ (j : Borrowed). Some (subcommand_seen j)) c.in-Some-Workload.field-0-is in
+    subst (λ (s : Option Subcommand). LeavesAlone s (g.D.Disk.view c.args.disk.now) c.status-in-Some-Workload.result (c.args.source.now ≡ c.args.source.now) (c.run_workload.new.sink ≡ c.args.sink.now) (c.run_workload.new.disk ≡ c.args.disk.now)) (sym named)
+    (refl, λ is. c.run_workload.ensures.same (silent_by c.run_workload.result (subst (λ (n : ℕ). (n ≡ 2) ⊎ (n ≡ 5) ⊎ (n ≡ 8)) c.status-in-Some-Workload.ensures is)))
