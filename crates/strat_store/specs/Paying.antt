@@ -1,5 +1,5 @@
 -- What a store pays for its arrays: how many entries it stored and wrote, and how a publication counts these.
-use Rattle.std.specs.Prelude.{◌≡◌, ◌≤◌, ◌<◌, ◌⊎◌, ℕ, ◌+◌, ◌*◌, Contains, filter, sum_by, nat_le, Some}
+use Rattle.std.specs.Prelude.{◌≡◌, ◌≤◌, ◌<◌, ◌⊎◌, ℕ, ◌+◌, ◌*◌, [], ◌∷◌, Contains, filter, sum_by, nat_le, Some}
 use Rattle.strat_base.specs.declared.descriptors.ArrayDesc.{ArrayDesc}
 use Rattle.strat_crash.specs.Image.{Image}
 use Rattle.strat_crash.specs.Moments.{DiskView, Since}
@@ -35,3 +35,25 @@ pub record CountsWritten (old new : Manifest) : Type 0 where
 -- a manifest is the one before, or counts what a publication wrote behind it
 abbrev pub KeepsCount : Manifest → Manifest → Type 0
 KeepsCount old new = (new ≡ old) ⊎ CountsWritten old new
+
+-- a manifest with one array, of so many entries, after as many updates: a worked value
+abbrev pub manifest_with_array : (id entries written : ℕ) → Manifest
+manifest_with_array id entries written = record {
+  changes = entries;
+  updates = entries;
+  written = written;
+  next_array = id + 1;
+  parents = [];
+  levels = record {
+    number = 1;
+    horizon = 1;
+    arrays = record {
+      id = id;
+      entries = entries;
+      leads = entries;
+      least = entries;
+      versions = 0 ∷ [];
+      extents = [];
+    } ∷ [];
+  } ∷ [];
+}

@@ -15,6 +15,7 @@ ghost use Rattle.strat_state.specs.Level.{Level};
 ghost use Rattle.strat_store.specs.Held.{Held, IsConsistent, StandsWith};
 ghost use Rattle.strat_store.specs.Promoting.{MayPromote};
 ghost use Rattle.strat_store.specs.Memory.{Memory, IsMemoryOf};
+ghost use Rattle.strat_store.specs.Paying.{CountsWritten, manifest_with_array};
 ghost use Rattle.strat_store.specs.Publishing.{IsComputed, IsWrittenBeside, MayCompute, contents_after, descs_to, descs_behind};
 
 use strat_crash::laws::Viewed;
@@ -53,4 +54,12 @@ pub fn what_was_written_beside_is_computed<D: Viewed>()
         → IsWrittenBeside (D.view v) (D.view w) (D.view u) s t r old new target made others
         → IsTrue (is_lawful_manifest old.chained.manifest) → IsLogOf old log
         → IsComputed (D.view u) new.slot new.sb log old new }
+{}
+
+/// Eight entries are counted behind the four of the publication before; neither one less nor those of an array that has the
+/// number of one before it.
+pub fn entries_of_new_arrays_are_counted()
+    ensures ok { CountsWritten (manifest_with_array 1 4 4) (manifest_with_array 2 8 12) }
+    ensures none { ¬ CountsWritten (manifest_with_array 1 4 4) (manifest_with_array 2 8 11) }
+    ensures same { ¬ CountsWritten (manifest_with_array 1 4 4) (manifest_with_array 1 8 12) }
 {}

@@ -24,6 +24,7 @@ ghost use Rattle.strat_store.specs.Following.{IsOpenedAs, IsUnchanged, LeavesOpe
 ghost use Rattle.strat_store.specs.Held.{IsConsistent, StandsWith};
 ghost use Rattle.strat_store.specs.Memory.{info_told};
 ghost use Rattle.strat_cursor.specs.Looking.{AreInOrder, AreCachedFrom, LooksThrough, arrays_there, levels_there};
+ghost use Rattle.strat_store.specs.Paying.{StoreTwoSince};
 ghost use Rattle.strat_store.specs.Ranging.{TellsFrom};
 ghost use Rattle.strat_store.specs.Recovering.{held_of, held_after, empty_cache};
 ghost use Rattle.strat_store.specs.Settling.{LeavesPublished, carries_out};
@@ -259,6 +260,8 @@ impl Store {
             (arrays_there self.old.levels) self.old.cached → is_fault result ≡ false
             → TellsFrom f self.old.memory self.old.levels
             (request_of command.now) (as_told result out.new) }
+        ensures stored { (x : Contents) → StandsWith (D.view disk.old) self.old x
+            → StoreTwoSince (D.view disk.new) (D.view disk.old).moment }
         ensures kept { (self.new.spent ≡ is_fault result)
             × (self.new.spent ≡ false → IsConsistent self.new) }
         ensures len { (result ≡ reply.Found → length out.new ≡ 1)

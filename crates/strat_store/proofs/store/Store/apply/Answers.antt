@@ -1,6 +1,7 @@
 use Rattle.std.proofs.Common.{sym, ◌∙◌}
 use Rattle.strat_store.specs.Recovering.{held_of}
 use Rattle.strat_store.proofs.ApplyLemmas.{spent_consistent}
+use Rattle.strat_store.proofs.PayingLemmas.{stored_since}
 use Rattle.strat_store.proofs.store.Store.apply.Goals as goal
 
 pub answer-told-requires-clause-kept : goal.answer-told-requires-clause-kept
@@ -20,3 +21,7 @@ returns-clause-kept g c = (
 
 pub returns-clause-damaged : goal.returns-clause-damaged
 returns-clause-damaged g c = rw (← c.self.view_is) c.answer-told.ensures.damaged
+
+pub returns-clause-stored : goal.returns-clause-stored
+returns-clause-stored g c =
+    rw (← c.self.view_is) (λ x stands. stored_since (g.D.Disk.view c.answer-told.new.disk) (g.D.Disk.view c.args.disk.now).moment _ _ (c.answer-told.ensures.trail x (record { stands = stands.stands; held = stands.held; cached = stands.cached })))
