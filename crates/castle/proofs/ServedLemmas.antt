@@ -17,6 +17,7 @@ use Rattle.strat_recovery.specs.Head.{Head}
 use Rattle.strat_recovery.specs.Opening.{recover, reads_as}
 use Rattle.strat_standing.specs.Standing.{ShowsTable}
 use Rattle.strat_state.specs.State.{State, fresh_state}
+use Rattle.strat_store.proofs.PayingLemmas.{stored_since}
 use Rattle.strat_store.specs.Following.{FollowsFrom, IsUnchanged, LeavesOpening}
 use Rattle.strat_store.specs.Format.{IsBlank, IsNewDisk, IsNewStore, IsNoneOrNew, head_for}
 use Rattle.strat_serve.specs.Generated.{workload_bytes, workload_bodies}
@@ -144,11 +145,16 @@ module _ (d0 d1 d2 : DiskView) (later : Passes d0 d1) (passes : Passes d1 d2)
     new = λ m c low high image. is_new c (f.until m c low high image);
     trail = f.trail;
     left = f.left;
+    stored = f.stored;
+    paid = f.paid disk.new.paid;
   }
 
   from_still : KeepsImages d1 d2 → FollowsNew d0 d2 (fresh 16777216 16384 ∷ []) 0
   from_still kept =
       let each : (c : Image) → Since d2 d1.moment c → IsNewStore 64 16777216 16384 c = λ c since. is_new c (kept.each c since) in
+      let trail : Trail ShowsTable d2 d2.moment (fresh 16777216 16384 ∷ []) 0 =
+      trail_of_one ShowsTable d2 d2.moment (fresh 16777216 16384) [] (omega arith)
+      (λ c since. (each c (now_since_start d1 d2 c passes (since_now d2 c since))).shows) in
       record {
         made = d1.moment;
         synced = d2.moment;
@@ -157,9 +163,10 @@ module _ (d0 d1 d2 : DiskView) (later : Passes d0 d1) (passes : Passes d1 d2)
         till = omega arith;
         until = blank_until;
         new = λ m c low high image. each c (record { at = m; from = low; till = high; left = image });
-        trail = trail_of_one ShowsTable d2 d2.moment (fresh 16777216 16384) [] (omega arith)
-            (λ c since. (each c (now_since_start d1 d2 c passes (since_now d2 c since))).shows);
+        trail = trail;
         left = λ c image. (0, omega arith, (each c (now_since_start d1 d2 c passes image)).shows);
+        stored = stored_since d2 d2.moment (fresh 16777216 16384 ∷ []) 0 trail;
+        paid = λ c since. (each c (now_since_start d1 d2 c passes (since_now d2 c since))).paid;
       }
 
   -- nothing was carried out
@@ -223,8 +230,15 @@ module _ (d0 d1 d2 : DiskView) (later : Passes d0 d1) (passes : Passes d1 d2)
             let tr = run.transcript in
             let parts : bodies_of tr ≡ map (λ (e : Exchange). e.body) tr.exchanges ++ [] = ap (λ (h : Option Interruption). map (λ (e : Exchange). e.body) tr.exchanges ++ of_interruption (λ i. i.body) h) unbroken in
             let many : length s.bodies ≤ length (bodies_of tr) =
-            omega (arith, ap length parts, length-append (map (λ (e : Exchange). e.body) tr.exchanges) [], length-map tr.exchanges (λ (e : Exchange). e.body),
-            ap length run.answers_are, length-map tr.exchanges (λ (e : Exchange). e.response), done.0.all) in
+            omega (
+              arith,
+              ap length parts,
+              length-append (map (λ (e : Exchange). e.body) tr.exchanges) [],
+              length-map tr.exchanges (λ (e : Exchange). e.body),
+              ap length run.answers_are,
+              length-map tr.exchanges (λ (e : Exchange). e.response),
+              done.0.all,
+            ) in
             let whole : workload_bytes seed count ≡ s.taken = all_taken seed count few left s gave done.2 in
             sym run.front ∙ take_all (length (bodies_of tr)) s.bodies many
             ∙ (all_of_it seed count s.bodies s.rest few (subst (λ (bytes : List ℕ). Splits bytes s.bodies s.rest) (sym whole) served.is.splits)).0

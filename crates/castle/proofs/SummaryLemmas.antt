@@ -20,6 +20,7 @@ use Rattle.strat_recovery.specs.Head.{Head}
 use Rattle.strat_recovery.specs.Opening.{recover, recover_slot, recover_head}
 use Rattle.strat_report.specs.Reporting.{summary_text, levels_text, WritesReport, RecoversAs, IsSilent, AppendsFront, GivesUp, IsComplete, ReportHasCause}
 use Rattle.strat_standing.specs.Standing.{ShowsTable}
+use Rattle.strat_store.proofs.PayingLemmas.{paid_then, stored_since}
 use Rattle.strat_serve.specs.Session.{EndHasCause}
 use Rattle.strat_serve.specs.World.{World, world}
 use Rattle.castle.specs.Working.{EndsWorkload, EndsOnExposed, EndsAfterAll, FollowsNew, CarriesOutWorkload, MakesNoStore, LeavesWorkload, SendsSummary, summary_of}
@@ -38,6 +39,8 @@ module _ (seed count : ℕ) (d0 d2 d3 : DiskView) (reads : OnlyReads d2 d3) wher
       let short : Trail ShowsTable d2 f.synced (fronts ++ bare tr.after.table ∷ []) (length fronts) =
       subst (λ (n : ℕ). Trail ShowsTable d2 f.synced (fronts ++ bare tr.after.table ∷ []) n) (sym many) (subst (λ (ts : List Table). Trail ShowsTable d2 f.synced ts (length tr.exchanges)) tables f.trail) in
       let long = trail_read ShowsTable d2 d3 f.synced fronts (bare tr.after.table) reads short in
+      let trail : Trail ShowsTable d3 f.synced (tables_of tr) (length tr.exchanges) =
+      subst (λ (ts : List Table). Trail ShowsTable d3 f.synced ts (length tr.exchanges)) (sym tables) (subst (λ (n : ℕ). Trail ShowsTable d3 f.synced (fronts ++ bare tr.after.table ∷ []) n) many long) in
       record {
         made = f.made;
         synced = f.synced;
@@ -46,8 +49,10 @@ module _ (seed count : ℕ) (d0 d2 d3 : DiskView) (reads : OnlyReads d2 d3) wher
         till = omega (arith, f.till, reads.time.later);
         until = λ blank m c low high image. f.until blank m c low high (reads.time.past m c (omega (arith, high, f.later, f.till)) image);
         new = λ m c low high image. f.new m c low high (reads.time.past m c (omega (arith, high, f.till)) image);
-        trail = subst (λ (ts : List Table). Trail ShowsTable d3 f.synced ts (length tr.exchanges)) (sym tables) (subst (λ (n : ℕ). Trail ShowsTable d3 f.synced (fronts ++ bare tr.after.table ∷ []) n) many long);
+        trail = trail;
         left = λ c image. f.left c (was c image);
+        stored = stored_since d3 f.synced (tables_of tr) (length tr.exchanges) trail;
+        paid = paid_then d2 d3 f.synced reads.time f.paid (λ c since. f.paid c (record { at = d2.moment; from = f.till; till = omega arith; left = reads.images.each c since }));
       }
 
   carried_on : (how : Ended) → CarriesOutWorkload seed count ended.Done d0 d2 → CarriesOutWorkload seed count how d0 d3
@@ -95,9 +100,9 @@ summary_leaves seed count d0 d2 d3 how k0 k1 f exposed passes content reads left
         | inr device ↦ let e : ended.Done ≡ ended.Device = device in absurd cc
       ]
       | inr carried ↦ record {
-          ends = summary_end seed count d2 how k0 k1 g.0 (bare carried.transcript.after.table) writes g.1 (carried.shows tt g.0 (at_told d2.content (Images d2) g.0 g.1 content));
-          made = inr (carried_on seed count d0 d2 d3 reads how carried);
-        }
+        ends = summary_end seed count d2 how k0 k1 g.0 (bare carried.transcript.after.table) writes g.1 (carried.shows tt g.0 (at_told d2.content (Images d2) g.0 g.1 content));
+        made = inr (carried_on seed count d0 d2 d3 reads how carried);
+      }
     ]
 
 -- where nothing was added nothing changed

@@ -13,6 +13,7 @@ use Rattle.strat_recovery.specs.Texts as texts
 use Rattle.strat_report.specs.Reporting.{RecoversAs, AppendsFront}
 use Rattle.strat_standing.specs.Standing.{ShowsTable}
 use Rattle.strat_store.specs.Format.{IsBlank, IsNewStore, IsNoneOrNew}
+use Rattle.strat_store.specs.Paying.{ArePaidSince, StoreTwoSince}
 use Rattle.strat_serve.specs.Generated.{workload_bodies}
 
 -- the ends of a run of a workload; its frames are whole, short and few, so that none of them ends it
@@ -60,13 +61,17 @@ pub record FollowsNew (before now : DiskView) (tables : List Table) (n : ℕ) : 
   -- from then on there is a trail of the tables, and each image now shows one at place n or behind it
   pub trail : Trail ShowsTable now synced tables n
   pub left : (c : Image) → Images now c → (i : ℕ) × (n ≤ i) × At tables i (ShowsTable c)
+  -- each image from then on stores at most two entries for each update, and is paid for
+  pub stored : StoreTwoSince now synced
+  pub paid : ArePaidSince now synced
 
 -- a store was made, and commands of a workload were carried out on it as a run of a new store's table does
 pub record CarriesOutWorkload (seed count : ℕ) (how : Ended) (before now : DiskView) : Type 0 where
   pub transcript : Transcript
   pub run : IsTranscript 64 workload_start transcript
   -- the bodies that were answered are the first of the workload, and in the end all of them
-  pub front : take (length (bodies_of transcript)) (workload_bodies seed count) ≡ bodies_of transcript
+  pub front : take (length (bodies_of transcript)) (workload_bodies seed count)
+      ≡ bodies_of transcript
   pub all : EndsAfterAll how → (bodies_of transcript ≡ workload_bodies seed count)
       × (transcript.interruption ≡ None)
   pub follows : FollowsNew before now (tables_of transcript) (length transcript.exchanges)
@@ -95,7 +100,9 @@ summary_of head seed count = texts.text (texts.summary head seed count)
 abbrev pub SendsSummary :
     Ended → ℕ → ℕ → DiskView → Option (List ℕ) → Option (List ℕ) → Type 0
 SendsSummary ended.Done seed count disk before now =
-    (head : Head) × RecoversAs disk (Ok (Some head)) × Appends before now (summary_of head seed count)
+    (head : Head) × RecoversAs disk (Ok (Some head))
+    × Appends before now (summary_of head seed count)
 SendsSummary ended.Sink seed count disk before now =
-    (head : Head) × RecoversAs disk (Ok (Some head)) × AppendsFront before now (summary_of head seed count)
+    (head : Head) × RecoversAs disk (Ok (Some head))
+    × AppendsFront before now (summary_of head seed count)
 SendsSummary _ seed count disk before now = now ≡ before

@@ -59,7 +59,7 @@ pub fn run_workload<K: Sink, D: Disk>(
     ensures ok { (f : Image) → Exposes (D.view disk.old) f
         → LeavesWorkload seed count result (D.view disk.old) (D.view disk.new) }
     ensures end { EndsWorkload result }
-    ensures sent { SendsSummary result seed count (D.view disk.new)
+    ensures found { SendsSummary result seed count (D.view disk.new)
         (K.held sink.old) (K.held sink.new) }
     ensures same { IsSilent result → sink.new ≡ sink.old }
     ensures time { Passes (D.view disk.old) (D.view disk.new) }

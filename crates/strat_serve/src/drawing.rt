@@ -34,7 +34,7 @@ fn next_draw(state: u64) -> u64
 /// Draws once: the upper 31 bits of the generator's next state.
 fn draw(state: &mut u64) -> u32
     ensures ok { result ≡ drawn (next_draw state.old) }
-    ensures new { state.new ≡ next_draw state.old }
+    ensures end { state.new ≡ next_draw state.old }
 {
     *state = next_draw(*state);
     (*state / (1 << 33)) as u32
@@ -52,8 +52,8 @@ fn has_child(parents: &[Option<u32>], v: u32) -> bool
 /// The first version from one on that has no child. It compares at most all parents with each version.
 #[tactic(auto, using(crate::proofs::DrawingLemmas::leaf_next, crate::proofs::DrawingLemmas::leaf_here, crate::proofs::DrawingLemmas::leaf_last))]
 fn leaf_from(parents: &[Option<u32>], v: u32) -> u32
-    requires known { v < length parents.now }
-    requires few { length parents.now ≤ 128 }
+    requires found { v < length parents.now }
+    requires fits { length parents.now ≤ 128 }
     ensures { result ≡ leaf_from parents.now v }
 {
     let last = parents.len() as u32 - 1;
@@ -66,8 +66,8 @@ fn leaf_from(parents: &[Option<u32>], v: u32) -> u32
 
 /// The change that three draws choose.
 fn chosen(parents: &[Option<u32>], kind: u32, of: u32, key: u32) -> Pick
-    requires some { 0 < length parents.now }
-    requires few { length parents.now ≤ 128 }
+    requires len { 0 < length parents.now }
+    requires fits { length parents.now ≤ 128 }
     ensures ok { (i : ℕ) → picked_change i result ≡ drawn_change parents.now i kind of key }
     ensures room { makes_version result ≡ true → length parents.now < 128 }
 {
@@ -102,13 +102,14 @@ fn make_version(parents: &mut ArrayVec<Option<u32>, VERSIONS>, pick: Pick)
 
 /// Draws the next change, by three draws, and makes the version that it may ask for.
 pub(crate) fn draw_change(state: &mut u64, parents: &mut ArrayVec<Option<u32>, VERSIONS>) -> Pick
-    requires some { 0 < length parents.old.items }
+    requires len { 0 < length parents.old.items }
     ensures ok { (i : ℕ) → picked_change i result ≡ drawn_change parents.old.items i
         (drawn (next_draw state.old) % 64) (drawn (next_draw (next_draw state.old)))
         (drawn (next_draw (next_draw (next_draw state.old))) % 1000) }
-    ensures tree { (i : ℕ) → parents.new.items ≡ tree_after parents.old.items (picked_change i result) }
-    ensures new { state.new ≡ next_draw (next_draw (next_draw state.old)) }
-    ensures some { 0 < length parents.new.items }
+    ensures kept { (i : ℕ) → parents.new.items
+        ≡ tree_after parents.old.items (picked_change i result) }
+    ensures end { state.new ≡ next_draw (next_draw (next_draw state.old)) }
+    ensures len { 0 < length parents.new.items }
 {
     let kind = draw(state) % 64;
     let of = draw(state);

@@ -101,7 +101,8 @@ fn write_put(out: &mut ArrayVec<u8, FRAME_MAX>, i: u32, version: u32, key: u32)
 
 /// Writes the frame of a deletion.
 fn write_delete(out: &mut ArrayVec<u8, FRAME_MAX>, i: u32, version: u32, key: u32)
-    ensures { out.new.items ≡ frame (command_body i (request_for (Delete version (drawn_key key)))) }
+    ensures { out.new.items
+        ≡ frame (command_body i (request_for (Delete version (drawn_key key)))) }
 {
     begin(out, 15, i, 2, version);
     put_key(out, key);

@@ -156,7 +156,7 @@ impl Sink for NullSink {
         ensures ok { IfOk result (λ n. Appends None None (take n piece.now)) }
         ensures err { OnErr result (◌≡◌ {A = Option (List ℕ)} None None) }
         ensures cause { CountsFaults 0 0 result }
-        ensures all { IfOk result (λ n. n ≡ length piece.now) }
+        ensures len { IfOk result (λ n. n ≡ length piece.now) }
         ensures found { IsOk result }
     {
         Ok(piece.len())

@@ -50,7 +50,8 @@ fn log_change<D: Disk>(
     ensures trail { (x : Contents) → ContentsStand (D.view disk.old) x → IsLogOf x journal.old
         → Takes (contents_state x) (change_of change.now)
         → Trail ShowsTable (D.view disk.new) (D.view disk.old).moment (table_of (contents_state x)
-        ∷ table_of (contents_state (with_batch x (change_of change.now ∷ []))) ∷ []) 0 }
+        ∷ table_of (contents_state (with_batch x (change_of change.now ∷ []))) ∷ []) 0
+        × (IsPaid (contents_state x) → ArePaidSince (D.view disk.new) (D.view disk.old).moment) }
     ensures kept { OnOk result ((x : Contents) → ContentsStand (D.view disk.old) x
         → IsLogOf x journal.old → Takes (contents_state x) (change_of change.now)
         → Trail ShowsTable (D.view disk.new) (D.view disk.old).moment (table_of (contents_state x)
@@ -61,9 +62,6 @@ fn log_change<D: Disk>(
     ensures same { OnOk result ((x : Contents) → ContentsStand (D.view disk.old) x
         → IsLogOf x journal.old → (f g : Image) → Exposes (D.view disk.old) f
         → Exposes (D.view disk.new) g → AgreeOn (named_blocks x) f g) }
-    ensures paid { (x : Contents) → ContentsStand (D.view disk.old) x → IsLogOf x journal.old
-        → Takes (contents_state x) (change_of change.now) → IsPaid (contents_state x)
-        → ArePaidSince (D.view disk.new) (D.view disk.old).moment }
     ensures images { TearsOnly (D.view disk.old) (D.view disk.new)
         (region_at journal.old.mem journal.old.active) (region_size journal.old.mem) }
     ensures time { Passes (D.view disk.old) (D.view disk.new) }
@@ -88,16 +86,14 @@ fn carry_out<D: Disk>(held: &mut Recovered, disk: &mut D, change: &Change<'_>) -
     ensures trail { (x : Contents) (cached : Blocks)
         → StandsWith (D.view disk.old) (held_of held.old cached) x
         → FollowsStep (D.view disk.old) (D.view disk.new) x (request_for (change_of change.now))
-        (plain result) }
+        (plain result)
+        × (IsPaid (contents_state x) → ArePaidSince (D.view disk.new) (D.view disk.old).moment) }
     ensures kept { is_fault result ≡ false → (cached : Blocks)
         → IsConsistent (held_of held.new cached) }
     ensures end { (cached : Blocks)
         → KeepsPublished (held_of held.old cached) (held_of held.new cached)
         × (IsOnDisk (D.view disk.old) (held_of held.old cached)
         → IsOnDisk (D.view disk.new) (held_of held.new cached)) }
-    ensures paid { (x : Contents) (cached : Blocks)
-        → StandsWith (D.view disk.old) (held_of held.old cached) x → IsPaid (contents_state x)
-        → ArePaidSince (D.view disk.new) (D.view disk.old).moment }
     ensures damaged { (b : ℕ) → result ≡ reply.Refused (why.Damaged b) → ⊥ }
     ensures same { (held.new.sb.mem ≡ held.old.sb.mem) × (result ≢ reply.Found)
         × (accepts result ≡ false → result ≡ reply.Refused why.DeviceFault)

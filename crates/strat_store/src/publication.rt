@@ -205,10 +205,9 @@ fn settle<D: Disk>(held: &mut Recovered, next: Next, disk: &mut D) -> Result<(),
         (super_of next.sb) held.old.journal x y → ContentsStand (D.view disk.new) y) }
     ensures trail { (x y : Contents) → IsComputed (D.view disk.old) (1 - held.old.slot)
         (super_of next.sb) held.old.journal x y → Trail ShowsTable (D.view disk.new)
-        (D.view disk.old).moment (table_of (contents_state x) ∷ []) 0 }
-    ensures paid { (x y : Contents) → IsComputed (D.view disk.old) (1 - held.old.slot)
-        (super_of next.sb) held.old.journal x y → IsPaid (contents_state x)
-        → IsPaid (contents_state y) → ArePaidSince (D.view disk.new) (D.view disk.old).moment }
+        (D.view disk.old).moment (table_of (contents_state x) ∷ []) 0
+        × (IsPaid (contents_state x) → IsPaid (contents_state y)
+        → ArePaidSince (D.view disk.new) (D.view disk.old).moment) }
     ensures end { OnOk result (LaysSuperblock (D.view disk.old) (D.view disk.new)
         held.old.journal.mem (1 - held.old.slot) (super_of next.sb)) }
     ensures err { OnErr result ((cached : Blocks)
@@ -242,7 +241,9 @@ pub(crate) fn publish<D: Disk>(
     requires len { 0 < length held.old.journal.list }
     ensures ok { OnOk result ((x : Contents) (cached : Blocks)
         → StandsWith (D.view disk.old) (held_of held.old cached) x
-        → IsPublishedAs (D.view disk.new) x (held_of held.new cached)) }
+        → IsPublishedAs (D.view disk.new) x (held_of held.new cached)
+        × CountsWritten (manifest_of held.old.published.manifest)
+        (manifest_of held.new.published.manifest)) }
     ensures found { OnOk result ((held.new.slot ≡ 1 - held.old.slot)
         × ArePublishedAfter (super_of held.old.sb) (manifest_of held.old.published.manifest)
         held.old.memory (super_of held.new.sb) (manifest_of held.new.published.manifest)
@@ -257,15 +258,9 @@ pub(crate) fn publish<D: Disk>(
     ensures trail { (x : Contents) (cached : Blocks)
         → StandsWith (D.view disk.old) (held_of held.old cached) x
         → Trail ShowsTable (D.view disk.new) (D.view disk.old).moment
-        (table_of (contents_state x) ∷ []) 0 }
-    ensures paid { (x : Contents) (cached : Blocks)
-        → StandsWith (D.view disk.old) (held_of held.old cached) x
-        → held.old.sb.mem ≤ length held.old.journal.list → IsPaid (contents_state x)
-        → ArePaidSince (D.view disk.new) (D.view disk.old).moment }
-    ensures counted { OnOk result ((x : Contents) (cached : Blocks)
-        → StandsWith (D.view disk.old) (held_of held.old cached) x
-        → CountsWritten (manifest_of held.old.published.manifest)
-        (manifest_of held.new.published.manifest)) }
+        (table_of (contents_state x) ∷ []) 0
+        × (held.old.sb.mem ≤ length held.old.journal.list → IsPaid (contents_state x)
+        → ArePaidSince (D.view disk.new) (D.view disk.old).moment) }
     ensures kept { IsOkOrShort result → (cached : Blocks)
         → IsConsistent (held_of held.new cached) }
     ensures same { (held.new.sb.mem ≡ held.old.sb.mem)

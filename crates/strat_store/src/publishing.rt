@@ -98,14 +98,12 @@ pub(crate) fn lay_next<D: Disk>(
     ensures trail { (old new : Contents)
         → IsComputed (D.view disk.old) slot (super_of sb.now) journal.old old new
         → Trail ShowsTable (D.view disk.new) (D.view disk.old).moment
-        (table_of (contents_state old) ∷ []) 0 }
+        (table_of (contents_state old) ∷ []) 0
+        × (IsPaid (contents_state old) → IsPaid (contents_state new)
+        → ArePaidSince (D.view disk.new) (D.view disk.old).moment) }
     ensures kept { OnOk result ((old new : Contents)
         → IsComputed (D.view disk.old) slot (super_of sb.now) journal.old old new
         → ContentsStand (D.view disk.new) new × IsLogOf new journal.new) }
-    ensures paid { (old new : Contents)
-        → IsComputed (D.view disk.old) slot (super_of sb.now) journal.old old new
-        → IsPaid (contents_state old) → IsPaid (contents_state new)
-        → ArePaidSince (D.view disk.new) (D.view disk.old).moment }
     ensures ok { OnOk result (journal.new ≡ region_begun journal.old) }
     ensures end { OnOk result (journal.old.active ≤ 1 → LaysSuperblock (D.view disk.old)
         (D.view disk.new) journal.old.mem slot (super_of sb.now)) }

@@ -253,15 +253,14 @@ impl Store {
             (as_told result out.new) self.new }
         ensures trail { (x : Contents) → StandsWith (D.view disk.old) self.old x
             → FollowsStep (D.view disk.old) (D.view disk.new) x (request_of command.now)
-            (as_told result out.new) }
+            (as_told result out.new)
+            × StoreTwoSince (D.view disk.new) (D.view disk.old).moment }
         ensures found { (f : Image) → Exposes (D.view disk.old) f
             → AreInOrder f (arrays_there self.old.levels)
             → AreCachedFrom f self.old.chained.manifest.next_array
             (arrays_there self.old.levels) self.old.cached → is_fault result ≡ false
             → TellsFrom f self.old.memory self.old.levels
             (request_of command.now) (as_told result out.new) }
-        ensures stored { (x : Contents) → StandsWith (D.view disk.old) self.old x
-            → StoreTwoSince (D.view disk.new) (D.view disk.old).moment }
         ensures kept { (self.new.spent ≡ is_fault result)
             × (self.new.spent ≡ false → IsConsistent self.new) }
         ensures len { (result ≡ reply.Found → length out.new ≡ 1)

@@ -7,7 +7,7 @@ returns-in-Done-clause-ok g c = λ f exposed.
     (g.K.Sink.held c.args.sink.now) (g.K.Sink.held c.write_summary.new.sink) f exposed c.serve_workload.ensures.time (g.met.D.Disk.leaves_content c.serve_workload.new.disk)
     c.write_summary.ensures.same (c.in-Done.ensures.ok f exposed) c.write_summary.ensures.ok
 
-pub returns-in-Done-clause-sent : goal.returns-in-Done-clause-sent
-returns-in-Done-clause-sent g c =
+pub returns-in-Done-clause-found : goal.returns-in-Done-clause-found
+returns-in-Done-clause-found g c =
     summary_sent c.args.seed c.args.count (g.D.Disk.view c.serve_workload.new.disk) (g.D.Disk.view c.write_summary.new.disk) c.write_summary.ensures.same
     (g.K.Sink.held c.args.sink.now) (g.K.Sink.held c.write_summary.new.sink) c.write_summary.result c.write_summary.ensures.ok

@@ -20,9 +20,10 @@ returns-in_default-clause-ok g c x cached stands =
 pub returns-in_default-clause-trail : goal.returns-in_default-clause-trail
 returns-in_default-clause-trail g c x cached stands =
     let kept = c.requires.kept cached in
-    step_trail c.args.held.now cached kept (g.D.Disk.view c.args.disk.now) x stands _ c.requires.none c.requires.room (g.D.Disk.view c.log_change.new.disk) 0
-    (c.log_change.ensures.trail x stands.stands (log_of c.args.held.now cached kept x stands.held)
-    (takes c.args.held.now cached kept (g.D.Disk.view c.args.disk.now) x stands _ c.requires.none c.requires.room))
+    let logged =
+    c.log_change.ensures.trail x stands.stands (log_of c.args.held.now cached kept x stands.held)
+    (takes c.args.held.now cached kept (g.D.Disk.view c.args.disk.now) x stands _ c.requires.none c.requires.room) in
+    (step_trail c.args.held.now cached kept (g.D.Disk.view c.args.disk.now) x stands _ c.requires.none c.requires.room (g.D.Disk.view c.log_change.new.disk) 0 logged.0, logged.1)
 
 pub take-requires-clause-room : goal.take-requires-clause-room
 take-requires-clause-room g c =
@@ -41,9 +42,12 @@ returns-clause-ok g c x cached stands =
 pub returns-clause-trail : goal.returns-clause-trail
 returns-clause-trail g c x cached stands =
     let kept = c.requires.kept cached in
-    told_trail c.args.held.now cached kept (g.D.Disk.view c.args.disk.now) x stands _ c.requires.none c.requires.room (g.D.Disk.view c.log_change.new.disk) c.take.result c.take.ensures.found
-    (c.in-Ok.ensures.kept x stands.stands (log_of c.args.held.now cached kept x stands.held)
-    (takes c.args.held.now cached kept (g.D.Disk.view c.args.disk.now) x stands _ c.requires.none c.requires.room)).0
+    let of = log_of c.args.held.now cached kept x stands.held in
+    let may = takes c.args.held.now cached kept (g.D.Disk.view c.args.disk.now) x stands _ c.requires.none c.requires.room in (
+      told_trail c.args.held.now cached kept (g.D.Disk.view c.args.disk.now) x stands _ c.requires.none c.requires.room (g.D.Disk.view c.log_change.new.disk) c.take.result c.take.ensures.found
+          (c.in-Ok.ensures.kept x stands.stands of may).0,
+      (c.log_change.ensures.trail x stands.stands of may).1,
+    )
 
 pub returns-clause-kept : goal.returns-clause-kept
 returns-clause-kept g c calm cached =
@@ -63,15 +67,3 @@ pub returns-clause-end : goal.returns-clause-end
 returns-clause-end g c = λ cached.
     logged_leaves (g.D.Disk.view c.args.disk.now) (g.D.Disk.view c.log_change.new.disk) (held_of c.args.held.now cached) (held_of (record c.args.held.now { journal = c.log_change.new.journal; memory = c.take.new.self }) cached)
     (c.requires.kept cached) (record { slot = refl; sb = refl; chained = refl; levels = refl }) c.log_change.ensures.images c.log_change.ensures.time
-
-pub returns-in_default-clause-paid : goal.returns-in_default-clause-paid
-returns-in_default-clause-paid g c x cached stands =
-    let kept = c.requires.kept cached in
-    c.log_change.ensures.paid x stands.stands (log_of c.args.held.now cached kept x stands.held)
-    (takes c.args.held.now cached kept (g.D.Disk.view c.args.disk.now) x stands _ c.requires.none c.requires.room)
-
-pub returns-clause-paid : goal.returns-clause-paid
-returns-clause-paid g c x cached stands =
-    let kept = c.requires.kept cached in
-    c.log_change.ensures.paid x stands.stands (log_of c.args.held.now cached kept x stands.held)
-    (takes c.args.held.now cached kept (g.D.Disk.view c.args.disk.now) x stands _ c.requires.none c.requires.room)

@@ -23,7 +23,7 @@ returns-in-Err-clause-ok g c x cached stands =
 
 pub returns-in-Err-clause-trail : goal.returns-in-Err-clause-trail
 returns-in-Err-clause-trail g c x cached stands =
-    trail_so_far (g.D.Disk.view c.args.disk.now) (g.D.Disk.view c.publish.new.disk) x _ (c.publish.ensures.trail x cached stands)
+    trail_so_far (g.D.Disk.view c.args.disk.now) (g.D.Disk.view c.publish.new.disk) x _ (c.publish.ensures.trail x cached stands).0
 
 pub returns-in-Err-clause-kept : goal.returns-in-Err-clause-kept
 returns-in-Err-clause-kept g c calm = c.in-Err.ensures.kept (calm_short c.in-Err.trouble c.refusal_of.result c.refusal_of.ensures.ok calm)
@@ -37,23 +37,23 @@ carry_out-requires-clause-room g c =
 
 pub returns-clause-ok : goal.returns-clause-ok
 returns-clause-ok g c x cached stands =
-    let p = c.in_default.ensures.ok x cached stands in
+    let p = (c.in_default.ensures.ok x cached stands).0 in
     renewed c.args.held.now cached (c.requires.kept cached) (g.D.Disk.view c.args.disk.now) x stands _ c.requires.none c.requires.room c.publish.new.held (g.D.Disk.view c.publish.new.disk)
     (c.in_default.ensures.kept tt cached) c.in_default.ensures.found.2 p c.carry_out.new.held (g.D.Disk.view c.carry_out.new.disk) c.carry_out.result
     (c.carry_out.ensures.ok p.after cached p.stands)
 
 pub returns-clause-trail : goal.returns-clause-trail
 returns-clause-trail g c x cached stands =
-    let p = c.in_default.ensures.ok x cached stands in
+    let p = (c.in_default.ensures.ok x cached stands).0 in
     renewed_trail c.args.held.now cached (c.requires.kept cached) (g.D.Disk.view c.args.disk.now) x stands _ c.requires.none c.requires.room c.publish.new.held (g.D.Disk.view c.publish.new.disk)
-    (c.in_default.ensures.kept tt cached) c.in_default.ensures.found.2 p (g.D.Disk.view c.carry_out.new.disk) c.carry_out.result c.carry_out.ensures.time (c.publish.ensures.trail x cached stands)
-    (c.carry_out.ensures.trail p.after cached p.stands)
+    (c.in_default.ensures.kept tt cached) c.in_default.ensures.found.2 p (g.D.Disk.view c.carry_out.new.disk) c.carry_out.result c.carry_out.ensures.time (c.publish.ensures.trail x cached stands).0
+    (c.carry_out.ensures.trail p.after cached p.stands).0
 
 pub returns-in-Err-clause-end : goal.returns-in-Err-clause-end
 returns-in-Err-clause-end g c = λ cached.
     gives_up (g.D.Disk.view c.args.disk.now) (g.D.Disk.view c.publish.new.disk) c.args.held.now c.publish.new.held cached c.in-Err.trouble c.refusal_of.result c.refusal_of.ensures.ok
     (c.in-Err.ensures.same.2 cached) (λ other. c.in-Err.ensures.end (λ e. other (let x : ◌≡◌ {A = Result _ Trouble} (Err c.in-Err.trouble) (Err trouble.Device) = e in cc)) cached)
-    (λ x stands. c.publish.ensures.paid x cached stands (omega (arith, c.requires.room)))
+    (λ x stands. (c.publish.ensures.trail x cached stands).1 (omega (arith, c.requires.room)))
 
 pub returns-clause-end : goal.returns-clause-end
 returns-clause-end g c = λ cached.
@@ -64,11 +64,11 @@ returns-clause-end g c = λ cached.
     (λ x stands paid.
     let u = g.D.Disk.view c.publish.new.disk in
     let v = g.D.Disk.view c.args.disk.now in
-    let p = c.in_default.ensures.ok x cached stands in
-    let first = c.publish.ensures.paid x cached stands (omega (arith, c.requires.room)) paid in
+    let p = (c.in_default.ensures.ok x cached stands).0 in
+    let first = (c.publish.ensures.trail x cached stands).1 (omega (arith, c.requires.room)) paid in
     paid_then u (g.D.Disk.view c.carry_out.new.disk) v.moment c.carry_out.ensures.time first
-    (c.carry_out.ensures.paid p.after cached p.stands (paid_now u v.moment p.after p.stands.stands c.publish.ensures.time.later first)))
-    (λ x stands. c.in_default.ensures.counted x cached stands)
+    ((c.carry_out.ensures.trail p.after cached p.stands).1 (paid_now u v.moment p.after p.stands.stands c.publish.ensures.time.later first)))
+    (λ x stands. (c.in_default.ensures.ok x cached stands).1)
 
 pub returns-in-Err-clause-same : goal.returns-in-Err-clause-same
 returns-in-Err-clause-same g c = (c.publish.ensures.same.0, λ e. absurd (cc), troubled c.in-Err.trouble c.refusal_of.result c.refusal_of.ensures.ok)

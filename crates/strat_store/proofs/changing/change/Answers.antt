@@ -33,4 +33,7 @@ returns-clause-end g c = λ cached.
     let both = c.carry_out.ensures.end cached in
     leaves_room (g.D.Disk.view c.args.disk.now) (g.D.Disk.view c.carry_out.new.disk) (held_of c.args.held.now cached) (held_of c.carry_out.new.held cached) _ c.carry_out.result _
     (omega (arith, c.if-room-eq0.false, c.room.ensures, kept.log.mem, kept.log.few)) both.0 both.1
-    (λ x stands. c.carry_out.ensures.paid x cached stands)
+    (λ x stands. (c.carry_out.ensures.trail x cached stands).1)
+
+pub returns-clause-trail : goal.returns-clause-trail
+returns-clause-trail g c x cached stands = (c.carry_out.ensures.trail x cached stands).0

@@ -9,13 +9,17 @@ appends g c = record { images = c.append.ensures.images; time = c.append.ensures
 
 pub returns-in_err-append-clause-trail : goal.returns-in_err-append-clause-trail
 returns-in_err-append-clause-trail g c x stands of takes =
-    logged_trail _ (g.D.Disk.view c.append.new.disk) x c.args.journal.now c.add.new.self _ stands of c.requires.none c.add.ensures.ok takes
-    (appends g (goal.at.returns-in_err-append-clause-trail g c).After-append)
+    let appended = appends g (goal.at.returns-in_err-append-clause-trail g c).After-append in (
+      logged_trail _ (g.D.Disk.view c.append.new.disk) x c.args.journal.now c.add.new.self _ stands of c.requires.none c.add.ensures.ok takes appended,
+      logged_paid _ (g.D.Disk.view c.append.new.disk) x c.args.journal.now c.add.new.self _ stands of c.requires.none c.add.ensures.ok takes appended,
+    )
 
 pub returns-clause-trail : goal.returns-clause-trail
 returns-clause-trail g c x stands of takes =
-    logged_trail _ (g.D.Disk.view c.append.new.disk) x c.args.journal.now c.add.new.self _ stands of c.requires.none c.add.ensures.ok takes
-    (appends g (goal.at.returns-clause-trail g c).After-append)
+    let appended = appends g (goal.at.returns-clause-trail g c).After-append in (
+      logged_trail _ (g.D.Disk.view c.append.new.disk) x c.args.journal.now c.add.new.self _ stands of c.requires.none c.add.ensures.ok takes appended,
+      logged_paid _ (g.D.Disk.view c.append.new.disk) x c.args.journal.now c.add.new.self _ stands of c.requires.none c.add.ensures.ok takes appended,
+    )
 
 pub returns-clause-kept : goal.returns-clause-kept
 returns-clause-kept g c x stands of takes =
@@ -27,13 +31,3 @@ pub returns-clause-same : goal.returns-clause-same
 returns-clause-same g c x stands of =
     logged_agrees _ (g.D.Disk.view c.append.new.disk) x c.args.journal.now c.add.new.self _ stands of c.requires.none c.add.ensures.ok
     c.requires.fits c.requires.room c.in_ok-append.ensures.durable
-
-pub returns-in_err-append-clause-paid : goal.returns-in_err-append-clause-paid
-returns-in_err-append-clause-paid g c x stands of takes =
-    logged_paid _ (g.D.Disk.view c.append.new.disk) x c.args.journal.now c.add.new.self _ stands of c.requires.none c.add.ensures.ok takes
-    (appends g (goal.at.returns-in_err-append-clause-paid g c).After-append)
-
-pub returns-clause-paid : goal.returns-clause-paid
-returns-clause-paid g c x stands of takes =
-    logged_paid _ (g.D.Disk.view c.append.new.disk) x c.args.journal.now c.add.new.self _ stands of c.requires.none c.add.ensures.ok takes
-    (appends g (goal.at.returns-clause-paid g c).After-append)

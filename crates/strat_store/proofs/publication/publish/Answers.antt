@@ -40,7 +40,8 @@ returns-in_err-prepare-clause-none g c = λ short x cached stands. stands_ready 
 pub returns-in_err-prepare-clause-trail : goal.returns-in_err-prepare-clause-trail
 returns-in_err-prepare-clause-trail g c = λ x cached stands.
     let v = g.D.Disk.view c.args.disk.now in
-    trail_beside v v (held_of c.args.held.now cached) x stands (unwritten v (held_of c.args.held.now cached))
+    let still = unwritten v (held_of c.args.held.now cached) in
+    (trail_beside v v (held_of c.args.held.now cached) x stands still, λ full paid. paid_beside v v (held_of c.args.held.now cached) x stands still paid)
 
 pub returns-in_err-prepare-clause-kept : goal.returns-in_err-prepare-clause-kept
 returns-in_err-prepare-clause-kept g c = λ short cached. consistent_ready (held_of c.args.held.now cached) None c.prepare.new.self c.in_err-prepare.ensures.err (c.requires.kept cached)
@@ -59,7 +60,10 @@ pub returns-in_err-next-clause-trail : goal.returns-in_err-next-clause-trail
 returns-in_err-next-clause-trail g c = λ x cached stands.
     let v = g.D.Disk.view c.args.disk.now in
     let mid = record c.args.held.now { memory = c.prepare.new.self } in
-    trail_beside v (g.D.Disk.view c.prepare_next.new.disk) (held_of mid cached) x (stands_ready v (held_of c.args.held.now cached) x c.prepare.new.self stands) (c.prepare_next.ensures.images cached)
+    let here = stands_ready v (held_of c.args.held.now cached) x c.prepare.new.self stands in (
+      trail_beside v (g.D.Disk.view c.prepare_next.new.disk) (held_of mid cached) x here (c.prepare_next.ensures.images cached),
+      λ full paid. paid_beside v (g.D.Disk.view c.prepare_next.new.disk) (held_of mid cached) x here (c.prepare_next.ensures.images cached) paid,
+    )
 
 pub returns-in_err-next-clause-kept : goal.returns-in_err-next-clause-kept
 returns-in_err-next-clause-kept g c = λ short cached. consistent_ready (held_of c.args.held.now cached) (Some c.args.held.now.sb.mem) c.prepare.new.self c.in_ok-prepare.ensures.ok (c.requires.kept cached)
@@ -94,8 +98,13 @@ returns-in_err-settle-clause-trail g c = λ x cached stands.
     let mid = record c.args.held.now { memory = c.prepare.new.self } in
     let here = stands_ready v (held_of c.args.held.now cached) x c.prepare.new.self stands in
     let ready = c.in_ok-next.ensures.ok x cached here in
-    one_trail ShowsTable (g.D.Disk.view c.prepare_next.new.disk) (g.D.Disk.view c.settle.new.disk) _ _ c.settle.ensures.time
-    (trail_beside v (g.D.Disk.view c.prepare_next.new.disk) (held_of mid cached) x here (c.prepare_next.ensures.images cached)) (c.settle.ensures.trail x _ ready.computed)
+    let laid = c.settle.ensures.trail x _ ready.computed in (
+      one_trail ShowsTable (g.D.Disk.view c.prepare_next.new.disk) (g.D.Disk.view c.settle.new.disk) _ _ c.settle.ensures.time
+          (trail_beside v (g.D.Disk.view c.prepare_next.new.disk) (held_of mid cached) x here (c.prepare_next.ensures.images cached)) laid.0,
+      λ full paid.
+          paid_then (g.D.Disk.view c.prepare_next.new.disk) (g.D.Disk.view c.settle.new.disk) v.moment c.settle.ensures.time
+          (paid_beside v (g.D.Disk.view c.prepare_next.new.disk) (held_of mid cached) x here (c.prepare_next.ensures.images cached) paid) (laid.1 paid (ready.paid paid full)),
+    )
 
 pub returns-in_err-settle-clause-time : goal.returns-in_err-settle-clause-time
 returns-in_err-settle-clause-time g c = passes_trans (c.prepare_next.ensures.images (empty_cache 0)).tears.time c.settle.ensures.time
@@ -109,9 +118,12 @@ returns-clause-ok g c = λ x cached stands.
     let ready = c.in_ok-next.ensures.ok x cached here in
     let next = c.in_ok-next.next in
     let front = subst (λ (n : ℕ). TearsBlocks (is_in_front n) (g.D.Disk.view c.prepare_next.new.disk) (g.D.Disk.view c.settle.new.disk)) whole.log.mem c.settle.ensures.images in
-    subst (λ (h : Held). IsPublishedAs (g.D.Disk.view c.settle.new.disk) x h) (sym (c.in_ok-settle.ensures.ok cached))
-    (published_as v (g.D.Disk.view c.prepare_next.new.disk) (g.D.Disk.view c.settle.new.disk) (held_of mid cached) x (super_of next.sb) (chained_of next.published) next.published.levels
-    whole here (c.prepare_next.ensures.images cached) ready front (c.in_ok-settle.ensures.kept x _ ready.computed))
+    subst (λ (h : Held). IsPublishedAs (g.D.Disk.view c.settle.new.disk) x h × CountsWritten (manifest_of c.args.held.now.published.manifest) h.chained.manifest)
+    (sym (c.in_ok-settle.ensures.ok cached)) (
+      published_as v (g.D.Disk.view c.prepare_next.new.disk) (g.D.Disk.view c.settle.new.disk) (held_of mid cached) x (super_of next.sb) (chained_of next.published) next.published.levels
+          whole here (c.prepare_next.ensures.images cached) ready front (c.in_ok-settle.ensures.kept x _ ready.computed),
+      counts_next (g.D.Disk.view c.prepare_next.new.disk) (held_of mid cached) x whole here.held (super_of next.sb) (chained_of next.published) ready,
+    )
 
 pub returns-clause-trail : goal.returns-clause-trail
 returns-clause-trail g c = λ x cached stands.
@@ -119,8 +131,13 @@ returns-clause-trail g c = λ x cached stands.
     let mid = record c.args.held.now { memory = c.prepare.new.self } in
     let here = stands_ready v (held_of c.args.held.now cached) x c.prepare.new.self stands in
     let ready = c.in_ok-next.ensures.ok x cached here in
-    one_trail ShowsTable (g.D.Disk.view c.prepare_next.new.disk) (g.D.Disk.view c.settle.new.disk) _ _ c.settle.ensures.time
-    (trail_beside v (g.D.Disk.view c.prepare_next.new.disk) (held_of mid cached) x here (c.prepare_next.ensures.images cached)) (c.settle.ensures.trail x _ ready.computed)
+    let laid = c.settle.ensures.trail x _ ready.computed in (
+      one_trail ShowsTable (g.D.Disk.view c.prepare_next.new.disk) (g.D.Disk.view c.settle.new.disk) _ _ c.settle.ensures.time
+          (trail_beside v (g.D.Disk.view c.prepare_next.new.disk) (held_of mid cached) x here (c.prepare_next.ensures.images cached)) laid.0,
+      λ full paid.
+          paid_then (g.D.Disk.view c.prepare_next.new.disk) (g.D.Disk.view c.settle.new.disk) v.moment c.settle.ensures.time
+          (paid_beside v (g.D.Disk.view c.prepare_next.new.disk) (held_of mid cached) x here (c.prepare_next.ensures.images cached) paid) (laid.1 paid (ready.paid paid full)),
+    )
 
 pub returns-clause-kept : goal.returns-clause-kept
 returns-clause-kept g c = λ _ cached.
@@ -177,44 +194,3 @@ returns-in_err-settle-clause-same g c = (
   on_err c.from_residual-in_err-settle.result _
       (λ cached. let same = c.in_err-settle.ensures.err cached in record { slot = same.slot; sb = same.sb; chained = same.chained; levels = same.levels }),
 )
-
-pub returns-in_err-prepare-clause-paid : goal.returns-in_err-prepare-clause-paid
-returns-in_err-prepare-clause-paid g c = λ x cached stands full paid.
-    let v = g.D.Disk.view c.args.disk.now in
-    paid_beside v v (held_of c.args.held.now cached) x stands (unwritten v (held_of c.args.held.now cached)) paid
-
-pub returns-in_err-next-clause-paid : goal.returns-in_err-next-clause-paid
-returns-in_err-next-clause-paid g c = λ x cached stands full paid.
-    let v = g.D.Disk.view c.args.disk.now in
-    let mid = record c.args.held.now { memory = c.prepare.new.self } in
-    paid_beside v (g.D.Disk.view c.prepare_next.new.disk) (held_of mid cached) x (stands_ready v (held_of c.args.held.now cached) x c.prepare.new.self stands) (c.prepare_next.ensures.images cached) paid
-
-pub returns-in_err-settle-clause-paid : goal.returns-in_err-settle-clause-paid
-returns-in_err-settle-clause-paid g c = λ x cached stands full paid.
-    let v = g.D.Disk.view c.args.disk.now in
-    let mid = record c.args.held.now { memory = c.prepare.new.self } in
-    let here = stands_ready v (held_of c.args.held.now cached) x c.prepare.new.self stands in
-    let ready = c.in_ok-next.ensures.ok x cached here in
-    paid_then (g.D.Disk.view c.prepare_next.new.disk) (g.D.Disk.view c.settle.new.disk) v.moment c.settle.ensures.time
-    (paid_beside v (g.D.Disk.view c.prepare_next.new.disk) (held_of mid cached) x here (c.prepare_next.ensures.images cached) paid)
-    (c.settle.ensures.paid x _ ready.computed paid (ready.paid paid full))
-
-pub returns-clause-paid : goal.returns-clause-paid
-returns-clause-paid g c = λ x cached stands full paid.
-    let v = g.D.Disk.view c.args.disk.now in
-    let mid = record c.args.held.now { memory = c.prepare.new.self } in
-    let here = stands_ready v (held_of c.args.held.now cached) x c.prepare.new.self stands in
-    let ready = c.in_ok-next.ensures.ok x cached here in
-    paid_then (g.D.Disk.view c.prepare_next.new.disk) (g.D.Disk.view c.settle.new.disk) v.moment c.settle.ensures.time
-    (paid_beside v (g.D.Disk.view c.prepare_next.new.disk) (held_of mid cached) x here (c.prepare_next.ensures.images cached) paid)
-    (c.settle.ensures.paid x _ ready.computed paid (ready.paid paid full))
-
-pub returns-clause-counted : goal.returns-clause-counted
-returns-clause-counted g c = λ x cached stands.
-    let v = g.D.Disk.view c.args.disk.now in
-    let mid = record c.args.held.now { memory = c.prepare.new.self } in
-    let here = stands_ready v (held_of c.args.held.now cached) x c.prepare.new.self stands in
-    let whole = consistent_ready (held_of c.args.held.now cached) (Some c.args.held.now.sb.mem) c.prepare.new.self c.in_ok-prepare.ensures.ok (c.requires.kept cached) in
-    let next = c.in_ok-next.next in
-    subst (λ (h : Held). CountsWritten (manifest_of c.args.held.now.published.manifest) h.chained.manifest) (sym (c.in_ok-settle.ensures.ok cached))
-    (counts_next (g.D.Disk.view c.prepare_next.new.disk) (held_of mid cached) x whole here.held (super_of next.sb) (chained_of next.published) (c.in_ok-next.ensures.ok x cached here))

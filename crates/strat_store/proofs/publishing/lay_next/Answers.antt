@@ -31,16 +31,24 @@ turned g c torn settled few =
 
 pub returns-in_err-lay-clause-trail : goal.returns-in_err-lay-clause-trail
 returns-in_err-lay-clause-trail g c old new computed =
-    lay_trail _ (g.D.Disk.view c.sync_written.new.disk) _ _ _ old new computed (synced g (goal.at.returns-in_err-lay-clause-trail g c).After-sync_written) c.in_ok-sync_written.ensures.ok (g.met.D.Disk.leaves_content c.sync_written.new.disk)
-    _ c.lay.ensures.images c.lay.ensures.time c.lay.ensures.trail
+    let reads = synced g (goal.at.returns-in_err-lay-clause-trail g c).After-sync_written in (
+      lay_trail _ (g.D.Disk.view c.sync_written.new.disk) _ _ _ old new computed reads c.in_ok-sync_written.ensures.ok (g.met.D.Disk.leaves_content c.sync_written.new.disk)
+          _ c.lay.ensures.images c.lay.ensures.time c.lay.ensures.trail,
+      lay_paid _ (g.D.Disk.view c.sync_written.new.disk) _ _ _ old new computed reads c.in_ok-sync_written.ensures.ok (g.met.D.Disk.leaves_content c.sync_written.new.disk)
+          _ c.lay.ensures.images c.lay.ensures.time c.lay.ensures.trail,
+    )
 
 pub returns-in_err-lay-clause-images : goal.returns-in_err-lay-clause-images
 returns-in_err-lay-clause-images g c few = laid g (goal.at.returns-in_err-lay-clause-images g c).After-lay (synced g (goal.at.returns-in_err-lay-clause-images g c).After-sync_written) c.in_ok-sync_written.ensures.ok
 
 pub returns-in_err-turn-clause-trail : goal.returns-in_err-turn-clause-trail
 returns-in_err-turn-clause-trail g c old new computed =
-    turn_trail _ (g.D.Disk.view c.sync_written.new.disk) _ _ _ old new computed (synced g (goal.at.returns-in_err-turn-clause-trail g c).After-sync_written) c.in_ok-sync_written.ensures.ok (g.met.D.Disk.leaves_content c.sync_written.new.disk)
-    (g.D.Disk.view c.lay.new.disk) c.lay.ensures.images c.lay.ensures.time c.lay.ensures.trail c.in_ok-lay.ensures.durable c.in_ok-lay.ensures.found _ c.turn.ensures.images c.turn.ensures.time
+    let reads = synced g (goal.at.returns-in_err-turn-clause-trail g c).After-sync_written in (
+      turn_trail _ (g.D.Disk.view c.sync_written.new.disk) _ _ _ old new computed reads c.in_ok-sync_written.ensures.ok (g.met.D.Disk.leaves_content c.sync_written.new.disk)
+          (g.D.Disk.view c.lay.new.disk) c.lay.ensures.images c.lay.ensures.time c.lay.ensures.trail c.in_ok-lay.ensures.durable c.in_ok-lay.ensures.found _ c.turn.ensures.images c.turn.ensures.time,
+      turn_paid _ (g.D.Disk.view c.sync_written.new.disk) _ _ _ old new computed reads c.in_ok-sync_written.ensures.ok (g.met.D.Disk.leaves_content c.sync_written.new.disk)
+          (g.D.Disk.view c.lay.new.disk) c.lay.ensures.images c.lay.ensures.time c.lay.ensures.trail c.in_ok-lay.ensures.durable c.in_ok-lay.ensures.found _ c.turn.ensures.images c.turn.ensures.time,
+    )
 
 pub returns-in_err-turn-clause-images : goal.returns-in_err-turn-clause-images
 returns-in_err-turn-clause-images g c few =
@@ -48,8 +56,12 @@ returns-in_err-turn-clause-images g c few =
 
 pub returns-clause-trail : goal.returns-clause-trail
 returns-clause-trail g c old new computed =
-    turn_trail _ (g.D.Disk.view c.sync_written.new.disk) _ _ _ old new computed (synced g (goal.at.returns-clause-trail g c).After-sync_written) c.in_ok-sync_written.ensures.ok (g.met.D.Disk.leaves_content c.sync_written.new.disk)
-    (g.D.Disk.view c.lay.new.disk) c.lay.ensures.images c.lay.ensures.time c.lay.ensures.trail c.in_ok-lay.ensures.durable c.in_ok-lay.ensures.found _ c.turn.ensures.images c.turn.ensures.time
+    let reads = synced g (goal.at.returns-clause-trail g c).After-sync_written in (
+      turn_trail _ (g.D.Disk.view c.sync_written.new.disk) _ _ _ old new computed reads c.in_ok-sync_written.ensures.ok (g.met.D.Disk.leaves_content c.sync_written.new.disk)
+          (g.D.Disk.view c.lay.new.disk) c.lay.ensures.images c.lay.ensures.time c.lay.ensures.trail c.in_ok-lay.ensures.durable c.in_ok-lay.ensures.found _ c.turn.ensures.images c.turn.ensures.time,
+      turn_paid _ (g.D.Disk.view c.sync_written.new.disk) _ _ _ old new computed reads c.in_ok-sync_written.ensures.ok (g.met.D.Disk.leaves_content c.sync_written.new.disk)
+          (g.D.Disk.view c.lay.new.disk) c.lay.ensures.images c.lay.ensures.time c.lay.ensures.trail c.in_ok-lay.ensures.durable c.in_ok-lay.ensures.found _ c.turn.ensures.images c.turn.ensures.time,
+    )
 
 pub returns-clause-kept : goal.returns-clause-kept
 returns-clause-kept g c old new computed = (
@@ -64,27 +76,13 @@ returns-clause-images g c few =
     turned g (goal.at.returns-clause-images g c).After-turn (laid g (goal.at.returns-clause-images g c).After-lay (synced g (goal.at.returns-clause-images g c).After-sync_written) c.in_ok-sync_written.ensures.ok) c.in_ok-lay.ensures.durable few
 
 pub returns-in_err-sync_written-clause-trail : goal.returns-in_err-sync_written-clause-trail
-returns-in_err-sync_written-clause-trail g c old new computed = synced_trail _ (g.D.Disk.view c.sync_written.new.disk) _ _ _ old new computed (synced g (goal.at.returns-in_err-sync_written-clause-trail g c).After-sync_written)
+returns-in_err-sync_written-clause-trail g c old new computed =
+    let reads = synced g (goal.at.returns-in_err-sync_written-clause-trail g c).After-sync_written in (
+      synced_trail _ (g.D.Disk.view c.sync_written.new.disk) _ _ _ old new computed reads,
+      λ was is. synced_paid _ (g.D.Disk.view c.sync_written.new.disk) _ _ _ old new computed reads was,
+    )
 
 pub returns-clause-end : goal.returns-clause-end
 returns-clause-end g c few =
     laid_superblock _ (g.D.Disk.view c.sync_written.new.disk) (g.D.Disk.view c.lay.new.disk) _ c.args.slot _ c.args.journal.now.mem c.args.journal.now.active c.requires.fits.0
     (synced g (goal.at.returns-clause-end g c).After-sync_written) c.in_ok-sync_written.ensures.ok c.lay.ensures.images c.lay.ensures.time c.in_ok-lay.ensures.found c.turn.ensures.images c.turn.ensures.time few
-
-pub returns-in_err-sync_written-clause-paid : goal.returns-in_err-sync_written-clause-paid
-returns-in_err-sync_written-clause-paid g c old new computed was is = synced_paid _ (g.D.Disk.view c.sync_written.new.disk) _ _ _ old new computed (synced g (goal.at.returns-in_err-sync_written-clause-paid g c).After-sync_written) was
-
-pub returns-in_err-lay-clause-paid : goal.returns-in_err-lay-clause-paid
-returns-in_err-lay-clause-paid g c old new computed =
-    lay_paid _ (g.D.Disk.view c.sync_written.new.disk) _ _ _ old new computed (synced g (goal.at.returns-in_err-lay-clause-paid g c).After-sync_written) c.in_ok-sync_written.ensures.ok (g.met.D.Disk.leaves_content c.sync_written.new.disk)
-    _ c.lay.ensures.images c.lay.ensures.time c.lay.ensures.trail
-
-pub returns-in_err-turn-clause-paid : goal.returns-in_err-turn-clause-paid
-returns-in_err-turn-clause-paid g c old new computed =
-    turn_paid _ (g.D.Disk.view c.sync_written.new.disk) _ _ _ old new computed (synced g (goal.at.returns-in_err-turn-clause-paid g c).After-sync_written) c.in_ok-sync_written.ensures.ok (g.met.D.Disk.leaves_content c.sync_written.new.disk)
-    (g.D.Disk.view c.lay.new.disk) c.lay.ensures.images c.lay.ensures.time c.lay.ensures.trail c.in_ok-lay.ensures.durable c.in_ok-lay.ensures.found _ c.turn.ensures.images c.turn.ensures.time
-
-pub returns-clause-paid : goal.returns-clause-paid
-returns-clause-paid g c old new computed =
-    turn_paid _ (g.D.Disk.view c.sync_written.new.disk) _ _ _ old new computed (synced g (goal.at.returns-clause-paid g c).After-sync_written) c.in_ok-sync_written.ensures.ok (g.met.D.Disk.leaves_content c.sync_written.new.disk)
-    (g.D.Disk.view c.lay.new.disk) c.lay.ensures.images c.lay.ensures.time c.lay.ensures.trail c.in_ok-lay.ensures.durable c.in_ok-lay.ensures.found _ c.turn.ensures.images c.turn.ensures.time

@@ -22,6 +22,8 @@ returns-clause-kept g c = (
 pub returns-clause-damaged : goal.returns-clause-damaged
 returns-clause-damaged g c = rw (← c.self.view_is) c.answer-told.ensures.damaged
 
-pub returns-clause-stored : goal.returns-clause-stored
-returns-clause-stored g c =
-    rw (← c.self.view_is) (λ x stands. stored_since (g.D.Disk.view c.answer-told.new.disk) (g.D.Disk.view c.args.disk.now).moment _ _ (c.answer-told.ensures.trail x (record { stands = stands.stands; held = stands.held; cached = stands.cached })))
+pub returns-clause-trail : goal.returns-clause-trail
+returns-clause-trail g c =
+    rw (← c.self.view_is) (λ x stands.
+    let trail = c.answer-told.ensures.trail x (record { stands = stands.stands; held = stands.held; cached = stands.cached }) in
+    (trail, stored_since (g.D.Disk.view c.answer-told.new.disk) (g.D.Disk.view c.args.disk.now).moment _ _ trail))
