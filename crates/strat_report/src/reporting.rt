@@ -107,7 +107,7 @@ fn say_summary<D: Disk>(
     Ok((text, Ended::Done))
 }
 
-/// WritesReport the report of the store on a disk: its limits, its journal, its levels with their arrays, and what it stores.
+/// Writes the report of the store on a disk: its limits, its journal, its levels with their arrays, and what it stores.
 /// It reads what recovery reads, no block of an array, and leaves the disk as it is. All that it says is put together in
 /// memory before the first byte is written. Done: all of it was written. Damaged: recovery finds this block damaged, and
 /// the line that says so was written. NotAStore, Device, NoMemory: nothing was written. Sink: the front of it was.
@@ -135,7 +135,7 @@ pub fn write_levels<K: Sink, D: Disk>(alloc: Global, disk: &mut D, sink: &mut K)
     }
 }
 
-/// WritesReport the summary of a workload with these arguments that left the store on a disk: its versions, updates and
+/// Writes the summary of a workload with these arguments that left the store on a disk: its versions, updates and
 /// clones, its levels with what they store, and the least density. As `write_levels`, but that nothing is written where
 /// recovery finds a damaged block.
 pub fn write_summary<K: Sink, D: Disk>(
