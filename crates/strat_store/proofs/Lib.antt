@@ -34,3 +34,4 @@ pub mod ChangingLemmas
 pub mod RenewingLemmas
 pub mod OnDiskLemmas
 pub mod LeavingLemmas
+pub mod ReadingLemmas

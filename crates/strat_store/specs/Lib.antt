@@ -13,3 +13,4 @@ pub mod Promoting
 pub mod Following
 pub mod Recovering
 pub mod Settling
+pub mod ReadingFields

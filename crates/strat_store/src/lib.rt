@@ -19,9 +19,11 @@ mod publication;
 mod publishing;
 pub mod publishing_laws;
 mod ranging;
+mod reading;
 mod recovering;
 mod store;
 
 pub use formatting::{FormatFault, format};
 pub use opening::AttachFault;
+pub use reading::{Reading, read_store};
 pub use store::Store;

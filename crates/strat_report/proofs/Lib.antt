@@ -1,0 +1,5 @@
+pub mod TotalLemmas
+pub mod DensityLemmas
+pub mod RunLemmas
+pub mod LineLemmas
+pub mod ReportingLemmas

@@ -1,0 +1,6 @@
+use Rattle.std.proofs.Common.{◌≡◌, ◌≤◌, ◌*◌, take}
+use Rattle.std.specs.List.{sum_by}
+use Rattle.strat_report.proofs.totals.leads_of.Given as goal
+
+abbrev pub invariant-loop-a : goal.invariant-loop-a
+invariant-loop-a l = (l.leads ≡ sum_by (λ a. a.leads) (take l.a-index l.arrays)) × (l.leads ≤ 4294967295 * l.a-index)

@@ -1,0 +1,4 @@
+pub mod Densities
+pub mod Lines
+pub mod Reporting
+pub mod Runs

@@ -1,0 +1,11 @@
+//! Texts about a store: a report of its levels, and a summary of a workload.
+#![tactic(auto)]
+
+mod density;
+mod levels;
+mod reporting;
+mod summary;
+mod totals;
+mod versions;
+
+pub use reporting::{write_levels, write_summary};

@@ -1,0 +1,227 @@
+//! What is written of stores that were served.
+
+use crate::support::{new_store, run, small_store, tells_levels, tells_summary};
+use std::alloc::Global;
+use strat_disk::MemDisk;
+use strat_model::Ended;
+
+/// Puts `k01` to `k13` at version 0.
+pub const THIRTEEN_PUTS: &[u8] = b"\
+\x00\x00\x00\x11\x00\x00\x00\x01\x01\x00\x00\x00\x00\x00\x03k01\x00\x011\
+\x00\x00\x00\x11\x00\x00\x00\x02\x01\x00\x00\x00\x00\x00\x03k02\x00\x011\
+\x00\x00\x00\x11\x00\x00\x00\x03\x01\x00\x00\x00\x00\x00\x03k03\x00\x011\
+\x00\x00\x00\x11\x00\x00\x00\x04\x01\x00\x00\x00\x00\x00\x03k04\x00\x011\
+\x00\x00\x00\x11\x00\x00\x00\x05\x01\x00\x00\x00\x00\x00\x03k05\x00\x011\
+\x00\x00\x00\x11\x00\x00\x00\x06\x01\x00\x00\x00\x00\x00\x03k06\x00\x011\
+\x00\x00\x00\x11\x00\x00\x00\x07\x01\x00\x00\x00\x00\x00\x03k07\x00\x011\
+\x00\x00\x00\x11\x00\x00\x00\x08\x01\x00\x00\x00\x00\x00\x03k08\x00\x011\
+\x00\x00\x00\x11\x00\x00\x00\x09\x01\x00\x00\x00\x00\x00\x03k09\x00\x011\
+\x00\x00\x00\x11\x00\x00\x00\x0a\x01\x00\x00\x00\x00\x00\x03k10\x00\x011\
+\x00\x00\x00\x11\x00\x00\x00\x0b\x01\x00\x00\x00\x00\x00\x03k11\x00\x011\
+\x00\x00\x00\x11\x00\x00\x00\x0c\x01\x00\x00\x00\x00\x00\x03k12\x00\x011\
+\x00\x00\x00\x11\x00\x00\x00\x0d\x01\x00\x00\x00\x00\x00\x03k13\x00\x011";
+/// The report after these.
+pub const OF_THIRTEEN: &[u8] = b"\
+store generation 4 mem 4 changes 13 of 100 versions 1 of 10\n\
+journal changes 1 updates 1\n\
+level 2 horizon 1 leads 12 entries 12\n\
+array 3 density 12/12 lead 12/12 versions 0\n\
+stored 13 updates 13 written 24\n";
+/// Puts `a` thirteen times.
+const ONE_KEY: &[u8] = b"\
+\x00\x00\x00\x0f\x00\x00\x00\x01\x01\x00\x00\x00\x00\x00\x01a\x00\x011\
+\x00\x00\x00\x0f\x00\x00\x00\x02\x01\x00\x00\x00\x00\x00\x01a\x00\x011\
+\x00\x00\x00\x0f\x00\x00\x00\x03\x01\x00\x00\x00\x00\x00\x01a\x00\x011\
+\x00\x00\x00\x0f\x00\x00\x00\x04\x01\x00\x00\x00\x00\x00\x01a\x00\x011\
+\x00\x00\x00\x0f\x00\x00\x00\x05\x01\x00\x00\x00\x00\x00\x01a\x00\x011\
+\x00\x00\x00\x0f\x00\x00\x00\x06\x01\x00\x00\x00\x00\x00\x01a\x00\x011\
+\x00\x00\x00\x0f\x00\x00\x00\x07\x01\x00\x00\x00\x00\x00\x01a\x00\x011\
+\x00\x00\x00\x0f\x00\x00\x00\x08\x01\x00\x00\x00\x00\x00\x01a\x00\x011\
+\x00\x00\x00\x0f\x00\x00\x00\x09\x01\x00\x00\x00\x00\x00\x01a\x00\x011\
+\x00\x00\x00\x0f\x00\x00\x00\x0a\x01\x00\x00\x00\x00\x00\x01a\x00\x011\
+\x00\x00\x00\x0f\x00\x00\x00\x0b\x01\x00\x00\x00\x00\x00\x01a\x00\x011\
+\x00\x00\x00\x0f\x00\x00\x00\x0c\x01\x00\x00\x00\x00\x00\x01a\x00\x011\
+\x00\x00\x00\x0f\x00\x00\x00\x0d\x01\x00\x00\x00\x00\x00\x01a\x00\x011";
+/// The report after these.
+const OF_ONE_KEY: &[u8] = b"\
+store generation 4 mem 4 changes 13 of 100 versions 1 of 10\n\
+journal changes 1 updates 1\n\
+level 1 horizon 1 leads 1 entries 1\n\
+array 3 density 1/1 lead 1/1 versions 0\n\
+stored 2 updates 13 written 3\n";
+/// A line of clones, with `a` at version 1 and `b` at version 3.
+const LINE: &[u8] = b"\
+\x00\x00\x00\x09\x00\x00\x00\x01\x04\x00\x00\x00\x00\
+\x00\x00\x00\x0f\x00\x00\x00\x02\x01\x00\x00\x00\x01\x00\x01a\x00\x011\
+\x00\x00\x00\x09\x00\x00\x00\x03\x04\x00\x00\x00\x01\
+\x00\x00\x00\x09\x00\x00\x00\x04\x04\x00\x00\x00\x02\
+\x00\x00\x00\x0f\x00\x00\x00\x05\x01\x00\x00\x00\x03\x00\x01b\x00\x011";
+/// The report after these.
+const OF_LINE: &[u8] = b"\
+store generation 2 mem 4 changes 5 of 100 versions 4 of 10\n\
+journal changes 1 updates 1\n\
+level 1 horizon 4 leads 1 entries 1\n\
+array 1 density 1/1 lead 1/1 versions 1-3\n\
+stored 2 updates 2 written 1\n";
+/// Two keys at version 0, of which three versions are made that get a key each; then another of version 1.
+const FAN: &[u8] = b"\
+\x00\x00\x00\x0f\x00\x00\x00\x01\x01\x00\x00\x00\x00\x00\x01a\x00\x011\
+\x00\x00\x00\x0f\x00\x00\x00\x02\x01\x00\x00\x00\x00\x00\x01b\x00\x011\
+\x00\x00\x00\x09\x00\x00\x00\x03\x04\x00\x00\x00\x00\
+\x00\x00\x00\x09\x00\x00\x00\x04\x04\x00\x00\x00\x00\
+\x00\x00\x00\x09\x00\x00\x00\x05\x04\x00\x00\x00\x00\
+\x00\x00\x00\x0f\x00\x00\x00\x06\x01\x00\x00\x00\x01\x00\x01c\x00\x011\
+\x00\x00\x00\x0f\x00\x00\x00\x07\x01\x00\x00\x00\x02\x00\x01c\x00\x011\
+\x00\x00\x00\x0f\x00\x00\x00\x08\x01\x00\x00\x00\x03\x00\x01c\x00\x011\
+\x00\x00\x00\x0f\x00\x00\x00\x09\x01\x00\x00\x00\x01\x00\x01d\x00\x011";
+/// The report after these.
+const OF_FAN: &[u8] = b"\
+store generation 2 mem 8 changes 9 of 100 versions 4 of 10\n\
+journal changes 1 updates 1\n\
+level 1 horizon 4 leads 5 entries 7\n\
+array 1 density 2/3 lead 3/3 versions 0-1\n\
+array 2 density 3/4 lead 2/4 versions 2-3\n\
+stored 8 updates 6 written 7\n";
+/// A key that is deleted at version 1, and a key at its child.
+const HIDDEN: &[u8] = b"\
+\x00\x00\x00\x0f\x00\x00\x00\x01\x01\x00\x00\x00\x00\x00\x01a\x00\x011\
+\x00\x00\x00\x09\x00\x00\x00\x02\x04\x00\x00\x00\x00\
+\x00\x00\x00\x0c\x00\x00\x00\x03\x02\x00\x00\x00\x01\x00\x01a\
+\x00\x00\x00\x09\x00\x00\x00\x04\x04\x00\x00\x00\x01\
+\x00\x00\x00\x0f\x00\x00\x00\x05\x01\x00\x00\x00\x02\x00\x01z\x00\x011";
+/// The report after these.
+const OF_HIDDEN: &[u8] = b"\
+store generation 2 mem 4 changes 5 of 100 versions 3 of 10\n\
+journal changes 1 updates 1\n\
+level 1 horizon 3 leads 2 entries 3\n\
+array 1 density 1/1 lead 1/1 versions 0\n\
+array 2 density 1/2 lead 1/2 versions 1-2\n\
+stored 4 updates 3 written 3\n";
+/// Deletes `x`, which was never put, and puts four keys.
+const UNUSED: &[u8] = b"\
+\x00\x00\x00\x0c\x00\x00\x00\x01\x02\x00\x00\x00\x00\x00\x01x\
+\x00\x00\x00\x0f\x00\x00\x00\x02\x01\x00\x00\x00\x00\x00\x01a\x00\x011\
+\x00\x00\x00\x0f\x00\x00\x00\x03\x01\x00\x00\x00\x00\x00\x01b\x00\x011\
+\x00\x00\x00\x0f\x00\x00\x00\x04\x01\x00\x00\x00\x00\x00\x01c\x00\x011\
+\x00\x00\x00\x0f\x00\x00\x00\x05\x01\x00\x00\x00\x00\x00\x01d\x00\x011";
+/// The report after these.
+const OF_UNUSED: &[u8] = b"\
+store generation 2 mem 4 changes 5 of 100 versions 1 of 10\n\
+journal changes 1 updates 1\n\
+level 1 horizon 1 leads 3 entries 3\n\
+array 1 density 3/3 lead 3/3 versions 0\n\
+stored 4 updates 5 written 3\n";
+/// Two settings, and two clones of them with a change each.
+const SETTINGS: &[u8] = b"\
+\x00\x00\x00\x1b\x00\x00\x00\x01\x01\x00\x00\x00\x00\x00\x0buser/1/name\x00\x03Ann\
+\x00\x00\x00\x1b\x00\x00\x00\x02\x01\x00\x00\x00\x00\x00\x0buser/2/name\x00\x03Bob\
+\x00\x00\x00\x09\x00\x00\x00\x03\x04\x00\x00\x00\x00\
+\x00\x00\x00\x09\x00\x00\x00\x04\x04\x00\x00\x00\x00\
+\x00\x00\x00\x1b\x00\x00\x00\x05\x01\x00\x00\x00\x01\x00\x0buser/2/name\x00\x03Rob\
+\x00\x00\x00\x16\x00\x00\x00\x06\x02\x00\x00\x00\x02\x00\x0buser/1/name";
+/// The report after these.
+const OF_SETTINGS: &[u8] = b"\
+store generation 1 mem 64 changes 6 of 100000 versions 3 of 100\n\
+journal changes 6 updates 4\n\
+stored 4 updates 4 written 0\n";
+/// The report of a small store that is new.
+pub const OF_NONE: &[u8] = b"\
+store generation 1 mem 4 changes 0 of 100 versions 1 of 10\n\
+journal changes 0 updates 0\n\
+stored 0 updates 0 written 0\n";
+/// The summary of a workload of no changes.
+const SUMMARY_OF_NONE: &[u8] = b"\
+workload seed 1 changes 0\n\
+versions 1 updates 0 clones 0\n\
+levels 0 arrays 0 stored 0 written 0\n\
+density none\n";
+/// The summary of the fan, as if a workload had made it.
+const SUMMARY_OF_FAN: &[u8] = b"\
+workload seed 18446744073709551615 changes 9\n\
+versions 4 updates 6 clones 3\n\
+levels 1 arrays 2 stored 8 written 7\n\
+density 2/3\n";
+
+/// Whether a store that was served these frames is reported so.
+fn row(alloc: Global, store: Option<MemDisk>, frames: &[u8], text: &[u8]) -> bool {
+    match store {
+        Some(mut disk) => {
+            run(alloc, &mut disk, frames) == Some(Ended::Done)
+                && tells_levels(alloc, &mut disk, text, Ended::Done)
+        }
+        None => false,
+    }
+}
+
+#[test]
+fn small_stores_are_reported(rt: HostRuntime) {
+    for (frames, text) in [
+        (&THIRTEEN_PUTS[..0], OF_NONE),
+        (THIRTEEN_PUTS, OF_THIRTEEN),
+        (ONE_KEY, OF_ONE_KEY),
+        (LINE, OF_LINE),
+        (HIDDEN, OF_HIDDEN),
+        (UNUSED, OF_UNUSED),
+    ] {
+        assert!(rt; row(rt.alloc(), small_store(rt.alloc()), frames, text));
+    }
+}
+
+#[test]
+fn two_arrays_are_reported(rt: HostRuntime) {
+    assert!(rt; row(rt.alloc(), new_store(rt.alloc(), 8, 100, 10), FAN, OF_FAN));
+}
+
+#[test]
+fn a_store_before_any_publication_is_reported(rt: HostRuntime) {
+    assert!(rt;
+        row(
+            rt.alloc(),
+            new_store(rt.alloc(), 64, 100_000, 100),
+            SETTINGS,
+            OF_SETTINGS
+        )
+    );
+}
+
+/// Whether a store that was served these frames is summed up so.
+fn summed(
+    alloc: Global,
+    store: Option<MemDisk>,
+    frames: &[u8],
+    seed: u64,
+    count: u32,
+    text: &[u8],
+) -> bool {
+    match store {
+        Some(mut disk) => {
+            run(alloc, &mut disk, frames) == Some(Ended::Done)
+                && tells_summary(alloc, &mut disk, seed, count, text, Ended::Done)
+        }
+        None => false,
+    }
+}
+
+#[test]
+fn workloads_are_summed_up(rt: HostRuntime) {
+    assert!(rt;
+        summed(
+            rt.alloc(),
+            new_store(rt.alloc(), 64, 16_777_216, 16_384),
+            b"",
+            1,
+            0,
+            SUMMARY_OF_NONE
+        )
+    );
+    assert!(rt;
+        summed(
+            rt.alloc(),
+            new_store(rt.alloc(), 8, 100, 10),
+            FAN,
+            18_446_744_073_709_551_615,
+            9,
+            SUMMARY_OF_FAN
+        )
+    );
+}

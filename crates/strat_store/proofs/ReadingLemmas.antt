@@ -1,0 +1,16 @@
+-- What is known of the head of a store that was read.
+use Rattle.std.proofs.Common.{◌≡◌, ◌≤◌, true, arith}
+use Rattle.std.proofs.lemmas.Bool.{leb-true}
+use Rattle.strat_format.specs.Manifest.{is_lawful_manifest}
+use Rattle.strat_format.proofs.ManifestLemmas.{pass_at}
+use Rattle.strat_recovery.specs.Head.{Head, head_updates, head_changes}
+use Rattle.strat_recovery.proofs.OpeningLemmas.{manifest_tests}
+use Rattle.strat_promotion.proofs.PaidLemmas.{updates_few}
+
+-- no more updates were accepted than changes
+pub fewer_updates : (h : Head) → is_lawful_manifest h.manifest ≡ true → head_updates h ≤ head_changes h
+fewer_updates h lawful = omega (
+  arith,
+  leb-true h.manifest.updates h.manifest.changes (pass_at (manifest_tests h.manifest) 1 lawful),
+  updates_few h.journal,
+)
