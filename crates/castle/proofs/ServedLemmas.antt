@@ -223,8 +223,15 @@ module _ (d0 d1 d2 : DiskView) (later : Passes d0 d1) (passes : Passes d1 d2)
             let tr = run.transcript in
             let parts : bodies_of tr ≡ map (λ (e : Exchange). e.body) tr.exchanges ++ [] = ap (λ (h : Option Interruption). map (λ (e : Exchange). e.body) tr.exchanges ++ of_interruption (λ i. i.body) h) unbroken in
             let many : length s.bodies ≤ length (bodies_of tr) =
-            omega (arith, ap length parts, length-append (map (λ (e : Exchange). e.body) tr.exchanges) [], length-map tr.exchanges (λ (e : Exchange). e.body),
-            ap length run.answers_are, length-map tr.exchanges (λ (e : Exchange). e.response), done.0.all) in
+            omega (
+              arith,
+              ap length parts,
+              length-append (map (λ (e : Exchange). e.body) tr.exchanges) [],
+              length-map tr.exchanges (λ (e : Exchange). e.body),
+              ap length run.answers_are,
+              length-map tr.exchanges (λ (e : Exchange). e.response),
+              done.0.all,
+            ) in
             let whole : workload_bytes seed count ≡ s.taken = all_taken seed count few left s gave done.2 in
             sym run.front ∙ take_all (length (bodies_of tr)) s.bodies many
             ∙ (all_of_it seed count s.bodies s.rest few (subst (λ (bytes : List ℕ). Splits bytes s.bodies s.rest) (sym whole) served.is.splits)).0

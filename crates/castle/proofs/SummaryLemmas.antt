@@ -95,9 +95,9 @@ summary_leaves seed count d0 d2 d3 how k0 k1 f exposed passes content reads left
         | inr device ↦ let e : ended.Done ≡ ended.Device = device in absurd cc
       ]
       | inr carried ↦ record {
-          ends = summary_end seed count d2 how k0 k1 g.0 (bare carried.transcript.after.table) writes g.1 (carried.shows tt g.0 (at_told d2.content (Images d2) g.0 g.1 content));
-          made = inr (carried_on seed count d0 d2 d3 reads how carried);
-        }
+        ends = summary_end seed count d2 how k0 k1 g.0 (bare carried.transcript.after.table) writes g.1 (carried.shows tt g.0 (at_told d2.content (Images d2) g.0 g.1 content));
+        made = inr (carried_on seed count d0 d2 d3 reads how carried);
+      }
     ]
 
 -- where nothing was added nothing changed

@@ -133,12 +133,7 @@ fn format_of<'a>(
 
 /// The subcommand of carrying out a workload, where these arguments ask for it and the numbers among
 /// them are a seed and a count of changes.
-fn workload_of<'a>(
-    job: &str,
-    path: &'a str,
-    seed: &str,
-    count: &str,
-) -> Option<Subcommand<'a>>
+fn workload_of<'a>(job: &str, path: &'a str, seed: &str, count: &str) -> Option<Subcommand<'a>>
     ensures { Finds subcommand_seen result (workload_in job.now path.now seed.now count.now) }
 {
     if job != "workload" || path.is_empty() {

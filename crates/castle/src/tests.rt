@@ -102,9 +102,27 @@ stored 0 updates 0 written 0\n";
 #[test]
 fn levels_are_of_a_store(rt: HostRuntime) -> Result<(), Fail> {
     let mut disk = MemDisk::new(rt.alloc(), &[])?;
-    assert!(rt; ends(rt.alloc(), &mut disk, &["levels", "f"], (&[1], &[1]), 2, b""));
+    assert!(rt;
+        ends(
+            rt.alloc(),
+            &mut disk,
+            &["levels", "f"],
+            (&[1], &[1]),
+            2,
+            b""
+        )
+    );
     assert!(rt; formats(rt.alloc(), &mut disk));
-    assert!(rt; ends(rt.alloc(), &mut disk, &["levels", "f"], (&[1], &[]), 0, NO_LEVELS));
+    assert!(rt;
+        ends(
+            rt.alloc(),
+            &mut disk,
+            &["levels", "f"],
+            (&[1], &[]),
+            0,
+            NO_LEVELS
+        )
+    );
     Ok(())
 }
 
@@ -248,7 +266,13 @@ fn names(alloc: Global, texts: &[&str], path: &str) -> bool {
 fn arguments_name_a_file(rt: HostRuntime) {
     assert!(rt; names(rt.alloc(), &["serve", "store.bin"], "store.bin"));
     assert!(rt; names(rt.alloc(), &["levels", "store.bin"], "store.bin"));
-    assert!(rt; names(rt.alloc(), &["workload", "f", "18446744073709551615", "1000000"], "f"));
+    assert!(rt;
+        names(
+            rt.alloc(),
+            &["workload", "f", "18446744073709551615", "1000000"],
+            "f"
+        )
+    );
     assert!(rt;
         names(
             rt.alloc(),
