@@ -1,20 +1,19 @@
 -- What a serving run over a workload leaves of a new store.
-use Rattle.std.proofs.Common.{◌≡◌, ◌≢◌, ◌≤◌, ◌<◌, ◌+◌, ◌*◌, ◌^◌, ◌⊎◌, ℕ, zero, suc, min, List, [], ◌∷◌, ◌++◌, length, take, map, Option, Some, None, refl, sym, ap, subst, ◌∙◌, inl, inr, append-nil, length-append, length-take, arith}
+use Rattle.std.proofs.Common.{◌≡◌, ◌≢◌, ◌≤◌, ◌<◌, ◌^◌, ℕ, zero, suc, min, List, [], ◌∷◌, ◌++◌, length, take, map, Option, Some, None, refl, sym, ap, subst, ◌∙◌, inl, inr, append-nil, length-append, length-take, arith}
 use Rattle.std.specs.Prelude.{Ok, Err, option_map}
-use Rattle.std.proofs.lemmas.List.{take_all, length-map, length-take-le}
+use Rattle.std.proofs.lemmas.List.{take_all, length-map}
 use Rattle.strat_crash.specs.Image.{Image}
-use Rattle.strat_crash.specs.Moments.{DiskView, Exposes, Images, Since, Passes, KeepsImages, OnlyReads}
-use Rattle.strat_crash.specs.Trail.{At, Trail}
+use Rattle.strat_crash.specs.Moments.{DiskView, Images, Since, Passes, KeepsImages}
+use Rattle.strat_crash.specs.Trail.{At}
 use Rattle.strat_crash.proofs.MomentLemmas.{now_since_start, since_now}
-use Rattle.strat_crash.proofs.TrailLemmas.{trail_of_one, trail_read, at_either, at_below}
+use Rattle.strat_crash.proofs.TrailLemmas.{trail_of_one, at_either, at_below}
 use Rattle.strat_format.specs.Damage.{Read}
 use Rattle.strat_model.specs.declared.ended.Ended.{Ended}
 use Rattle.strat_model.specs.declared.ended.Ended.TheVariants as ended
-use Rattle.strat_model.specs.Run.{Position, Response, Exchange, Interruption, Transcript, IsTranscript, bodies_of, tables_of, of_interruption}
-use Rattle.strat_model.specs.Stream.{Splits, Whole, Rest, Long, ending_of}
+use Rattle.strat_model.specs.Run.{Position, Response, Exchange, Interruption, IsTranscript, bodies_of, tables_of, of_interruption}
+use Rattle.strat_model.specs.Stream.{Splits, Whole, Rest, ending_of}
 use Rattle.strat_model.specs.Table.{Table, fresh, bare}
 use Rattle.strat_recovery.specs.Head.{Head}
-use Rattle.strat_recovery.specs.Opening.{recover, reads_as}
 use Rattle.strat_standing.specs.Standing.{ShowsTable}
 use Rattle.strat_state.specs.State.{State, fresh_state}
 use Rattle.strat_store.proofs.PayingLemmas.{stored_since}
@@ -24,8 +23,8 @@ use Rattle.strat_serve.specs.Generated.{workload_bytes, workload_bodies}
 use Rattle.strat_serve.specs.Session.{Took, IsAtEnd, Session, EndsFor, FollowsRun, GaveUp, Served, RunOutcome, RefusesFor, EndHasCause}
 use Rattle.strat_serve.specs.World.{World, world}
 use Rattle.strat_serve.proofs.StreamedLemmas.{few_bytes, front_of, all_of_it}
-use Rattle.castle.specs.Working.{EndsWorkload, EndsOnExposed, EndsAfterAll, workload_start, FollowsNew, CarriesOutWorkload, MakesNoStore, LeavesWorkload}
-use Rattle.castle.proofs.CompleteLemmas.{finds_none, finds_head, never_damaged}
+use Rattle.castle.specs.Working.{EndsWorkload, EndsAfterAll, workload_start, FollowsNew, CarriesOutWorkload, LeavesWorkload}
+use Rattle.castle.proofs.CompleteLemmas.{finds_none, never_damaged}
 
 -- what is taken of the front of a list
 take_less : {A : Type 0} (n m : ℕ) (xs : List A) → n ≤ m → take n (take m xs) ≡ take n xs

@@ -1,12 +1,12 @@
 -- What the summary of a workload says, and what it leaves.
-use Rattle.std.proofs.Common.{◌≡◌, ◌≢◌, ◌≤◌, ◌<◌, ◌⊎◌, ℕ, List, [], ◌∷◌, ◌++◌, length, take, map, Option, Some, None, refl, sym, ap, subst, ◌∙◌, inl, inr, append-nil, true≢false, arith}
+use Rattle.std.proofs.Common.{◌≡◌, ◌≢◌, ◌⊎◌, ℕ, List, [], ◌∷◌, ◌++◌, length, map, Option, Some, None, refl, sym, ap, subst, ◌∙◌, inl, inr, append-nil, true≢false, arith}
 use Rattle.std.specs.Prelude.{Ok, Err, IfSome, IsSome}
 use Rattle.std.proofs.lemmas.List.{length-map}
 use Rattle.strat_crash.specs.Faults.{Rose}
 use Rattle.strat_crash.specs.Image.{Image}
 use Rattle.strat_crash.specs.Moments.{DiskView, Exposes, Images, Passes, OnlyReads}
 use Rattle.strat_crash.specs.Trail.{Trail}
-use Rattle.strat_crash.proofs.MomentLemmas.{now_since_start, passes_trans, at_told}
+use Rattle.strat_crash.proofs.MomentLemmas.{now_since_start, at_told}
 use Rattle.strat_crash.proofs.TrailLemmas.{trail_read}
 use Rattle.strat_format.specs.Damage.{Read, and_then}
 use Rattle.strat_format.specs.SuperBlock.{Super, newest_in}
@@ -18,12 +18,12 @@ use Rattle.strat_model.specs.Run.{Exchange, Interruption, Transcript, tables_of,
 use Rattle.strat_model.specs.Table.{Table, bare}
 use Rattle.strat_recovery.specs.Head.{Head}
 use Rattle.strat_recovery.specs.Opening.{recover, recover_slot, recover_head}
-use Rattle.strat_report.specs.Reporting.{summary_text, levels_text, WritesReport, RecoversAs, IsSilent, AppendsFront, GivesUp, IsComplete, ReportHasCause}
+use Rattle.strat_report.specs.Reporting.{summary_text, levels_text, WritesReport, RecoversAs, IsSilent, AppendsFront, ReportHasCause}
 use Rattle.strat_standing.specs.Standing.{ShowsTable}
 use Rattle.strat_store.proofs.PayingLemmas.{paid_then, stored_since}
 use Rattle.strat_serve.specs.Session.{EndHasCause}
 use Rattle.strat_serve.specs.World.{World, world}
-use Rattle.castle.specs.Working.{EndsWorkload, EndsOnExposed, EndsAfterAll, FollowsNew, CarriesOutWorkload, MakesNoStore, LeavesWorkload, SendsSummary, summary_of}
+use Rattle.castle.specs.Working.{EndsWorkload, EndsOnExposed, FollowsNew, CarriesOutWorkload, LeavesWorkload, SendsSummary, summary_of}
 use Rattle.castle.proofs.CompleteLemmas.{finds_head}
 
 -- a disk that only was read since a workload was carried out whole has what that left

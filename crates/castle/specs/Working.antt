@@ -1,7 +1,7 @@
 -- What a run of a workload does: it makes a store, carries out the workload on it, and says what that came to.
-use Rattle.std.specs.Prelude.{◌≡◌, ◌≤◌, ◌<◌, ◌⊎◌, ℕ, List, length, take, Option, Some, None, Ok, map}
+use Rattle.std.specs.Prelude.{◌≡◌, ◌≤◌, ◌⊎◌, ℕ, List, length, take, Option, Some, None, Ok}
 use Rattle.strat_crash.specs.Image.{Image}
-use Rattle.strat_crash.specs.Moments.{DiskView, Exposes, Images, Since}
+use Rattle.strat_crash.specs.Moments.{DiskView, Images, Since}
 use Rattle.strat_crash.specs.Trail.{At, Trail}
 use Rattle.strat_io.specs.Streams.{Appends}
 use Rattle.strat_model.specs.declared.ended.Ended.{Ended}

@@ -1,5 +1,5 @@
-use Rattle.std.proofs.Common.{ℕ, List, Option, Some, None, ap, refl, inl, inr}
-use Rattle.strat_serve.specs.World.{World, world}
+use Rattle.std.proofs.Common.{Some, None, ap, refl, inl, inr}
+use Rattle.strat_serve.specs.World.{world}
 use Rattle.castle.proofs.ServedLemmas.{workload_end, workload_leaves}
 use Rattle.castle.proofs.working.serve_workload.Goals as goal
 
