@@ -4,7 +4,7 @@ use Rattle.std.specs.Prelude.{Ok, Err, option_map}
 use Rattle.std.proofs.lemmas.List.{take_all, length-map}
 use Rattle.strat_crash.specs.Image.{Image}
 use Rattle.strat_crash.specs.Moments.{DiskView, Images, Since, Passes, KeepsImages}
-use Rattle.strat_crash.specs.Trail.{At}
+use Rattle.strat_crash.specs.Trail.{At, Trail}
 use Rattle.strat_crash.proofs.MomentLemmas.{now_since_start, since_now}
 use Rattle.strat_crash.proofs.TrailLemmas.{trail_of_one, at_either, at_below}
 use Rattle.strat_format.specs.Damage.{Read}

@@ -112,7 +112,7 @@ returns-in-Some-Workload-clause-ok g c =
       record {
         ends = ran.end;
         left = ran.ok;
-        sends = ran.sent;
+        sends = ran.found;
         cause = cause;
         complete = λ calm f exposed. workload_completes c.run_workload.result before now (ran.ok f exposed).ends cause calm.sink calm.disk;
       },
