@@ -144,10 +144,12 @@ class BatchTest(StoreCase):
         for turn in range(5):
             self.path = os.path.join(self.folder, f"{turn}.store")
             store = self.made(64, 16_000_000, 10)
-            timer = threading.Timer(0.05 + chance.random() / 4, os.kill, (store.pid, 9))
-            timer.start()
+            timer = threading.Timer(chance.random() / 4, os.kill, (store.pid, 9))
+            waits = turn > 0  # for a first reply, which a slow disk may keep back
             with self.assertRaises(errors.Killed) as caught, store.batch() as batch:
                 for number in itertools.count():
+                    if timer.ident is None and not (waits and not batch.results):
+                        timer.start()
                     batch.put(0, b"%d" % (number % 1000), b"%d" % number)
             timer.join()
             done = len(batch.results)
