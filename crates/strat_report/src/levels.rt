@@ -119,7 +119,6 @@ fn add_stored(out: &mut String, store: &Reading) -> Result<(), AllocError>
 }
 
 /// Adds the report of a store. O(arrays + versions of their tags).
-
 pub(crate) fn add_report(out: &mut String, store: &Reading) -> Result<(), AllocError>
     ensures ok { OnOk result
         (string_bytes out.new ≡ string_bytes out.old ++ text (report store.now)) }

@@ -47,7 +47,6 @@ fn add_stored(out: &mut String, store: &Reading) -> Result<(), AllocError>
 }
 
 /// Adds the summary of a workload with these arguments that left this store. O(arrays).
-
 pub(crate) fn add_summary(
     out: &mut String,
     store: &Reading,
