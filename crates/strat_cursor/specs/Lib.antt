@@ -8,6 +8,7 @@ pub mod CursorFields
 pub mod CursorsFields
 pub mod Cursors
 pub mod CursorTable
+pub mod Held
 pub mod Pins
 pub mod Ranges
 pub mod Sources

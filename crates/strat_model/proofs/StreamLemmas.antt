@@ -22,7 +22,7 @@ behind_number : (body rest : List ℕ) → drop 4 (frame body ++ rest) ≡ body 
 behind_number body rest = ap (drop 4) (regrouped body rest) ∙ drop_at (be 4 (length body)) (body ++ rest) 4 (length-be 4 (length body))
 
 -- two frames in front of the same bytes are one
-same_frame : (a b front rest : List ℕ) → IsBody a → IsBody b → frame a ++ front ≡ frame b ++ rest → (a ≡ b) × (front ≡ rest)
+pub same_frame : (a b front rest : List ℕ) → IsBody a → IsBody b → frame a ++ front ≡ frame b ++ rest → (a ≡ b) × (front ≡ rest)
 same_frame a b front rest short_a short_b e =
     let len : length a ≡ length b = sym (front_number a front short_a) ∙ ap (number 4) e ∙ front_number b rest short_b in
     let behind : a ++ front ≡ b ++ rest = sym (behind_number a front) ∙ ap (drop 4) e ∙ behind_number b rest in

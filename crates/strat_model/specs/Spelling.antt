@@ -1,6 +1,6 @@
 -- The bytes of commands and replies. A body begins with the tag by which a client knows its reply.
-use Rattle.std.specs.Prelude.{◌≡◌, ◌<◌, ℕ, ◌^◌, ◌&&◌, Bool, true, false, not, nat_le, if◌then◌else◌, List, [], ◌∷◌, ◌++◌, length, Option, Some, None}
-use Rattle.std.specs.List.{flat_map}
+use Rattle.std.specs.Prelude.{◌≡◌, ◌<◌, ◌≤◌, ℕ, ◌^◌, ◌&&◌, Bool, true, false, not, nat_le, if◌then◌else◌, List, [], ◌∷◌, ◌++◌, length, Option, Some, None}
+use Rattle.std.specs.List.{flat_map, AllByRecursion}
 use Rattle.strat_base.specs.Numbers.{be, number}
 use Rattle.strat_base.specs.Sizes.{is_key, is_value}
 use Rattle.strat_base.specs.declared.limits.TheConstants.{KEY_MAX, PAIRS_MAX}
@@ -83,17 +83,6 @@ size_refusal request =
     if not (has_lawful_value request) then Some why.ValueSize else
     if not (has_lawful_limit request) then Some why.ScanSize else None
 
--- a command that is built
-abbrev pub is_built : Request → Bool
-is_built (Put version key value) = true
-is_built (Delete version key) = true
-is_built (Get version key) = true
-is_built (Clone version) = true
-is_built (Scan version lo hi limit) = true
-is_built (Info version) = true
-is_built Stat = true
-is_built _ = false
-
 -- the length of these bytes fits its field
 abbrev pub FitsCount : List ℕ → Type 0
 FitsCount bytes = length bytes < 2 ^ 16
@@ -112,13 +101,11 @@ FitsFields (NextPairs cursor limit) = (cursor < 2 ^ 64) × (limit < 2 ^ 16)
 FitsFields (CloseCursor cursor) = cursor < 2 ^ 64
 FitsFields Stat = Unit {0}
 
--- a body has the form of a command that is built: a tag, its opcode and just its fields, whatever the
--- sizes of these
+-- a body has the form of a command: a tag, its opcode and just its fields, whatever the sizes of these
 pub record HasForm (body : List ℕ) (tag : ℕ) (request : Request) : Type 0 where
   pub text : body ≡ command_body tag request
   pub tag_fits : tag < 2 ^ 32
   pub fits : FitsFields request
-  pub built : is_built request ≡ true
 
 -- a body is a command: it has its form, and no size of it is refused
 pub record Spells (body : List ℕ) (tag : ℕ) (request : Request) : Type 0 where
@@ -208,28 +195,6 @@ reply_fields _ pairs = []
 abbrev pub reply_body : ℕ → Answer → List ℕ
 reply_body tag a = be 4 tag ++ status_byte a.reply ∷ reply_fields a.reply a.pairs
 
--- a reply that there is so far
-abbrev pub is_given : Reply → Bool
-is_given reply.Done = true
-is_given reply.Found = true
-is_given reply.Absent = true
-is_given (reply.Made version) = true
-is_given (reply.Info parent depth frozen) = true
-is_given (reply.Stat versions updates changes cursors) = true
-is_given (reply.Refused why.UnknownVersion) = true
-is_given (reply.Refused why.Frozen) = true
-is_given (reply.Refused why.VersionLimit) = true
-is_given (reply.Refused why.ChangeLimit) = true
-is_given (reply.Refused why.Malformed) = true
-is_given (reply.Refused why.KeySize) = true
-is_given (reply.Refused why.ValueSize) = true
-is_given (reply.Refused why.ScanSize) = true
-is_given (reply.Refused why.FrameTooLong) = true
-is_given (reply.Refused why.NoMemory) = true
-is_given (reply.Refused why.DeviceFault) = true
-is_given (reply.Refused (why.Damaged block)) = true
-is_given _ = false
-
 -- a parent's number fits its field, in which the greatest number stands for none
 abbrev pub FitsParent : Option ℕ → Type 0
 FitsParent None = Unit {0}
@@ -245,16 +210,22 @@ FitsReply (reply.Stat versions updates changes cursors) =
 FitsReply (reply.Refused (why.Damaged block)) = block < 2 ^ 32
 FitsReply _ = Unit {0}
 
--- the pairs of a reply as a client reads it, with a question mark for the key that was asked for
+-- a pair has a key and a value of sizes as they may be
+abbrev pub is_pair : List ℕ × List ℕ → Bool
+is_pair pair = is_key pair.0 && is_value pair.1
+
+-- the pairs of a reply as a client reads it: a page's, or the value that was found, with a question mark
+-- for the key that was asked for
 abbrev pub FitsPairs : Reply → Pairs → Type 0
 FitsPairs reply.Found pairs =
     (value : List ℕ) × (pairs ≡ (63 ∷ [], value) ∷ []) × (is_value value ≡ true)
+FitsPairs (reply.Pairs more) pairs =
+    (length pairs ≤ PAIRS_MAX) × AllByRecursion (λ pair. is_pair pair ≡ true) pairs
 FitsPairs _ pairs = pairs ≡ []
 
--- a body is a reply that there is
+-- a body is a reply
 pub record SpellsReply (body : List ℕ) (tag : ℕ) (a : Answer) : Type 0 where
   pub text : body ≡ reply_body tag a
   pub tag_fits : tag < 2 ^ 32
-  pub given : is_given a.reply ≡ true
   pub fits : FitsReply a.reply
   pub pairs_fit : FitsPairs a.reply a.pairs

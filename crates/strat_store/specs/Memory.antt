@@ -1,8 +1,11 @@
 -- What a store has in memory of its versions and of level 0, and what changes do to it.
-use Rattle.std.specs.Prelude.{◌≡◌, ◌≤◌, ℕ, ◌+◌, ◌-◌, ◌==◌, not, if◌then◌else◌, List, [], ◌∷◌, length, filter_map, Option, Some, None}
+use Rattle.std.specs.Prelude.{◌≡◌, ◌≤◌, ℕ, ◌+◌, ◌-◌, ◌==◌, not, if◌then◌else◌, List, [], ◌∷◌, ◌++◌, length, filter_map, Option, Some, None}
 use Rattle.strat_base.specs.Change.{Change, Put, Delete, Clone}
 use Rattle.strat_base.specs.Entries.{Entry}
 use Rattle.strat_base.specs.Tree.{Parents, is_known, parent_of, depth, has_child, with_child}
+use Rattle.strat_base.specs.declared.descriptors.LevelDesc.{LevelDesc}
+use Rattle.strat_cursor.specs.Held.{HeldCursor, HeldCursors, no_cursors}
+use Rattle.strat_cursor.specs.Pins.{arrays_asked}
 use Rattle.strat_model.specs.declared.replies.Refusal.{Refusal}
 use Rattle.strat_model.specs.declared.replies.Refusal.TheVariants as why
 use Rattle.strat_model.specs.declared.replies.Reply.{Reply}
@@ -12,7 +15,8 @@ use Rattle.strat_state.specs.Setting.{set_entry, set_all}
 use Rattle.strat_state.specs.State.{update_of}
 
 -- the limits of a store, its versions, what it accepted, the entries of level 0 in their order, for how
--- many more updates level 0 has room, and for how many the next level 0 has, where one stands ready
+-- many more updates level 0 has room, for how many the next level 0 has, where one stands ready, and the
+-- open cursors
 pub record Memory : Type 0 where
   pub changes_max : ℕ
   pub versions_max : ℕ
@@ -22,6 +26,7 @@ pub record Memory : Type 0 where
   pub entries : List Entry
   pub spare : ℕ
   pub ready : Option ℕ
+  pub cursors : HeldCursors
 
 -- why an update at a version is refused, if it is
 abbrev pub refusal_of_update : Memory → ℕ → Option Refusal
@@ -72,12 +77,12 @@ abbrev pub reply_to : Memory → Change → Reply
 reply_to m (Clone version) = reply.Made (length m.parents)
 reply_to m change = reply.Done
 
--- what is told of a version, and of the whole store, which has no cursors
+-- what is told of a version, and of the whole store
 abbrev pub info_told : Memory → ℕ → Reply
 info_told m v = reply.Info (parent_of m.parents v) (depth m.parents v) (has_child m.parents v)
 
 abbrev pub stat_told : Memory → Reply
-stat_told m = reply.Stat (length m.parents) m.updates m.changes 0
+stat_told m = reply.Stat (length m.parents) m.updates m.changes (length m.cursors.opened)
 
 -- memory with a level 0 that has no entries yet, and room for so many updates
 abbrev pub emptied : ℕ → Memory → Memory
@@ -94,7 +99,24 @@ fresh_memory mem changes_max versions_max = record {
   entries = [];
   spare = mem;
   ready = None;
+  cursors = no_cursors;
 }
+
+-- a cursor over a range of a version, as it is opened now
+abbrev pub cursor_from : Memory → List (Option LevelDesc) → ℕ → List ℕ → List ℕ → HeldCursor
+cursor_from m levels v lo hi = record {
+  number = m.cursors.next;
+  version = v;
+  zero = m.entries;
+  sealed = None;
+  arrays = arrays_asked m.parents levels v;
+  from = Some lo;
+  hi = hi;
+}
+
+-- cursors with one more
+abbrev pub with_cursor : HeldCursors → HeldCursor → HeldCursors
+with_cursor c one = record c { opened = c.opened ++ one ∷ []; next = c.next + 1 }
 
 -- memory is that of a head, and level 0 has room for as many updates more as the journal has for changes
 pub record IsMemoryOf (h : Head) (m : Memory) : Type 0 where

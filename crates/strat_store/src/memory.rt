@@ -1,7 +1,7 @@
 //! What an open store has in memory beside its levels and its journal: the tree of its versions, its
 //! counts, and level 0 with what the latest updates say.
 
-ghost use Rattle.std.specs.Prelude.{◌≡◌, ◌<◌, ◌≤◌, ℕ, ◌+◌, [], ◌∷◌, length, map, Some, None, IfOk, OnOk, OnErr, IsTrue, is_some};
+ghost use Rattle.std.specs.Prelude.{◌≡◌, ◌<◌, ◌≤◌, ℕ, ◌+◌, ◌^◌, ◌↔◌, [], ◌∷◌, length, map, Some, None, IfOk, OnOk, OnErr, IsErrOf, IsTrue, is_some};
 ghost use Rattle.strat_array.specs.Told.{TellsFound};
 ghost use Rattle.strat_base.specs.Change.{is_lawful};
 ghost use Rattle.strat_base.specs.ChangeView.{change_of};
@@ -9,19 +9,24 @@ ghost use Rattle.strat_base.specs.EntryBytes.{fits_fields};
 ghost use Rattle.strat_base.specs.EntryView.{val_of};
 ghost use Rattle.strat_base.specs.Tree.{is_known, with_child, IsTree};
 ghost use Rattle.strat_base.specs.declared.limits.TheConstants.{PAIRS_MAX, VERSIONS_MAX};
+ghost use Rattle.strat_base.specs.declared.limits.TheConstants.{CURSORS_MAX as the_most};
+ghost use Rattle.strat_cursor.specs.Cursors.{closed_at, is_opened, retired_by};
+ghost use Rattle.strat_cursor.specs.Looking.{MayBeFound, arrays_there};
+ghost use Rattle.strat_cursor.specs.declared.cursors.CursorFault.TheVariants as start_fault;
 ghost use Rattle.strat_format.specs.Manifest.{are_older};
 ghost use Rattle.strat_level.specs.Memtable.{entries_held, ListStands};
 ghost use Rattle.strat_recovery.specs.TableOver.{are_known};
 ghost use Rattle.strat_state.specs.Reading.{live_of};
-ghost use Rattle.strat_store.specs.Memory.{refusal_of_update, refusal_of_clone, refusal_of_change, with_update, memory_after, HasRoomFor, reply_to, info_told, stat_told, emptied, fresh_memory};
+ghost use Rattle.strat_store.specs.Memory.{refusal_of_update, refusal_of_clone, refusal_of_change, with_update, memory_after, HasRoomFor, reply_to, info_told, stat_told, emptied, fresh_memory, cursor_from, with_cursor};
 
 use std::alloc::Global;
 use std::marker::Model;
 use std::mem;
 use strat_arena::ArenaPool;
 use strat_array::Seen;
-use strat_base::{Change, NoMemory, PairBuf, Val, Version};
-use strat_level::Zero;
+use strat_base::{ArrayDesc, Change, NoMemory, PairBuf, Val, Version};
+use strat_cursor::{CursorFault, Cursors};
+use strat_level::{Levels, Zero};
 use strat_model::{Refusal, Reply};
 use strat_tree::Tree;
 
@@ -37,6 +42,7 @@ pub struct Memory {
     pool: ArenaPool,
     zero: Zero,
     next: Option<Zero>,
+    cursors: Cursors,
 }
 
 impl Model for Memory {
@@ -79,6 +85,7 @@ impl Memory {
         let tree = Tree::new(alloc, versions_max)?;
         let mut pool = ArenaPool::new(alloc);
         let zero = Zero::new(alloc, &mut pool, mem)?;
+        let cursors = Cursors::new(alloc)?;
         Ok(Memory {
             changes_max,
             versions_max,
@@ -88,6 +95,7 @@ impl Memory {
             pool,
             zero,
             next: None,
+            cursors,
         })
     }
 
@@ -97,7 +105,8 @@ impl Memory {
     pub fn load(&mut self, parents: &[u32], updates: u32, changes: u32)
         requires fits { IsTrue (are_older 1 parents.now) }
         requires room { 1 + length parents.now ≤ self.old.versions_max }
-        requires none { (self.old.parents ≡ None ∷ []) × (self.old.entries ≡ []) }
+        requires none { (self.old.parents ≡ None ∷ []) × (self.old.entries ≡ [])
+            × (self.old.cursors.opened ≡ []) }
         requires kept { (updates ≤ changes) × (changes ≤ self.old.changes_max) }
         ensures ok { self.new ≡ record self.old {
           parents = None ∷ map (λ p. Some p) parents.now;
@@ -233,7 +242,7 @@ impl Memory {
         }
     }
 
-    /// How many versions there are, and how many updates and changes were accepted. O(1).
+    /// How many versions and how many open cursors there are, and how many updates and changes were accepted. O(1).
     pub fn stat(&self) -> Reply
         ensures ok { result ≡ stat_told self.now }
     {
@@ -241,7 +250,7 @@ impl Memory {
             versions: self.tree.count(),
             updates: self.updates,
             changes: self.changes,
-            cursors: 0,
+            cursors: self.cursors.len() as u32,
         }
     }
 
@@ -317,5 +326,69 @@ impl Memory {
         if let Some(next) = self.next.take() {
             mem::replace(&mut self.zero, next).release(&mut self.pool);
         }
+    }
+
+    /// How many cursors are open, and the arrays that are kept for them. O(1).
+    pub fn retired(&self) -> &[ArrayDesc]
+        ensures ok { result.now ≡ self.now.cursors.retired }
+    {
+        self.cursors.retired()
+    }
+
+    /// Opens a cursor over a range of a version as it is now: see `Cursors::start`. After a refusal all is as before.
+    pub fn open_cursor(
+        &mut self,
+        levels: &Levels,
+        version: Version,
+        lo: &[u8],
+        hi: &[u8],
+    ) -> Result<u64, CursorFault>
+        requires found { version < length self.old.parents }
+        requires kept { MayBeFound (arrays_there levels.now) }
+        requires fits { self.old.cursors.next ≤ 2 ^ 63 }
+        ensures ok { IfOk result (λ n. (n ≡ self.old.cursors.next)
+            × (self.new ≡ record self.old { cursors = with_cursor self.old.cursors
+            (cursor_from self.old levels.now version lo.now hi.now) })) }
+        ensures cause { IsErrOf result start_fault.CursorLimit
+            ↔ (length self.old.cursors.opened ≡ the_most) }
+        ensures err { OnErr result (self.new ≡ self.old) }
+    {
+        let _ = self.tree.count();
+        self.cursors.start(
+            &mut self.pool,
+            &self.tree,
+            &self.zero,
+            None,
+            levels,
+            version,
+            lo,
+            hi,
+        )
+    }
+
+    /// Closes a cursor: see `Cursors::close`.
+    pub fn close_cursor(&mut self, number: u64) -> bool
+        ensures ok { result ≡ is_opened number self.old.cursors.opened }
+        ensures end { self.new ≡ record self.old { cursors = closed_at number self.old.cursors } }
+    {
+        self.cursors.close(&mut self.pool, number)
+    }
+
+    /// Makes room for so many more arrays that are kept for cursors.
+    pub fn reserve_retired(&mut self, n: usize) -> Result<(), NoMemory>
+        ensures ok { OnOk result (length self.old.cursors.retired + n ≤ self.new.cursors.room) }
+        ensures same { self.new ≡ record self.old {
+          cursors = record self.old.cursors { room = self.new.cursors.room };
+        } }
+    {
+        self.cursors.reserve_retired(n)
+    }
+
+    /// Keeps the descriptor of an array that no level names any more, where a cursor names it.
+    pub fn retire(&mut self, desc: ArrayDesc)
+        requires room { length self.old.cursors.retired < self.old.cursors.room }
+        ensures ok { self.new ≡ record self.old { cursors = retired_by desc self.old.cursors } }
+    {
+        self.cursors.retire(desc);
     }
 }
