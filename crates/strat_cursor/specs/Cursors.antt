@@ -1,5 +1,5 @@
 -- Cursors: the pairs of a range of a version as they were, told page by page.
-use Rattle.std.specs.Prelude.{◌≡◌, ◌<◌, ◌-◌, ◌+◌, ◌==◌, nat_lt, ℕ, Bool, if◌then◌else◌, not, List, [], ◌∷◌, ◌++◌, length, map, filter, flat_map, fold, drop, slice_index_or, Option, Some, None}
+use Rattle.std.specs.Prelude.{◌≡◌, ◌<◌, ◌-◌, ◌+◌, ◌==◌, nat_lt, ℕ, Bool, if◌then◌else◌, not, List, [], ◌∷◌, ◌++◌, length, map, filter, flat_map, drop, slice_index_or, Option, Some, None}
 use Rattle.std.specs.List.{list_any, list_all, AllByRecursion}
 use Rattle.std.specs.List.Sorted.{IsStrictlySortedBy}
 use Rattle.std.specs.Ordering.{nat_cmp}
@@ -124,9 +124,10 @@ abbrev pub retired_by : {L : Type 0} → ArrayDesc → CursorsOver L → Cursors
 retired_by a c =
     if is_array_named c.opened a.id then record c { retired = c.retired ++ a ∷ [] } else c
 
--- cursors after these arrays were retired, one after the other
-abbrev pub retired_all : {L : Type 0} → List ArrayDesc → CursorsOver L → CursorsOver L
-retired_all arrays c = fold (λ d a. retired_by a d) c arrays
+-- cursors after these arrays were retired, the last one first
+unfoldable pub retired_all : {L : Type 0} → List ArrayDesc → CursorsOver L → CursorsOver L
+retired_all [] c = c
+retired_all (a ∷ arrays) c = retired_by a (retired_all arrays c)
 
 -- in an image the arrays of a cursor have entries in order, and what is cached of them is as it stands
 -- there

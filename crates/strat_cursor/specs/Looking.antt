@@ -34,14 +34,22 @@ pub record AreInOrder (f : Image) (arrays : List ArrayDesc) : Type 0 where
       → (entries : List Entry) × (entries_on f (blocks_of a.extents) ≡ Some entries)
       × IsTrue (is_ascending entries)
 
--- each block in a cache is of an array that is numbered below the next one, and where it is of one of
--- these arrays it is as an image has it
+-- each block in a cache is of an array that is numbered below the next one
+abbrev pub AreOfOldArrays : ℕ → Blocks → Type 0
+AreOfOldArrays next_array c =
+    (k : ℕ × ℕ) (x : List Entry) → Contains c.entries (k, x) → k.0 < next_array
+
+-- each block in a cache that is of one of these arrays is as an image has it
+abbrev pub AreCachedAs : Image → List ArrayDesc → Blocks → Type 0
+AreCachedAs f arrays c = (a : ArrayDesc) (index block : ℕ) (x : List Entry) → Contains arrays a
+    → Contains c.entries ((a.id, index), x) → slice_get (blocks_of a.extents) index ≡ Some block
+    → block_on f block ≡ Some x
+
+-- both of these
 pub record AreCachedFrom (f : Image) (next_array : ℕ) (arrays : List ArrayDesc) (c : Blocks)
     : Type 0 where
-  pub old : (k : ℕ × ℕ) (x : List Entry) → Contains c.entries (k, x) → k.0 < next_array
-  pub same : (a : ArrayDesc) (index block : ℕ) (x : List Entry) → Contains arrays a
-      → Contains c.entries ((a.id, index), x) → slice_get (blocks_of a.extents) index ≡ Some block
-      → block_on f block ≡ Some x
+  pub old : AreOfOldArrays next_array c
+  pub same : AreCachedAs f arrays c
 
 -- a call that looked at blocks of these arrays left the disk as it was, and added to the cache only
 -- such blocks as they stand on the disk

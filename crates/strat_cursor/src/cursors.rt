@@ -31,6 +31,9 @@ use strat_level::{Levels, Zero};
 use strat_tree::Tree;
 use thiserror::Error;
 
+/// Greatest number of a cursor.
+const NUMBER_MAX: u64 = 1 << 63;
+
 /// Why no cursor was opened.
 #[derive(Clone, Copy, Debug, PartialEq, Eq, Error)]
 pub enum CursorFault {
@@ -166,6 +169,7 @@ impl Cursors {
     /// bound where `hi` is empty, and answers its number: 1, 2, 3 and so on. It pins the items of level 0, and of a
     /// sealed level 0, in their arenas, and copies of the descriptors of its version's arrays. After a refusal all is
     /// as before. O(items), 12 bytes for each, and the time of copying at most 22 descriptors: no block is read.
+    /// `NoMemory` also stands for more than 2^63 cursors that were opened.
     pub fn start(
         &mut self,
         pool: &mut ArenaPool,
@@ -181,7 +185,6 @@ impl Cursors {
         requires found { MayBePinned pool.old tree.now.parents zero.now (option_copied sealed)
             levels.now version }
         requires room { (n : ℕ) → shares_at pool.old n + 1 < 2 ^ 32 - 1 }
-        requires fits { self.old.next ≤ 2 ^ 63 }
         ensures ok { IfOk result (λ n. (n ≡ self.old.next)
             × IsStarted self.old self.new version lo.now hi.now zero.now
             (option_copied sealed.entry) (arrays_asked tree.now.parents levels.now version)) }
@@ -195,6 +198,9 @@ impl Cursors {
     {
         if self.is_full() {
             return Err(CursorFault::CursorLimit);
+        }
+        if self.next > NUMBER_MAX {
+            return Err(CursorFault::NoMemory);
         }
         let number = self.next;
         let cursor = open_cursor(

@@ -23,7 +23,7 @@ use Rattle.strat_promote.specs.Job.{IsBadInput, blocks_listed}
 use Rattle.strat_recovery.specs.StateTable.{table_of}
 use Rattle.strat_standing.specs.Contents.{Contents, contents_state}
 use Rattle.strat_standing.specs.Standing.{ShowsTable}
-use Rattle.strat_store.specs.Held.{Held, StandsWith, position_with}
+use Rattle.strat_store.specs.Held.{Held, StandsWith, arrays_held, position_with}
 use Rattle.strat_cursor.specs.Looking.{LooksThrough, arrays_there}
 use Rattle.strat_store.specs.Memory.{Memory, refusal_of_change}
 use Rattle.strat_store.specs.Promoting.{HaveFewLeads}
@@ -46,7 +46,7 @@ abbrev pub is_fault : Reply → Bool
 is_fault (reply.Refused r) = tells_fault r
 is_fault _ = false
 
--- a command was answered as the table says, and the store stands at the position after it
+-- a command was answered as the table says, and the store stands at the position after it, but for its cursors
 pub record IsAnsweredBy (now : DiskView) (old : Held) (x : Contents) (request : Request)
     (answer : Answer) (new : Held) : Type 0 where
   pub told : answer ≡ (step (table_of (contents_state x)) request).answer
@@ -123,11 +123,11 @@ pub record TellsFaultOf (before : DiskView) (request : Request) (told : Reply) :
   pub none : change_wanted request ≡ None → (b : ℕ) → told ≡ reply.Refused (why.Damaged b)
       → (f : Image) → Exposes before f → block_on f b ≡ None
 
--- a block is one of these levels' arrays, and where a content is exposed it is bad: it holds no entries, or
--- none that come after those before it
+-- a block is one of these levels' arrays, or of one that is kept for a cursor, and where a content is exposed it is bad:
+-- it holds no entries, or in a level none that come after those before it
 pub record IsDamagedIn (content : Option Image) (m : Memory) (levels : List (Option LevelDesc))
     (b : ℕ) : Type 0 where
-  pub listed : Contains (blocks_listed (arrays_there levels)) b
+  pub listed : Contains (blocks_listed (arrays_held m levels)) b
   pub bad : (f : Image) → content ≡ Some f → HaveFewLeads f m levels
       → (block_on f b ≡ None) ⊎ IsBadInput f (arrays_there levels) b
 
@@ -144,7 +144,7 @@ IsLookedUp now new x request answer =
 pub record IsUntouched (before now : DiskView) (request : Request) (old : Held) (told : Reply)
     (new : Held) : Type 0 where
   pub looks : change_wanted request ≡ None
-      → LooksThrough before now (arrays_there old.levels) old.cached new.cached
+      → LooksThrough before now (arrays_held old.memory old.levels) old.cached new.cached
   pub refused : (c : Change) (r : Refusal) → change_wanted request ≡ Some c
       → refusal_of_change old.memory c ≡ Some r
       → (told ≡ reply.Refused r) × (new.cached ≡ old.cached)

@@ -3,6 +3,7 @@ use Rattle.std.specs.Prelude.{◌≡◌, ◌≤◌, ◌⊎◌, ℕ, List, [], �
 use Rattle.strat_crash.specs.Image.{Image, Outside}
 use Rattle.strat_crash.specs.Moments.{DiskView, Exposes, Images, Since, KeepsImages}
 use Rattle.strat_crash.specs.Trail.{At, Trail}
+use Rattle.strat_cursor.specs.Held.{no_cursors}
 use Rattle.strat_format.specs.Chained.{manifest_at}
 use Rattle.strat_format.specs.Layout.{region_at, other_region}
 use Rattle.strat_format.specs.SuperBlock.{Super, newest_in}
@@ -47,10 +48,11 @@ pub record ChangesGateAlone (before now : DiskView) (f : Image) (slot : ℕ) (sb
   pub images : (c : Image) → Since now before.moment c
       → Images before c ⊎ Outside (region_at sb.mem (other_region sb.region)) 1 f c
 
--- a store was opened: it holds what recovery finds in the content, and where that shows a table the store stands on the
+-- a store was opened, without cursors: it holds what recovery finds in the content, and where that shows a table the store stands on the
 -- disk with contents that mean it, and a crash leaves that table from the opening's sync on
 pub record IsOpenedAs (before now : DiskView) (s : Held) : Type 0 where
   pub going : s.spent ≡ false
+  pub closed : s.memory.cursors ≡ no_cursors
   pub found : (f : Image) → Exposes before f → recover f ≡ Ok (Some (head_held s))
   pub chain : (f : Image) → Exposes before f
       → manifest_at f s.sb.manifest s.sb.length ≡ Ok s.chained

@@ -1,15 +1,19 @@
 -- An open store, and the disk that it stands on.
-use Rattle.std.specs.Prelude.{◌≡◌, ◌≤◌, ℕ, Bool, List, [], length, Option, Some, Ok, IsTrue}
+use Rattle.std.specs.Prelude.{◌≡◌, ◌≤◌, ◌<◌, ℕ, Bool, List, [], ◌++◌, length, Contains, Option, Some, Ok, IsTrue}
 use Rattle.strat_array.specs.Kept.{Blocks}
+use Rattle.strat_base.specs.declared.descriptors.ArrayDesc.{ArrayDesc}
 use Rattle.strat_base.specs.declared.descriptors.LevelDesc.{LevelDesc}
 use Rattle.strat_crash.specs.Image.{Image}
 use Rattle.strat_crash.specs.Moments.{DiskView, Exposes, Images}
+use Rattle.strat_format.specs.Arrays.{blocks_of}
 use Rattle.strat_format.specs.Chained.{Chained, manifest_at}
+use Rattle.strat_format.specs.Layout.{first_free}
 use Rattle.strat_format.specs.Manifest.{is_lawful_manifest}
 use Rattle.strat_format.specs.SuperBlock.{Super, IsLawful, newest_in}
 use Rattle.strat_journal.specs.Log.{Log}
 use Rattle.strat_level.specs.Levels.{level_numbered}
 use Rattle.strat_model.specs.Run.{Position}
+use Rattle.strat_model.specs.Table.{Cursor, Table}
 use Rattle.strat_recovery.specs.Head.{Head, descriptors}
 use Rattle.strat_recovery.specs.Opened.{parents_in}
 use Rattle.strat_recovery.specs.Opening.{belongs}
@@ -18,7 +22,9 @@ use Rattle.strat_standing.specs.Contents.{Contents, contents_state}
 use Rattle.strat_standing.specs.Standing.{ContentsStand}
 use Rattle.strat_state.specs.Level.{Level}
 use Rattle.strat_state.specs.Sound.{are_accepted}
-use Rattle.strat_cursor.specs.Looking.{AreCachedFrom, levels_there}
+use Rattle.strat_cursor.specs.Cursors.{MayGoOn, arrays_named}
+use Rattle.strat_cursor.specs.Held.{HeldCursor, AreRowsOf}
+use Rattle.strat_cursor.specs.Looking.{AreCachedFrom, HaveOwnIds, levels_there, arrays_there}
 use Rattle.strat_store.specs.Memory.{Memory, IsMemoryOf}
 
 -- a store as its callers see it: the newest superblock and its slot, the manifest with the blocks of its
@@ -62,6 +68,21 @@ pub record IsLogBehind (sb : Super) (log : Log) : Type 0 where
   pub batch : log.batch ≡ []
   pub few : length log.list ≤ sb.mem
 
+-- the arrays of levels, and those that no level names any more but a cursor does
+abbrev pub arrays_held : Memory → List (Option LevelDesc) → List ArrayDesc
+arrays_held m levels = arrays_there levels ++ m.cursors.retired
+
+-- what cursors name is there: each of their arrays is one of a level or is retired, no two of all these
+-- have one number, each has one below the next, and retired ones lie behind the journal
+pub record AreKept (sb : Super) (next_array : ℕ) (levels : List (Option LevelDesc)) (m : Memory)
+    : Type 0 where
+  pub named : (a : ArrayDesc) → Contains (arrays_named m.cursors.opened) a
+      → Contains (arrays_held m levels) a
+  pub ids : HaveOwnIds (arrays_held m levels)
+  pub below : (a : ArrayDesc) → Contains (arrays_held m levels) a → a.id < next_array
+  pub behind : (a : ArrayDesc) (b : ℕ) → Contains m.cursors.retired a
+      → Contains (blocks_of a.extents) b → first_free sb.mem ≤ b
+
 -- between two commands a store that is not spent holds what an opening may find
 pub record IsConsistent (s : Held) : Type 0 where
   pub slot : s.slot ≤ 1
@@ -73,6 +94,7 @@ pub record IsConsistent (s : Held) : Type 0 where
       (parents_in s.chained.manifest) s.chained.manifest.changes s.log.list)
   pub memory : IsMemoryOf (head_held s) s.memory
   pub placed : ArePlaced s.chained.manifest.levels s.levels
+  pub kept : AreKept s.sb s.chained.manifest.next_array s.levels s.memory
 
 -- a store stands on a disk with these contents: every crash leaves them, they are what it holds, and
 -- what it has cached is on the disk
@@ -90,7 +112,25 @@ pub record IsOnDisk (v : DiskView) (s : Held) : Type 0 where
   pub newest : (c : Image) → Images v c → newest_in c ≡ Ok (Some (s.slot, s.sb))
   pub chain : (c : Image) → Images v c → manifest_at c s.sb.manifest s.sb.length ≡ Ok s.chained
 
--- where a store with these contents stands in a run: the table that they mean, and how many changes the
--- journal holds
+-- where a store with these contents stands in a run, but for its cursors: the table that they mean, and
+-- how many changes the journal holds
 abbrev pub position_with : Held → Contents → Position
 position_with s x = record { table = table_of (contents_state x); fill = length s.log.list }
+
+-- a store stands on a disk with these contents, and its cursors have these pairs left and may go on
+pub record StandsAt (v : DiskView) (s : Held) (x : Contents) (rows : List Cursor) : Type 0 where
+  pub stands : StandsWith v s x
+  pub rows_are : AreRowsOf stands.stands.content s.memory.parents s.memory.cursors.opened rows
+  pub going : (c : HeldCursor) → Contains s.memory.cursors.opened c
+      → MayGoOn stands.stands.content s.chained.manifest.next_array c s.cached
+
+-- the table that contents mean, with these cursors of a store
+abbrev pub table_at : Held → Contents → List Cursor → Table
+table_at s x rows = record (table_of (contents_state x)) {
+  cursors = rows;
+  next_cursor = s.memory.cursors.next;
+}
+
+-- where a store with these contents and cursors stands in a run
+abbrev pub position_at : Held → Contents → List Cursor → Position
+position_at s x rows = record { table = table_at s x rows; fill = length s.log.list }

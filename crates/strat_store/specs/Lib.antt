@@ -9,6 +9,7 @@ pub mod Ranging
 pub mod Held
 pub mod StoreFields
 pub mod Applying
+pub mod Cursoring
 pub mod Publishing
 pub mod Promoting
 pub mod Following

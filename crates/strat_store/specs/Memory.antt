@@ -4,6 +4,8 @@ use Rattle.strat_base.specs.Change.{Change, Put, Delete, Clone}
 use Rattle.strat_base.specs.Entries.{Entry}
 use Rattle.strat_base.specs.Tree.{Parents, is_known, parent_of, depth, has_child, with_child}
 use Rattle.strat_base.specs.declared.descriptors.LevelDesc.{LevelDesc}
+use Rattle.strat_base.specs.declared.descriptors.ArrayDesc.{ArrayDesc}
+use Rattle.strat_cursor.specs.Cursors.{retired_all}
 use Rattle.strat_cursor.specs.Held.{HeldCursor, HeldCursors, no_cursors}
 use Rattle.strat_cursor.specs.Pins.{arrays_asked}
 use Rattle.strat_model.specs.declared.replies.Refusal.{Refusal}
@@ -87,6 +89,11 @@ stat_told m = reply.Stat (length m.parents) m.updates m.changes (length m.cursor
 -- memory with a level 0 that has no entries yet, and room for so many updates
 abbrev pub emptied : ℕ → Memory → Memory
 emptied mem m = record m { entries = []; spare = mem; ready = None }
+
+-- and memory after these arrays left the levels, too
+abbrev pub renewed : ℕ → List ArrayDesc → Memory → Memory
+renewed mem gone m =
+    record (emptied mem m) { cursors = retired_all gone m.cursors }
 
 -- memory of a new store
 abbrev pub fresh_memory : ℕ → ℕ → ℕ → Memory

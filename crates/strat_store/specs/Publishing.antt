@@ -110,12 +110,12 @@ contents_after old m target made levels first size blocks = record {
 }
 
 -- a level was promoted and then a manifest was written, in blocks that were free, and the old contents stood before: the
--- space before, the one between and the one after
+-- space before, the one between and the one after. Some blocks that contents do not name were used before, and some are after
 pub record IsWrittenBeside (v w u : DiskView) (s t r : SpaceView) (old new : Contents)
-    (target : ℕ) (made : Option LevelDesc) (others : List Extent) : Type 0 where
+    (target : ℕ) (made : Option LevelDesc) (besides others : List Extent) : Type 0 where
   pub stands : ContentsStand v old
   pub logged : 0 < length old.journal
-  pub space : IsSpaceOf s old []
+  pub space : IsSpaceOf s old besides
   pub promoting : TearsBlocks (is_free s) v w
   pub taken : UsesMore s (extents_of (arrays_made made)) t
   pub writing : TearsBlocks (is_free t) w u
@@ -131,12 +131,13 @@ pub record IsWrittenBeside (v w u : DiskView) (s t r : SpaceView) (old new : Con
       old.chained.manifest.next_array target made
   pub levels : new.levels ≡ promoted.says.fresh ++ levels_behind target old.levels
 
--- a store may compute its next contents: its contents stand, memory and space are theirs, and their chain is of these extents
+-- a store may compute its next contents: its contents stand, memory is theirs, the space has their blocks and some others
+-- used, and their chain is of these extents
 pub record MayCompute (v : DiskView) (s : SpaceView) (m : Memory) (levels : List (Option LevelDesc))
-    (log : Log) (x : Contents) : Type 0 where
+    (log : Log) (x : Contents) (others : List Extent) : Type 0 where
   pub stands : ContentsStand v x
   pub logged : 0 < length x.journal
-  pub space : IsSpaceOf s x []
+  pub space : IsSpaceOf s x others
   pub memory : IsMemoryOf (contents_head x) m
   pub placed : ArePlaced x.chained.manifest.levels levels
   pub lawful : IsTrue (is_lawful_manifest x.chained.manifest)
@@ -144,17 +145,18 @@ pub record MayCompute (v : DiskView) (s : SpaceView) (m : Memory) (levels : List
   pub chain : List Extent
   pub chain_is : blocks_of chain ≡ x.chained.blocks
 
--- the next contents are computed, with some levels, and the blocks of the old ones are used beside theirs; their state is
--- paid for where the old one was
+-- the next contents are computed, with some levels, and the blocks of the old ones and some others are used beside theirs;
+-- their state is paid for where the old one was
 pub record IsComputedBy (v : DiskView) (s : SpaceView) (old : Contents) (m : Memory) (log : Log)
-    (target : ℕ) (made : Option LevelDesc) (first size : ℕ) (chain : List Extent) : Type 0 where
+    (target : ℕ) (made : Option LevelDesc) (first size : ℕ) (chain others : List Extent)
+    : Type 0 where
   pub levels : List Level
   pub computed : IsComputed v (1 - old.slot)
       (contents_after old m target made levels first size (blocks_of chain)).sb log old
       (contents_after old m target made levels first size (blocks_of chain))
   pub used : (gone : List Extent) → blocks_of gone ≡ old.chained.blocks
       → IsSpaceOf s (contents_after old m target made levels first size (blocks_of chain))
-      (gone ++ (extents_of (arrays_in (descs_to target old.chained.manifest.levels)) ++ []))
+      (gone ++ (extents_of (arrays_in (descs_to target old.chained.manifest.levels)) ++ others))
   pub paid : IsPaid (contents_state old)
       → old.chained.manifest.updates ≤ old.chained.manifest.changes
       → old.sb.mem ≤ length old.journal → IsPaid (contents_state

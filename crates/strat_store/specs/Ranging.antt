@@ -1,22 +1,26 @@
 -- What a store says of a range, and of any look-up.
-use Rattle.std.specs.Prelude.{◌≡◌, ◌⊎◌, ℕ, Bool, true, List, [], ◌∷◌, Option, Result, Ok, Err}
+use Rattle.std.specs.Prelude.{◌≡◌, ◌≢◌, ◌⊎◌, ℕ, Bool, true, false, if◌then◌else◌, List, [], ◌∷◌, length, Contains, Option, Result, Ok, Err}
+use Rattle.strat_base.specs.declared.limits.TheConstants.{CURSORS_MAX}
 use Rattle.strat_base.specs.Entries.{Entry}
 use Rattle.strat_base.specs.Tree.{Parents, is_known}
 use Rattle.strat_base.specs.declared.descriptors.LevelDesc.{LevelDesc}
 use Rattle.strat_base.specs.declared.failures.Fault.{Fault}
 use Rattle.strat_base.specs.declared.failures.Fault.TheVariants as fault
 use Rattle.strat_crash.specs.Image.{Image}
+use Rattle.strat_cursor.specs.Cursors.{MayGoOn, is_opened, pairs_left}
+use Rattle.strat_cursor.specs.Held.{HeldCursor, HeldCursors, IsMapHeld}
 use Rattle.strat_cursor.specs.Looking.{levels_there}
-use Rattle.strat_model.specs.Answer.{Answer}
+use Rattle.strat_model.specs.Answer.{Answer, plain, refusal}
 use Rattle.strat_model.specs.Kept.{IsMap}
 use Rattle.strat_model.specs.Pairs.{Pairs, value_of, range}
-use Rattle.strat_model.specs.Request.{Request, Get, Scan}
+use Rattle.strat_model.specs.Request.{Request, Get, Scan, Info, OpenCursor, NextPairs, CloseCursor, Stat}
 use Rattle.strat_model.specs.Step.{found, page}
 use Rattle.strat_model.specs.declared.replies.Refusal.TheVariants as why
 use Rattle.strat_model.specs.declared.replies.Reply.{Reply}
 use Rattle.strat_model.specs.declared.replies.Reply.TheVariants as reply
 use Rattle.strat_recovery.specs.Asked.{asked}
-use Rattle.strat_store.specs.Memory.{Memory}
+use Rattle.strat_store.specs.Held.{Held}
+use Rattle.strat_store.specs.Memory.{Memory, info_told, stat_told}
 
 -- what is told of a range after a scan, or after the fault that ended it
 abbrev pub reply_of_scan : Result Bool Fault → Reply
@@ -38,11 +42,43 @@ MayTellOfRange told =
     ⊎ (told ≡ reply.Refused why.DeviceFault)
     ⊎ ((block : ℕ) × (told ≡ reply.Refused (why.Damaged block)))
 
--- a look-up was answered as level 0 in memory, and the arrays of levels as an image has them, say
-abbrev pub TellsFrom : Image → Memory → List (Option LevelDesc) → Request → Answer → Type 0
-TellsFrom f m levels (Get version key) answer = is_known m.parents version ≡ true
-    → answer ≡ found key (asked f m.parents (m.entries ∷ []) (levels_there levels) version key)
-TellsFrom f m levels (Scan version lo hi limit) answer = is_known m.parents version ≡ true
-    → (pairs : Pairs) → IsMapAsked f m.parents m.entries levels version pairs
-    → answer ≡ page (range pairs lo hi) limit
-TellsFrom f m levels _ answer = Unit {0}
+-- what is told of a version that is there is this, and of any other that there is none
+abbrev pub TellsOfVersion : Memory → ℕ → Answer → Type 0 → Type 0
+TellsOfVersion m version answer Told =
+    (is_known m.parents version ≡ false → answer ≡ refusal why.UnknownVersion)
+    × (is_known m.parents version ≡ true → Told)
+
+-- a cursor was opened with the next number, or memory ran out, and 64 cursors are the most
+abbrev pub TellsOfOpening : HeldCursors → Answer → Type 0
+TellsOfOpening c answer =
+    (length c.opened ≡ CURSORS_MAX → answer ≡ refusal why.CursorLimit)
+    × (length c.opened ≢ CURSORS_MAX
+    → (answer ≡ plain (reply.Opened c.next)) ⊎ (answer ≡ refusal why.NoMemory))
+
+-- the next pairs of an open cursor were told, as its lists and its arrays in an image have them
+abbrev pub TellsOfCursor : Image → Held → ℕ → ℕ → Answer → Type 0
+TellsOfCursor f s number limit answer =
+    (is_opened number s.memory.cursors.opened ≡ false → answer ≡ refusal why.UnknownCursor)
+    × ((c : HeldCursor) (pairs : Pairs) → Contains s.memory.cursors.opened c → c.number ≡ number
+    → MayGoOn f s.chained.manifest.next_array c s.cached
+    → IsMapHeld f s.memory.parents c pairs → answer ≡ page (pairs_left pairs c) limit)
+
+-- a command that asks for no change was answered as what is in memory says, and the arrays as an image has them
+abbrev pub TellsFrom : Image → Held → Request → Answer → Type 0
+TellsFrom f s (Get version key) answer = TellsOfVersion s.memory version answer
+    (answer ≡ found key (asked f s.memory.parents (s.memory.entries ∷ [])
+    (levels_there s.levels) version key))
+TellsFrom f s (Scan version lo hi limit) answer = TellsOfVersion s.memory version answer
+    ((pairs : Pairs)
+    → IsMapAsked f s.memory.parents s.memory.entries s.levels version pairs
+    → answer ≡ page (range pairs lo hi) limit)
+TellsFrom f s (Info version) answer =
+    TellsOfVersion s.memory version answer (answer ≡ plain (info_told s.memory version))
+TellsFrom f s (OpenCursor version lo hi) answer =
+    TellsOfVersion s.memory version answer (TellsOfOpening s.memory.cursors answer)
+TellsFrom f s (NextPairs number limit) answer = TellsOfCursor f s number limit answer
+TellsFrom f s (CloseCursor number) answer = answer
+    ≡ (if is_opened number s.memory.cursors.opened then plain reply.Done
+    else refusal why.UnknownCursor)
+TellsFrom f s Stat answer = answer ≡ plain (stat_told s.memory)
+TellsFrom f s _ answer = Unit {0}

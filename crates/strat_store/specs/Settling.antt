@@ -1,8 +1,13 @@
 -- A publication of a store: what takes the place of what the store holds.
-use Rattle.std.specs.Prelude.{◌≡◌, ◌≢◌, ◌⊎◌, ◌≤◌, ℕ, ◌+◌, ◌-◌, ◌&&◌, Bool, true, false, List, [], length, Option}
+use Rattle.std.specs.Prelude.{◌≡◌, ◌≢◌, ◌⊎◌, ◌≤◌, ℕ, ◌+◌, ◌-◌, ◌&&◌, Bool, true, false, List, [], length, Contains, Option}
+use Rattle.strat_base.specs.declared.descriptors.ArrayDesc.{ArrayDesc}
 use Rattle.strat_base.specs.declared.descriptors.LevelDesc.{LevelDesc}
-use Rattle.strat_crash.specs.Blocks.{TearsBlocks}
-use Rattle.strat_crash.specs.Moments.{DiskView}
+use Rattle.strat_crash.specs.Blocks.{AgreeOn, TearsBlocks}
+use Rattle.strat_crash.specs.Image.{Image}
+use Rattle.strat_crash.specs.Moments.{DiskView, Exposes}
+use Rattle.strat_cursor.specs.Cursors.{retired_all}
+use Rattle.strat_cursor.specs.Held.{HeldCursors}
+use Rattle.strat_format.specs.Arrays.{blocks_of}
 use Rattle.strat_format.specs.Chained.{Chained}
 use Rattle.strat_format.specs.Layout.{other_region}
 use Rattle.strat_format.specs.Manifest.{Manifest}
@@ -14,15 +19,17 @@ use Rattle.strat_model.specs.declared.replies.Reply.TheVariants as reply
 use Rattle.strat_model.specs.Answer.{accepts}
 use Rattle.strat_model.specs.Request.{Request}
 use Rattle.strat_model.specs.Run.{is_change}
+use Rattle.strat_promote.specs.Job.{blocks_listed}
 use Rattle.strat_recovery.specs.Head.{parent_numbers}
 use Rattle.strat_standing.specs.Contents.{Contents, contents_state}
+use Rattle.strat_standing.specs.Occupied.{arrays_in}
 use Rattle.strat_standing.specs.Standing.{AreFree}
 use Rattle.strat_state.specs.Level.{Level}
 use Rattle.strat_state.specs.State.{IsPaid}
-use Rattle.strat_store.specs.Held.{Held, IsOnDisk, StandsWith, contents_held}
-use Rattle.strat_store.specs.Memory.{Memory, emptied}
+use Rattle.strat_store.specs.Held.{Held, IsOnDisk, StandsWith, arrays_held, contents_held}
+use Rattle.strat_store.specs.Memory.{Memory, renewed}
 use Rattle.strat_store.specs.Paying.{ArePaidSince, KeepsCount}
-use Rattle.strat_store.specs.Publishing.{IsComputed, manifest_after}
+use Rattle.strat_store.specs.Publishing.{IsComputed, descs_to, manifest_after}
 
 -- the superblock after one, whose manifest begins in this block and is of so many bytes
 abbrev pub super_after : Super → ℕ → ℕ → Super
@@ -33,14 +40,19 @@ super_after sb first size = record sb {
   region = other_region sb.region;
 }
 
--- what a store holds after a publication of this superblock, manifest and levels: memory and the journal are emptied
-abbrev pub held_next : Held → Super → Chained → List (Option LevelDesc) → Held
-held_next s sb chained levels = record {
+-- the arrays of a manifest that a promotion down to a level took
+abbrev pub arrays_taken : ℕ → Manifest → List ArrayDesc
+arrays_taken target m = arrays_in (descs_to target m.levels)
+
+-- what a store holds after a publication of this superblock, manifest and levels: level 0 and the journal are emptied, and the
+-- arrays of the levels down to a target are kept where a cursor names them
+abbrev pub held_next : Held → ℕ → Super → Chained → List (Option LevelDesc) → Held
+held_next s target sb chained levels = record {
   slot = 1 - s.slot;
   sb = sb;
   chained = chained;
   log = region_begun s.log;
-  memory = emptied s.sb.mem s.memory;
+  memory = renewed s.sb.mem (arrays_taken target s.chained.manifest) s.memory;
   levels = levels;
   cached = s.cached;
   spent = false;
@@ -68,10 +80,13 @@ pub record MayFollow (s : Held) (sb : Super) (chained : Chained) : Type 0 where
   pub updates : chained.manifest.updates ≡ s.memory.updates
   pub parents : chained.manifest.parents ≡ parent_numbers s.memory.parents
 
--- a disk changed in blocks alone that are free beside what a store holds, whatever its levels say
+-- a disk changed in blocks alone that are free beside what a store holds, whatever its levels say, and that no array has
+-- which is kept for a cursor
 pub record WritesBeside (old new : DiskView) (s : Held) : Type 0 where
   pub free : ℕ → Bool
   pub beside : AreFree free (contents_held s [])
+  pub retired : (a : ArrayDesc) (b : ℕ) → Contains s.memory.cursors.retired a
+      → Contains (blocks_of a.extents) b → free b ≡ false
   pub tears : TearsBlocks free old new
 
 -- the next contents of a store, of this superblock and manifest, are written beside those that it stands on
@@ -83,16 +98,23 @@ pub record IsReadied (v : DiskView) (s : Held) (x : Contents) (sb : Super) (chai
   pub paid : IsPaid (contents_state x) → s.sb.mem ≤ length s.log.list
       → IsPaid (contents_state (contents_next s sb chained levels))
 
--- after a superblock, a manifest and what is in memory come these that one promotion leaves: of a level down to some target,
--- and of a manifest in some blocks
-pub record ArePublishedAfter (sb : Super) (m : Manifest) (memory : Memory) (next_sb : Super)
-    (next : Manifest) : Type 0 where
-  pub target : ℕ
+-- after a superblock, a manifest and what is in memory come these that one promotion leaves, down to this target, and of a
+-- manifest in some blocks
+pub record ArePublishedTo (target : ℕ) (sb : Super) (m : Manifest) (memory : Memory)
+    (next_sb : Super) (next : Manifest) : Type 0 where
   pub made : Option LevelDesc
   pub first : ℕ
   pub size : ℕ
   pub manifest_is : next ≡ manifest_after m memory target made
   pub sb_is : next_sb ≡ super_after sb first size
+
+-- so they do, down to some target, and the cursors are those of memory, for which the arrays that were taken are kept
+pub record ArePublishedAfter (sb : Super) (m : Manifest) (memory : Memory) (next_sb : Super)
+    (next : Manifest) (cursors : HeldCursors) : Type 0 where
+  pub target : ℕ
+  pub are : ArePublishedTo target sb m memory next_sb next
+  pub cursors_are : cursors
+      ≡ record (retired_all (arrays_taken target m) memory.cursors) { room = cursors.room }
 
 -- a store holds the superblock and the manifest that it held, with their levels
 pub record KeepsPublished (old new : Held) : Type 0 where
@@ -106,7 +128,12 @@ pub record HasPublished (old new : Held) : Type 0 where
   pub full : old.log.mem ≤ length old.log.list
   pub slot : new.slot ≡ 1 - old.slot
   pub after : ArePublishedAfter old.sb old.chained.manifest old.memory new.sb
-      new.chained.manifest
+      new.chained.manifest new.memory.cursors
+
+-- a store has the cursors that it had, with the arrays that are kept for them
+abbrev pub KeepsCursors : Held → Held → Type 0
+KeepsCursors old new = new.memory.cursors
+    ≡ record old.memory.cursors { room = new.memory.cursors.room }
 
 -- a command is a change, and was carried out
 abbrev pub carries_out : Request → Reply → Bool
@@ -121,6 +148,9 @@ pub record LeavesPublished (before now : DiskView) (old : Held) (carried : Bool)
   pub kept : carried ≡ false → told ≢ reply.Refused why.DeviceFault → KeepsPublished old new
   pub next : carried ≡ true → old.log.mem ≤ length old.log.list → HasPublished old new
   pub on_disk : told ≢ reply.Refused why.DeviceFault → IsOnDisk before old → IsOnDisk now new
+  -- and so are the blocks of all arrays that it held, those of its levels and those that are kept for cursors
+  pub beside : told ≢ reply.Refused why.DeviceFault → (f g : Image) → Exposes before f
+      → Exposes now g → AgreeOn (blocks_listed (arrays_held old.memory old.levels)) f g
   -- and where the store stands, what each crash leaves is paid for if its contents are, and its manifest counts what a
   -- publication wrote
   pub paid : (x : Contents) → StandsWith before old x → IsPaid (contents_state x)

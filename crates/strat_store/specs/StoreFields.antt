@@ -2,13 +2,16 @@
 use Rattle.std.specs.Prelude.{◌≡◌, false}
 use Rattle.strat_array.specs.Kept.{Blocks}
 use Rattle.strat_store.specs.Held.{Held, IsConsistent}
-use Rattle.strat_store.specs.Recovering.{held_of}
+use Rattle.strat_cursor.specs.Looking.{AreOfOldArrays}
+use Rattle.strat_store.specs.Recovering.{chained_of, held_of}
 use Rattle.strat_store.specs.declared.store.Store.TheInside.{Inside}
 
 -- the store of these fields
 abbrev pub store_held : Inside → Held
 store_held s = record (held_of s.held s.cache) { spent = s.spent }
 
--- between two commands it holds what an opening may find, unless it is spent
+-- between two commands it holds what an opening may find, and no blocks of arrays that are yet to come, unless it is spent
 abbrev pub IsWholeStore : Inside → Type 0
-IsWholeStore s = s.spent ≡ false → (cached : Blocks) → IsConsistent (held_of s.held cached)
+IsWholeStore s = s.spent ≡ false
+    → ((cached : Blocks) → IsConsistent (held_of s.held cached))
+    × AreOfOldArrays (chained_of s.held.published).manifest.next_array s.cache

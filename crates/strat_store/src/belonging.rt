@@ -141,7 +141,8 @@ pub(crate) fn has_low_tags(level: &LevelDesc) -> bool
 }
 
 /// Makes the blocks of arrays used, as long as none of them is used or stands twice, and says whether that is so.
-fn mark_arrays(space: &mut Space, arrays: &[ArrayDesc]) -> Result<bool, NoMemory>
+/// O(log holes) an extent. The only error is want of memory.
+pub(crate) fn mark_arrays(space: &mut Space, arrays: &[ArrayDesc]) -> Result<bool, NoMemory>
     ensures ok { IfOk result (λ marked. MatchBool marked
         (UsesMore space.old (extents_of arrays.now) space.new)
         (¬ CanMark space.old (extents_of arrays.now))) }

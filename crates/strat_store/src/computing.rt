@@ -239,11 +239,11 @@ pub(crate) fn compute_next<D: Disk>(
 ) -> Result<Computed, Trouble>
     requires kept { MayPromote memory.now levels.now old.now.next_array }
     requires fits { (4 ≤ mem) × (mem ≤ 4096) × (1 ≤ space.old.first) }
-    ensures ok { IfOk result (λ r. (x : Contents) (log : Log)
-        → MayCompute (D.view disk.old) space.old memory.now levels.now log x
+    ensures ok { IfOk result (λ r. (x : Contents) (log : Log) (others : List Extent)
+        → MayCompute (D.view disk.old) space.old memory.now levels.now log x others
         → x.chained.manifest ≡ manifest_of old.now → x.sb.mem ≡ mem
         → IsComputedBy (D.view disk.new) space.new x memory.now log
-        r.made.target r.made.level r.first r.length r.chain) }
+        r.made.target r.made.level r.first r.length r.chain others) }
     ensures found { IfOk result (λ r. manifest_of r.manifest
         ≡ manifest_after (manifest_of old.now) memory.now r.made.target r.made.level) }
     ensures end { IfOk result (λ r. WritesManifest (D.view disk.old) (D.view disk.new)

@@ -1,7 +1,7 @@
 //! What an open store has in memory beside its levels and its journal: the tree of its versions, its
 //! counts, and level 0 with what the latest updates say.
 
-ghost use Rattle.std.specs.Prelude.{◌≡◌, ◌<◌, ◌≤◌, ℕ, ◌+◌, ◌^◌, ◌↔◌, [], ◌∷◌, length, map, Some, None, IfOk, OnOk, OnErr, IsErrOf, IsTrue, is_some};
+ghost use Rattle.std.specs.Prelude.{◌≡◌, ◌<◌, ◌≤◌, ℕ, ◌+◌, ◌↔◌, List, [], ◌∷◌, length, map, false, Some, None, Contains, IfOk, OnOk, OnErr, IsErrOf, IsTrue, is_some};
 ghost use Rattle.strat_array.specs.Told.{TellsFound};
 ghost use Rattle.strat_base.specs.Change.{is_lawful};
 ghost use Rattle.strat_base.specs.ChangeView.{change_of};
@@ -10,11 +10,18 @@ ghost use Rattle.strat_base.specs.EntryView.{val_of};
 ghost use Rattle.strat_base.specs.Tree.{is_known, with_child, IsTree};
 ghost use Rattle.strat_base.specs.declared.limits.TheConstants.{PAIRS_MAX, VERSIONS_MAX};
 ghost use Rattle.strat_base.specs.declared.limits.TheConstants.{CURSORS_MAX as the_most};
-ghost use Rattle.strat_cursor.specs.Cursors.{closed_at, is_opened, retired_by};
-ghost use Rattle.strat_cursor.specs.Looking.{MayBeFound, arrays_there};
+ghost use Rattle.strat_crash.specs.Faults.{HasCause};
+ghost use Rattle.strat_crash.specs.Image.{Image};
+ghost use Rattle.strat_crash.specs.Moments.{Exposes};
+ghost use Rattle.strat_cursor.specs.Cursors.{MayGoOn, TellsNext, arrays_named, closed_at, is_opened, moved_at, retired_by};
+ghost use Rattle.strat_cursor.specs.Held.{AreRowsOf, HeldCursor, IsMapHeld};
+ghost use Rattle.strat_cursor.specs.Looking.{LooksThrough, MayBeFound, NamesNoBlock, arrays_there};
 ghost use Rattle.strat_cursor.specs.declared.cursors.CursorFault.TheVariants as start_fault;
+ghost use Rattle.strat_cursor.specs.declared.cursors.NextFault.TheVariants as next_fault;
 ghost use Rattle.strat_format.specs.Manifest.{are_older};
 ghost use Rattle.strat_level.specs.Memtable.{entries_held, ListStands};
+ghost use Rattle.strat_model.specs.Pairs.{Pairs};
+ghost use Rattle.strat_model.specs.Table.{Cursor};
 ghost use Rattle.strat_recovery.specs.TableOver.{are_known};
 ghost use Rattle.strat_state.specs.Reading.{live_of};
 ghost use Rattle.strat_store.specs.Memory.{refusal_of_update, refusal_of_clone, refusal_of_change, with_update, memory_after, HasRoomFor, reply_to, info_told, stat_told, emptied, fresh_memory, cursor_from, with_cursor};
@@ -23,9 +30,10 @@ use std::alloc::Global;
 use std::marker::Model;
 use std::mem;
 use strat_arena::ArenaPool;
-use strat_array::Seen;
+use strat_array::{Cache, Seen};
 use strat_base::{ArrayDesc, Change, NoMemory, PairBuf, Val, Version};
-use strat_cursor::{CursorFault, Cursors};
+use strat_cursor::{CursorFault, Cursors, Desks, NextFault};
+use strat_disk::Disk;
 use strat_level::{Levels, Zero};
 use strat_model::{Refusal, Reply};
 use strat_tree::Tree;
@@ -210,6 +218,9 @@ impl Memory {
         requires room { HasRoomFor self.old (change_of change.now) }
         ensures ok { self.new ≡ memory_after self.old (change_of change.now) }
         ensures found { result ≡ reply_to self.old (change_of change.now) }
+        ensures kept { (f : Image) (rows : List Cursor)
+            → AreRowsOf f self.old.parents self.old.cursors.opened rows
+            → AreRowsOf f self.new.parents self.old.cursors.opened rows }
     {
         match *change {
             Change::Put {
@@ -328,14 +339,15 @@ impl Memory {
         }
     }
 
-    /// How many cursors are open, and the arrays that are kept for them. O(1).
+    /// The arrays that no level names any more but a cursor does. O(1).
     pub fn retired(&self) -> &[ArrayDesc]
         ensures ok { result.now ≡ self.now.cursors.retired }
     {
         self.cursors.retired()
     }
 
-    /// Opens a cursor over a range of a version as it is now: see `Cursors::start`. After a refusal all is as before.
+    /// Opens a cursor over a range of a version as it is now, and answers its number. After a refusal all is as before.
+    /// O(items of level 0), 12 bytes for each, and the time of copying at most 22 descriptors: no block is read.
     pub fn open_cursor(
         &mut self,
         levels: &Levels,
@@ -345,7 +357,6 @@ impl Memory {
     ) -> Result<u64, CursorFault>
         requires found { version < length self.old.parents }
         requires kept { MayBeFound (arrays_there levels.now) }
-        requires fits { self.old.cursors.next ≤ 2 ^ 63 }
         ensures ok { IfOk result (λ n. (n ≡ self.old.cursors.next)
             × (self.new ≡ record self.old { cursors = with_cursor self.old.cursors
             (cursor_from self.old levels.now version lo.now hi.now) })) }
@@ -366,7 +377,46 @@ impl Memory {
         )
     }
 
-    /// Closes a cursor: see `Cursors::close`.
+    /// Puts the first pairs that a cursor has left into `out`, at most `limit`: it then has the others left. Answers
+    /// whether there are any. Costs what `strat_cursor::scan` does, and takes no memory but for blocks that are cached.
+    /// After an error all cursors are as before.
+    pub fn next_pairs<D: Disk>(
+        &mut self,
+        disk: &mut D,
+        cache: &mut Cache,
+        number: u64,
+        limit: u16,
+        desks: &mut Desks,
+        out: &mut PairBuf,
+    ) -> Result<bool, NextFault>
+        requires fits { (1 ≤ limit) × (limit ≤ 256) }
+        requires room { out.old ≡ [] }
+        ensures ok { IfOk result (λ more. (c : HeldCursor) → Contains self.old.cursors.opened c
+            → c.number ≡ number → (f : Image) (next : ℕ) (m : Pairs)
+            → Exposes (D.view disk.old) f → MayGoOn f next c cache.old
+            → IsMapHeld f self.old.parents c m → TellsNext m c limit out.new more) }
+        ensures end { IfOk result (λ more. self.new ≡ record self.old {
+          cursors = record self.old.cursors {
+            opened = moved_at number more out.new self.old.cursors.opened;
+          };
+        }) }
+        ensures found { IsErrOf result next_fault.UnknownCursor
+            ↔ (is_opened number self.old.cursors.opened ≡ false) }
+        ensures err { OnErr result ((self.new ≡ self.old) × (out.new ≡ [])) }
+        ensures same { LooksThrough (D.view disk.old) (D.view disk.new)
+            (arrays_named self.old.cursors.opened) cache.old cache.new }
+        ensures damaged { (b : ℕ) → IsErrOf result (next_fault.Damaged b)
+            → NamesNoBlock (D.view disk.old).content (arrays_named self.old.cursors.opened) b }
+        ensures cause { HasCause next_fault.Device (D.faults disk.old) (D.faults disk.new) result }
+    {
+        let more = self.cursors.next(
+            disk, cache, &self.pool, &self.tree, number, limit, desks, out,
+        )?;
+        Ok(more)
+    }
+
+    /// Closes a cursor, where one has the number, and answers whether one had. The arrays that were kept for it alone are
+    /// kept no longer. O(retired arrays * arrays of all cursors).
     pub fn close_cursor(&mut self, number: u64) -> bool
         ensures ok { result ≡ is_opened number self.old.cursors.opened }
         ensures end { self.new ≡ record self.old { cursors = closed_at number self.old.cursors } }

@@ -18,30 +18,33 @@ ghost use Rattle.strat_manifest.specs.ManifestView.{manifest_of};
 ghost use Rattle.strat_promote.specs.Job.{blocks_listed};
 ghost use Rattle.strat_recovery.specs.StateTable.{table_of};
 ghost use Rattle.strat_standing.specs.Contents.{Contents, contents_state};
-ghost use Rattle.strat_standing.specs.Occupied.{IsSpaceOf};
+ghost use Rattle.strat_standing.specs.Occupied.{IsSpaceOf, arrays_in, extents_of};
 ghost use Rattle.strat_standing.specs.Standing.{ShowsTable, ContentsStand};
 ghost use Rattle.strat_state.specs.Level.{Level};
 ghost use Rattle.strat_state.specs.State.{IsPaid};
 ghost use Rattle.strat_store.specs.Applying.{IsDamagedIn, IsPublishedAs, IsOkOrShort};
-ghost use Rattle.strat_store.specs.Held.{IsConsistent, IsOnDisk, StandsWith, contents_held};
+ghost use Rattle.strat_store.specs.Held.{IsConsistent, IsOnDisk, StandsWith, arrays_held, contents_held};
+ghost use Rattle.strat_cursor.specs.Cursors.{retired_all};
 ghost use Rattle.strat_cursor.specs.Looking.{arrays_there};
 ghost use Rattle.strat_store.specs.Memory.{emptied};
 ghost use Rattle.strat_store.specs.Paying.{ArePaidSince, CountsWritten};
-ghost use Rattle.strat_store.specs.Publishing.{IsComputed, LaysSuperblock, WritesManifest, is_in_front, manifest_after};
+ghost use Rattle.strat_store.specs.Publishing.{IsComputed, LaysSuperblock, WritesManifest, descs_to, is_in_front, manifest_after};
 ghost use Rattle.strat_store.specs.Recovering.{chained_of, held_of, IsAdmitted};
-ghost use Rattle.strat_store.specs.Settling.{super_after, held_next, ArePublishedAfter, KeepsPublished, MayFollow, WritesBeside, IsReadied};
+ghost use Rattle.strat_store.specs.Settling.{super_after, held_next, ArePublishedAfter, ArePublishedTo, KeepsCursors, KeepsPublished, MayFollow, WritesBeside, IsReadied};
 
 use crate::admitting::{Published, admit};
-use crate::belonging::own_blocks;
+use crate::belonging::{mark_arrays, own_blocks};
 use crate::computing::{Computed, compute_next};
+use crate::memory::Memory;
 use crate::publishing::lay_next;
 use crate::recovering::Recovered;
 use std::alloc::Global;
-use strat_base::{Extents, Failed, NoMemory, Trouble};
+use std::mem;
+use strat_base::{Arrays, Extents, Failed, LevelDesc, NoMemory, Trouble};
 use strat_disk::Disk;
 use strat_extent::Space;
 use strat_gate::SuperBlock;
-use strat_manifest::Manifest;
+use strat_manifest::{LevelList, Manifest};
 
 /// The superblock after one, with this manifest. `NoMemory` stands for a generation that no store reaches.
 fn next_super(old: &SuperBlock, first: u32, length: u32) -> Result<SuperBlock, NoMemory>
@@ -64,17 +67,22 @@ fn next_super(old: &SuperBlock, first: u32, length: u32) -> Result<SuperBlock, N
     })
 }
 
-/// The space in which just the blocks of a store are used. `NoMemory` also stands for blocks that stand twice.
+/// The space in which just the blocks of a store are used, those of the arrays that are kept for cursors among them.
+/// `NoMemory` also stands for blocks that stand twice.
 fn used_space(alloc: Global, held: &Recovered) -> Result<Space, NoMemory>
     requires kept { IsLawful (super_of held.now.sb) }
     ensures ok { IfOk result (λ space. (cached : Blocks) (levels : List Level)
-        → IsSpaceOf space (contents_held (held_of held.now cached) levels) []) }
+        → IsSpaceOf space (contents_held (held_of held.now cached) levels)
+        (extents_of held.now.memory.cursors.retired)) }
 {
     let levels = held.published.manifest.levels.as_slice();
-    match own_blocks(alloc, held.sb.mem, &held.published.chain, levels)? {
-        Some(space) => Ok(space),
-        None => Err(NoMemory),
+    let Some(mut space) = own_blocks(alloc, held.sb.mem, &held.published.chain, levels)? else {
+        return Err(NoMemory);
+    };
+    if !mark_arrays(&mut space, held.memory.retired())? {
+        return Err(NoMemory);
     }
+    Ok(space)
 }
 
 /// Computes the next contents of a store but for their superblock: nothing is written but blocks that are free beside
@@ -119,11 +127,13 @@ fn compute_beside<D: Disk>(
     )
 }
 
-/// What takes the place of a store's superblock and of what its last publication left.
+/// What takes the place of a store's superblock and of what its last publication left, and the number of the level that
+/// was filled.
 #[derive(Drop)]
 struct Next {
     sb: SuperBlock,
     published: Published,
+    target: usize,
 }
 
 /// The next superblock, and the manifest that it leads to, tested as an opening tests them. `NoMemory` also stands for
@@ -135,6 +145,7 @@ fn admit_next(
     first: u32,
     length: u32,
     chain: Extents,
+    target: usize,
 ) -> Result<Next, NoMemory>
     requires kept { IsLawful (super_of old.now)
         × IsTrue (is_lawful_manifest (manifest_of manifest)) }
@@ -142,14 +153,18 @@ fn admit_next(
         × (29 ≤ length) }
     ensures ok { IfOk result (λ next.
         (super_of next.sb ≡ super_after (super_of old.now) first length)
-        × IsLawful (super_of next.sb)) }
+        × IsLawful (super_of next.sb) × (next.target ≡ target)) }
     ensures found { IfOk result (λ next. chained_of next.published
         ≡ record { manifest = manifest_of manifest; blocks = blocks_of chain }) }
     ensures kept { IfOk result (λ next. IsAdmitted (super_of next.sb) next.published) }
 {
     let sb = next_super(old, first, length)?;
     match admit(alloc, &sb, manifest, chain)? {
-        Some(published) => Ok(Next { sb, published }),
+        Some(published) => Ok(Next {
+            sb,
+            published,
+            target,
+        }),
         None => Err(NoMemory),
     }
 }
@@ -165,7 +180,7 @@ fn prepare_next<D: Disk>(alloc: Global, held: &Recovered, disk: &mut D) -> Resul
         (chained_of next.published)) }
     ensures fits { IfOk result (λ next. (cached : Blocks)
         → MayFollow (held_of held.now cached) (super_of next.sb) (chained_of next.published)) }
-    ensures found { IfOk result (λ next. ArePublishedAfter (super_of held.now.sb)
+    ensures found { IfOk result (λ next. ArePublishedTo next.target (super_of held.now.sb)
         (manifest_of held.now.published.manifest) held.now.memory (super_of next.sb)
         (manifest_of next.published.manifest)) }
     ensures end { IfOk result (λ next. WritesManifest (D.view disk.old) (D.view disk.new)
@@ -187,8 +202,52 @@ fn prepare_next<D: Disk>(alloc: Global, held: &Recovered, disk: &mut D) -> Resul
         computed.first,
         computed.length,
         computed.chain,
+        computed.made.target,
     )?;
     Ok(next)
+}
+
+/// How many arrays levels have. `NoMemory` stands for more than can be counted.
+fn count_arrays(levels: &[LevelDesc]) -> Result<usize, NoMemory>
+    ensures ok { IfOk result (λ n. n ≡ length (arrays_in levels.now)) }
+{
+    let mut n = 0usize;
+    for level in levels {
+        let Some(more) = n.checked_add(level.arrays.len()) else {
+            return Err(NoMemory);
+        };
+        n = more;
+    }
+    Ok(n)
+}
+
+/// Keeps those of these arrays that a cursor names. No memory.
+fn retire_arrays(memory: &mut Memory, mut arrays: Arrays)
+    requires room { length memory.old.cursors.retired + length arrays ≤ memory.old.cursors.room }
+    ensures ok { memory.new ≡ record memory.old {
+      cursors = retired_all arrays memory.old.cursors;
+    } }
+    ensures len { length memory.new.cursors.retired
+        ≤ length memory.old.cursors.retired + length arrays }
+{
+    while let Some(desc) = arrays.pop() {
+        memory.retire(desc);
+    }
+}
+
+/// Keeps those arrays of the levels down to a number that a cursor names. No memory.
+fn retire_levels(memory: &mut Memory, mut levels: LevelList, target: usize)
+    requires room { length memory.old.cursors.retired + length (arrays_in levels)
+        ≤ memory.old.cursors.room }
+    ensures ok { memory.new ≡ record memory.old {
+      cursors = retired_all (arrays_in (descs_to target levels)) memory.old.cursors;
+    } }
+{
+    while let Some(level) = levels.pop() {
+        if level.number as usize <= target {
+            retire_arrays(memory, level.arrays);
+        }
+    }
 }
 
 /// Lays the superblock of what a store made ready, which then takes the place of what it holds. At most five syncs, and
@@ -196,11 +255,14 @@ fn prepare_next<D: Disk>(alloc: Global, held: &Recovered, disk: &mut D) -> Resul
 fn settle<D: Disk>(held: &mut Recovered, next: Next, disk: &mut D) -> Result<(), Failed>
     requires fits { (held.old.slot ≤ 1) × (held.old.journal.active ≤ 1)
         × IsLawful (super_of next.sb) }
-    requires room { held.old.memory.ready ≡ Some held.old.sb.mem }
+    requires room { (held.old.memory.ready ≡ Some held.old.sb.mem)
+        × (length held.old.memory.cursors.retired
+        + length (arrays_in (manifest_of held.old.published.manifest).levels)
+        ≤ held.old.memory.cursors.room) }
     requires same { next.sb.mem ≡ held.old.sb.mem }
     ensures ok { OnOk result ((cached : Blocks) → held_of held.new cached
-        ≡ held_next (held_of held.old cached) (super_of next.sb) (chained_of next.published)
-        next.published.levels) }
+        ≡ held_next (held_of held.old cached) next.target (super_of next.sb)
+        (chained_of next.published) next.published.levels) }
     ensures kept { OnOk result ((x y : Contents) → IsComputed (D.view disk.old) (1 - held.old.slot)
         (super_of next.sb) held.old.journal x y → ContentsStand (D.view disk.new) y) }
     ensures trail { (x y : Contents) → IsComputed (D.view disk.old) (1 - held.old.slot)
@@ -211,7 +273,8 @@ fn settle<D: Disk>(held: &mut Recovered, next: Next, disk: &mut D) -> Result<(),
     ensures end { OnOk result (LaysSuperblock (D.view disk.old) (D.view disk.new)
         held.old.journal.mem (1 - held.old.slot) (super_of next.sb)) }
     ensures err { OnErr result ((cached : Blocks)
-        → KeepsPublished (held_of held.old cached) (held_of held.new cached)) }
+        → KeepsPublished (held_of held.old cached) (held_of held.new cached)
+        × KeepsCursors (held_of held.old cached) (held_of held.new cached)) }
     ensures same { held.new.sb.mem ≡ held.old.sb.mem }
     ensures images { TearsBlocks (is_in_front held.old.journal.mem)
         (D.view disk.old) (D.view disk.new) }
@@ -221,8 +284,9 @@ fn settle<D: Disk>(held: &mut Recovered, next: Next, disk: &mut D) -> Result<(),
     lay_next(disk, 1 - held.slot, &next.sb, &mut held.journal)?;
     held.slot = 1 - held.slot;
     held.sb = next.sb;
-    held.published = next.published;
+    let left = mem::replace(&mut held.published, next.published);
     held.memory.restart();
+    retire_levels(&mut held.memory, left.manifest.levels, next.target);
     Ok(())
 }
 
@@ -247,8 +311,10 @@ pub(crate) fn publish<D: Disk>(
     ensures found { OnOk result ((held.new.slot ≡ 1 - held.old.slot)
         × ArePublishedAfter (super_of held.old.sb) (manifest_of held.old.published.manifest)
         held.old.memory (super_of held.new.sb) (manifest_of held.new.published.manifest)
+        held.new.memory.cursors
         × (held.new.journal.list ≡ [])
-        × (held.new.memory ≡ emptied held.old.sb.mem held.old.memory)) }
+        × (held.new.memory ≡ record (emptied held.old.sb.mem held.old.memory)
+        { cursors = held.new.memory.cursors; })) }
     ensures end { (IsErrOf result trouble.Device → ⊥) → (cached : Blocks)
         → IsOnDisk (D.view disk.old) (held_of held.old cached)
         → IsOnDisk (D.view disk.new) (held_of held.new cached) }
@@ -266,17 +332,20 @@ pub(crate) fn publish<D: Disk>(
     ensures same { (held.new.sb.mem ≡ held.old.sb.mem)
         × (IsErrOf result trouble.NoMemory → held.new.journal ≡ held.old.journal)
         × OnErr result ((cached : Blocks)
-        → KeepsPublished (held_of held.old cached) (held_of held.new cached)) }
+        → KeepsPublished (held_of held.old cached) (held_of held.new cached)
+        × KeepsCursors (held_of held.old cached) (held_of held.new cached)) }
+    ensures images { (f g : Image) → Exposes (D.view disk.old) f → Exposes (D.view disk.new) g
+        → AgreeOn (blocks_listed (arrays_held held.old.memory held.old.published.levels)) f g }
     ensures time { Passes (D.view disk.old) (D.view disk.new) }
     ensures cause { HasCause Device (D.faults disk.old) (D.faults disk.new) result }
     ensures damaged { (b : ℕ) → IsErrOf result (Damaged b)
         → IsDamagedIn (D.view disk.old).content held.old.memory held.old.published.levels b
         × ((x : Contents) (cached : Blocks)
-        → StandsWith (D.view disk.old) (held_of held.old cached) x → ⊥)
-        × ((f g : Image) → Exposes (D.view disk.old) f → Exposes (D.view disk.new) g
-        → AgreeOn (blocks_listed (arrays_there held.old.published.levels)) f g) }
+        → StandsWith (D.view disk.old) (held_of held.old cached) x → ⊥) }
 {
     held.memory.prepare(alloc, held.sb.mem)?;
+    let arrays = count_arrays(held.published.manifest.levels.as_slice())?;
+    held.memory.reserve_retired(arrays)?;
     let next = prepare_next(alloc, held, disk)?;
     settle(held, next, disk)?;
     Ok(())
