@@ -6,8 +6,10 @@ use Rattle.strat_base.specs.Tree.{Parents, is_known, parent_of, depth, has_child
 use Rattle.strat_base.specs.declared.descriptors.LevelDesc.{LevelDesc}
 use Rattle.strat_base.specs.declared.descriptors.ArrayDesc.{ArrayDesc}
 use Rattle.strat_cursor.specs.Cursors.{retired_all}
-use Rattle.strat_cursor.specs.Held.{HeldCursor, HeldCursors, no_cursors}
+use Rattle.strat_crash.specs.Image.{Image}
+use Rattle.strat_cursor.specs.Held.{AreRowsOf, HeldCursor, HeldCursors, no_cursors}
 use Rattle.strat_cursor.specs.Pins.{arrays_asked}
+use Rattle.strat_model.specs.Table.{Cursor}
 use Rattle.strat_model.specs.declared.replies.Refusal.{Refusal}
 use Rattle.strat_model.specs.declared.replies.Refusal.TheVariants as why
 use Rattle.strat_model.specs.declared.replies.Reply.{Reply}
@@ -124,6 +126,12 @@ cursor_from m levels v lo hi = record {
 -- cursors with one more
 abbrev pub with_cursor : HeldCursors → HeldCursor → HeldCursors
 with_cursor c one = record c { opened = c.opened ++ one ∷ []; next = c.next + 1 }
+
+-- the cursors of a table that memory gave its own it still gives them, whatever an image says
+abbrev pub KeepsRows : Memory → Memory → Type 0
+KeepsRows old new = (f : Image) (rows : List Cursor)
+    → AreRowsOf f old.parents old.cursors.opened rows
+    → AreRowsOf f new.parents old.cursors.opened rows
 
 -- memory is that of a head, and level 0 has room for as many updates more as the journal has for changes
 pub record IsMemoryOf (h : Head) (m : Memory) : Type 0 where

@@ -22,9 +22,9 @@ ghost use Rattle.strat_standing.specs.Standing.{ShowsTable, ContentsStand};
 ghost use Rattle.strat_state.specs.Sound.{Takes};
 ghost use Rattle.strat_state.specs.State.{IsPaid};
 ghost use Rattle.strat_store.specs.Applying.{IsAppliedTo, FollowsStep, FailsAsTold, IsDamagedIn, is_fault, may_write, refusal_of_trouble};
-ghost use Rattle.strat_store.specs.Held.{IsConsistent, IsOnDisk, StandsWith};
-ghost use Rattle.strat_cursor.specs.Looking.{arrays_there};
-ghost use Rattle.strat_store.specs.Memory.{refusal_of_change};
+ghost use Rattle.strat_store.specs.Cursoring.{LeavesCursors};
+ghost use Rattle.strat_store.specs.Held.{IsConsistent, IsOnDisk, StandsWith, arrays_held};
+ghost use Rattle.strat_store.specs.Memory.{KeepsRows, refusal_of_change};
 ghost use Rattle.strat_store.specs.Paying.{ArePaidSince};
 ghost use Rattle.strat_store.specs.Recovering.{held_of, held_after};
 ghost use Rattle.strat_store.specs.Settling.{KeepsPublished, LeavesPublished};
@@ -94,6 +94,10 @@ fn carry_out<D: Disk>(held: &mut Recovered, disk: &mut D, change: &Change<'_>) -
         → KeepsPublished (held_of held.old cached) (held_of held.new cached)
         × (IsOnDisk (D.view disk.old) (held_of held.old cached)
         → IsOnDisk (D.view disk.new) (held_of held.new cached)) }
+    ensures found { (held.new.memory.cursors ≡ held.old.memory.cursors)
+        × KeepsRows held.old.memory held.new.memory }
+    ensures images { (f g : Image) → Exposes (D.view disk.old) f → Exposes (D.view disk.new) g
+        → AgreeOn (blocks_listed (arrays_held held.old.memory held.old.published.levels)) f g }
     ensures damaged { (b : ℕ) → result ≡ reply.Refused (why.Damaged b) → ⊥ }
     ensures same { (held.new.sb.mem ≡ held.old.sb.mem) × (result ≢ reply.Found)
         × (accepts result ≡ false → result ≡ reply.Refused why.DeviceFault)
@@ -141,11 +145,12 @@ fn carry_out_anew<D: Disk>(
     ensures kept { is_fault result ≡ false → (cached : Blocks)
         → IsConsistent (held_of held.new cached) }
     ensures end { (cached : Blocks) → LeavesPublished (D.view disk.old) (D.view disk.new)
-        (held_of held.old cached) (accepts result) result (held_after held.new cached result) }
+        (held_of held.old cached) (accepts result) result (held_after held.new cached result)
+        × LeavesCursors (held_of held.old cached) (request_for (change_of change.now))
+        (plain result) (held_after held.new cached result) }
+    ensures found { KeepsRows held.old.memory held.new.memory }
     ensures damaged { (b : ℕ) → result ≡ reply.Refused (why.Damaged b)
-        → IsDamagedIn (D.view disk.old).content held.old.memory held.old.published.levels b
-        × ((f g : Image) → Exposes (D.view disk.old) f → Exposes (D.view disk.new) g
-        → AgreeOn (blocks_listed (arrays_there held.old.published.levels)) f g) }
+        → IsDamagedIn (D.view disk.old).content held.old.memory held.old.published.levels b }
     ensures same { (held.new.sb.mem ≡ held.old.sb.mem) × (result ≢ reply.Found)
         × (may_write result ≡ true) }
     ensures time { Passes (D.view disk.old) (D.view disk.new) }
@@ -180,16 +185,17 @@ pub(crate) fn change<D: Disk>(
     ensures kept { is_fault result ≡ false → (cached : Blocks)
         → IsConsistent (held_of held.new cached) }
     ensures end { (cached : Blocks) → LeavesPublished (D.view disk.old) (D.view disk.new)
-        (held_of held.old cached) (accepts result) result (held_after held.new cached result) }
+        (held_of held.old cached) (accepts result) result (held_after held.new cached result)
+        × LeavesCursors (held_of held.old cached) (request_for (change_of change.now))
+        (plain result) (held_after held.new cached result) }
+    ensures found { KeepsRows held.old.memory held.new.memory }
     ensures err { (r : Refusal)
         → refusal_of_change held.old.memory (change_of change.now) ≡ Some r
         → (result ≡ reply.Refused r) × (held.new ≡ held.old) × (disk.new ≡ disk.old) }
     ensures none { refusal_of_change held.old.memory (change_of change.now) ≡ None
         → may_write result ≡ true }
     ensures damaged { (b : ℕ) → result ≡ reply.Refused (why.Damaged b)
-        → IsDamagedIn (D.view disk.old).content held.old.memory held.old.published.levels b
-        × ((f g : Image) → Exposes (D.view disk.old) f → Exposes (D.view disk.new) g
-        → AgreeOn (blocks_listed (arrays_there held.old.published.levels)) f g) }
+        → IsDamagedIn (D.view disk.old).content held.old.memory held.old.published.levels b }
     ensures same { (held.new.sb.mem ≡ held.old.sb.mem) × (result ≢ reply.Found) }
     ensures time { Passes (D.view disk.old) (D.view disk.new) }
     ensures cause { FailsAsTold (D.faults disk.old) (D.faults disk.new) result }

@@ -6,6 +6,7 @@ mod belonging;
 pub mod belonging_laws;
 mod changing;
 mod computing;
+mod cursoring;
 mod formatting;
 mod getting;
 mod looking;

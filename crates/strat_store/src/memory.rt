@@ -1,7 +1,7 @@
 //! What an open store has in memory beside its levels and its journal: the tree of its versions, its
 //! counts, and level 0 with what the latest updates say.
 
-ghost use Rattle.std.specs.Prelude.{◌≡◌, ◌<◌, ◌≤◌, ℕ, ◌+◌, ◌↔◌, List, [], ◌∷◌, length, map, false, Some, None, Contains, IfOk, OnOk, OnErr, IsErrOf, IsTrue, is_some};
+ghost use Rattle.std.specs.Prelude.{◌≡◌, ◌<◌, ◌≤◌, ℕ, ◌+◌, ◌↔◌, [], ◌∷◌, length, map, false, Some, None, Contains, IfOk, OnOk, OnErr, IsErrOf, IsTrue, is_some};
 ghost use Rattle.strat_array.specs.Told.{TellsFound};
 ghost use Rattle.strat_base.specs.Change.{is_lawful};
 ghost use Rattle.strat_base.specs.ChangeView.{change_of};
@@ -14,17 +14,16 @@ ghost use Rattle.strat_crash.specs.Faults.{HasCause};
 ghost use Rattle.strat_crash.specs.Image.{Image};
 ghost use Rattle.strat_crash.specs.Moments.{Exposes};
 ghost use Rattle.strat_cursor.specs.Cursors.{MayGoOn, TellsNext, arrays_named, closed_at, is_opened, moved_at, retired_by};
-ghost use Rattle.strat_cursor.specs.Held.{AreRowsOf, HeldCursor, IsMapHeld};
+ghost use Rattle.strat_cursor.specs.Held.{HeldCursor, IsMapHeld};
 ghost use Rattle.strat_cursor.specs.Looking.{LooksThrough, MayBeFound, NamesNoBlock, arrays_there};
 ghost use Rattle.strat_cursor.specs.declared.cursors.CursorFault.TheVariants as start_fault;
 ghost use Rattle.strat_cursor.specs.declared.cursors.NextFault.TheVariants as next_fault;
 ghost use Rattle.strat_format.specs.Manifest.{are_older};
 ghost use Rattle.strat_level.specs.Memtable.{entries_held, ListStands};
 ghost use Rattle.strat_model.specs.Pairs.{Pairs};
-ghost use Rattle.strat_model.specs.Table.{Cursor};
 ghost use Rattle.strat_recovery.specs.TableOver.{are_known};
 ghost use Rattle.strat_state.specs.Reading.{live_of};
-ghost use Rattle.strat_store.specs.Memory.{refusal_of_update, refusal_of_clone, refusal_of_change, with_update, memory_after, HasRoomFor, reply_to, info_told, stat_told, emptied, fresh_memory, cursor_from, with_cursor};
+ghost use Rattle.strat_store.specs.Memory.{refusal_of_update, refusal_of_clone, refusal_of_change, with_update, memory_after, HasRoomFor, reply_to, info_told, stat_told, emptied, fresh_memory, KeepsRows, cursor_from, with_cursor};
 
 use std::alloc::Global;
 use std::marker::Model;
@@ -218,9 +217,7 @@ impl Memory {
         requires room { HasRoomFor self.old (change_of change.now) }
         ensures ok { self.new ≡ memory_after self.old (change_of change.now) }
         ensures found { result ≡ reply_to self.old (change_of change.now) }
-        ensures kept { (f : Image) (rows : List Cursor)
-            → AreRowsOf f self.old.parents self.old.cursors.opened rows
-            → AreRowsOf f self.new.parents self.old.cursors.opened rows }
+        ensures kept { KeepsRows self.old self.new }
     {
         match *change {
             Change::Put {

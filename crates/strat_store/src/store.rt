@@ -5,7 +5,6 @@ ghost use Rattle.strat_array.specs.Kept.{Blocks};
 ghost use Rattle.strat_base.specs.ChangeView.{change_of};
 ghost use Rattle.strat_base.specs.Finds.{Finds};
 ghost use Rattle.strat_base.specs.Tree.{is_known};
-ghost use Rattle.strat_crash.specs.Blocks.{AgreeOn};
 ghost use Rattle.strat_crash.specs.Faults.{HasCause, ReadsAtMost};
 ghost use Rattle.strat_crash.specs.Image.{Image};
 ghost use Rattle.strat_crash.specs.Moments.{Exposes, Passes};
@@ -13,17 +12,18 @@ ghost use Rattle.strat_format.specs.Chain.{chain_length};
 ghost use Rattle.strat_format.specs.Layout.{region_blocks};
 ghost use Rattle.strat_model.specs.Answer.{as_told};
 ghost use Rattle.strat_model.specs.Command.{request_of};
-ghost use Rattle.strat_model.specs.Spelling.{is_built, has_lawful_sizes};
+ghost use Rattle.strat_model.specs.Spelling.{has_lawful_sizes};
+ghost use Rattle.strat_model.specs.Table.{Cursor};
 ghost use Rattle.strat_model.specs.declared.replies.Refusal.TheVariants as why;
 ghost use Rattle.strat_model.specs.declared.replies.Reply.TheVariants as reply;
-ghost use Rattle.strat_promote.specs.Job.{blocks_listed};
 ghost use Rattle.strat_recovery.specs.Opening.{recover};
 ghost use Rattle.strat_standing.specs.Contents.{Contents};
-ghost use Rattle.strat_store.specs.Applying.{IsAppliedTo, FollowsStep, FailsAsTold, IsDamagedIn, IsLookedUp, IsUntouched, TellsFaultOf, change_wanted, is_fault};
+ghost use Rattle.strat_store.specs.Applying.{FollowsStep, FailsAsTold, IsDamagedIn, IsUntouched, TellsFaultOf, change_wanted, is_fault};
+ghost use Rattle.strat_store.specs.Cursoring.{IsAppliedAt, LeavesCursors, cursors_after, is_of_cursor};
 ghost use Rattle.strat_store.specs.Following.{IsOpenedAs, IsUnchanged, LeavesOpening};
-ghost use Rattle.strat_store.specs.Held.{IsConsistent, StandsWith};
+ghost use Rattle.strat_store.specs.Held.{IsConsistent, StandsAt, StandsWith, arrays_held};
 ghost use Rattle.strat_store.specs.Memory.{info_told};
-ghost use Rattle.strat_cursor.specs.Looking.{AreInOrder, AreCachedFrom, LooksThrough, arrays_there, levels_there};
+ghost use Rattle.strat_cursor.specs.Looking.{AreCachedAs, AreCachedFrom, AreInOrder, AreOfOldArrays, LooksThrough, arrays_there};
 ghost use Rattle.strat_store.specs.Paying.{StoreTwoSince};
 ghost use Rattle.strat_store.specs.Ranging.{TellsFrom};
 ghost use Rattle.strat_store.specs.Recovering.{held_of, held_after, empty_cache};
@@ -31,6 +31,7 @@ ghost use Rattle.strat_store.specs.Settling.{LeavesPublished, carries_out};
 ghost use Rattle.strat_store.specs.declared.opening.AttachFault.TheVariants as fault;
 
 use crate::changing::change;
+use crate::cursoring::{close_cursor, next_pairs, open_cursor};
 use crate::getting::get;
 use crate::memory::Memory;
 use crate::opening::AttachFault;
@@ -115,7 +116,7 @@ fn info(memory: &Memory, version: Version) -> Reply
     memory.info(version)
 }
 
-/// Answers a command that asks for no change.
+/// Answers a command that asks for no change and is about no cursor.
 fn look<D: Disk>(
     held: &Recovered,
     cache: &mut Cache,
@@ -126,18 +127,19 @@ fn look<D: Disk>(
     out: &mut PairBuf,
 ) -> Reply
     requires kept { (cached : Blocks) → IsConsistent (held_of held.now cached) }
-    requires none { change_wanted (request_of command.now) ≡ None }
-    requires fits { (is_built (request_of command.now) ≡ true)
-        × (has_lawful_sizes (request_of command.now) ≡ true) }
+    requires none { (change_wanted (request_of command.now) ≡ None)
+        × (is_of_cursor (request_of command.now) ≡ false) }
+    requires fits { has_lawful_sizes (request_of command.now) ≡ true }
     requires room { out.old ≡ [] }
-    ensures ok { (x : Contents) → StandsWith (D.view disk.old) (held_of held.now cache.old) x
-        → IsLookedUp (D.view disk.new) (held_of held.now cache.new) x
-        (request_of command.now) (as_told result out.new) }
+    ensures ok { (x : Contents) (rows : List Cursor)
+        → StandsAt (D.view disk.old) (held_of held.now cache.old) x rows
+        → IsAppliedAt (D.view disk.new) (held_of held.now cache.old) x rows
+        (request_of command.now) (as_told result out.new) (held_after held.now cache.new result) }
     ensures found { (f : Image) → Exposes (D.view disk.old) f
         → AreInOrder f (arrays_there held.now.published.levels)
         → AreCachedFrom f held.now.published.manifest.next_array
         (arrays_there held.now.published.levels) cache.old → is_fault result ≡ false
-        → TellsFrom f held.now.memory held.now.published.levels
+        → TellsFrom f (held_of held.now cache.old)
         (request_of command.now) (as_told result out.new) }
     ensures len { result ≡ reply.Found → length out.new ≡ 1 }
     ensures same { LooksThrough (D.view disk.old) (D.view disk.new)
@@ -156,9 +158,57 @@ fn look<D: Disk>(
             limit,
         } => scan_range(held, cache, desks, disk, version, lo, hi, limit, out),
         Command::Info { version } => info(&held.memory, version),
-        Command::Stat => held.memory.stat(),
-        // The premises leave no other command.
-        _ => Reply::Refused(Refusal::Malformed),
+        // The premises leave no other command than `Stat`.
+        _ => held.memory.stat(),
+    }
+}
+
+/// Answers a command that asks for no change.
+fn query<D: Disk>(
+    held: &mut Recovered,
+    cache: &mut Cache,
+    scratch: &mut Scratch,
+    desks: &mut Desks,
+    disk: &mut D,
+    command: &Command<'_>,
+    out: &mut PairBuf,
+) -> Reply
+    requires kept { (cached : Blocks) → IsConsistent (held_of held.old cached) }
+    requires none { change_wanted (request_of command.now) ≡ None }
+    requires fits { has_lawful_sizes (request_of command.now) ≡ true }
+    requires room { out.old ≡ [] }
+    ensures ok { (x : Contents) (rows : List Cursor)
+        → StandsAt (D.view disk.old) (held_of held.old cache.old) x rows
+        → IsAppliedAt (D.view disk.new) (held_of held.old cache.old) x rows
+        (request_of command.now) (as_told result out.new) (held_after held.new cache.new result) }
+    ensures found { (f : Image) → Exposes (D.view disk.old) f
+        → AreInOrder f (arrays_there held.old.published.levels)
+        → AreCachedFrom f held.old.published.manifest.next_array
+        (arrays_there held.old.published.levels) cache.old → is_fault result ≡ false
+        → TellsFrom f (held_of held.old cache.old)
+        (request_of command.now) (as_told result out.new) }
+    ensures kept { (cached : Blocks) → IsConsistent (held_of held.new cached) }
+    ensures end { held.new ≡ record held.old {
+      memory = record held.old.memory {
+        cursors = cursors_after held.old.memory held.old.published.levels
+            (request_of command.now) (as_told result out.new);
+      };
+    } }
+    ensures len { result ≡ reply.Found → length out.new ≡ 1 }
+    ensures same { LooksThrough (D.view disk.old) (D.view disk.new)
+        (arrays_held held.old.memory held.old.published.levels) cache.old cache.new }
+    ensures cause { FailsAsTold (D.faults disk.old) (D.faults disk.new) result }
+    ensures err { TellsFaultOf (D.view disk.old) (request_of command.now) result }
+    ensures damaged { (b : ℕ) → result ≡ reply.Refused (why.Damaged b)
+        → IsDamagedIn (D.view disk.old).content held.old.memory held.old.published.levels b }
+{
+    match *command {
+        Command::OpenCursor { version, lo, hi } => open_cursor(held, version, lo, hi),
+        Command::NextPairs { cursor, limit } => {
+            next_pairs(held, cache, desks, disk, cursor, limit, out)
+        }
+        Command::CloseCursor { cursor } => close_cursor(held, cursor),
+        _ => look(held, cache, scratch, desks, disk, command, out),
     }
 }
 
@@ -174,12 +224,12 @@ fn answer<D: Disk>(
     out: &mut PairBuf,
 ) -> Reply
     requires kept { (cached : Blocks) → IsConsistent (held_of held.old cached) }
-    requires fits { (is_built (request_of command.now) ≡ true)
-        × (has_lawful_sizes (request_of command.now) ≡ true) }
+    requires fits { has_lawful_sizes (request_of command.now) ≡ true }
     requires room { out.old ≡ [] }
-    ensures ok { (x : Contents) → StandsWith (D.view disk.old) (held_of held.old cache.old) x
-        → IsAppliedTo (D.view disk.new) (held_of held.old cache.old) x (request_of command.now)
-        (as_told result out.new) (held_after held.new cache.new result) }
+    ensures ok { (x : Contents) (rows : List Cursor)
+        → StandsAt (D.view disk.old) (held_of held.old cache.old) x rows
+        → IsAppliedAt (D.view disk.new) (held_of held.old cache.old) x rows
+        (request_of command.now) (as_told result out.new) (held_after held.new cache.new result) }
     ensures trail { (x : Contents) → StandsWith (D.view disk.old) (held_of held.old cache.old) x
         → FollowsStep (D.view disk.old) (D.view disk.new) x (request_of command.now)
         (as_told result out.new) }
@@ -187,7 +237,7 @@ fn answer<D: Disk>(
         → AreInOrder f (arrays_there held.old.published.levels)
         → AreCachedFrom f held.old.published.manifest.next_array
         (arrays_there held.old.published.levels) cache.old → is_fault result ≡ false
-        → TellsFrom f held.old.memory held.old.published.levels
+        → TellsFrom f (held_of held.old cache.old)
         (request_of command.now) (as_told result out.new) }
     ensures kept { is_fault result ≡ false → (cached : Blocks)
         → IsConsistent (held_of held.new cached) }
@@ -198,17 +248,17 @@ fn answer<D: Disk>(
         × LeavesPublished (D.view disk.old) (D.view disk.new)
         (held_of held.old cache.old) (carries_out (request_of command.now) result) result
         (held_after held.new cache.new result) }
+    ensures end { LeavesCursors (held_of held.old cache.old) (request_of command.now)
+        (as_told result out.new) (held_after held.new cache.new result) }
     ensures time { Passes (D.view disk.old) (D.view disk.new) }
     ensures cause { FailsAsTold (D.faults disk.old) (D.faults disk.new) result
         × TellsFaultOf (D.view disk.old) (request_of command.now) result }
     ensures damaged { (b : ℕ) → result ≡ reply.Refused (why.Damaged b)
-        → IsDamagedIn (D.view disk.old).content held.old.memory held.old.published.levels b
-        × ((f g : Image) → Exposes (D.view disk.old) f → Exposes (D.view disk.new) g
-        → AgreeOn (blocks_listed (arrays_there held.old.published.levels)) f g) }
+        → IsDamagedIn (D.view disk.old).content held.old.memory held.old.published.levels b }
 {
     match change_asked(command) {
         Some(asked) => change(alloc, held, disk, &asked),
-        None => look(held, cache, scratch, desks, disk, command, out),
+        None => query(held, cache, scratch, desks, disk, command, out),
     }
 }
 
@@ -237,8 +287,11 @@ impl Store {
     /// are merged are read twice, the new arrays and the manifest are written once, and there are five syncs at most. That takes
     /// memory before anything of the store is replaced, and where there is none the answer is `NoMemory`, and the store is as it
     /// was. A get asks level 0, and then in each level one array at most, by a binary search of its blocks; a scan goes through
-    /// level 0 and one array of each level, pair by pair. These take no memory but for blocks that are cached. Other look-ups are O(1). `DeviceFault`: the disk counted a fault. `Damaged`: this block of one of
-    /// the arrays holds no entries, or none that come after those before it. After these two, and no other, the store is spent.
+    /// level 0 and one array of each level, pair by pair. These take no memory but for blocks that are cached. An opening of a
+    /// cursor copies level 0, 12 bytes an item, and at most 22 descriptors, and reads no block: `NoMemory` where there is none.
+    /// A page of a cursor costs what a scan does. Other look-ups are O(1). `DeviceFault`: the disk counted a fault.
+    /// `Damaged`: this block of an array of the levels, or of one that a cursor holds on to, holds no entries, or in a level
+    /// none that come after those before it. After these two, and no other, the store is spent.
     pub fn apply<D: Disk>(
         &mut self,
         disk: &mut D,
@@ -246,10 +299,10 @@ impl Store {
         out: &mut PairBuf,
     ) -> Reply
         requires kept { self.old.spent ≡ false }
-        requires fits { (is_built (request_of command.now) ≡ true)
-            × (has_lawful_sizes (request_of command.now) ≡ true) }
-        ensures ok { (x : Contents) → StandsWith (D.view disk.old) self.old x
-            → IsAppliedTo (D.view disk.new) self.old x (request_of command.now)
+        requires fits { has_lawful_sizes (request_of command.now) ≡ true }
+        ensures ok { (x : Contents) (rows : List Cursor)
+            → StandsAt (D.view disk.old) self.old x rows
+            → IsAppliedAt (D.view disk.new) self.old x rows (request_of command.now)
             (as_told result out.new) self.new }
         ensures trail { (x : Contents) → StandsWith (D.view disk.old) self.old x
             → FollowsStep (D.view disk.old) (D.view disk.new) x (request_of command.now)
@@ -257,12 +310,12 @@ impl Store {
             × StoreTwoSince (D.view disk.new) (D.view disk.old).moment }
         ensures found { (f : Image) → Exposes (D.view disk.old) f
             → AreInOrder f (arrays_there self.old.levels)
-            → AreCachedFrom f self.old.chained.manifest.next_array
-            (arrays_there self.old.levels) self.old.cached → is_fault result ≡ false
-            → TellsFrom f self.old.memory self.old.levels
+            → AreCachedAs f (arrays_there self.old.levels) self.old.cached
+            → is_fault result ≡ false → TellsFrom f self.old
             (request_of command.now) (as_told result out.new) }
         ensures kept { (self.new.spent ≡ is_fault result)
-            × (self.new.spent ≡ false → IsConsistent self.new) }
+            × (self.new.spent ≡ false → IsConsistent self.new
+            × AreOfOldArrays self.new.chained.manifest.next_array self.new.cached) }
         ensures len { (result ≡ reply.Found → length out.new ≡ 1)
             × (length self.new.cached.entries ≤ self.new.cached.cap) }
         ensures same { (self.new.sb.mem ≡ self.old.sb.mem)
@@ -270,13 +323,13 @@ impl Store {
             self.old result self.new
             × LeavesPublished (D.view disk.old) (D.view disk.new) self.old
             (carries_out (request_of command.now) result) result self.new }
+        ensures end { LeavesCursors self.old (request_of command.now) (as_told result out.new)
+            self.new }
         ensures time { Passes (D.view disk.old) (D.view disk.new) }
         ensures cause { FailsAsTold (D.faults disk.old) (D.faults disk.new) result }
         ensures err { TellsFaultOf (D.view disk.old) (request_of command.now) result }
         ensures damaged { (b : ℕ) → result ≡ reply.Refused (why.Damaged b)
-            → IsDamagedIn (D.view disk.old).content self.old.memory self.old.levels b
-            × ((f g : Image) → Exposes (D.view disk.old) f → Exposes (D.view disk.new) g
-            → AgreeOn (blocks_listed (arrays_there self.old.levels)) f g) }
+            → IsDamagedIn (D.view disk.old).content self.old.memory self.old.levels b }
     {
         out.clear();
         self.spent = true;
