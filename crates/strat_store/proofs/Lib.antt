@@ -5,6 +5,9 @@ pub mod MemoryLemmas
 pub mod IdLemmas
 pub mod LookLawLemmas
 pub mod GettingLemmas
+pub mod KeepingLemmas
+pub mod CursoringLemmas
+pub mod AppliedLemmas
 pub mod RangingLemmas
 pub mod LookLemmas
 pub mod NewBlockLemmas

@@ -13,7 +13,7 @@ use Rattle.strat_model.specs.Pairs.{Pairs, set, unset, value_of}
 use Rattle.strat_model.specs.Plain.{update_refusal, clone_refusal}
 use Rattle.strat_model.specs.Request.{Get, Info, Stat}
 use Rattle.strat_model.specs.Step.{Outcome, refuses, replies_with, step, update, found, has_row, is_frozen, pairs_at}
-use Rattle.strat_model.specs.Table.{Table, parents_of}
+use Rattle.strat_model.specs.Table.{Cursor, Table, parents_of}
 use Rattle.strat_model.specs.declared.replies.Refusal.{Refusal}
 use Rattle.strat_model.specs.declared.replies.Refusal.TheVariants as why
 use Rattle.strat_model.specs.declared.replies.Reply.TheVariants as reply
@@ -130,8 +130,8 @@ module _ (s : State) (m : Memory) (of : Mirrors s m) where
       ap (λ (b : Bool). (if b then replies_with t (plain (reply.Info (parent_of (parents_of t) v) (depth (parents_of t) v) (is_frozen t v))) else refuses t why.UnknownVersion).answer) (sym (known v) ∙ here)
       ∙ ap (λ (ps : Parents). plain (reply.Info (parent_of ps v) (depth ps v) (has_child ps v))) (sym tree)
 
-  counted : (step (table_of s) Stat).answer ≡ plain (stat_told m)
-  counted = λ i. plain (reply.Stat (sym many i) (sym of.updates i) (sym of.changes i) 0)
+  counted : (rows : List Cursor) (next : ℕ) → length rows ≡ length m.cursors.opened → (step (record (table_of s) { cursors = rows; next_cursor = next }) Stat).answer ≡ plain (stat_told m)
+  counted rows next count = λ i. plain (reply.Stat (sym many i) (sym of.updates i) (sym of.changes i) (count i))
 
   uninformed : (v : ℕ) → is_known m.parents v ≡ false → step (table_of s) (Info v) ≡ refuses (table_of s) why.UnknownVersion
   uninformed v off =
@@ -166,7 +166,7 @@ module _ (f : Image) (h : Head) (s : State) (m : Memory) (read : state_of f h �
   pub version_told : (v : ℕ) → is_known m.parents v ≡ true → (step (table_of s) (Info v)).answer ≡ plain (info_told m v)
   version_told = informed s m the
 
-  pub store_told : (step (table_of s) Stat).answer ≡ plain (stat_told m)
+  pub store_told : (rows : List Cursor) (next : ℕ) → length rows ≡ length m.cursors.opened → (step (record (table_of s) { cursors = rows; next_cursor = next }) Stat).answer ≡ plain (stat_told m)
   store_told = counted s m the
 
   pub version_unknown : (v : ℕ) → is_known m.parents v ≡ false → step (table_of s) (Info v) ≡ refuses (table_of s) why.UnknownVersion

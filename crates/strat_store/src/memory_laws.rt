@@ -8,6 +8,7 @@ ghost use Rattle.strat_crash.specs.Image.{Image};
 ghost use Rattle.strat_model.specs.Answer.{plain};
 ghost use Rattle.strat_model.specs.Request.{Get, Info, Stat};
 ghost use Rattle.strat_model.specs.Step.{step, refuses};
+ghost use Rattle.strat_model.specs.Table.{Cursor};
 ghost use Rattle.strat_model.specs.declared.replies.Refusal.{Refusal};
 ghost use Rattle.strat_model.specs.declared.replies.Refusal.TheVariants as why;
 ghost use Rattle.strat_recovery.specs.Head.{Head, head_versions, head_updates, head_changes};
@@ -46,9 +47,10 @@ pub fn memory_tells_of_versions_as_the_table()
     ensures found { (f : Image) (h : Head) (s : State) (m : Memory) (v : ℕ)
         → state_of f h ≡ Some s → IsMemoryOf h m → IsTrue (is_known m.parents v)
         → (step (table_of s) (Info v)).answer ≡ plain (info_told m v) }
-    ensures ok { (f : Image) (h : Head) (s : State) (m : Memory)
-        → state_of f h ≡ Some s → IsMemoryOf h m
-        → (step (table_of s) Stat).answer ≡ plain (stat_told m) }
+    ensures ok { (f : Image) (h : Head) (s : State) (m : Memory) (rows : List Cursor) (next : ℕ)
+        → state_of f h ≡ Some s → IsMemoryOf h m → length rows ≡ length m.cursors.opened
+        → (step (record (table_of s) { cursors = rows; next_cursor = next }) Stat).answer
+        ≡ plain (stat_told m) }
     ensures none { (f : Image) (h : Head) (s : State) (m : Memory) (v : ℕ)
         → state_of f h ≡ Some s → IsMemoryOf h m → is_known m.parents v ≡ false
         → step (table_of s) (Info v) ≡ refuses (table_of s) why.UnknownVersion }

@@ -6,6 +6,7 @@ ghost use Rattle.strat_base.specs.declared.failures.Trouble.TheVariants.{Damaged
 ghost use Rattle.strat_crash.specs.Faults.{CountsFaults, HasCause, ReadsAtMost};
 ghost use Rattle.strat_crash.specs.Image.{Image};
 ghost use Rattle.strat_crash.specs.Moments.{Exposes, Since, Passes, TearsOnly, IsDurable, OnlyReads};
+ghost use Rattle.strat_cursor.specs.Held.{no_cursors};
 ghost use Rattle.strat_format.specs.Chain.{chain_length};
 ghost use Rattle.strat_format.specs.Chained.{manifest_at};
 ghost use Rattle.strat_format.specs.Layout.{region_blocks, region_at, other_region};
@@ -80,6 +81,7 @@ fn load_memory(alloc: Global, sb: &SuperBlock, published: &Published) -> Result<
       manifest = (chained_of published.now).manifest;
       journal = [];
     }) m) }
+    ensures end { IfOk result (λ m. m.cursors ≡ no_cursors) }
 {
     let mut memory = Memory::new(alloc, sb.mem, sb.changes_max, sb.versions_max)?;
     memory.load(
@@ -147,6 +149,7 @@ fn recover_memory(
       manifest = (chained_of published.now).manifest;
       journal = map (λ l. l.change) logged.now;
     }) m) }
+    ensures end { IfOk result (λ m. m.cursors ≡ no_cursors) }
     ensures damaged { (block : ℕ) → IsErrOf result (Damaged block)
         → accepted_in sb.now.changes_max sb.now.versions_max
         (parents_in (chained_of published.now).manifest) published.now.manifest.changes
@@ -180,6 +183,7 @@ fn read_journal<D: Disk>(
       manifest = (chained_of published.now).manifest;
       journal = r.0.list;
     }) r.1) }
+    ensures end { IfOk result (λ r. r.1.cursors ≡ no_cursors) }
     ensures damaged { (block : ℕ) → IsErrOf result (Damaged block) → (f : Image)
         → Exposes (D.view disk.old) f
         → recover_journal f (super_of sb.now) (chained_of published.now).manifest ≡ Err block }
@@ -206,6 +210,7 @@ fn recover_at<D: Disk>(
         → newest_in f ≡ Ok (Some (slot, super_of sb)) → IsRecoveredFrom f r) }
     ensures kept { IfOk result (λ r. (cached : Blocks) → IsConsistent (held_of r cached)) }
     ensures ok { IfOk result (λ r. r.sb ≡ sb) }
+    ensures end { IfOk result (λ r. r.memory.cursors ≡ no_cursors) }
     ensures damaged { (block : ℕ) → IsErrOf result (Damaged block) → (f : Image)
         → Exposes (D.view disk.old) f → recover_head f (super_of sb) ≡ Err block }
     ensures same { OnlyReads (D.view disk.old) (D.view disk.new) }
@@ -232,6 +237,7 @@ pub(crate) fn recover_store<D: Disk>(alloc: Global, disk: &mut D) -> Result<Reco
     ensures found { IfOk result (λ r. (f : Image) → Exposes (D.view disk.old) f
         → IsRecoveredFrom f r) }
     ensures kept { IfOk result (λ r. (cached : Blocks) → IsConsistent (held_of r cached)) }
+    ensures end { IfOk result (λ r. r.memory.cursors ≡ no_cursors) }
     ensures none { IsErrOf result fault.NotAStore → (f : Image)
         → Exposes (D.view disk.old) f → recover f ≡ Ok None }
     ensures damaged { (block : ℕ) → IsErrOf result (fault.Damaged block) → (f : Image)
