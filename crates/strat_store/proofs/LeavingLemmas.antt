@@ -1,11 +1,13 @@
 -- What a command leaves of the superblock and the manifest of a store.
-use Rattle.std.proofs.Common.{◌≡◌, ◌≤◌, ◌<◌, ◌-◌, ◌&&◌, Bool, true, false, inl, inr, length, Option, Some, None, refl, sym, ap, ◌∙◌, subst, arith, true≢false}
+use Rattle.std.proofs.Common.{◌≡◌, ◌≤◌, ◌<◌, ◌-◌, ◌&&◌, ℕ, List, Bool, true, false, inl, inr, length, Option, Some, None, refl, sym, ap, ◌∙◌, subst, arith, true≢false}
 use Rattle.strat_array.specs.Kept.{Blocks}
 use Rattle.strat_base.specs.Change.{Change}
 use Rattle.strat_base.specs.Change as change
 use Rattle.strat_base.specs.declared.failures.Trouble.{Trouble}
 use Rattle.strat_base.specs.declared.failures.Trouble.TheVariants as trouble
-use Rattle.strat_crash.specs.Moments.{DiskView, Passes, TearsOnly, OnlyReads}
+use Rattle.strat_crash.specs.Blocks.{AgreeOn}
+use Rattle.strat_crash.specs.Image.{Image}
+use Rattle.strat_crash.specs.Moments.{DiskView, Exposes, Passes, TearsOnly, OnlyReads}
 use Rattle.strat_format.specs.Chained.{Chained}
 use Rattle.strat_format.specs.Layout.{region_at, region_size}
 use Rattle.strat_gate.specs.SuperView.{super_of}
@@ -20,7 +22,8 @@ use Rattle.strat_model.specs.declared.replies.Reply.TheVariants as reply
 use Rattle.strat_store.specs.Applying.{IsUntouched, change_wanted, is_fault, may_write, refusal_of_trouble}
 use Rattle.strat_standing.specs.Contents.{Contents, contents_state}
 use Rattle.strat_state.specs.State.{IsPaid}
-use Rattle.strat_store.specs.Held.{Held, IsConsistent, IsOnDisk, StandsWith}
+use Rattle.strat_promote.specs.Job.{blocks_listed}
+use Rattle.strat_store.specs.Held.{Held, IsConsistent, IsOnDisk, StandsWith, arrays_held}
 use Rattle.strat_store.specs.Memory.{Memory, refusal_of_change, reply_to}
 use Rattle.strat_store.specs.Paying.{ArePaidSince, CountsWritten}
 use Rattle.strat_store.specs.Recovering.{held_of, held_after}
@@ -84,7 +87,7 @@ agree_same : (v w : DiskView) (f g : Image) (blocks : List ℕ) → OnlyReads v 
 agree_same v w f g blocks reads before after =
     let some : Some f ≡ Some g = sym before ∙ sym reads.same ∙ after in
     let same : f ≡ g = cc in
-    subst (AgreeOn blocks f) same (λ b there. same_refl f (4096 * b) 4096)
+    subst (AgreeOn blocks f) same (λ b there. record { byte = λ i from to. refl })
 
 -- nothing was carried out
 pub left_alone : (v w : DiskView) (s : Held) (carried : Bool) (told : Reply) (b : Bool) → carried ≡ false → OnlyReads v w → LeavesPublished v w s carried told (record s { spent = b })

@@ -1,7 +1,9 @@
 //! Recovering a store over levels: what its manifest and its journal say is taken into memory.
 
 ghost use Rattle.std.specs.Prelude.{◌≡◌, ◌≢◌, ◌≤◌, ◌+◌, ◌-◌, ℕ, [], length, map, fold, Ok, Err, Some, None, IfOk, IfErr, OnOk, IsErrOf, IsTrue, false, ◌↔◌, is_some};
+ghost use Rattle.std.specs.List.{list_all};
 ghost use Rattle.strat_array.specs.Kept.{Blocks};
+ghost use Rattle.strat_base.specs.Change.{is_lawful};
 ghost use Rattle.strat_base.specs.declared.failures.Trouble.TheVariants.{Damaged, Device};
 ghost use Rattle.strat_crash.specs.Faults.{CountsFaults, HasCause, ReadsAtMost};
 ghost use Rattle.strat_crash.specs.Image.{Image};
@@ -97,6 +99,7 @@ fn redo(memory: &mut Memory, logged: &Logged) -> Result<(), Trouble>
     requires room { HasRoomFor memory.old logged.now.change }
     ensures ok { OnOk result ((refusal_of_change memory.old logged.now.change ≡ None)
         × (memory.new ≡ memory_after memory.old logged.now.change)) }
+    ensures fits { OnOk result (IsTrue (is_lawful logged.now.change)) }
     ensures err { IfErr result (λ e. (e ≡ Damaged logged.now.block)
         × IsTrue (is_some (refusal_of_change memory.old logged.now.change))) }
 {
@@ -119,6 +122,7 @@ fn replay(memory: &mut Memory, logged: &[Logged]) -> Result<(), Trouble>
         ≡ Ok (map (λ l. l.change) logged.now)) }
     ensures ok { OnOk result
         (memory.new ≡ fold memory_after memory.old (map (λ l. l.change) logged.now)) }
+    ensures fits { OnOk result (IsTrue (list_all is_lawful (map (λ l. l.change) logged.now))) }
     ensures damaged { IfErr result (λ e. (b : ℕ) × (e ≡ Damaged b)
         × (accepted_in memory.old.changes_max memory.old.versions_max
         memory.old.parents memory.old.changes (map logged_of logged.now) ≡ Err b)) }
@@ -150,6 +154,7 @@ fn recover_memory(
       journal = map (λ l. l.change) logged.now;
     }) m) }
     ensures end { IfOk result (λ m. m.cursors ≡ no_cursors) }
+    ensures fits { OnOk result (IsTrue (list_all is_lawful (map (λ l. l.change) logged.now))) }
     ensures damaged { (block : ℕ) → IsErrOf result (Damaged block)
         → accepted_in sb.now.changes_max sb.now.versions_max
         (parents_in (chained_of published.now).manifest) published.now.manifest.changes
