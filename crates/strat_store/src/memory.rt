@@ -417,6 +417,7 @@ impl Memory {
     pub fn close_cursor(&mut self, number: u64) -> bool
         ensures ok { result ≡ is_opened number self.old.cursors.opened }
         ensures end { self.new ≡ record self.old { cursors = closed_at number self.old.cursors } }
+        ensures none { result ≡ false → self.new ≡ self.old }
     {
         self.cursors.close(&mut self.pool, number)
     }
