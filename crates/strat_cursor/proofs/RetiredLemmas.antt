@@ -1,5 +1,5 @@
 -- The arrays that are kept for cursors, as arrays leave the levels and cursors are closed.
-use Rattle.std.proofs.Common.{◌≡◌, ◌≤◌, ◌+◌, ◌×◌, ◌⊎◌, ◌&&◌, ◌||◌, ℕ, Bool, true, false, not, cond, eqb, inl, inr, List, [], ◌∷◌, ◌++◌, map, refl, sym, ap, ◌∙◌, subst, arith, true≢false}
+use Rattle.std.proofs.Common.{◌≡◌, ◌≤◌, ◌+◌, ◌⊎◌, ◌||◌, ℕ, Bool, true, false, not, cond, eqb, inl, inr, List, [], ◌∷◌, ◌++◌, map, refl, sym, ap, ◌∙◌, subst, arith, true≢false}
 use Rattle.std.specs.List.{Contains, count_by, filter, list_any}
 use Rattle.std.proofs.lemmas.Bool.{cases_Bool, and_parts, and_from, eq-eqb, eqb-true, not-true, not_from_false}
 use Rattle.std.proofs.lemmas.List.{map-append}
@@ -9,7 +9,7 @@ use Rattle.strat_base.specs.Entries.{is_tagged}
 use Rattle.strat_base.specs.declared.descriptors.ArrayDesc.{ArrayDesc}
 use Rattle.strat_recovery.proofs.BadLemmas.{contained_at}
 use Rattle.strat_state.specs.Level.{is_distinct}
-use Rattle.strat_cursor.specs.Cursors.{CursorOver, CursorsOver, arrays_named, is_array_named, without_cursor, closed_at, retired_by, retired_all}
+use Rattle.strat_cursor.specs.Cursors.{CursorOver, CursorsOver, arrays_named, is_array_named, without_cursor, closed_at, retired_all}
 use Rattle.strat_cursor.specs.Looking.{HaveOwnIds}
 use Rattle.strat_cursor.proofs.PinLemmas.{among_contained}
 
@@ -113,22 +113,22 @@ module _ {L : Type 0} (c : CursorsOver L) where
 -- numbers are distinct where each is there once at most
 tagged_some : (xs : List ℕ) (v : ℕ) → is_tagged xs v ≡ false → count_by (λ w. eqb w v) xs ≡ 0
 tagged_some [] v none = refl
-tagged_some (x ∷ xs) v none = by (eqb x v) refl none
+tagged_some (x ∷ xs) v none = by (tagged_some xs v) (eqb x v) refl none
   where
-    by : (b : Bool) → eqb x v ≡ b → (b || is_tagged xs v) ≡ false → count_by (λ w. eqb w v) (x ∷ xs) ≡ 0
-    by true is none_of = absurd (true≢false none_of)
-    by false is none_of =
-        omega (arith, sum_by-cons (λ (w : ℕ). cond (eqb w v) 1 0) x xs, ap {B = ℕ} (λ (b : Bool). cond b 1 0) is, tagged_some xs v none_of)
+    by : (is_tagged xs v ≡ false → count_by (λ w. eqb w v) xs ≡ 0) → (b : Bool) → eqb x v ≡ b → (b || is_tagged xs v) ≡ false → count_by (λ w. eqb w v) (x ∷ xs) ≡ 0
+    by rest true is none_of = absurd (true≢false none_of)
+    by rest false is none_of =
+        omega (arith, sum_by-cons (λ (w : ℕ). cond (eqb w v) 1 0) x xs, ap {B = ℕ} (λ (b : Bool). cond b 1 0) is, rest none_of)
 
 tagged_none : (xs : List ℕ) (v : ℕ) → count_by (λ w. eqb w v) xs ≤ 0 → is_tagged xs v ≡ false
 tagged_none [] v none = refl
-tagged_none (x ∷ xs) v none = by (eqb x v) refl
+tagged_none (x ∷ xs) v none = by (tagged_none xs v) (eqb x v) refl
   where
-    by : (b : Bool) → eqb x v ≡ b → (eqb x v || is_tagged xs v) ≡ false
-    by true is = absurd (omega (arith, none, sum_by-cons (λ (w : ℕ). cond (eqb w v) 1 0) x xs, ap {B = ℕ} (λ (b : Bool). cond b 1 0) is))
-    by false is =
+    by : (count_by (λ w. eqb w v) xs ≤ 0 → is_tagged xs v ≡ false) → (b : Bool) → eqb x v ≡ b → (eqb x v || is_tagged xs v) ≡ false
+    by rest true is = absurd (omega (arith, none, sum_by-cons (λ (w : ℕ). cond (eqb w v) 1 0) x xs, ap {B = ℕ} (λ (b : Bool). cond b 1 0) is))
+    by rest false is =
         ap (λ b. b || is_tagged xs v) is
-        ∙ tagged_none xs v (omega (arith, none, sum_by-cons (λ (w : ℕ). cond (eqb w v) 1 0) x xs, ap {B = ℕ} (λ (b : Bool). cond b 1 0) is))
+        ∙ rest (omega (arith, none, sum_by-cons (λ (w : ℕ). cond (eqb w v) 1 0) x xs, ap {B = ℕ} (λ (b : Bool). cond b 1 0) is))
 
 distinct_once : (xs : List ℕ) (v : ℕ) → is_distinct xs ≡ true → count_by (λ w. eqb w v) xs ≤ 1
 distinct_once [] v distinct = omega arith

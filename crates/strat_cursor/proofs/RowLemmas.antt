@@ -1,5 +1,5 @@
 -- The cursors of a table, as pools, trees and images change, and as cursors are opened, read and closed.
-use Rattle.std.proofs.Common.{◌≡◌, ◌<◌, ◌≤◌, ◌+◌, ◌&&◌, ℕ, zero, true, not, eqb, ltb, inl, inr, List, [], ◌∷◌, ◌++◌, Option, Some, None, length, map, refl, sym, ap, ◌∙◌, subst, arith, length-append}
+use Rattle.std.proofs.Common.{◌≡◌, ◌<◌, ◌≤◌, ◌&&◌, ℕ, true, not, eqb, ltb, inl, inr, List, [], ◌∷◌, ◌++◌, Option, Some, None, length, map, refl, sym, ap, ◌∙◌, subst, arith, length-append}
 use Rattle.std.specs.List.{Contains, filter, find, list_any}
 use Rattle.std.specs.Option.{option_and_then, option_map, option_or, option_to_list, unwrap_or, IfSome}
 use Rattle.std.proofs.lemmas.Bool.{lt-ltb, ltb-true}
@@ -17,7 +17,6 @@ use Rattle.strat_format.specs.Arrays.{blocks_of}
 use Rattle.strat_level.specs.Memtable.{ItemList, entries_held}
 use Rattle.strat_model.specs.Pairs.{Pairs}
 use Rattle.strat_model.specs.Table.{Cursor}
-use Rattle.strat_model.specs.declared.replies.Reply.TheVariants as reply
 use Rattle.strat_recovery.specs.TableOver.{are_known}
 use Rattle.strat_state.specs.LookUp.{first_live}
 use Rattle.strat_cursor.specs.Cursors.{OpenCursor, IsMapPinned, arrays_named}

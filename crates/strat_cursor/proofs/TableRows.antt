@@ -12,7 +12,7 @@ use Rattle.strat_model.specs.Answer.{Answer}
 use Rattle.strat_model.specs.Table.{Cursor, Table}
 use Rattle.strat_model.specs.declared.replies.Reply.TheVariants as reply
 use Rattle.strat_model.specs.declared.replies.Refusal.TheVariants as why
-use Rattle.strat_cursor.specs.Cursors.{TellsNext, is_opened, moved_at, moved_on, pairs_left, range_left, without_cursor}
+use Rattle.strat_cursor.specs.Cursors.{TellsNext, is_opened, moved_at, moved_on, range_left, without_cursor}
 use Rattle.strat_cursor.specs.Held.{HeldCursor, IsMapHeld, IsRowOf, AreRowsOf}
 use Rattle.strat_cursor.proofs.PinLemmas.{among_contained}
 
