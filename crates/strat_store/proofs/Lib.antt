@@ -2,6 +2,7 @@ pub mod BelongingLemmas
 pub mod FormatLemmas
 pub mod MemoryLawLemmas
 pub mod MemoryLemmas
+pub mod PoolLemmas
 pub mod IdLemmas
 pub mod LookLawLemmas
 pub mod GettingLemmas
