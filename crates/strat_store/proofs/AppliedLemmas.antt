@@ -9,7 +9,8 @@ use Rattle.strat_crash.specs.Image.{Image}
 use Rattle.strat_crash.specs.Moments.{DiskView, Exposes}
 use Rattle.strat_cursor.proofs.HoldingLemmas.{goes_on_in, goes_on_later}
 use Rattle.strat_cursor.proofs.RowLemmas.{image_rows}
-use Rattle.strat_cursor.specs.Cursors.{CursorsOver, MayGoOn, arrays_named, is_array_named, retired_all, retired_by}
+use Rattle.strat_cursor.proofs.RetiredLemmas.{retired_rest}
+use Rattle.strat_cursor.specs.Cursors.{MayGoOn, arrays_named}
 use Rattle.strat_cursor.specs.Held.{AreRowsOf, HeldCursor, HeldCursors}
 use Rattle.strat_format.specs.Arrays.{blocks_of}
 use Rattle.strat_format.specs.Chained.{Chained}
@@ -32,25 +33,6 @@ use Rattle.strat_store.specs.Cursoring.{IsAppliedAt, LeavesCursors}
 use Rattle.strat_store.specs.Held.{Held, IsConsistent, StandsAt, StandsWith, arrays_held, position_at, position_with}
 use Rattle.strat_store.specs.Memory.{KeepsRows}
 use Rattle.strat_store.specs.Settling.{LeavesPublished, arrays_taken}
-
--- arrays that are retired leave the cursors and their numbers
-by_named : {L : Type 0} (b : Bool) (c d : CursorsOver L) → d.opened ≡ c.opened → d.next ≡ c.next → ((if b then d else c).opened ≡ c.opened) × ((if b then d else c).next ≡ c.next)
-by_named true c d opened next = (opened, next)
-by_named false c d opened next = (refl, refl)
-
-retired_opened : {L : Type 0} (arrays : List ArrayDesc) (c : CursorsOver L) → (retired_all arrays c).opened ≡ c.opened
-unfolding retired_all
-retired_opened [] c = refl
-retired_opened (a ∷ arrays) c =
-    let d = retired_all arrays c in
-    (by_named (is_array_named d.opened a.id) d (record d { retired = d.retired ++ a ∷ [] }) refl refl).0 ∙ retired_opened arrays c
-
-retired_next : {L : Type 0} (arrays : List ArrayDesc) (c : CursorsOver L) → (retired_all arrays c).next ≡ c.next
-unfolding retired_all
-retired_next [] c = refl
-retired_next (a ∷ arrays) c =
-    let d = retired_all arrays c in
-    (by_named (is_array_named d.opened a.id) d (record d { retired = d.retired ++ a ∷ [] }) refl refl).1 ∙ retired_next arrays c
 
 -- a table with other cursors
 abbrev beside : Table → List Cursor → ℕ → Table
@@ -137,8 +119,8 @@ module _ (v now : DiskView) (s new : Held) (x : Contents) (rows : List Cursor) (
     | inl same ↦ (ap (λ (k : HeldCursors). k.opened) same, ap (λ (k : HeldCursors). k.next) same)
     | inr has ↦
         let gone = arrays_taken has.after.target s.chained.manifest in (
-          ap (λ (k : HeldCursors). k.opened) has.after.cursors_are ∙ retired_opened gone s.memory.cursors,
-          ap (λ (k : HeldCursors). k.next) has.after.cursors_are ∙ retired_next gone s.memory.cursors,
+          ap (λ (k : HeldCursors). k.opened) has.after.cursors_are ∙ (retired_rest s.memory.cursors gone).0,
+          ap (λ (k : HeldCursors). k.next) has.after.cursors_are ∙ (retired_rest s.memory.cursors gone).1,
         )
   ]
 

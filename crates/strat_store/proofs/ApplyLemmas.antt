@@ -36,7 +36,7 @@ use Rattle.strat_standing.proofs.FreeLemmas.{shows_contents}
 use Rattle.strat_standing.proofs.PartsLemmas.{reads_head, reads_state}
 use Rattle.strat_standing.specs.Contents.{Contents, contents_head, contents_state}
 use Rattle.strat_standing.specs.Standing.{LeavesContent, ShowsTable}
-use Rattle.strat_store.proofs.MemoryLawLemmas.{version_told, store_told, version_unknown}
+use Rattle.strat_store.proofs.MemoryLawLemmas.{version_told, store_told_with, version_unknown}
 use Rattle.strat_store.proofs.CursoringLemmas.{looks_wider, stands_now, stands_still, still_going}
 use Rattle.strat_store.specs.Applying.{IsLookedUp, FollowsStep, TellsFaultOf, change_wanted, is_fault, ran_short, table_left}
 use Rattle.strat_store.specs.Cursoring.{IsAppliedAt, is_of_cursor}
@@ -190,7 +190,7 @@ module _ (v : DiskView) (s : Held) (x : Contents) (rows : List Cursor) (whole : 
 
   pub stat_here : plain (stat_told s.memory) ≡ (step (table_at s x rows) Stat).answer
   stat_here =
-      sym (store_told here (contents_head x) (contents_state x) s.memory state_here memory_here rows s.memory.cursors.next (rows_length here s.memory.parents s.memory.cursors.opened rows at.rows_are))
+      sym (store_told_with here (contents_head x) (contents_state x) s.memory state_here memory_here rows s.memory.cursors.next (rows_length here s.memory.parents s.memory.cursors.opened rows at.rows_are))
 
 -- the position after a command that changes nothing
 place_kept : (mem : ℕ) (at : Position) (r : Request) → (step at.table r).table ≡ at.table → is_change r ≡ false → position_after mem at r ≡ at

@@ -1,18 +1,17 @@
 -- What open cursors hold on to stays there, as a store goes on.
-use Rattle.std.proofs.Common.{◌≡◌, ◌≤◌, ◌<◌, ℕ, Bool, true, false, cond, eqb, not, ◌&&◌, inl, inr, List, [], ◌∷◌, ◌++◌, map, Contains, flat_map, Option, refl, sym, ap, subst, append-nil}
+use Rattle.std.proofs.Common.{◌≡◌, ◌≤◌, ◌<◌, ℕ, Bool, true, inl, inr, List, [], ◌∷◌, ◌++◌, map, Contains, flat_map, Option, refl, sym, ap, subst, append-nil}
 use Rattle.std.specs.Prelude.{fold}
-use Rattle.std.specs.List.{filter, list_any}
-use Rattle.std.proofs.lemmas.Bool.{and_from, and_parts, eq-eqb, ltb-true, not-true, or_parts}
+use Rattle.std.proofs.lemmas.Bool.{ltb-true}
 use Rattle.std.proofs.lemmas.List.Concat.{flat_map-append}
 use Rattle.std.proofs.lemmas.List.Elements.{Contains-append_left}
-use Rattle.strat_base.proofs.ListFacts.{Among, among_filter, among_flat, among_left, among_right, among_split, any_from, filter_among}
-use Rattle.strat_base.specs.Entries.{is_tagged}
+use Rattle.strat_base.proofs.ListFacts.{Among, among_left, among_right, among_split}
 use Rattle.strat_base.specs.Change.{Change, Put, Delete, Clone}
 use Rattle.strat_base.specs.declared.descriptors.ArrayDesc.{ArrayDesc}
 use Rattle.strat_base.specs.declared.descriptors.LevelDesc.{LevelDesc}
 use Rattle.strat_cursor.proofs.HoldingLemmas.{names_moved, names_without}
 use Rattle.strat_cursor.proofs.PinLemmas.{asked_there}
-use Rattle.strat_cursor.specs.Cursors.{CursorOver, arrays_named, closed_at, is_array_named, moved_at, those_named, without_cursor}
+use Rattle.strat_cursor.proofs.RetiredLemmas.{closed_from, closed_ids, closed_keeps_named}
+use Rattle.strat_cursor.specs.Cursors.{arrays_named, closed_at, moved_at}
 use Rattle.strat_cursor.specs.Held.{HeldCursor, no_cursors}
 use Rattle.strat_cursor.specs.Looking.{HaveOwnIds, arrays_there}
 use Rattle.strat_cursor.specs.Pins.{arrays_asked}
@@ -26,8 +25,6 @@ use Rattle.strat_recovery.specs.Head.{descriptors}
 use Rattle.strat_recovery.specs.Opening.{belongs}
 use Rattle.strat_model.specs.Pairs.{Pairs}
 use Rattle.strat_standing.proofs.ListLemmas.{among_contained, contained_among}
-use Rattle.strat_state.specs.Level.{is_distinct}
-use Rattle.strat_store.proofs.IdLemmas.{ids}
 use Rattle.strat_store.proofs.WholeLemmas.{array_lawful}
 use Rattle.strat_store.specs.Held.{AreKept, ArePlaced, arrays_held}
 use Rattle.strat_store.specs.Memory.{Memory, memory_after, cursor_from, with_cursor}
@@ -57,45 +54,6 @@ module _ (sb : Super) (chained : Chained) (levels : List (Option LevelDesc)) (pl
         below = λ a of. low_numbers a (subst (λ (rs : List ArrayDesc). Contains rs a) all of);
         behind = λ a b of. absurd (subst (λ (c : _). Contains c.retired a) none of);
       }
-
--- an array that a cursor names is named by its number
-number_named : {L : Type 0} (cursors : List (CursorOver L)) (a : ArrayDesc) → Among a (arrays_named cursors) → is_array_named cursors a.id ≡ true
-number_named {L = L} cursors a among =
-    let of = among_flat (λ (c : CursorOver L). c.arrays) cursors a among in
-    any_from (λ (c : CursorOver L). list_any (λ b. eqb b.id a.id) c.arrays) of.0 cursors of.1 (any_from (λ (b : ArrayDesc). eqb b.id a.id) a of.0.arrays of.2 (eq-eqb a.id a.id refl))
-
--- numbers of fewer arrays are distinct, too
-fewer_tagged : (p : ArrayDesc → Bool) (n : ℕ) (xs : List ArrayDesc) → is_tagged (ids xs) n ≡ false → is_tagged (ids (filter p xs)) n ≡ false
-fewer_tagged p n [] none = refl
-fewer_tagged p n (x ∷ xs) none =
-    let parts = or_parts (eqb x.id n) (is_tagged (ids xs) n) none in
-    by (p x) parts.0 (fewer_tagged p n xs parts.1)
-  where
-    by : (b : Bool) → eqb x.id n ≡ false → is_tagged (ids (filter p xs)) n ≡ false → is_tagged (ids (cond b (x ∷ filter p xs) (filter p xs))) n ≡ false
-    by true other rest = rw (other) rest
-    by false other rest = rest
-
-distinct_fewer : (p : ArrayDesc → Bool) (front xs : List ArrayDesc) → is_distinct (ids (front ++ xs)) ≡ true → is_distinct (ids (front ++ filter p xs)) ≡ true
-distinct_fewer p [] [] own = refl
-distinct_fewer p [] (x ∷ xs) own =
-    let parts = and_parts (not (is_tagged (ids xs) x.id)) (is_distinct (ids xs)) own in
-    by (p x) (distinct_fewer p [] xs parts.1)
-  where
-    by : (b : Bool) → is_distinct (ids (filter p xs)) ≡ true → is_distinct (ids (cond b (x ∷ filter p xs) (filter p xs))) ≡ true
-    by true rest =
-        let parts = and_parts (not (is_tagged (ids xs) x.id)) (is_distinct (ids xs)) own in
-        and_from (not (is_tagged (ids (filter p xs)) x.id)) (is_distinct (ids (filter p xs))) (ap not (fewer_tagged p x.id xs (not-true (is_tagged (ids xs) x.id) parts.0))) rest
-    by false rest = rest
-distinct_fewer p (y ∷ front) xs own =
-    let parts = and_parts (not (is_tagged (ids (front ++ xs)) y.id)) (is_distinct (ids (front ++ xs))) own in
-    and_from (not (is_tagged (ids (front ++ filter p xs)) y.id)) (is_distinct (ids (front ++ filter p xs)))
-    (ap not (apart front (not-true (is_tagged (ids (front ++ xs)) y.id) parts.0))) (distinct_fewer p front xs parts.1)
-  where
-    apart : (zs : List ArrayDesc) → is_tagged (ids (zs ++ xs)) y.id ≡ false → is_tagged (ids (zs ++ filter p xs)) y.id ≡ false
-    apart [] none = fewer_tagged p y.id xs none
-    apart (z ∷ zs) none =
-        let parts = or_parts (eqb z.id y.id) (is_tagged (ids (zs ++ xs)) y.id) none in
-        rw (parts.0) (apart zs parts.1)
 
 -- what commands about cursors leave of that
 module _ (sb : Super) (next : ℕ) (levels : List (Option LevelDesc)) (m : Memory) (kept : AreKept sb next levels m) where
@@ -128,30 +86,26 @@ module _ (sb : Super) (next : ℕ) (levels : List (Option LevelDesc)) (m : Memor
   pub kept_closed : (n : ℕ) → AreKept sb next levels (record m { cursors = closed_at n m.cursors })
   kept_closed n = record {
     named = λ a of.
-        let others = without_cursor n m.cursors.opened in
+        let left = (closed_at n m.cursors).retired in
         elim (among_split (arrays_there levels) m.cursors.retired a (contained_among (arrays_held m levels) a (kept.named a (names_without n m.cursors.opened a of)))) [
-          | inl there ↦ among_contained (arrays_there levels ++ those_named others m.cursors.retired) a (among_left (arrays_there levels) (those_named others m.cursors.retired) a there)
+          | inl there ↦ among_contained (arrays_there levels ++ left) a (among_left (arrays_there levels) left a there)
           | inr retired ↦
-              among_contained (arrays_there levels ++ those_named others m.cursors.retired) a
-              (among_right (arrays_there levels) (those_named others m.cursors.retired) a
-              (among_filter (λ b. is_array_named others b.id) m.cursors.retired a retired (number_named others a (contained_among (arrays_named others) a of))))
+              among_contained (arrays_there levels ++ left) a
+              (among_right (arrays_there levels) left a (contained_among left a (closed_keeps_named m.cursors n a of (among_contained m.cursors.retired a retired))))
         ];
-    ids = distinct_fewer (λ b. is_array_named (without_cursor n m.cursors.opened) b.id) (arrays_there levels) m.cursors.retired kept.ids;
+    ids = closed_ids m.cursors n (arrays_there levels) kept.ids;
     below = λ a of. kept.below a (still a of);
-    behind = λ a b of.
-        kept.behind a b
-        (among_contained m.cursors.retired a
-        (filter_among (λ c. is_array_named (without_cursor n m.cursors.opened) c.id) m.cursors.retired a (contained_among (those_named (without_cursor n m.cursors.opened) m.cursors.retired) a of)).0);
+    behind = λ a b of. kept.behind a b (closed_from m.cursors n a of);
   }
     where
-      still : (a : ArrayDesc) → Contains (arrays_there levels ++ those_named (without_cursor n m.cursors.opened) m.cursors.retired) a → Contains (arrays_held m levels) a
+      still : (a : ArrayDesc) → Contains (arrays_there levels ++ (closed_at n m.cursors).retired) a → Contains (arrays_held m levels) a
       still a of =
-          let kept_ones = those_named (without_cursor n m.cursors.opened) m.cursors.retired in
-          elim (among_split (arrays_there levels) kept_ones a (contained_among (arrays_there levels ++ kept_ones) a of)) [
+          let left = (closed_at n m.cursors).retired in
+          elim (among_split (arrays_there levels) left a (contained_among (arrays_there levels ++ left) a of)) [
             | inl there ↦ among_contained (arrays_held m levels) a (among_left (arrays_there levels) m.cursors.retired a there)
             | inr one ↦
                 among_contained (arrays_held m levels) a
-                (among_right (arrays_there levels) m.cursors.retired a (filter_among (λ c. is_array_named (without_cursor n m.cursors.opened) c.id) m.cursors.retired a one).0)
+                (among_right (arrays_there levels) m.cursors.retired a (contained_among m.cursors.retired a (closed_from m.cursors n a (among_contained left a one))))
           ]
 
 -- changes leave the cursors
