@@ -1,10 +1,11 @@
 //! Changes of a store over levels: each is durable before it is in memory, and before it is answered.
 
-ghost use Rattle.std.specs.Prelude.{◌≡◌, ◌≢◌, ◌<◌, ℕ, [], ◌∷◌, ◌++◌, length, Some, None, OnOk, IsTrue, true, false};
+ghost use Rattle.std.specs.List.{list_all};
+ghost use Rattle.std.specs.Prelude.{◌≡◌, ◌≢◌, ◌<◌, ◌≤◌, ℕ, [], ◌∷◌, ◌++◌, length, Some, None, OnOk, IsTrue, true, false};
 ghost use Rattle.strat_array.specs.Kept.{Blocks};
 ghost use Rattle.strat_base.specs.Change.{is_lawful};
 ghost use Rattle.strat_base.specs.ChangeView.{change_of};
-ghost use Rattle.strat_crash.specs.Blocks.{AgreeOn};
+ghost use Rattle.strat_crash.specs.Blocks.{AgreeOn, KeepsTaken};
 ghost use Rattle.strat_crash.specs.Faults.{CountsFaults};
 ghost use Rattle.strat_crash.specs.Image.{Image};
 ghost use Rattle.strat_crash.specs.Moments.{Exposes, Passes, TearsOnly};
@@ -17,7 +18,7 @@ ghost use Rattle.strat_model.specs.declared.replies.Reply.TheVariants as reply;
 ghost use Rattle.strat_promote.specs.Job.{blocks_listed};
 ghost use Rattle.strat_recovery.specs.StateTable.{table_of, request_for};
 ghost use Rattle.strat_standing.specs.Appending.{IsLogOf, with_batch};
-ghost use Rattle.strat_standing.specs.Contents.{Contents, contents_state, named_blocks};
+ghost use Rattle.strat_standing.specs.Contents.{Contents, contents_state};
 ghost use Rattle.strat_standing.specs.Standing.{ShowsTable, ContentsStand};
 ghost use Rattle.strat_state.specs.Sound.{Takes};
 ghost use Rattle.strat_state.specs.State.{IsPaid};
@@ -26,6 +27,7 @@ ghost use Rattle.strat_store.specs.Cursoring.{LeavesCursors};
 ghost use Rattle.strat_store.specs.Held.{IsConsistent, IsOnDisk, StandsWith, arrays_held};
 ghost use Rattle.strat_store.specs.Memory.{KeepsRows, refusal_of_change};
 ghost use Rattle.strat_store.specs.Paying.{ArePaidSince};
+ghost use Rattle.strat_store.specs.Publishing.{is_in_front};
 ghost use Rattle.strat_store.specs.Recovering.{held_of, held_after};
 ghost use Rattle.strat_store.specs.Settling.{KeepsPublished, LeavesPublished};
 
@@ -47,6 +49,7 @@ fn log_change<D: Disk>(
     requires fits { IsTrue (is_lawful (change_of change.now)) }
     requires none { journal.old.batch ≡ [] }
     requires room { length journal.old.list < journal.old.mem }
+    requires kept { IsTrue (list_all is_lawful journal.old.list) × (journal.old.active ≤ 1) }
     ensures trail { (x : Contents) → ContentsStand (D.view disk.old) x → IsLogOf x journal.old
         → Takes (contents_state x) (change_of change.now)
         → Trail ShowsTable (D.view disk.new) (D.view disk.old).moment (table_of (contents_state x)
@@ -59,9 +62,8 @@ fn log_change<D: Disk>(
         × ContentsStand (D.view disk.new) (with_batch x (change_of change.now ∷ []))) }
     ensures ok { OnOk result (journal.new
         ≡ record journal.old { list = journal.old.list ++ change_of change.now ∷ [] }) }
-    ensures same { OnOk result ((x : Contents) → ContentsStand (D.view disk.old) x
-        → IsLogOf x journal.old → (f g : Image) → Exposes (D.view disk.old) f
-        → Exposes (D.view disk.new) g → AgreeOn (named_blocks x) f g) }
+    ensures same { OnOk result ((f g : Image) → Exposes (D.view disk.old) f
+        → Exposes (D.view disk.new) g → KeepsTaken (is_in_front journal.old.mem) f g) }
     ensures images { TearsOnly (D.view disk.old) (D.view disk.new)
         (region_at journal.old.mem journal.old.active) (region_size journal.old.mem) }
     ensures time { Passes (D.view disk.old) (D.view disk.new) }
@@ -96,7 +98,8 @@ fn carry_out<D: Disk>(held: &mut Recovered, disk: &mut D, change: &Change<'_>) -
         → IsOnDisk (D.view disk.new) (held_of held.new cached)) }
     ensures found { (held.new.memory.cursors ≡ held.old.memory.cursors)
         × KeepsRows held.old.memory held.new.memory }
-    ensures images { (f g : Image) → Exposes (D.view disk.old) f → Exposes (D.view disk.new) g
+    ensures images { result ≢ reply.Refused why.DeviceFault
+        → (f g : Image) → Exposes (D.view disk.old) f → Exposes (D.view disk.new) g
         → AgreeOn (blocks_listed (arrays_held held.old.memory held.old.published.levels)) f g }
     ensures damaged { (b : ℕ) → result ≡ reply.Refused (why.Damaged b) → ⊥ }
     ensures same { (held.new.sb.mem ≡ held.old.sb.mem) × (result ≢ reply.Found)
