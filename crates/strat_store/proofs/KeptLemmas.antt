@@ -5,7 +5,7 @@ use Rattle.std.specs.Option.{option_to_list}
 use Rattle.std.proofs.lemmas.Bool.{and_parts, leb-true, ltb-true, le-ltb}
 use Rattle.std.proofs.lemmas.List.{map-append}
 use Rattle.std.proofs.lemmas.List.Concat.{flat_map-append}
-use Rattle.strat_base.proofs.ListFacts.{Among, all_at, among_flat, among_in_flat, among_left, among_right, among_split}
+use Rattle.strat_base.proofs.ListFacts.{Among, all_at, among_flat, among_in_flat, among_left, among_right, among_split, filter_among}
 use Rattle.strat_base.specs.declared.descriptors.ArrayDesc.{ArrayDesc}
 use Rattle.strat_base.specs.declared.descriptors.LevelDesc.{LevelDesc}
 use Rattle.strat_crash.specs.Blocks.{AgreeOn, KeepsTaken}
@@ -76,6 +76,25 @@ behind_kept s mem f g whole mem_is keeps b of =
 made_listed : (made : Option LevelDesc) → flat_map (λ (l : LevelDesc). l.arrays) (option_to_list made) ≡ arrays_made made
 made_listed None = refl
 made_listed (Some level) = append-nil level.arrays
+
+-- the arrays that a promotion takes stand in levels
+pub taken_there : (s : Held) (target : ℕ) (a : ArrayDesc) → ArePlaced s.chained.manifest.levels s.levels → Among a (arrays_taken target s.chained.manifest) → Among a (arrays_there s.levels)
+taken_there s target a placed among =
+    let arrays : LevelDesc → List ArrayDesc = λ l. l.arrays in
+    let one = among_flat arrays (descs_to target s.chained.manifest.levels) a among in
+    let level = filter_among (λ (l : LevelDesc). leb l.number target) s.chained.manifest.levels one.0 one.1 in
+    subst (λ (xs : List ArrayDesc). Among a xs) (sym (listed_arrays s placed)) (among_in_flat arrays s.chained.manifest.levels one.0 a level.0 one.2)
+
+-- where arrays were taken, none is kept that was not held before
+pub left_held : (s : Held) (target : ℕ) (a : ArrayDesc) → ArePlaced s.chained.manifest.levels s.levels → Contains (retired_all (arrays_taken target s.chained.manifest) s.memory.cursors).retired a
+    → Contains (arrays_held s.memory s.levels) a
+left_held s target a placed of =
+    let taken : List ArrayDesc = arrays_taken target s.chained.manifest in
+    let left : List ArrayDesc = (retired_all taken s.memory.cursors).retired in
+    among_contained (arrays_held s.memory s.levels) a (elim (retired_from taken s.memory.cursors a (contained_among left a of)) [
+      | inl before ↦ among_right (arrays_there s.levels) s.memory.cursors.retired a before
+      | inr gone ↦ among_left (arrays_there s.levels) s.memory.cursors.retired a (taken_there s target a placed gone)
+    ])
 
 module _ (s : Held) (target : ℕ) (sb : Super) (chained : Chained) (levels : List (Option LevelDesc)) (whole : IsConsistent s) (are : ArePublishedTo target s.sb s.chained.manifest s.memory sb chained.manifest)
     (mem_is : sb.mem ≡ s.sb.mem) (spelled : is_lawful_manifest chained.manifest ≡ true) (belonging : belongs sb chained ≡ true) (placed : ArePlaced chained.manifest.levels levels) where
@@ -215,7 +234,3 @@ module _ (s : Held) (target : ℕ) (sb : Super) (chained : Chained) (levels : Li
       | inr gone ↦ taken_named a b gone here
     ]);
   }
-
-  -- no array is kept that was not held before
-  pub left_held : (a : ArrayDesc) → Contains left a → Contains (arrays_held s.memory s.levels) a
-  left_held a of = among_contained (arrays_held s.memory s.levels) a (among_were a (left_were a (contained_among left a of)))

@@ -91,11 +91,11 @@ kept_on v s t same on = record {
   chain = λ c left. (λ i. manifest_at c (same.sb i).manifest (same.sb i).length) ∙ on.chain c left ∙ (λ i. Ok (sym same.chained i));
 }
 
-told_some : (o : Option Image) (f : Image) → o ≡ Some f → IsSome o
+pub told_some : (o : Option Image) (f : Image) → o ≡ Some f → IsSome o
 told_some None f e = absurd (cc)
 told_some (Some x) f e = refl
 
-some_told : (o : Option Image) → IsSome o → (g : Image) × (o ≡ Some g)
+pub some_told : (o : Option Image) → IsSome o → (g : Image) × (o ≡ Some g)
 some_told (Some g) some = (g, refl)
 some_told None some = absurd (true≢false (sym some))
 

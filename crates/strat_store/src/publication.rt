@@ -372,9 +372,9 @@ pub(crate) fn publish<D: Disk>(
         × OnErr result ((cached : Blocks)
         → KeepsPublished (held_of held.old cached) (held_of held.new cached)
         × KeepsCursors (held_of held.old cached) (held_of held.new cached)) }
-    ensures images { (f g : Image) → Exposes (D.view disk.old) f → Exposes (D.view disk.new) g
-        → AgreeOn (blocks_listed (arrays_held held.old.memory held.old.published.levels)) f g }
-    ensures time { Passes (D.view disk.old) (D.view disk.new) }
+    ensures images { Passes (D.view disk.old) (D.view disk.new)
+        × ((f g : Image) → Exposes (D.view disk.old) f → Exposes (D.view disk.new) g
+        → AgreeOn (blocks_listed (arrays_held held.old.memory held.old.published.levels)) f g) }
     ensures cause { HasCause Device (D.faults disk.old) (D.faults disk.new) result }
     ensures damaged { (b : ℕ) → IsErrOf result (Damaged b)
         → IsDamagedIn (D.view disk.old).content held.old.memory held.old.published.levels b
