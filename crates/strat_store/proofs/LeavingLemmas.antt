@@ -225,6 +225,9 @@ wanted_of (change.Put v key value) = refl
 wanted_of (change.Delete v key) = refl
 wanted_of (change.Clone v) = refl
 
+pub cursors_same : (s t : Held) → t.memory.cursors ≡ s.memory.cursors → KeepsCursors s t
+cursors_same s t e = e ∙ (λ i. record s.memory.cursors { room = sym (ap (λ (cs : HeldCursors). cs.room) e) i })
+
 pub cursors_left : (s t : Held) (c : Change) (answer : Answer) → KeepsCursors s t → LeavesCursors s (request_for c) answer t
 cursors_left s t c answer keeps = record {
   looked = λ none. absurd (let e : Some c ≡ None = sym (wanted_of c) ∙ none in cc);
