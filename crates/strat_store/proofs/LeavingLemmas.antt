@@ -69,6 +69,13 @@ troubled trouble.NoMemory told is = ap (λ (q : Refusal). may_write (reply.Refus
 troubled trouble.Device told is = ap (λ (q : Refusal). may_write (reply.Refused q)) is
 troubled (trouble.Damaged b) told is = ap (λ (q : Refusal). may_write (reply.Refused q)) is
 
+-- a command that asks for a change is one
+wanted_change : (r : Request) (c : Change) → change_wanted r ≡ Some c → is_change r ≡ true
+wanted_change (Put v key value) c wanted = refl
+wanted_change (Delete v key) c wanted = refl
+wanted_change (Clone v) c wanted = refl
+wanted_change _ c wanted = absurd (cc)
+
 -- a change that is refused leaves the disk as it was
 pub untouched_by : (v w : DiskView) (request : Request) (c : Change) (r new : Recovered) (cached : Blocks) (told : Reply) → change_wanted request ≡ Some c
     → ((q : Refusal) → refusal_of_change r.memory c ≡ Some q → (told ≡ reply.Refused q) × OnlyReads v w) → (refusal_of_change r.memory c ≡ None → may_write told ≡ true)
@@ -81,7 +88,7 @@ untouched_by v w request c r new cached told wanted refuses writes = record {
       let one = refuses q (subst (λ (x : Change). refusal_of_change r.memory x ≡ Some q) (sym same) e) in
       (one.0, refl, one.1);
   cached = λ d asks. refl;
-  calm = by_refusal (refusal_of_change r.memory c) refl;
+  calm = λ may. by_refusal (refusal_of_change r.memory c) refl (may (wanted_change request c wanted));
 }
   where
     by_refusal : (o : Option Refusal) → refusal_of_change r.memory c ≡ o → may_write told ≡ false → OnlyReads v w
@@ -126,14 +133,15 @@ left_alone v w s carried told b none reads =
       counted = λ x stands. inl refl;
     }
 
--- nor where blocks were cached
-pub left_cached : (v w : DiskView) (r : Recovered) (old new : Blocks) (carried : Bool) (told : Reply) (b : Bool) → carried ≡ false → OnlyReads v w
-    → LeavesPublished v w (held_of r old) carried told (record (held_of r new) { spent = b })
-left_cached v w r old new carried told b none reads =
+-- nor where blocks were cached, and cursors opened, paged or closed
+pub left_queried : (v w : DiskView) (r new : Recovered) (m : Memory) (old now : Blocks) (carried : Bool) (told : Reply) (b : Bool) → new ≡ record r { memory = m } → carried ≡ false → OnlyReads v w
+    → LeavesPublished v w (held_of r old) carried told (record (held_of new now) { spent = b })
+left_queried v w r new m old now carried told b is none reads =
     let s : Held = held_of r old in
-    let t : Held = record (held_of r new) { spent = b } in
+    let t : Held = record (held_of (record r { memory = m }) now) { spent = b } in
     let same : KeepsPublished s t = record { slot = refl; sb = refl; chained = refl; levels = refl } in
-    record {
+    subst (λ (z : Recovered). LeavesPublished v w s carried told (record (held_of z now) { spent = b })) (sym is)
+    (record {
       either = inl same;
       kept = λ _ _. same;
       next = λ done full. absurd (true≢false (sym done ∙ none));
@@ -141,7 +149,7 @@ left_cached v w r old new carried told b none reads =
       beside = λ other. read_keeps v w s reads;
       paid = λ x stands paid. paid_reads v w x stands.stands reads paid;
       counted = λ x stands. inl refl;
-    }
+    })
 
 -- a change was carried out, or met a fault, where the journal had room
 pub leaves_room : (v w : DiskView) (s t : Held) (carried : Bool) (told : Reply) (b : Bool) → length s.log.list < s.log.mem → KeepsPublished s t → (IsOnDisk v s → IsOnDisk w t)
@@ -254,13 +262,6 @@ rows_renewed old mid new parents opened keeps f rows are =
 pub opened_after : (sb next_sb : Super) (m next : Manifest) (memory : Memory) (cursors : HeldCursors) → ArePublishedAfter sb m memory next_sb next cursors → cursors.opened ≡ memory.cursors.opened
 opened_after sb next_sb m next memory cursors after =
     ap (λ (cs : HeldCursors). cs.opened) after.cursors_are ∙ ap (λ (cs : HeldCursors). cs.opened) (retired_same (arrays_taken after.target m) memory.cursors)
-
--- a command that asks for a change is one
-wanted_change : (r : Request) (c : Change) → change_wanted r ≡ Some c → is_change r ≡ true
-wanted_change (Put v key value) c wanted = refl
-wanted_change (Delete v key) c wanted = refl
-wanted_change (Clone v) c wanted = refl
-wanted_change _ c wanted = absurd (cc)
 
 pub leaves_wanted : (v w : DiskView) (s t : Held) (r : Request) (c : Change) (told : Reply) → change_wanted r ≡ Some c → LeavesPublished v w s (accepts told) told t
     → LeavesPublished v w s (carries_out r told) told t

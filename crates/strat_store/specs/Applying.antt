@@ -91,7 +91,7 @@ abbrev pub ran_short : Reply → Bool
 ran_short (reply.Refused r) = tells_short r
 ran_short _ = false
 
--- a reply after which a store may have written: a change was carried out, memory ran out amid a publication, or it met a fault
+-- a reply to a change after which a store may have written: a change was carried out, memory ran out amid a publication, or it met a fault
 abbrev pub may_write : Reply → Bool
 may_write reply.Done = true
 may_write (reply.Made version) = true
@@ -139,8 +139,8 @@ IsLookedUp now new x request answer =
     × (accepts (step (table_of (contents_state x)) request).answer.reply ≡ true))
 
 -- a command that asks for no change leaves the disk as it was, and a store but for blocks that it cached as they
--- stand there; a change that is refused leaves both as they were, no change caches a block or lets go of one, and any reply
--- but those after which a store may have written leaves the disk as it was
+-- stand there; a change that is refused leaves both as they were, no change caches a block or lets go of one, and one with any
+-- reply but those after which a store may have written leaves the disk as it was
 pub record IsUntouched (before now : DiskView) (request : Request) (old : Held) (told : Reply)
     (new : Held) : Type 0 where
   pub looks : change_wanted request ≡ None
@@ -150,7 +150,7 @@ pub record IsUntouched (before now : DiskView) (request : Request) (old : Held) 
       → (told ≡ reply.Refused r) × (new.cached ≡ old.cached)
       × OnlyReads before now
   pub cached : (c : Change) → change_wanted request ≡ Some c → new.cached ≡ old.cached
-  pub calm : may_write told ≡ false → OnlyReads before now
+  pub calm : (is_change request ≡ true → may_write told ≡ false) → OnlyReads before now
 
 -- contents took the place of others on the disk that a store stands on: they mean the same table
 pub record IsPublishedAs (now : DiskView) (x : Contents) (new : Held) : Type 0 where
