@@ -10,7 +10,8 @@ use Rattle.strat_base.specs.declared.descriptors.ArrayDesc.{ArrayDesc}
 use Rattle.strat_base.specs.declared.descriptors.LevelDesc.{LevelDesc}
 use Rattle.strat_crash.specs.Blocks.{AgreeOn, KeepsTaken}
 use Rattle.strat_crash.specs.Image.{Image}
-use Rattle.strat_cursor.specs.Cursors.{CursorsOver, arrays_named, is_array_named, retired_all}
+use Rattle.strat_cursor.proofs.RetiredLemmas.{named_id, retired_from, retired_ids, retired_kept, retired_rest, retired_there}
+use Rattle.strat_cursor.specs.Cursors.{arrays_named, is_array_named, retired_all}
 use Rattle.strat_cursor.specs.Held.{HeldCursor, HeldCursors}
 use Rattle.strat_cursor.specs.Looking.{arrays_there}
 use Rattle.strat_format.proofs.ManifestLemmas.{pass_at}
@@ -32,7 +33,7 @@ use Rattle.strat_standing.specs.Occupied.{arrays_in}
 use Rattle.strat_state.specs.Level.{is_distinct}
 use Rattle.strat_store.proofs.IdLemmas.{ids}
 use Rattle.strat_store.proofs.NextContentsLemmas.{numbers_rise, parted}
-use Rattle.strat_store.proofs.RetiringLemmas.{distinct_parts, named_array, retired_from, retired_named, retired_own, retired_same, retired_still}
+use Rattle.strat_store.proofs.RetiringLemmas.{distinct_parts}
 use Rattle.strat_store.proofs.SettlingLemmas.{listed_arrays, named_there}
 use Rattle.strat_store.proofs.WholeLemmas.{array_lawful}
 use Rattle.strat_store.specs.Held.{Held, AreKept, ArePlaced, IsConsistent, arrays_held, contents_held}
@@ -90,10 +91,9 @@ pub left_held : (s : Held) (target : ℕ) (a : ArrayDesc) → ArePlaced s.chaine
     → Contains (arrays_held s.memory s.levels) a
 left_held s target a placed of =
     let taken : List ArrayDesc = arrays_taken target s.chained.manifest in
-    let left : List ArrayDesc = (retired_all taken s.memory.cursors).retired in
-    among_contained (arrays_held s.memory s.levels) a (elim (retired_from taken s.memory.cursors a (contained_among left a of)) [
-      | inl before ↦ among_right (arrays_there s.levels) s.memory.cursors.retired a before
-      | inr gone ↦ among_left (arrays_there s.levels) s.memory.cursors.retired a (taken_there s target a placed gone)
+    among_contained (arrays_held s.memory s.levels) a (elim (retired_from s.memory.cursors taken a of) [
+      | inl before ↦ among_right (arrays_there s.levels) s.memory.cursors.retired a (contained_among s.memory.cursors.retired a before)
+      | inr gone ↦ among_left (arrays_there s.levels) s.memory.cursors.retired a (taken_there s target a placed (contained_among taken a gone))
     ])
 
 module _ (s : Held) (target : ℕ) (sb : Super) (chained : Chained) (levels : List (Option LevelDesc)) (whole : IsConsistent s) (are : ArePublishedTo target s.sb s.chained.manifest s.memory sb chained.manifest)
@@ -164,7 +164,7 @@ module _ (s : Held) (target : ℕ) (sb : Super) (chained : Chained) (levels : Li
 
   own_left : is_distinct (ids left) ≡ true
   own_left =
-      retired_own taken c (
+      retired_ids c taken [] (
         ap is_distinct (map-append (λ (a : ArrayDesc). a.id) taken c.retired)
         ∙ distinct_append (ids taken) (ids c.retired) (distinct_parts (ids taken) (ids behind) own_levels).0 (distinct_parts (ids (taken ++ behind)) (ids c.retired) own_parts).1 (λ v one two.
         let x = map_among (λ (a : ArrayDesc). a.id) taken v one in
@@ -173,8 +173,14 @@ module _ (s : Held) (target : ℕ) (sb : Super) (chained : Chained) (levels : Li
       )
 
   -- what is kept stood in a level or was kept
+  left_from : (a : ArrayDesc) → Among a left → Among a c.retired ⊎ Among a taken
+  left_from a among = elim (retired_from c taken a (among_contained left a among)) [
+    | inl before ↦ inl (contained_among c.retired a before)
+    | inr gone ↦ inr (contained_among taken a gone)
+  ]
+
   left_were : (a : ArrayDesc) → Among a left → Among a ((taken ++ behind) ++ c.retired)
-  left_were a among = elim (retired_from taken c a among) [
+  left_were a among = elim (left_from a among) [
     | inl before ↦ among_right (taken ++ behind) c.retired a before
     | inr gone ↦ among_left (taken ++ behind) c.retired a (among_left taken behind a gone)
   ]
@@ -185,7 +191,7 @@ module _ (s : Held) (target : ℕ) (sb : Super) (chained : Chained) (levels : Li
         let high = are.numbered x (among_contained made x fresh) in
         let under = low y (left_were y two) in
         omega (arith, high, under, same)
-    | inr deep ↦ elim (retired_from taken c y two) [
+    | inr deep ↦ elim (left_from y two) [
       | inl before ↦ levels_apart x y (among_right taken behind x deep) before same
       | inr gone ↦ taken_apart y x gone deep (sym same)
     ]
@@ -208,17 +214,17 @@ module _ (s : Held) (target : ℕ) (sb : Super) (chained : Chained) (levels : Li
   pub kept_next : AreKept sb next.next_array levels (renewed s.sb.mem taken s.memory)
   kept_next = record {
     named = λ a of.
-        let opened : (retired_all taken c).opened ≡ c.opened = ap (λ (r : HeldCursors). r.opened) (retired_same taken c) in
+        let opened : (retired_all taken c).opened ≡ c.opened = (retired_rest c taken).0 in
         let asked : Contains (arrays_named c.opened) a = subst (λ (cs : List HeldCursor). Contains (arrays_named cs) a) opened of in
-        let is_named : is_array_named c.opened a.id ≡ true = named_array c.opened a (contained_among (arrays_named c.opened) a asked) in
+        let is_named : is_array_named c.opened a.id ≡ true = named_id c.opened a asked in
         let was : Among a ((taken ++ behind) ++ c.retired) =
         subst (λ (xs : List ArrayDesc). Among a (xs ++ c.retired)) were (contained_among (arrays_held s.memory s.levels) a (whole.kept.named a asked)) in
         among_contained (arrays_there levels ++ left) a (elim (among_split (taken ++ behind) c.retired a was) [
           | inl level ↦ elim (among_split taken behind a level) [
-            | inl gone ↦ among_right (arrays_there levels) left a (retired_named taken c a gone is_named)
+            | inl gone ↦ among_right (arrays_there levels) left a (contained_among left a (retired_there c taken a is_named (among_contained taken a gone)))
             | inr deep ↦ among_left (arrays_there levels) left a (subst (λ (xs : List ArrayDesc). Among a xs) (sym now_are) (among_right made behind a deep))
           ]
-          | inr before ↦ among_right (arrays_there levels) left a (retired_still taken c a before)
+          | inr before ↦ among_right (arrays_there levels) left a (contained_among left a (retired_kept c taken a (among_contained c.retired a before)))
         ]);
     ids = ap is_distinct (map-append (λ (a : ArrayDesc). a.id) (arrays_there levels) left)
         ∙ distinct_append (ids (arrays_there levels)) (ids left) next_own own_left (λ v one two.
@@ -229,8 +235,8 @@ module _ (s : Held) (target : ℕ) (sb : Super) (chained : Chained) (levels : Li
       | inl there ↦ next_low a there
       | inr kept ↦ let under = low a (left_were a kept) in let more = later in omega (arith, under, more)
     ];
-    behind = λ a b of here. subst (λ (n : ℕ). first_free n ≤ b) (sym mem_is) (elim (retired_from taken c a (contained_among left a of)) [
-      | inl before ↦ whole.kept.behind a b (among_contained c.retired a before) here
-      | inr gone ↦ taken_named a b gone here
+    behind = λ a b of here. subst (λ (n : ℕ). first_free n ≤ b) (sym mem_is) (elim (retired_from c taken a of) [
+      | inl before ↦ whole.kept.behind a b before here
+      | inr gone ↦ taken_named a b (contained_among taken a gone) here
     ]);
   }

@@ -12,6 +12,7 @@ use Rattle.strat_crash.proofs.BlockLemmas.{keeps_trans}
 use Rattle.strat_crash.specs.Blocks.{AgreeOn, KeepsTaken}
 use Rattle.strat_crash.specs.Image.{Image}
 use Rattle.strat_crash.specs.Moments.{DiskView, Exposes, Passes, TearsOnly, OnlyReads}
+use Rattle.strat_cursor.proofs.RetiredLemmas.{retired_rest}
 use Rattle.strat_cursor.specs.Cursors.{retired_all}
 use Rattle.strat_cursor.specs.Held.{AreRowsOf, HeldCursor, HeldCursors}
 use Rattle.strat_cursor.specs.Looking.{arrays_there}
@@ -44,7 +45,6 @@ use Rattle.strat_store.specs.declared.recovering.Recovered.{Recovered}
 use Rattle.strat_store.proofs.KeptLemmas.{behind_kept, left_held}
 use Rattle.strat_store.proofs.OnDiskLemmas.{kept_on, read_on, logged_on, some_told, told_some}
 use Rattle.strat_store.proofs.PayingLemmas.{paid_reads}
-use Rattle.strat_store.proofs.RetiringLemmas.{retired_same}
 use Rattle.strat_store.proofs.SettledLemmas.{agree_once}
 
 -- a change that was logged
@@ -261,7 +261,7 @@ rows_renewed old mid new parents opened keeps f rows are =
 
 pub opened_after : (sb next_sb : Super) (m next : Manifest) (memory : Memory) (cursors : HeldCursors) → ArePublishedAfter sb m memory next_sb next cursors → cursors.opened ≡ memory.cursors.opened
 opened_after sb next_sb m next memory cursors after =
-    ap (λ (cs : HeldCursors). cs.opened) after.cursors_are ∙ ap (λ (cs : HeldCursors). cs.opened) (retired_same (arrays_taken after.target m) memory.cursors)
+    ap (λ (cs : HeldCursors). cs.opened) after.cursors_are ∙ (retired_rest memory.cursors (arrays_taken after.target m)).0
 
 pub leaves_wanted : (v w : DiskView) (s t : Held) (r : Request) (c : Change) (told : Reply) → change_wanted r ≡ Some c → LeavesPublished v w s (accepts told) told t
     → LeavesPublished v w s (carries_out r told) told t

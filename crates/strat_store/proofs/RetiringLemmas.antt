@@ -1,19 +1,18 @@
 -- Arrays that leave the levels: those that a cursor names are kept.
-use Rattle.std.proofs.Common.{◌≡◌, ◌≤◌, ◌<◌, ◌+◌, ℕ, Bool, true, false, eqb, inl, inr, ◌⊎◌, List, [], ◌∷◌, ◌++◌, append-nil, length, length-append, map, take, get_or, Option, refl, sym, ap, ◌∙◌, subst, arith}
-use Rattle.std.specs.Prelude.{if◌then◌else◌, filter, nat_le}
-use Rattle.std.specs.List.{flat_map}
-use Rattle.std.proofs.lemmas.Bool.{eq-eqb, le-leb, lt-leb}
-use Rattle.std.proofs.lemmas.List.{map-append, take_more}
+use Rattle.std.proofs.Common.{◌≡◌, ◌≤◌, ◌<◌, ◌+◌, ℕ, Bool, true, false, inl, inr, List, [], ◌∷◌, ◌++◌, append-nil, length, length-append, take, get_or, Option, refl, sym, ap, ◌∙◌, subst, arith}
+use Rattle.std.specs.Prelude.{if◌then◌else◌, nat_le}
+use Rattle.std.proofs.lemmas.Bool.{le-leb, lt-leb}
+use Rattle.std.proofs.lemmas.List.{take_more}
 use Rattle.std.proofs.lemmas.List.Concat.{flat_map-append}
 use Rattle.std.proofs.lemmas.List.Elements.{filter-append}
-use Rattle.strat_base.proofs.ListFacts.{Among, among_left, among_right, among_split, among_flat, any_from}
+use Rattle.strat_base.proofs.ListFacts.{Among, among_left, among_right}
 use Rattle.strat_base.specs.declared.descriptors.ArrayDesc.{ArrayDesc}
 use Rattle.strat_base.specs.declared.descriptors.LevelDesc.{LevelDesc}
-use Rattle.strat_cursor.specs.Cursors.{CursorOver, CursorsOver, arrays_named, is_array_named, retired_all, retired_by}
-use Rattle.strat_plan.proofs.ListLemmas.{among_map, map_among, distinct_append, distinct_head, distinct_tail}
+use Rattle.strat_cursor.proofs.RetiredLemmas.{retired_rest}
+use Rattle.strat_cursor.specs.Cursors.{CursorsOver, is_array_named, retired_all, retired_by}
+use Rattle.strat_plan.proofs.ListLemmas.{distinct_append, distinct_head, distinct_tail}
 use Rattle.strat_standing.specs.Occupied.{arrays_in}
 use Rattle.strat_state.specs.Level.{is_distinct}
-use Rattle.strat_store.proofs.IdLemmas.{ids}
 use Rattle.strat_store.specs.Memory.{Memory, prepared}
 use Rattle.strat_store.specs.Publishing.{descs_to}
 
@@ -37,16 +36,6 @@ distinct_parts (x ∷ xs) ys e =
 module _ {L : Type 0} where
   abbrev kept_if : Bool → CursorsOver L → ArrayDesc → CursorsOver L
   kept_if b r a = if b then record r { retired = r.retired ++ a ∷ [] } else r
-
-  -- only the arrays that are kept change
-  same_on : (b : Bool) (c r : CursorsOver L) (a : ArrayDesc) → r ≡ record c { retired = r.retired } → kept_if b r a ≡ record c { retired = (kept_if b r a).retired }
-  same_on true c r a e = ap (λ (x : CursorsOver L). record x { retired = r.retired ++ a ∷ [] }) e
-  same_on false c r a e = e
-
-  pub retired_same : (arrays : List ArrayDesc) (c : CursorsOver L) → retired_all arrays c ≡ record c { retired = (retired_all arrays c).retired }
-  unfolding retired_all
-  retired_same [] c = refl
-  retired_same (a ∷ arrays) c = same_on (is_array_named (retired_all arrays c).opened a.id) c (retired_all arrays c) a (retired_same arrays c)
 
   -- whatever the room is
   room_on : (b : Bool) (r : CursorsOver L) (a : ArrayDesc) (n : ℕ) → kept_if b (record r { room = n }) a ≡ record (kept_if b r a) { room = n }
@@ -91,76 +80,6 @@ module _ {L : Type 0} where
       let rest = retired_few arrays c in
       let one = few_on (is_array_named (retired_all arrays c).opened a.id) (retired_all arrays c) a in
       omega (arith, rest, one)
-
-  -- each was kept before, or is one of these
-  from_on : (b : Bool) (r : CursorsOver L) (a x : ArrayDesc) → Among x (kept_if b r a).retired → Among x r.retired ⊎ (x ≡ a)
-  from_on true r a x among = elim (among_split r.retired (a ∷ []) x among) [
-    | inl was ↦ inl was
-    | inr last ↦ elim last [ inl here ↦ inr here | inr none ↦ absurd none ]
-  ]
-  from_on false r a x among = inl among
-
-  pub retired_from : (arrays : List ArrayDesc) (c : CursorsOver L) (x : ArrayDesc) → Among x (retired_all arrays c).retired → Among x c.retired ⊎ Among x arrays
-  unfolding retired_all
-  retired_from [] c x among = inl among
-  retired_from (a ∷ arrays) c x among = elim (from_on (is_array_named (retired_all arrays c).opened a.id) (retired_all arrays c) a x among) [
-    | inl was ↦ elim (retired_from arrays c x was) [ inl before ↦ inl before | inr there ↦ inr (inr there) ]
-    | inr here ↦ inr (inl here)
-  ]
-
-  -- what was kept still is
-  still_on : (b : Bool) (r : CursorsOver L) (a x : ArrayDesc) → Among x r.retired → Among x (kept_if b r a).retired
-  still_on true r a x among = among_left r.retired (a ∷ []) x among
-  still_on false r a x among = among
-
-  pub retired_still : (arrays : List ArrayDesc) (c : CursorsOver L) (x : ArrayDesc) → Among x c.retired → Among x (retired_all arrays c).retired
-  unfolding retired_all
-  retired_still [] c x among = among
-  retired_still (a ∷ arrays) c x among = still_on (is_array_named (retired_all arrays c).opened a.id) (retired_all arrays c) a x (retired_still arrays c x among)
-
-  -- and so is each of these that a cursor names
-  last_on : (b : Bool) (r : CursorsOver L) (a x : ArrayDesc) → b ≡ true → x ≡ a → Among x (kept_if b r a).retired
-  last_on true r a x named here = among_right r.retired (a ∷ []) x (inl here)
-  last_on false r a x named here = absurd (cc)
-
-  pub retired_named : (arrays : List ArrayDesc) (c : CursorsOver L) (x : ArrayDesc) → Among x arrays → is_array_named c.opened x.id ≡ true → Among x (retired_all arrays c).retired
-  unfolding retired_all
-  retired_named [] c x among named = absurd among
-  retired_named (a ∷ arrays) c x (inl here) named =
-      let opened : (retired_all arrays c).opened ≡ c.opened = ap (λ (r : CursorsOver L). r.opened) (retired_same arrays c) in
-      last_on (is_array_named (retired_all arrays c).opened a.id) (retired_all arrays c) a x ((λ i. is_array_named (opened i) (sym here i).id) ∙ named) here
-  retired_named (a ∷ arrays) c x (inr there) named = still_on (is_array_named (retired_all arrays c).opened a.id) (retired_all arrays c) a x (retired_named arrays c x there named)
-
-  -- an array that a cursor names is named by its number
-  pub named_array : (cursors : List (CursorOver L)) (a : ArrayDesc) → Among a (arrays_named cursors) → is_array_named cursors a.id ≡ true
-  named_array cursors a among =
-      let one = among_flat (λ (c : CursorOver L). c.arrays) cursors a among in
-      any_from _ one.0 cursors one.1 (any_from (λ (b : ArrayDesc). eqb b.id a.id) a one.0.arrays one.2 (eq-eqb a.id a.id refl))
-
-  -- no two of them have one number
-  own_on : (b : Bool) (r : CursorsOver L) (a : ArrayDesc) → is_distinct (ids r.retired) ≡ true → (Among a.id (ids r.retired) → ⊥) → is_distinct (ids (kept_if b r a).retired) ≡ true
-  own_on true r a own apart =
-      ap is_distinct (map-append (λ (x : ArrayDesc). x.id) r.retired (a ∷ []))
-      ∙ distinct_append (ids r.retired) (a.id ∷ []) own refl (λ v one two. elim two [
-        | inl same ↦ apart (subst (λ (n : ℕ). Among n (ids r.retired)) same one)
-        | inr none ↦ absurd none
-      ])
-  own_on false r a own apart = own
-
-  pub retired_own : (arrays : List ArrayDesc) (c : CursorsOver L) → is_distinct (ids (arrays ++ c.retired)) ≡ true → is_distinct (ids (retired_all arrays c).retired) ≡ true
-  unfolding retired_all
-  retired_own [] c own = own
-  retired_own (a ∷ arrays) c own =
-      own_on (is_array_named (retired_all arrays c).opened a.id) (retired_all arrays c) a
-      (retired_own arrays c (distinct_tail a.id (ids (arrays ++ c.retired)) own))
-      (λ among.
-      let one = map_among (λ (x : ArrayDesc). x.id) (retired_all arrays c).retired a.id among in
-      let there : Among one.0 (arrays ++ c.retired) = elim (retired_from arrays c one.0 one.1) [
-        | inl before ↦ among_right arrays c.retired one.0 before
-        | inr here ↦ among_left arrays c.retired one.0 here
-      ] in
-      distinct_head a.id (ids (arrays ++ c.retired)) own
-      (subst (λ (n : ℕ). Among n (ids (arrays ++ c.retired))) (sym one.2) (among_map (λ (x : ArrayDesc). x.id) (arrays ++ c.retired) one.0 there)))
 
 -- arrays are retired in turn, the last one first: these are left
 pub record Retires (old : Memory) (arrays : List ArrayDesc) (now : Memory) (left : List ArrayDesc) : Type 0 where
@@ -237,7 +156,7 @@ module _ (target : ℕ) (old : Memory) (levels : List LevelDesc) where
         let cursors : next.cursors ≡ retired_all level.arrays now.cursors = ap (λ (m : Memory). m.cursors) is in
         let few = retired_few level.arrays now.cursors in
         let kept = ap (λ c. length c.retired) cursors in
-        let room = ap (λ c. c.room) cursors ∙ ap (λ c. c.room) (retired_same level.arrays now.cursors) in
+        let room = ap (λ c. c.room) cursors ∙ (retired_rest now.cursors level.arrays).2 in
         let all = so.room in
         let many = count in
         record {
