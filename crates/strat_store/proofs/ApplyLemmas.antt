@@ -22,7 +22,8 @@ use Rattle.strat_model.specs.declared.replies.Refusal.TheVariants as why
 use Rattle.strat_model.specs.Command.{request_of}
 use Rattle.strat_model.specs.declared.commands.Command.{Command}
 use Rattle.strat_model.specs.declared.commands.Command.TheVariants as command
-use Rattle.strat_model.specs.Answer.{Answer, plain, accepts}
+use Rattle.strat_array.specs.Told.{TheirPairs}
+use Rattle.strat_model.specs.Answer.{Answer, plain, accepts, as_told, refusal}
 use Rattle.strat_model.specs.Pairs.{range, value_of}
 use Rattle.strat_model.specs.Request.{Request, Put, Delete, Get, Clone, Scan, Info, Stat}
 use Rattle.strat_model.specs.Run.{Position, is_change, reaches_disk, position_after, fill_after}
@@ -40,7 +41,7 @@ use Rattle.strat_store.proofs.MemoryLawLemmas.{version_told, store_told_with, ve
 use Rattle.strat_store.proofs.CursoringLemmas.{looks_wider, stands_now, stands_still, still_going}
 use Rattle.strat_store.specs.Applying.{IsLookedUp, FollowsStep, TellsFaultOf, change_wanted, is_fault, ran_short, table_left}
 use Rattle.strat_store.specs.Cursoring.{IsAppliedAt, is_of_cursor}
-use Rattle.strat_store.specs.Ranging.{TellsFrom}
+use Rattle.strat_store.specs.Ranging.{TellsFrom, TellsOfVersion}
 use Rattle.strat_store.specs.Held.{Held, arrays_held, position_at, table_at, IsConsistent, StandsAt, StandsWith}
 use Rattle.strat_store.specs.Memory.{Memory, info_told, stat_told, IsMemoryOf}
 
@@ -98,6 +99,18 @@ info_calm m version told known unknown = by_test (is_known m.parents version) re
     by_test : (b : Bool) → is_known m.parents version ≡ b → is_fault told ≡ false
     by_test true is = ap is_fault (known is)
     by_test false is = ap is_fault (unknown is)
+
+-- so it is told
+pub info_says : (m : Memory) (version : ℕ) (told : Reply) → (is_known m.parents version ≡ true → told ≡ info_told m version) → (is_known m.parents version ≡ false → told ≡ reply.Refused why.UnknownVersion)
+    → TellsOfVersion m version (plain told) (plain told ≡ plain (info_told m version))
+info_says m version told known unknown = (λ off. ap plain (unknown off), λ is. ap plain (known is))
+
+-- a version that is not there is told so, without pairs
+pub unknown_answer : (told : Reply) (out : TheirPairs) → told ≡ reply.Refused why.UnknownVersion → out ≡ [] → as_told told out ≡ refusal why.UnknownVersion
+unknown_answer told out is none = λ i. as_told (is i) (none i)
+
+pub other_than : reply.Refused why.UnknownVersion ≡ reply.Found → ⊥
+other_than e = cc
 
 -- what reads a version leaves the table as it was
 says_kept : (k : Bool) (t : Table) (a : Answer) (r : Refusal) → (if k then replies_with t a else refuses t r).table ≡ t

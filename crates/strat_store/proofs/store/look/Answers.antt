@@ -12,7 +12,7 @@ use Rattle.strat_recovery.specs.StateTable.{table_of}
 use Rattle.strat_standing.specs.Contents.{contents_state}
 use Rattle.strat_store.specs.Applying.{is_fault}
 use Rattle.strat_store.specs.Recovering.{held_of}
-use Rattle.strat_store.proofs.ApplyLemmas.{get_same, info_calm, info_here, info_says, look_applied, memory_applied, none_left, scan_fits, scan_same, stat_here, tells_calm}
+use Rattle.strat_store.proofs.ApplyLemmas.{get_same, info_calm, info_here, info_says, look_applied, memory_applied, none_left, scan_fits, scan_same, stat_here, tells_calm, other_than, unknown_answer}
 use Rattle.strat_store.proofs.store.look.Goals as goal
 
 pub returns-in-Get-clause-ok : goal.returns-in-Get-clause-ok
@@ -63,13 +63,13 @@ returns-in-Scan-clause-err g c = rw (c.in-Scan.is) (record { reached = λ failed
 
 pub returns-in-Get-clause-found : goal.returns-in-Get-clause-found
 returns-in-Get-clause-found g c = λ f exposed ordered cached calm. rw (c.in-Get.is) (
-  λ off. unknown_answer c.get.result c.get.new.out (c.get.ensures.none off).0 c.get.ensures.len.1,
+  λ off. unknown_answer c.get.result c.get.new.out (c.get.ensures.none off).0 (c.get.ensures.len.1 (λ found. other_than (sym (c.get.ensures.none off).0 ∙ found))),
   λ known. c.get.ensures.found f exposed ordered cached calm known,
 )
 
 pub returns-in-Scan-clause-found : goal.returns-in-Scan-clause-found
 returns-in-Scan-clause-found g c = λ f exposed ordered cached calm. rw (c.in-Scan.is) (
-  λ off. unknown_page c.scan_range.result c.scan_range.new.out (c.scan_range.ensures.none off),
+  λ off. unknown_answer c.scan_range.result c.scan_range.new.out (c.scan_range.ensures.none off).0 (c.scan_range.ensures.none off).2,
   λ known pairs asked. c.scan_range.ensures.found f pairs exposed ordered cached calm known asked,
 )
 
