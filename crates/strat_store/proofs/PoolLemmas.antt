@@ -1,15 +1,14 @@
 -- Level 0, the next one and the cursors in a pool, as calls change it.
 use Rattle.std.proofs.Common.{◌≡◌, ◌≢◌, ◌≤◌, ◌<◌, ◌+◌, ◌*◌, ℕ, Bool, true, false, cond, eqb, inl, inr, List, [], ◌∷◌, Option, Some, None, Result, Ok, Err, length, refl, sym, ap, ◌∙◌, subst, arith}
-use Rattle.std.specs.List.{Contains, count_by}
+use Rattle.std.specs.List.{count_by}
 use Rattle.std.specs.Option.{option_map}
 use Rattle.std.specs.Result.{OnErr, OnOk}
 use Rattle.std.proofs.lemmas.Bool.{cases_eq, eq-eqb, ne_eqb}
 use Rattle.std.proofs.lemmas.List.Sums.{sum_by-cons}
 use Rattle.strat_arena.specs.Items.{entries_of}
-use Rattle.strat_arena.specs.PoolView.{SameBeside, arena_at, count_shared, pool_entry, shares_at}
+use Rattle.strat_arena.specs.PoolView.{SameBeside, arena_at, count_shared, shares_at}
 use Rattle.strat_arena.specs.declared.items.Item.{Item}
 use Rattle.strat_arena.specs.declared.pool.PoolEntry.{PoolEntry}
-use Rattle.strat_base.specs.Entries.{Entry}
 use Rattle.strat_base.specs.Tree.{Parents, IsTree, with_child}
 use Rattle.strat_level.specs.Memtable.{ItemList, Memtable, entries_held, ListStands, MemtableStands}
 use Rattle.strat_level.proofs.PutLemmas.{stands_while, memtable_stands_while}

@@ -1,5 +1,5 @@
 use Rattle.std.proofs.Common.{◌≡◌, List, sym, ap, ◌∙◌, subst}
-use Rattle.strat_cursor.specs.Cursors.{CursorsView, OpenCursor, closed_at, without_cursor}
+use Rattle.strat_cursor.specs.Cursors.{CursorsView, OpenCursor}
 use Rattle.strat_cursor.specs.Held.{cursors_held}
 use Rattle.strat_cursor.specs.Pins.{ArePinned, SharesFollow}
 use Rattle.strat_cursor.proofs.HeldLemmas.{held_gone, held_opened}

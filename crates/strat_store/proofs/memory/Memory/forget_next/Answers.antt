@@ -1,4 +1,4 @@
-use Rattle.std.proofs.Common.{◌≡◌, Option, Some, None, refl, sym, ap, ◌∙◌, subst}
+use Rattle.std.proofs.Common.{◌≡◌, Option, Some, refl, sym, ◌∙◌, subst}
 use Rattle.strat_level.specs.Memtable.{Memtable, entries_held}
 use Rattle.std.specs.Option.{option_map}
 use Rattle.strat_store.specs.MemoryFields.{memory_held, StandInPool}

@@ -1,5 +1,4 @@
-use Rattle.std.proofs.Common.{◌≡◌, ◌<◌, ◌≤◌, ◌+◌, ℕ, None, length, sym, ap, ◌∙◌, subst, arith}
-use Rattle.strat_arena.specs.PoolView.{shares_at}
+use Rattle.std.proofs.Common.{◌≡◌, ◌≤◌, None, length, ap, ◌∙◌, arith}
 use Rattle.strat_cursor.specs.Cursors.{CursorsView}
 use Rattle.strat_cursor.specs.Held.{cursors_held}
 use Rattle.strat_cursor.specs.Pins.{ArePinned, IsSamePool, IsStarted, SharesFollow, arrays_asked}
@@ -51,11 +50,14 @@ returns-clause-ok c =
     (λ n. (n ≡ before.next)
     × (record m { entries = entries_held c.start.new.pool c.self.inside.zero.list; cursors = cursors_held c.start.new.pool c.start.new.self }
     ≡ record m { cursors = with_cursor m.cursors (cursor_from m c.args.levels.now c.args.version c.args.lo.now c.args.hi.now) }))
-    (λ n told. (told.0, λ i. record m {
-      entries = entries c i;
-      cursors = held_started c.self.inside.tree.parents c.self.inside.pool c.start.new.pool before c.start.new.self c.args.version c.args.lo.now c.args.hi.now c.self.inside.zero None arrays
-          c.self.invariant.stand.pinned (both c).1 (both c).0 told.1 i;
-    }))
+    (λ n told. (
+      told.0,
+      λ i. record m {
+        entries = entries c i;
+        cursors = held_started c.self.inside.tree.parents c.self.inside.pool c.start.new.pool before c.start.new.self c.args.version c.args.lo.now c.args.hi.now c.self.inside.zero None arrays
+            c.self.invariant.stand.pinned (both c).1 (both c).0 told.1 i;
+      },
+    ))
     c.start.ensures.ok)
 
 pub returns-clause-err : goal.returns-clause-err

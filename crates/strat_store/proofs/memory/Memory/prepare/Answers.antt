@@ -1,5 +1,4 @@
-use Rattle.std.proofs.Common.{◌≡◌, ◌<◌, ◌≤◌, Option, Some, None, length, sym, ap, ◌∙◌, subst, arith}
-use Rattle.strat_arena.specs.PoolView.{count_shared}
+use Rattle.std.proofs.Common.{◌≡◌, ◌≤◌, Option, Some, None, length, ap, ◌∙◌, subst, arith}
 use Rattle.strat_level.specs.Memtable.{Memtable, entries_held}
 use Rattle.strat_store.specs.Memory.{Memory}
 use Rattle.strat_store.specs.MemoryFields.{memory_held, StandInPool}

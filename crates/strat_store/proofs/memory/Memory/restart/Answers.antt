@@ -1,9 +1,8 @@
-use Rattle.std.proofs.Common.{◌≡◌, [], List, Option, Some, None, refl, sym, ap, ◌∙◌, subst}
+use Rattle.std.proofs.Common.{◌≡◌, [], List, Option, Some, None, sym, ap, ◌∙◌, subst}
 use Rattle.std.specs.Option.{option_map}
 use Rattle.strat_base.specs.Entries.{Entry}
-use Rattle.strat_level.specs.Memtable.{Memtable, entries_held, MemtableStands}
+use Rattle.strat_level.specs.Memtable.{Memtable, entries_held}
 use Rattle.strat_recovery.specs.TableOver.{are_known}
-use Rattle.strat_store.specs.Memory.{Memory}
 use Rattle.strat_store.specs.MemoryFields.{memory_held, StandInPool}
 use Rattle.strat_store.proofs.PoolLemmas.{left_held, left_stands, no_entries, room_ready, without_zero_shares}
 use Rattle.strat_store.proofs.memory.Memory.restart.Goals as goal
@@ -35,17 +34,17 @@ invariant_of-self c = record {
 pub returns-in-Some : goal.returns-in-Some
 returns-in-Some c = record {
   ok = rw (← c.self.view_is) (λ mem ready.
-  let room : c.replace.new.dest.spare ≡ mem =
-  ap (λ (z : Memtable). z.spare) c.replace.ensures.after ∙ room_ready c.self.inside.next c.in-Some.next mem (sym c.take.ensures.value ∙ c.in-Some.is) ready in
-  λ i. record (memory_held c.self.inside) {
-    entries = empty c i;
-    spare = room i;
-    ready = option_map (λ (z : Memtable). z.spare) (c.take.ensures.after i);
-    cursors = record (memory_held c.self.inside).cursors {
-      opened = left_held c.self.inside.pool c.release.new.pool c.replace.result.list.arena c.release.ensures.ok c.release.ensures.kept c.release.ensures.same
-          c.self.inside.tree.parents c.in-Some.next c.self.inside.cursors.opened (stood c).beside.0 (stood c).pinned
-          (without_zero_shares c.self.inside.pool c.release.new.pool c.replace.result.list.arena c.release.ensures.ok c.release.ensures.kept c.release.ensures.same
-          c.self.inside.zero c.in-Some.next c.self.inside.tree.parents c.self.inside.cursors.opened (ap (λ (z : Memtable). z.list.arena) c.replace.ensures.value) (stood c)) i;
-    };
-  });
+      let room : c.replace.new.dest.spare ≡ mem =
+      ap (λ (z : Memtable). z.spare) c.replace.ensures.after ∙ room_ready c.self.inside.next c.in-Some.next mem (sym c.take.ensures.value ∙ c.in-Some.is) ready in
+      λ i. record (memory_held c.self.inside) {
+        entries = empty c i;
+        spare = room i;
+        ready = option_map (λ (z : Memtable). z.spare) (c.take.ensures.after i);
+        cursors = record (memory_held c.self.inside).cursors {
+          opened = left_held c.self.inside.pool c.release.new.pool c.replace.result.list.arena c.release.ensures.ok c.release.ensures.kept c.release.ensures.same
+              c.self.inside.tree.parents c.in-Some.next c.self.inside.cursors.opened (stood c).beside.0 (stood c).pinned
+              (without_zero_shares c.self.inside.pool c.release.new.pool c.replace.result.list.arena c.release.ensures.ok c.release.ensures.kept c.release.ensures.same
+              c.self.inside.zero c.in-Some.next c.self.inside.tree.parents c.self.inside.cursors.opened (ap (λ (z : Memtable). z.list.arena) c.replace.ensures.value) (stood c)) i;
+        };
+      });
 }
