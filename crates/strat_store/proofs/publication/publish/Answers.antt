@@ -4,17 +4,18 @@ use Rattle.strat_array.specs.Kept.{Blocks}
 use Rattle.strat_base.specs.declared.descriptors.LevelDesc.{LevelDesc}
 use Rattle.strat_base.specs.declared.failures.Trouble.{Trouble}
 use Rattle.strat_base.specs.declared.failures.Trouble.TheVariants as trouble
-use Rattle.strat_crash.proofs.MomentLemmas.{passes_trans}
+use Rattle.strat_crash.proofs.MomentLemmas.{passes_trans, reads_refl}
 use Rattle.strat_crash.specs.Blocks.{TearsBlocks}
 use Rattle.strat_format.specs.SuperBlock.{Super}
 use Rattle.strat_gate.specs.SuperView.{super_of}
 use Rattle.strat_journal.proofs.ReadLemmas.{same_err}
 use Rattle.strat_manifest.specs.ManifestView.{manifest_of}
 use Rattle.strat_promote.proofs.OpeningLemmas.{on_err}
+use Rattle.strat_promote.specs.Job.{blocks_listed}
 use Rattle.strat_standing.specs.Occupied.{arrays_in}
 use Rattle.strat_standing.specs.Standing.{ShowsTable}
 use Rattle.strat_store.specs.Applying.{IsPublishedAs}
-use Rattle.strat_store.specs.Held.{Held, IsConsistent, IsOnDisk}
+use Rattle.strat_store.specs.Held.{Held, IsConsistent, IsOnDisk, arrays_held}
 use Rattle.strat_store.specs.Memory.{Memory}
 use Rattle.strat_store.specs.Paying.{CountsWritten}
 use Rattle.strat_store.specs.Publishing.{is_in_front}
@@ -71,9 +72,6 @@ returns-in_err-next-clause-trail g c = λ x cached stands.
 pub returns-in_err-next-clause-kept : goal.returns-in_err-next-clause-kept
 returns-in_err-next-clause-kept g c = λ short cached. consistent_ready (held_of c.args.held.now cached) c.make_room.new.memory.ready c.make_room.new.memory.cursors.room c.make_room.new.memory c.make_room.ensures.same (c.requires.kept cached)
 
-pub returns-in_err-next-clause-time : goal.returns-in_err-next-clause-time
-returns-in_err-next-clause-time g c = (c.prepare_next.ensures.images (empty_cache 0)).tears.time
-
 pub returns-in_err-next-clause-damaged : goal.returns-in_err-next-clause-damaged
 returns-in_err-next-clause-damaged g c = λ b torn.
     let v = g.D.Disk.view c.args.disk.now in
@@ -113,9 +111,6 @@ returns-in_err-settle-clause-trail g c = λ x cached stands.
           (paid_beside v (g.D.Disk.view c.prepare_next.new.disk) (held_of mid cached) x here (c.prepare_next.ensures.images cached) paid) (laid.1 paid (ready.paid paid full)),
     )
 
-pub returns-in_err-settle-clause-time : goal.returns-in_err-settle-clause-time
-returns-in_err-settle-clause-time g c = passes_trans (c.prepare_next.ensures.images (empty_cache 0)).tears.time c.settle.ensures.time
-
 pub returns-clause-ok : goal.returns-clause-ok
 returns-clause-ok g c = λ x cached stands.
     let v = g.D.Disk.view c.args.disk.now in
@@ -154,9 +149,6 @@ returns-clause-kept g c = λ _ cached.
     let admitted = c.in_ok-next.ensures.kept in
     subst IsConsistent (sym (c.in_ok-settle.ensures.ok cached))
     (consistent_next (held_of mid cached) next.target (super_of next.sb) (chained_of next.published) next.published.levels whole (c.in_ok-next.ensures.fits cached) c.in_ok-next.ensures.found admitted.spelled admitted.belonging admitted.placed)
-
-pub returns-clause-time : goal.returns-clause-time
-returns-clause-time g c = passes_trans (c.prepare_next.ensures.images (empty_cache 0)).tears.time c.settle.ensures.time
 
 pub returns-clause-found : goal.returns-clause-found
 returns-clause-found g c =
@@ -203,7 +195,7 @@ returns-in_err-make_room-clause-same g c =
       refl,
       ap (λ (k : Memory). k.parents) same,
       λ short. refl,
-      on_err c.from_residual-in_err-make_room.result _
+      on_err c.from_residual.result _
           (λ cached. (record { slot = refl; sb = refl; chained = refl; levels = refl }, cursors_ready c.args.held.now.memory m m.ready m.cursors.room same)),
     )
 
@@ -240,29 +232,38 @@ returns-clause-same g c =
     (c.settle.ensures.same, ap (λ (h : Held). h.memory.parents) all ∙ ap (λ (k : Memory). k.parents) c.make_room.ensures.same, λ short. absurd (cc), tt)
 
 pub returns-in_err-make_room-clause-images : goal.returns-in_err-make_room-clause-images
-returns-in_err-make_room-clause-images g c = λ f h was now. agree_once (g.D.Disk.view c.args.disk.now) f h _ was now
+returns-in_err-make_room-clause-images g c = (
+  (reads_refl (g.D.Disk.view c.args.disk.now)).time,
+  λ f h was now. agree_once (g.D.Disk.view c.args.disk.now) f h (blocks_listed (arrays_held c.args.held.now.memory c.args.held.now.published.levels)) was now,
+)
 
 pub returns-in_err-next-clause-images : goal.returns-in_err-next-clause-images
-returns-in_err-next-clause-images g c = λ f h was now.
+returns-in_err-next-clause-images g c =
     let m = c.make_room.new.memory in
-    let mid = record c.args.held.now { memory = m } in
+    let mid = record c.args.held.now { memory = m } in (
+    (c.prepare_next.ensures.images (empty_cache 0)).tears.time,
+    λ f h was now.
     agree_ready c.args.held.now.memory m m.ready m.cursors.room c.args.held.now.published.levels f h c.make_room.ensures.same
-    (arrays_kept (g.D.Disk.view c.args.disk.now) (g.D.Disk.view c.prepare_next.new.disk) (held_of mid (empty_cache 0)) (c.prepare_next.ensures.images (empty_cache 0)) (c.requires.kept (empty_cache 0)).placed f h was now)
+    (arrays_kept (g.D.Disk.view c.args.disk.now) (g.D.Disk.view c.prepare_next.new.disk) (held_of mid (empty_cache 0)) (c.prepare_next.ensures.images (empty_cache 0)) (c.requires.kept (empty_cache 0)).placed f h was now))
 
 pub returns-in_err-settle-clause-images : goal.returns-in_err-settle-clause-images
-returns-in_err-settle-clause-images g c = λ f h was now.
+returns-in_err-settle-clause-images g c =
     let m = c.make_room.new.memory in
     let mid = record c.args.held.now { memory = m } in
-    let whole = consistent_ready (held_of c.args.held.now (empty_cache 0)) m.ready m.cursors.room m c.make_room.ensures.same (c.requires.kept (empty_cache 0)) in
+    let whole = consistent_ready (held_of c.args.held.now (empty_cache 0)) m.ready m.cursors.room m c.make_room.ensures.same (c.requires.kept (empty_cache 0)) in (
+    passes_trans (c.prepare_next.ensures.images (empty_cache 0)).tears.time c.settle.ensures.time,
+    λ f h was now.
     agree_ready c.args.held.now.memory m m.ready m.cursors.room c.args.held.now.published.levels f h c.make_room.ensures.same
     (arrays_stay (g.D.Disk.view c.args.disk.now) (g.D.Disk.view c.prepare_next.new.disk) (g.D.Disk.view c.settle.new.disk) (held_of mid (empty_cache 0)) c.args.held.now.journal.mem whole whole.log.mem
-    (c.prepare_next.ensures.images (empty_cache 0)) c.settle.ensures.images f h was now)
+    (c.prepare_next.ensures.images (empty_cache 0)) c.settle.ensures.images f h was now))
 
 pub returns-clause-images : goal.returns-clause-images
-returns-clause-images g c = λ f h was now.
+returns-clause-images g c =
     let m = c.make_room.new.memory in
     let mid = record c.args.held.now { memory = m } in
-    let whole = consistent_ready (held_of c.args.held.now (empty_cache 0)) m.ready m.cursors.room m c.make_room.ensures.same (c.requires.kept (empty_cache 0)) in
+    let whole = consistent_ready (held_of c.args.held.now (empty_cache 0)) m.ready m.cursors.room m c.make_room.ensures.same (c.requires.kept (empty_cache 0)) in (
+    passes_trans (c.prepare_next.ensures.images (empty_cache 0)).tears.time c.settle.ensures.time,
+    λ f h was now.
     agree_ready c.args.held.now.memory m m.ready m.cursors.room c.args.held.now.published.levels f h c.make_room.ensures.same
     (arrays_stay (g.D.Disk.view c.args.disk.now) (g.D.Disk.view c.prepare_next.new.disk) (g.D.Disk.view c.settle.new.disk) (held_of mid (empty_cache 0)) c.args.held.now.journal.mem whole whole.log.mem
-    (c.prepare_next.ensures.images (empty_cache 0)) c.settle.ensures.images f h was now)
+    (c.prepare_next.ensures.images (empty_cache 0)) c.settle.ensures.images f h was now))
