@@ -383,7 +383,14 @@ leads_summed_up f (a ∷ arrays) each =
     let cons = sum_by-cons (λ (d : ArrayDesc). d.leads) a arrays in
     omega (arith, rest, here, both, cons)
 
--- no store that stands on its disk has a block that is bad for a promotion
+-- so none of their blocks is bad for a promotion
+none_bad : (f : Image) (levels : List LevelDesc) (s : State) (b : ℕ) (arrays : List ArrayDesc) → all_some (level_on f) levels ≡ Some s.levels → IsSound s
+    → ((a : ArrayDesc) → Among a arrays → Among a (flat_map (λ (l : LevelDesc). l.arrays) levels)) → IsBadInput f arrays b → ⊥
+none_bad f levels s b arrays read sound at input =
+    let e : None ≡ Some b = sym {a = misfit_in f input.array} (no_misfit_in f levels s read sound input.array (at input.array (contained_among arrays input.array input.one))) ∙ input.misfit in
+    cc
+
+-- no store that stands on its disk has such a block
 pub none_damaged : (v : DiskView) (s : Held) (x : Contents) (b : ℕ) → IsConsistent s → StandsWith v s x → ((f : Image) → Exposes v f → HaveFewLeads f s.memory s.levels → IsBadInput f (arrays_there s.levels) b) → ⊥
 none_damaged v s x b whole stands bad =
     let f : Image = stands.stands.content in
@@ -403,10 +410,7 @@ none_damaged v s x b whole stands bad =
     let sums = leads_summed s.levels (length s.memory.entries) whole.placed.count in
     let most = (whole_promotes s whole).few in
     omega (arith, leads, both, two, all, sums, most) in
-    let input = bad f stands.stands.exposed few in
-    let fit = no_misfit_in f levels st read stands.stands.sound input.array (at input.array (contained_among arrays input.array input.one)) in
-    let e : None ≡ Some b = sym fit ∙ input.misfit in
-    cc
+    none_bad f levels st b arrays read stands.stands.sound at (bad f stands.stands.exposed few)
 
 -- what was emptied
 pub emptied_next : (mem : ℕ) (gone : List ArrayDesc) (m k now : Memory) (o : Option ℕ) (n : ℕ) → now ≡ renewed mem gone k → k ≡ prepared m o n → now ≡ record (emptied mem m) { cursors = now.cursors }

@@ -241,29 +241,32 @@ pub returns-in_err-next-clause-images : goal.returns-in_err-next-clause-images
 returns-in_err-next-clause-images g c =
     let m = c.make_room.new.memory in
     let mid = record c.args.held.now { memory = m } in (
-    (c.prepare_next.ensures.images (empty_cache 0)).tears.time,
-    λ f h was now.
-    agree_ready c.args.held.now.memory m m.ready m.cursors.room c.args.held.now.published.levels f h c.make_room.ensures.same
-    (arrays_kept (g.D.Disk.view c.args.disk.now) (g.D.Disk.view c.prepare_next.new.disk) (held_of mid (empty_cache 0)) (c.prepare_next.ensures.images (empty_cache 0)) (c.requires.kept (empty_cache 0)).placed f h was now))
+      (c.prepare_next.ensures.images (empty_cache 0)).tears.time,
+      λ f h was now.
+          agree_ready c.args.held.now.memory m m.ready m.cursors.room c.args.held.now.published.levels f h c.make_room.ensures.same
+          (arrays_kept (g.D.Disk.view c.args.disk.now) (g.D.Disk.view c.prepare_next.new.disk) (held_of mid (empty_cache 0)) (c.prepare_next.ensures.images (empty_cache 0)) (c.requires.kept (empty_cache 0)).placed f h was now),
+    )
 
 pub returns-in_err-settle-clause-images : goal.returns-in_err-settle-clause-images
 returns-in_err-settle-clause-images g c =
     let m = c.make_room.new.memory in
     let mid = record c.args.held.now { memory = m } in
     let whole = consistent_ready (held_of c.args.held.now (empty_cache 0)) m.ready m.cursors.room m c.make_room.ensures.same (c.requires.kept (empty_cache 0)) in (
-    passes_trans (c.prepare_next.ensures.images (empty_cache 0)).tears.time c.settle.ensures.time,
-    λ f h was now.
-    agree_ready c.args.held.now.memory m m.ready m.cursors.room c.args.held.now.published.levels f h c.make_room.ensures.same
-    (arrays_stay (g.D.Disk.view c.args.disk.now) (g.D.Disk.view c.prepare_next.new.disk) (g.D.Disk.view c.settle.new.disk) (held_of mid (empty_cache 0)) c.args.held.now.journal.mem whole whole.log.mem
-    (c.prepare_next.ensures.images (empty_cache 0)) c.settle.ensures.images f h was now))
+      passes_trans (c.prepare_next.ensures.images (empty_cache 0)).tears.time c.settle.ensures.time,
+      λ f h was now.
+          agree_ready c.args.held.now.memory m m.ready m.cursors.room c.args.held.now.published.levels f h c.make_room.ensures.same
+          (arrays_stay (g.D.Disk.view c.args.disk.now) (g.D.Disk.view c.prepare_next.new.disk) (g.D.Disk.view c.settle.new.disk) (held_of mid (empty_cache 0)) c.args.held.now.journal.mem whole whole.log.mem
+          (c.prepare_next.ensures.images (empty_cache 0)) c.settle.ensures.images f h was now),
+    )
 
 pub returns-clause-images : goal.returns-clause-images
 returns-clause-images g c =
     let m = c.make_room.new.memory in
     let mid = record c.args.held.now { memory = m } in
     let whole = consistent_ready (held_of c.args.held.now (empty_cache 0)) m.ready m.cursors.room m c.make_room.ensures.same (c.requires.kept (empty_cache 0)) in (
-    passes_trans (c.prepare_next.ensures.images (empty_cache 0)).tears.time c.settle.ensures.time,
-    λ f h was now.
-    agree_ready c.args.held.now.memory m m.ready m.cursors.room c.args.held.now.published.levels f h c.make_room.ensures.same
-    (arrays_stay (g.D.Disk.view c.args.disk.now) (g.D.Disk.view c.prepare_next.new.disk) (g.D.Disk.view c.settle.new.disk) (held_of mid (empty_cache 0)) c.args.held.now.journal.mem whole whole.log.mem
-    (c.prepare_next.ensures.images (empty_cache 0)) c.settle.ensures.images f h was now))
+      passes_trans (c.prepare_next.ensures.images (empty_cache 0)).tears.time c.settle.ensures.time,
+      λ f h was now.
+          agree_ready c.args.held.now.memory m m.ready m.cursors.room c.args.held.now.published.levels f h c.make_room.ensures.same
+          (arrays_stay (g.D.Disk.view c.args.disk.now) (g.D.Disk.view c.prepare_next.new.disk) (g.D.Disk.view c.settle.new.disk) (held_of mid (empty_cache 0)) c.args.held.now.journal.mem whole whole.log.mem
+          (c.prepare_next.ensures.images (empty_cache 0)) c.settle.ensures.images f h was now),
+    )
