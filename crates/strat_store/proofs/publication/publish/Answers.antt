@@ -1,7 +1,6 @@
-use Rattle.std.proofs.Common.{◌∙◌, ◌≡◌, ◌<◌, ℕ, List, length, Result, Err, refl, sym, ap, subst, arith}
+use Rattle.std.proofs.Common.{◌∙◌, ◌≡◌, ◌<◌, ℕ, Result, Err, refl, sym, ap, subst, arith}
 use Rattle.std.proofs.lemmas.Result.{err_from_is_err_and}
 use Rattle.strat_array.specs.Kept.{Blocks}
-use Rattle.strat_base.specs.declared.descriptors.LevelDesc.{LevelDesc}
 use Rattle.strat_base.specs.declared.failures.Trouble.{Trouble}
 use Rattle.strat_base.specs.declared.failures.Trouble.TheVariants as trouble
 use Rattle.strat_crash.proofs.MomentLemmas.{passes_trans, reads_refl}
@@ -12,19 +11,16 @@ use Rattle.strat_journal.proofs.ReadLemmas.{same_err}
 use Rattle.strat_manifest.specs.ManifestView.{manifest_of}
 use Rattle.strat_promote.proofs.OpeningLemmas.{on_err}
 use Rattle.strat_promote.specs.Job.{blocks_listed}
-use Rattle.strat_standing.specs.Occupied.{arrays_in}
 use Rattle.strat_standing.specs.Standing.{ShowsTable}
 use Rattle.strat_store.specs.Applying.{IsPublishedAs}
 use Rattle.strat_store.specs.Held.{Held, IsConsistent, IsOnDisk, arrays_held}
-use Rattle.strat_store.specs.Memory.{Memory}
 use Rattle.strat_store.specs.Paying.{CountsWritten}
 use Rattle.strat_store.specs.Publishing.{is_in_front}
 use Rattle.strat_store.specs.Recovering.{held_of, empty_cache, chained_of}
-use Rattle.strat_store.specs.Settling.{arrays_taken}
 use Rattle.strat_store.proofs.SettlingLemmas.{unwritten}
 use Rattle.strat_store.proofs.OnDiskLemmas.{kept_on, beside_on, published_on}
 use Rattle.strat_store.proofs.PayingLemmas.{paid_beside, paid_then, counts_next}
-use Rattle.strat_store.proofs.SettledLemmas.{consistent_ready, stands_ready, damaged_ready, cursors_ready, agree_once, agree_ready, trail_beside, stands_beside, arrays_kept, arrays_stay, one_trail, published_after, published_as, consistent_next, emptied_next}
+use Rattle.strat_store.proofs.SettledLemmas.{consistent_ready, stands_ready, still_ready, room_ready, damaged_ready, agree_once, agree_ready, trail_beside, stands_beside, arrays_kept, arrays_stay, one_trail, published_as, consistent_next, found_next}
 use Rattle.strat_store.proofs.publication.publish.Goals as goal
 
 -- a fault of the device is no want of memory
@@ -85,9 +81,8 @@ returns-in_err-next-clause-damaged g c = λ b torn.
 pub settle-requires-clause-room : goal.settle-requires-clause-room
 settle-requires-clause-room g c =
     let room = c.in_ok-make_room.ensures.ok in
-    let kept = ap (λ (m : Memory). length m.cursors.retired) c.make_room.ensures.same in
-    let same = ap (λ (ls : List LevelDesc). length (arrays_in ls)) c.as_slice.ensures.ok in
-    (room.0, omega (arith, room.1, kept, same))
+    let m = c.make_room.new.memory in
+    (room.0, room_ready c.args.held.now.memory m m.ready m.cursors.room _ _ c.make_room.ensures.same c.as_slice.ensures.ok room.1)
 
 pub settle-requires-clause-fits : goal.settle-requires-clause-fits
 settle-requires-clause-fits g c =
@@ -152,17 +147,10 @@ returns-clause-kept g c = λ _ cached.
 
 pub returns-clause-found : goal.returns-clause-found
 returns-clause-found g c =
-    let all = c.in_ok-settle.ensures.ok (empty_cache 0) in
     let m = c.make_room.new.memory in
-    let target = c.in_ok-next.next.target in
-    let same = c.make_room.ensures.same in
-    let memory = ap (λ (h : Held). h.memory) all in (
-      ap (λ (h : Held). h.slot) all,
-      published_after target (super_of c.args.held.now.sb) _ _ (manifest_of c.args.held.now.published.manifest) _ _ c.args.held.now.memory m _ m.ready m.cursors.room
-          same (ap (λ (h : Held). h.sb) all) (ap (λ (h : Held). h.chained.manifest) all) memory c.in_ok-next.ensures.found,
-      ap (λ (h : Held). h.log.list) all,
-      emptied_next c.args.held.now.sb.mem (arrays_taken target (manifest_of c.args.held.now.published.manifest)) c.args.held.now.memory m _ m.ready m.cursors.room memory same,
-    )
+    let next = c.in_ok-next.next in
+    found_next (held_of c.args.held.now (empty_cache 0)) (held_of c.settle.new.held (empty_cache 0)) m m.ready m.cursors.room next.target (super_of next.sb) (chained_of next.published) next.published.levels
+    c.make_room.ensures.same (c.in_ok-settle.ensures.ok (empty_cache 0)) c.in_ok-next.ensures.found
 
 pub returns-in_err-make_room-clause-end : goal.returns-in_err-make_room-clause-end
 returns-in_err-make_room-clause-end g c = λ other cached on.
@@ -191,45 +179,34 @@ returns-clause-end g c = λ other cached on.
 pub returns-in_err-make_room-clause-same : goal.returns-in_err-make_room-clause-same
 returns-in_err-make_room-clause-same g c =
     let m = c.make_room.new.memory in
-    let same = c.make_room.ensures.same in (
-      refl,
-      ap (λ (k : Memory). k.parents) same,
-      λ short. refl,
-      on_err c.from_residual.result _
-          (λ cached. (record { slot = refl; sb = refl; chained = refl; levels = refl }, cursors_ready c.args.held.now.memory m m.ready m.cursors.room same)),
-    )
+    let still = still_ready c.args.held.now.memory m m m.ready m.cursors.room refl c.make_room.ensures.same in
+    (refl, still.0, λ short. refl, on_err c.from_residual.result _ (λ cached. (record { slot = refl; sb = refl; chained = refl; levels = refl }, still.1)))
 
 pub returns-in_err-next-clause-same : goal.returns-in_err-next-clause-same
 returns-in_err-next-clause-same g c =
     let m = c.make_room.new.memory in
-    let same = c.make_room.ensures.same in (
-      refl,
-      ap (λ (k : Memory). k.parents) same,
-      λ short. refl,
-      on_err c.from_residual-in_err-next.result _
-          (λ cached. (record { slot = refl; sb = refl; chained = refl; levels = refl }, cursors_ready c.args.held.now.memory m m.ready m.cursors.room same)),
-    )
+    let still = still_ready c.args.held.now.memory m m m.ready m.cursors.room refl c.make_room.ensures.same in
+    (refl, still.0, λ short. refl, on_err c.from_residual-in_err-next.result _ (λ cached. (record { slot = refl; sb = refl; chained = refl; levels = refl }, still.1)))
 
 pub returns-in_err-settle-clause-same : goal.returns-in_err-settle-clause-same
 returns-in_err-settle-clause-same g c =
     let m = c.make_room.new.memory in
     let told = c.in_err-settle.ensures.err in
-    let same = told.0 ∙ c.make_room.ensures.same in (
+    let still = still_ready c.args.held.now.memory m c.settle.new.held.memory m.ready m.cursors.room told.0 c.make_room.ensures.same in (
       c.settle.ensures.same,
-      ap (λ (k : Memory). k.parents) same,
+      still.0,
       λ short.
           let p = err_from_is_err_and c.from_residual-in_err-settle.result c.from_residual-in_err-settle.ensures.1 in
           absurd (device_short c.from_residual-in_err-settle.result p.0 p.1 p.2 short),
       on_err c.from_residual-in_err-settle.result _
-          (λ cached.
-          let keeps = told.1 cached in
-          (record { slot = keeps.slot; sb = keeps.sb; chained = keeps.chained; levels = keeps.levels }, cursors_ready c.args.held.now.memory _ m.ready m.cursors.room same)),
+          (λ cached. let keeps = told.1 cached in (record { slot = keeps.slot; sb = keeps.sb; chained = keeps.chained; levels = keeps.levels }, still.1)),
     )
 
 pub returns-clause-same : goal.returns-clause-same
 returns-clause-same g c =
-    let all = c.in_ok-settle.ensures.ok (empty_cache 0) in
-    (c.settle.ensures.same, ap (λ (h : Held). h.memory.parents) all ∙ ap (λ (k : Memory). k.parents) c.make_room.ensures.same, λ short. absurd (cc), tt)
+    let m = c.make_room.new.memory in
+    let still = still_ready c.args.held.now.memory m m m.ready m.cursors.room refl c.make_room.ensures.same in
+    (c.settle.ensures.same, ap (λ (h : Held). h.memory.parents) (c.in_ok-settle.ensures.ok (empty_cache 0)) ∙ still.0, λ short. absurd (cc), tt)
 
 pub returns-in_err-make_room-clause-images : goal.returns-in_err-make_room-clause-images
 returns-in_err-make_room-clause-images g c = (
