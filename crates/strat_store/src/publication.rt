@@ -351,7 +351,7 @@ pub(crate) fn publish<D: Disk>(
         held.new.memory.cursors
         × (held.new.journal.list ≡ [])
         × (held.new.memory ≡ record (emptied held.old.sb.mem held.old.memory)
-        { cursors = held.new.memory.cursors; })) }
+        { cursors = held.new.memory.cursors })) }
     ensures end { (IsErrOf result trouble.Device → ⊥) → (cached : Blocks)
         → IsOnDisk (D.view disk.old) (held_of held.old cached)
         → IsOnDisk (D.view disk.new) (held_of held.new cached) }
