@@ -158,8 +158,9 @@ fn look<D: Disk>(
             limit,
         } => scan_range(held, cache, desks, disk, version, lo, hi, limit, out),
         Command::Info { version } => info(&held.memory, version),
-        // The premises leave no other command than `Stat`.
-        _ => held.memory.stat(),
+        Command::Stat => held.memory.stat(),
+        // The premises leave no other command.
+        _ => Reply::Refused(Refusal::Malformed),
     }
 }
 
