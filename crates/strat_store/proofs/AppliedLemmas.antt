@@ -1,12 +1,12 @@
 -- A change at a store with open cursors: it does to the table with its cursors what it does to the one without.
-use Rattle.std.proofs.Common.{◌≡◌, ◌≢◌, ◌≤◌, ◌+◌, ℕ, Bool, true, false, cond, not, eqb, inl, inr, ◌⊎◌, List, [], ◌∷◌, ◌++◌, length, Contains, Option, Some, None, refl, sym, ap, subst, ◌∙◌, arith, true≢false}
+use Rattle.std.proofs.Common.{◌≡◌, ◌≢◌, ◌≤◌, ◌+◌, ℕ, Bool, true, false, not, eqb, inl, inr, ◌⊎◌, List, [], ◌∷◌, ◌++◌, length, Contains, Some, refl, sym, ap, subst, ◌∙◌, arith, true≢false}
 use Rattle.std.specs.Prelude.{if◌then◌else◌}
 use Rattle.strat_base.specs.Change.{Change}
 use Rattle.strat_base.specs.Change as change
 use Rattle.strat_base.specs.declared.descriptors.ArrayDesc.{ArrayDesc}
 use Rattle.strat_crash.specs.Blocks.{AgreeOn}
 use Rattle.strat_crash.specs.Image.{Image}
-use Rattle.strat_crash.specs.Moments.{DiskView, Exposes}
+use Rattle.strat_crash.specs.Moments.{DiskView}
 use Rattle.strat_cursor.proofs.HoldingLemmas.{goes_on_in, goes_on_later}
 use Rattle.strat_cursor.proofs.RowLemmas.{image_rows}
 use Rattle.strat_cursor.proofs.RetiredLemmas.{retired_rest}
@@ -17,12 +17,10 @@ use Rattle.strat_format.specs.Chained.{Chained}
 use Rattle.strat_format.specs.Manifest.{Manifest}
 use Rattle.strat_model.specs.Answer.{Answer, accepts, plain}
 use Rattle.strat_model.specs.Pairs.{Pairs, set, unset}
-use Rattle.strat_model.specs.Request.{Request}
 use Rattle.strat_model.specs.Run.{Position, fill_after, is_change, position_after, takes_memory}
 use Rattle.strat_model.specs.Step.{Outcome, clone, has_row, is_frozen, pairs_at, refuses, step, update, with_pairs}
 use Rattle.strat_model.specs.Table.{Cursor, Table}
 use Rattle.strat_model.specs.declared.replies.Refusal.TheVariants as why
-use Rattle.strat_model.specs.declared.replies.Reply.{Reply}
 use Rattle.strat_model.specs.declared.replies.Reply.TheVariants as reply
 use Rattle.strat_recovery.specs.StateTable.{request_for, table_of}
 use Rattle.strat_standing.specs.Next.{arrays_made}

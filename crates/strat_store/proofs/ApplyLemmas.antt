@@ -15,7 +15,6 @@ use Rattle.strat_crash.specs.Trail.{Trail}
 use Rattle.strat_crash.proofs.MomentLemmas.{now_since_start}
 use Rattle.strat_crash.proofs.TrailLemmas.{trail_of_one, trail_of_two}
 use Rattle.strat_cursor.proofs.TableRows.{rows_length}
-use Rattle.strat_base.specs.Entries.{Entry}
 use Rattle.strat_cursor.specs.Looking.{AreOfOldArrays, LooksThrough, arrays_there}
 use Rattle.strat_format.specs.Damage.{Read}
 use Rattle.strat_model.specs.declared.replies.Reply.{Reply}

@@ -1,5 +1,5 @@
 -- The next contents of a store, from what was promoted and written.
-use Rattle.std.proofs.Common.{◌≡◌, ◌+◌, ℕ, Bool, true, false, not, cond, leb, ltb, ◌&&◌, List, [], ◌++◌, map, Contains, flat_map, Option, None, Some, IsSome, refl, sym, ap, ◌∙◌, subst, arith, true≢false}
+use Rattle.std.proofs.Common.{◌≡◌, ◌+◌, ℕ, Bool, true, false, not, cond, leb, ltb, ◌&&◌, List, ◌++◌, map, Contains, flat_map, Option, None, Some, IsSome, refl, sym, ap, ◌∙◌, subst, arith, true≢false}
 use Rattle.std.specs.List.{sum_by}
 use Rattle.std.proofs.lemmas.Bool.{and_parts, and_from, not-true, false_from_ne_true}
 use Rattle.std.proofs.lemmas.List.Elements.{Contains-append_right}

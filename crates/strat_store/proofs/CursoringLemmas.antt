@@ -1,13 +1,13 @@
 -- A store with open cursors, as it answers a command.
-use Rattle.std.proofs.Common.{◌≡◌, ◌≢◌, ◌<◌, ◌+◌, ℕ, Bool, true, false, cond, eqb, ltb, not, inl, inr, ◌⊎◌, if◌then◌else◌, List, [], ◌∷◌, ◌++◌, length, map, Contains, flat_map, Option, Some, None, Result, Ok, Err, refl, sym, ap, subst, ◌∙◌, arith, true≢false}
+use Rattle.std.proofs.Common.{◌≡◌, ◌≢◌, ◌<◌, ◌+◌, ℕ, Bool, true, false, eqb, not, inl, inr, ◌⊎◌, if◌then◌else◌, List, [], ◌∷◌, ◌++◌, length, Contains, flat_map, Option, Some, None, Result, Ok, Err, refl, sym, ap, subst, ◌∙◌, arith, true≢false}
 use Rattle.std.specs.Prelude.{IfOk, OnErr, IsErrOf, filter, find, ◌↔◌}
 use Rattle.std.specs.List.{list_any, slice_get}
 use Rattle.std.specs.Option.{option_map_or}
-use Rattle.std.proofs.lemmas.Bool.{cases_Bool, eqb-true, eq-eqb, ne_eqb}
+use Rattle.std.proofs.lemmas.Bool.{eqb-true, eq-eqb, ne_eqb}
 use Rattle.std.proofs.lemmas.List.Elements.{Contains-append_left}
 use Rattle.strat_array.specs.Kept.{Blocks, IsBlockRead}
 use Rattle.strat_array.specs.Told.{TheirPairs}
-use Rattle.strat_base.proofs.ListFacts.{Among, among_flat, among_in_flat, among_split, any_among, any_from, find_none}
+use Rattle.strat_base.proofs.ListFacts.{among_flat, among_in_flat, among_split, any_among, any_from, find_none}
 use Rattle.strat_base.specs.Entries.{Entry}
 use Rattle.strat_base.specs.Tree.{is_known}
 use Rattle.strat_base.specs.declared.descriptors.ArrayDesc.{ArrayDesc}
@@ -16,12 +16,11 @@ use Rattle.strat_crash.specs.Blocks.{AgreeOn}
 use Rattle.strat_crash.specs.Faults.{HasCause}
 use Rattle.strat_crash.specs.Image.{Image}
 use Rattle.strat_crash.specs.Moments.{DiskView, Exposes}
-use Rattle.strat_cursor.proofs.HoldingLemmas.{asked_may_go_on, goes_on_in, goes_on_later, goes_on_moved, goes_on_without}
-use Rattle.strat_cursor.proofs.RowLemmas.{image_rows}
+use Rattle.strat_cursor.proofs.HoldingLemmas.{asked_may_go_on, goes_on_moved, goes_on_without}
 use Rattle.strat_cursor.proofs.TableRows.{rows_length, rows_less, rows_opened, table_none, table_started, table_told}
-use Rattle.strat_cursor.specs.Cursors.{MayGoOn, TellsNext, arrays_named, closed_at, is_opened, moved_at, pairs_left, without_cursor}
+use Rattle.strat_cursor.specs.Cursors.{MayGoOn, TellsNext, arrays_named, closed_at, is_opened, moved_at, pairs_left}
 use Rattle.strat_cursor.specs.Held.{AreRowsOf, HeldCursor, HeldCursors, IsMapHeld}
-use Rattle.strat_cursor.specs.Looking.{AreCachedAs, AreCachedFrom, AreInOrder, AreOfOldArrays, LooksThrough, NamesNoBlock, arrays_there}
+use Rattle.strat_cursor.specs.Looking.{AreCachedFrom, AreInOrder, LooksThrough, NamesNoBlock, arrays_there}
 use Rattle.strat_cursor.specs.declared.cursors.CursorFault.{CursorFault}
 use Rattle.strat_cursor.specs.declared.cursors.CursorFault.TheVariants as start_fault
 use Rattle.strat_cursor.specs.declared.cursors.NextFault.{NextFault}
@@ -30,10 +29,9 @@ use Rattle.strat_format.specs.Arrays.{blocks_of, block_on}
 use Rattle.strat_model.specs.Answer.{Answer, accepts, as_told, plain, refusal}
 use Rattle.strat_model.specs.Pairs.{Pairs, range}
 use Rattle.strat_model.specs.Request.{Request, OpenCursor, NextPairs, CloseCursor}
-use Rattle.strat_model.specs.Run.{Position, fill_after, is_change, position_after, reaches_disk, takes_memory}
-use Rattle.strat_model.specs.Step.{Outcome, advanced, has_row, next_pairs, page, pairs_at, refuses, replies_with, start_cursor, step}
+use Rattle.strat_model.specs.Run.{Position, fill_after, is_change, position_after}
+use Rattle.strat_model.specs.Step.{Outcome, advanced, has_row, page, pairs_at, refuses, step}
 use Rattle.strat_model.specs.Table.{Cursor, Table}
-use Rattle.strat_model.specs.declared.replies.Refusal.{Refusal}
 use Rattle.strat_model.specs.declared.replies.Refusal.TheVariants as why
 use Rattle.strat_model.specs.declared.replies.Reply.{Reply}
 use Rattle.strat_model.specs.declared.replies.Reply.TheVariants as reply
@@ -50,9 +48,9 @@ use Rattle.strat_store.proofs.LookLemmas.{id_names}
 use Rattle.strat_store.proofs.RangingLemmas.{map_seen, page_told, table_asked}
 use Rattle.strat_store.specs.Applying.{FailsAsTold, IsDamagedIn, is_fault}
 use Rattle.strat_store.specs.Cursoring.{IsAppliedAt, cursors_after, reply_of_close, reply_of_next, reply_of_start}
-use Rattle.strat_store.specs.Held.{AreKept, Held, IsConsistent, StandsAt, StandsWith, arrays_held, contents_held, position_at, table_at}
+use Rattle.strat_store.specs.Held.{Held, IsConsistent, StandsAt, StandsWith, arrays_held, contents_held, position_at, table_at}
 use Rattle.strat_store.specs.Memory.{Memory, cursor_from, with_cursor}
-use Rattle.strat_store.specs.Ranging.{TellsFrom, TellsOfCursor, TellsOfOpening, TellsOfVersion}
+use Rattle.strat_store.specs.Ranging.{TellsOfCursor, TellsOfOpening, TellsOfVersion}
 
 -- what is cached of some arrays stays as an image has it while blocks of others come in, where a number says which array it is
 cached_beside : (content : Option Image) (f : Image) (next : ℕ) (mine others : List ArrayDesc) (c d : Blocks) → content ≡ Some f

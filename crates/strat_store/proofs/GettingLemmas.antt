@@ -17,8 +17,6 @@ use Rattle.strat_base.specs.declared.failures.Fault.TheVariants as fault
 use Rattle.strat_crash.specs.Image.{Image}
 use Rattle.strat_crash.specs.Moments.{DiskView}
 use Rattle.strat_format.specs.Arrays.{blocks_of, block_on, entries_on}
-use Rattle.strat_format.proofs.ManifestLemmas.{pass_at}
-use Rattle.strat_format.specs.Manifest.{versions_in}
 use Rattle.strat_model.specs.Answer.{Answer, as_told, accepts}
 use Rattle.strat_model.specs.Pairs.{value_of}
 use Rattle.strat_model.specs.Request.{Get}
@@ -28,8 +26,7 @@ use Rattle.strat_model.specs.declared.replies.Reply.TheVariants as reply
 use Rattle.strat_promote.specs.Job.{blocks_listed}
 use Rattle.strat_recovery.proofs.AskedLemmas.{asked_same}
 use Rattle.strat_recovery.proofs.HeadLemmas.{state_with}
-use Rattle.strat_recovery.proofs.OpeningLemmas.{map_some, next_some, manifest_tests}
-use Rattle.strat_recovery.proofs.PassedLemmas.{array_tests, belonging_tests}
+use Rattle.strat_recovery.proofs.OpeningLemmas.{map_some, next_some}
 use Rattle.strat_recovery.proofs.RowLemmas.{length-rows}
 use Rattle.strat_recovery.specs.Asked.{on_disk, asked}
 use Rattle.strat_recovery.specs.Head.{descriptors}

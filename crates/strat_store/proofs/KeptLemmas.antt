@@ -1,5 +1,5 @@
 -- The arrays that a store holds after a publication: those of its levels, and those that are kept for cursors.
-use Rattle.std.proofs.Common.{◌≡◌, ◌≤◌, ◌<◌, ◌+◌, ℕ, true, leb, ltb, inl, inr, ◌⊎◌, List, [], ◌∷◌, ◌++◌, append-nil, length, map, Contains, flat_map, Option, None, Some, refl, sym, ap, ◌∙◌, subst, arith}
+use Rattle.std.proofs.Common.{◌≡◌, ◌≤◌, ◌<◌, ℕ, true, leb, inl, inr, ◌⊎◌, List, [], ◌++◌, append-nil, Contains, flat_map, Option, None, Some, refl, sym, ap, ◌∙◌, subst, arith}
 use Rattle.std.specs.List.{list_all}
 use Rattle.std.specs.Option.{option_to_list}
 use Rattle.std.proofs.lemmas.Bool.{and_parts, leb-true, ltb-true, le-ltb}

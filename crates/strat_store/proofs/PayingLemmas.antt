@@ -1,19 +1,19 @@
 -- What a store pays for its arrays, while changes are carried out and published.
-use Rattle.std.proofs.Common.{◌≡◌, ◌≤◌, ◌<◌, ◌+◌, ◌*◌, ℕ, zero, suc, Bool, true, false, cond, leb, inl, inr, ◌⊎◌, List, [], ◌∷◌, ◌++◌, map, filter, flat_map, Contains, Option, None, Some, refl, sym, ap, ◌∙◌, subst, arith, true≢false, length}
-use Rattle.std.specs.List.{sum_by, range_with_len}
+use Rattle.std.proofs.Common.{◌≡◌, ◌≤◌, ◌+◌, ◌*◌, ℕ, zero, suc, Bool, true, false, leb, inl, inr, List, [], ◌∷◌, ◌++◌, map, filter, flat_map, Contains, Option, None, Some, refl, sym, ap, ◌∙◌, subst, arith, length}
+use Rattle.std.specs.List.{sum_by}
 use Rattle.std.specs.Option.{option_to_list}
 use Rattle.std.proofs.lemmas.Bool.{le-leb, lt-leb}
 use Rattle.std.proofs.lemmas.List.{append-nil}
 use Rattle.std.proofs.lemmas.List.Concat.{flat_map-append}
 use Rattle.std.proofs.lemmas.List.Elements.{filter-append}
 use Rattle.strat_array.proofs.OrderLemmas.{filter_each, filter_none}
-use Rattle.strat_base.proofs.ListFacts.{Among, among_right, among_in_flat, range_among}
+use Rattle.strat_base.proofs.ListFacts.{Among, among_right, range_among}
 use Rattle.strat_base.specs.Change.{Change}
 use Rattle.strat_base.specs.declared.descriptors.ArrayDesc.{ArrayDesc}
 use Rattle.strat_base.specs.declared.descriptors.LevelDesc.{LevelDesc}
 use Rattle.strat_crash.proofs.MomentLemmas.{each_then}
 use Rattle.strat_crash.specs.Image.{Image}
-use Rattle.strat_crash.specs.Moments.{DiskView, Since, Passes, OnlyReads}
+use Rattle.strat_crash.specs.Moments.{DiskView, Passes, OnlyReads}
 use Rattle.strat_crash.specs.Trail.{At, Trail}
 use Rattle.strat_format.specs.Chained.{Chained}
 use Rattle.strat_format.specs.Manifest.{Manifest}

@@ -1,5 +1,5 @@
 -- What a command that asks for no change leaves of the cursors of a store.
-use Rattle.std.proofs.Common.{◌≡◌, Bool, true, false, Contains, List, Option, Some, None, refl, sym, ap, subst, ◌∙◌}
+use Rattle.std.proofs.Common.{◌≡◌, Bool, true, false, Contains, List, Option, Some, None, sym, ap, subst, ◌∙◌}
 use Rattle.std.specs.Prelude.{if◌then◌else◌}
 use Rattle.std.proofs.lemmas.List.Elements.{Contains-append_right}
 use Rattle.strat_array.specs.Kept.{Blocks}
@@ -8,7 +8,6 @@ use Rattle.strat_base.specs.declared.descriptors.ArrayDesc.{ArrayDesc}
 use Rattle.strat_base.specs.declared.descriptors.LevelDesc.{LevelDesc}
 use Rattle.strat_cursor.proofs.RetiredLemmas.{closed_from}
 use Rattle.strat_cursor.specs.Cursors.{closed_at}
-use Rattle.strat_cursor.specs.Held.{HeldCursors}
 use Rattle.strat_cursor.specs.Looking.{arrays_there}
 use Rattle.strat_model.specs.Answer.{Answer, accepts}
 use Rattle.strat_model.specs.Pairs.{Pairs}

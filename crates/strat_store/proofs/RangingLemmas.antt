@@ -1,6 +1,6 @@
 -- What a store says of a range: level 0 and its levels answer as its table.
-use Rattle.std.proofs.Common.{◌≡◌, ◌≤◌, ◌<◌, ℕ, suc, Bool, true, false, cond, eqb, inl, inr, List, [], ◌∷◌, length, map, if◌then◌else◌, Contains, Option, Some, None, Result, Ok, Err, IfOk, OnErr, IsErrOf, refl, sym, ap, ◌∙◌, subst, arith, true≢false}
-use Rattle.std.proofs.lemmas.Bool.{ltb-true, eqb-true}
+use Rattle.std.proofs.Common.{◌≡◌, ◌≤◌, ◌<◌, ℕ, suc, Bool, true, false, inl, inr, List, [], ◌∷◌, length, map, if◌then◌else◌, Option, Some, None, Result, Ok, Err, IfOk, OnErr, IsErrOf, refl, sym, ap, ◌∙◌, subst, arith, true≢false}
+use Rattle.std.proofs.lemmas.Bool.{ltb-true}
 use Rattle.std.proofs.lemmas.List.Elements.{Contains-append_left}
 use Rattle.std.specs.BTreeMap.{insert_entry}
 use Rattle.std.specs.List.{filter_map, cons_option, fold}
@@ -8,7 +8,6 @@ use Rattle.std.specs.List.Sorted.{IsStrictlySortedBy}
 use Rattle.std.specs.Option.{option_and_then, option_map, option_map_or}
 use Rattle.strat_array.specs.Kept.{Blocks}
 use Rattle.strat_array.specs.Told.{TheirPairs}
-use Rattle.strat_base.proofs.ListFacts.{Among, any_among, among_in_flat}
 use Rattle.strat_base.specs.Entries.{Entry}
 use Rattle.strat_base.specs.Order.{key_cmp}
 use Rattle.strat_base.specs.Tree.{Parents, is_known}
@@ -22,7 +21,7 @@ use Rattle.strat_cursor.specs.Looking.{levels_there, arrays_there, AreInOrder, A
 use Rattle.strat_cursor.specs.Ranges.{content_on, seen_in, arrays_in_view, arrays_picked, IsMapSeen, IsPageOf}
 use Rattle.strat_cursor.specs.Views.{zeros_in, IsReadable, TellsPage}
 use Rattle.strat_cursor.specs.declared.view.View.{View}
-use Rattle.strat_format.specs.Arrays.{blocks_of, block_on}
+use Rattle.strat_format.specs.Arrays.{block_on}
 use Rattle.strat_level.specs.Levels.{desc_for}
 use Rattle.strat_model.proofs.MapLemmas.{set_keeps_map}
 use Rattle.strat_model.specs.Answer.{Answer, as_told, accepts}
@@ -32,18 +31,16 @@ use Rattle.strat_model.specs.Request.{Scan}
 use Rattle.strat_model.specs.Step.{step, page, refuses, replies_with, pairs_at}
 use Rattle.strat_model.specs.declared.replies.Refusal.TheVariants as why
 use Rattle.strat_model.specs.declared.replies.Reply.TheVariants as reply
-use Rattle.strat_promote.specs.Job.{blocks_listed}
-use Rattle.strat_recovery.proofs.RowLemmas.{pairs_over, length-rows}
+use Rattle.strat_recovery.proofs.RowLemmas.{pairs_over}
 use Rattle.strat_recovery.specs.Asked.{on_disk}
 use Rattle.strat_recovery.specs.StateTable.{table_of}
-use Rattle.strat_standing.proofs.ListLemmas.{among_contained, contained_among}
-use Rattle.strat_standing.specs.Contents.{Contents, contents_state}
+use Rattle.strat_standing.specs.Contents.{Contents}
 use Rattle.strat_standing.specs.Standing.{LeavesContent}
 use Rattle.strat_state.specs.Level.{Level}
 use Rattle.strat_state.specs.LookUp.{looked_up, first_live}
 use Rattle.strat_state.specs.Maps.{map_over, with_value, value_over}
 use Rattle.strat_state.specs.State.{State, versions_of, sources}
-use Rattle.strat_store.proofs.GettingLemmas.{blamed, none_damaged, whole_read, y, it, ordered, cached, known, asked_is, stays}
+use Rattle.strat_store.proofs.GettingLemmas.{blamed, none_damaged, whole_read, it, ordered, cached, known, asked_is, stays}
 use Rattle.strat_store.specs.Applying.{is_fault, IsLookedUp, IsDamagedIn}
 use Rattle.strat_store.specs.Held.{Held, IsConsistent, StandsWith, contents_held}
 use Rattle.strat_store.specs.Memory.{Memory}

@@ -1,12 +1,12 @@
 -- A publication of a store: what stands before it, between its calls and after it.
-use Rattle.std.proofs.Common.{◌≡◌, ◌≤◌, ◌+◌, ◌-◌, ◌*◌, ℕ, Bool, true, false, leb, eqb, ◌&&◌, ◌||◌, inl, inr, ◌⊎◌, List, [], ◌∷◌, ◌++◌, length, length-append, Contains, flat_map, fold, map, Option, None, Some, refl, sym, ap, ◌∙◌, subst, arith, true≢false}
+use Rattle.std.proofs.Common.{◌≡◌, ◌≤◌, ◌+◌, ◌-◌, ◌*◌, ℕ, Bool, true, false, eqb, ◌&&◌, ◌||◌, inl, inr, ◌⊎◌, List, [], ◌∷◌, ◌++◌, length, length-append, Contains, flat_map, fold, map, Option, None, Some, refl, sym, ap, ◌∙◌, subst, arith, true≢false}
 use Rattle.std.specs.List.{list_all, sum_by}
-use Rattle.std.specs.Option.{option_to_list, option_map}
-use Rattle.std.proofs.lemmas.Bool.{and_parts, leb-true, eqb-true, le-ltb}
+use Rattle.std.specs.Option.{option_to_list}
+use Rattle.std.proofs.lemmas.Bool.{and_parts, eqb-true, le-ltb}
 use Rattle.std.proofs.lemmas.List.Sums.{sum_by-cons, sum_by-append}
 use Rattle.std.proofs.lemmas.Option.{slice_get_within, get_or_from_slice_get}
 use Rattle.strat_array.specs.Kept.{Blocks}
-use Rattle.strat_base.proofs.ListFacts.{Among, all_at, among_flat, among_in_flat, among_left, among_split, among_right, range_among}
+use Rattle.strat_base.proofs.ListFacts.{Among, all_at, among_flat, among_in_flat, among_split, among_right, range_among}
 use Rattle.strat_base.specs.Change.{Change, Put, Delete, Clone}
 use Rattle.strat_base.specs.Entries.{Entry, is_ascending, lead_entries}
 use Rattle.strat_base.specs.Tree.{Parents}
@@ -25,14 +25,12 @@ use Rattle.strat_format.specs.Chained.{Chained}
 use Rattle.strat_format.specs.Layout.{first_free, other_region}
 use Rattle.strat_format.specs.Manifest.{Manifest, is_lawful_manifest}
 use Rattle.strat_format.specs.SuperBlock.{Super}
-use Rattle.strat_format.proofs.ManifestLemmas.{pass_at}
 use Rattle.strat_plan.proofs.ListLemmas.{among_map}
 use Rattle.strat_promote.proofs.LeadLemmas.{read_whole}
 use Rattle.strat_promote.specs.Job.{IsBadInput, arrays_to, blocks_listed}
 use Rattle.strat_promote.specs.Leads.{leads_in, misfit_in}
 use Rattle.strat_plan.specs.Groups.{grouped_entries}
-use Rattle.strat_recovery.proofs.OpeningLemmas.{map_some, next_some}
-use Rattle.strat_recovery.proofs.PassedLemmas.{belonging_tests}
+use Rattle.strat_recovery.proofs.OpeningLemmas.{map_some}
 use Rattle.strat_recovery.specs.Head.{Head, head_versions, head_updates, parent_numbers, descriptors}
 use Rattle.strat_recovery.specs.Opened.{array_on, level_on}
 use Rattle.strat_recovery.specs.Opening.{belongs}
@@ -40,11 +38,11 @@ use Rattle.strat_recovery.specs.StateTable.{table_of}
 use Rattle.strat_standing.proofs.FreeLemmas.{free_stands, free_trail}
 use Rattle.strat_standing.proofs.ListLemmas.{contained_among, among_contained}
 use Rattle.strat_standing.proofs.TableLemmas.{same_table}
-use Rattle.strat_standing.specs.Contents.{Contents, contents_state, named_blocks}
+use Rattle.strat_standing.specs.Contents.{Contents, contents_state}
 use Rattle.strat_standing.specs.Next.{arrays_made}
 use Rattle.strat_standing.specs.Occupied.{arrays_in}
 use Rattle.strat_standing.specs.Standing.{AreFree, LeavesContent, ShowsTable, ContentsStand}
-use Rattle.strat_state.specs.Level.{TaggedArray, Level, own_leads, least_live, is_distinct}
+use Rattle.strat_state.specs.Level.{TaggedArray, Level, own_leads, least_live}
 use Rattle.strat_state.specs.Sound.{IsSound, is_described, has_ascending_entries}
 use Rattle.strat_state.specs.State.{State, versions_of, tree_after}
 use Rattle.strat_store.proofs.LookLawLemmas.{made_of}

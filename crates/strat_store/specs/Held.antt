@@ -27,7 +27,7 @@ use Rattle.strat_state.specs.Sound.{are_accepted}
 use Rattle.strat_cursor.specs.Cursors.{MayGoOn, arrays_named}
 use Rattle.strat_cursor.specs.Held.{HeldCursor, AreRowsOf}
 use Rattle.strat_cursor.specs.Looking.{AreCachedFrom, HaveOwnIds, levels_there, arrays_there}
-use Rattle.strat_store.specs.Memory.{Memory, IsMemoryOf}
+use Rattle.strat_store.specs.Memory.{Memory, IsMemoryOf, table_with}
 
 -- a store as its callers see it: the newest superblock and its slot, the manifest with the blocks of its
 -- chain, the journal, what is in memory of versions and level 0, levels 1 to 22, the blocks that are
@@ -130,10 +130,7 @@ pub record StandsAt (v : DiskView) (s : Held) (x : Contents) (rows : List Cursor
 
 -- the table that contents mean, with these cursors of a store
 abbrev pub table_at : Held → Contents → List Cursor → Table
-table_at s x rows = record (table_of (contents_state x)) {
-  cursors = rows;
-  next_cursor = s.memory.cursors.next;
-}
+table_at s x rows = table_with (contents_state x) rows s.memory.cursors.next
 
 -- where a store with these contents and cursors stands in a run
 abbrev pub position_at : Held → Contents → List Cursor → Position

@@ -1,4 +1,4 @@
-use Rattle.std.proofs.Common.{refl, sym, ap, ◌∙◌, subst, arith, ℕ}
+use Rattle.std.proofs.Common.{refl, ap, ◌∙◌, subst, arith, ℕ}
 use Rattle.strat_crash.specs.Blocks.{KeepsTaken}
 use Rattle.strat_store.specs.Recovering.{held_of, empty_cache}
 use Rattle.strat_store.proofs.ChangingLemmas.{cursors_stay, log_of, kept_more, breaks, takes, step_trail, told_trail, carries, finds_none}

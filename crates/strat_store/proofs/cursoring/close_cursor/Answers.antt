@@ -1,4 +1,4 @@
-use Rattle.std.proofs.Common.{sym, ap, subst, ◌∙◌}
+use Rattle.std.proofs.Common.{sym, ap, ◌∙◌}
 use Rattle.strat_model.specs.Answer.{plain}
 use Rattle.strat_model.specs.Request.{CloseCursor}
 use Rattle.strat_model.specs.declared.replies.Reply.{Reply}

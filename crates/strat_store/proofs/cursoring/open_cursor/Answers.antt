@@ -1,4 +1,4 @@
-use Rattle.std.proofs.Common.{true, length, sym, ap, subst, ◌∙◌}
+use Rattle.std.proofs.Common.{length, sym, ap, subst, ◌∙◌}
 use Rattle.std.proofs.lemmas.Bool.{ltb-true}
 use Rattle.strat_model.specs.Answer.{plain}
 use Rattle.strat_model.specs.Request.{OpenCursor}

@@ -1,4 +1,4 @@
-use Rattle.std.proofs.Common.{◌≡◌, ◌≤◌, ℕ, Bool, List, [], ◌∷◌, IsTrue, refl, sym, ap, ◌∙◌, subst}
+use Rattle.std.proofs.Common.{List, [], ◌∷◌, IsTrue, refl, sym, ap, ◌∙◌, subst}
 use Rattle.strat_base.specs.Entries.{Entry}
 use Rattle.strat_base.specs.Tree.{Parents}
 use Rattle.strat_level.specs.Memtable.{ItemList, entries_held, ListStands}

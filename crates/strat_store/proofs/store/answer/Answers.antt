@@ -1,5 +1,4 @@
-use Rattle.std.proofs.Common.{◌≡◌, ◌∙◌, ◌&&◌, Bool, Contains, Option, Some, None, refl, sym, ap, subst}
-use Rattle.std.proofs.lemmas.List.Elements.{Contains-append_left}
+use Rattle.std.proofs.Common.{◌≡◌, ◌∙◌, ◌&&◌, Bool, Option, Some, None, refl, sym, ap, subst}
 use Rattle.strat_base.specs.Change.{Change}
 use Rattle.strat_crash.specs.Moments.{OnlyReads}
 use Rattle.strat_crash.proofs.MomentLemmas.{reads_refl}

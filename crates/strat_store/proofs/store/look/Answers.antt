@@ -1,11 +1,7 @@
-use Rattle.std.proofs.Common.{refl, sym, ap, subst, ◌∙◌, true≢false}
+use Rattle.std.proofs.Common.{refl, sym, ap, ◌∙◌}
 use Rattle.strat_model.specs.Answer.{as_told, plain}
 use Rattle.strat_model.specs.Command.{request_of}
-use Rattle.strat_model.specs.Pairs.{Pairs}
 use Rattle.strat_model.specs.Request.{Get, Info, Scan, Stat}
-use Rattle.strat_model.specs.declared.replies.Refusal.TheVariants as why
-use Rattle.strat_model.specs.declared.replies.Reply.{Reply}
-use Rattle.strat_model.specs.declared.replies.Reply.TheVariants as reply
 use Rattle.strat_model.specs.Spelling.{has_lawful_sizes}
 use Rattle.strat_model.specs.declared.commands.Command.{Command}
 use Rattle.strat_recovery.specs.StateTable.{table_of}

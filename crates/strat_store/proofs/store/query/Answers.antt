@@ -1,17 +1,12 @@
-use Rattle.std.proofs.Common.{◌≡◌, Contains, refl, sym, ap, subst, ◌∙◌}
+use Rattle.std.proofs.Common.{refl, sym, ap, ◌∙◌}
 use Rattle.std.proofs.lemmas.List.Elements.{Contains-append_left}
-use Rattle.strat_crash.proofs.MomentLemmas.{reads_refl}
-use Rattle.strat_cursor.specs.Looking.{LooksThrough, arrays_there}
-use Rattle.strat_model.specs.Answer.{as_told, plain}
+use Rattle.strat_cursor.specs.Looking.{arrays_there}
 use Rattle.strat_model.specs.Command.{request_of}
-use Rattle.strat_model.specs.Request.{NextPairs}
 use Rattle.strat_model.specs.Spelling.{has_lawful_sizes}
 use Rattle.strat_model.specs.declared.commands.Command.{Command}
-use Rattle.strat_store.specs.Held.{arrays_held}
 use Rattle.strat_store.specs.Recovering.{held_of}
-use Rattle.strat_store.proofs.ApplyLemmas.{next_fits, of_cursor_not, tells_calm}
+use Rattle.strat_store.proofs.ApplyLemmas.{next_fits, of_cursor_not}
 use Rattle.strat_store.proofs.CursoringLemmas.{closing_applied, looks_wider, opened_applied}
-use Rattle.strat_store.proofs.LookLemmas.{through_refl}
 use Rattle.strat_store.proofs.store.query.Goals as goal
 
 pub returns-in-OpenCursor-clause-ok : goal.returns-in-OpenCursor-clause-ok
