@@ -1,8 +1,8 @@
 -- Workloads as streams.
-use Rattle.std.proofs.Common.{◌≡◌, ◌≢◌, ◌≤◌, ◌<◌, ◌+◌, ◌*◌, ◌^◌, ◌%◌, ℕ, zero, suc, Bool, true, false, cond, eqb, leb, ltb, ◌&&◌, List, [], ◌∷◌, ◌++◌, length, take, drop, None, refl, sym, ap, ◌∙◌, append_assoc, append-nil, length-append, arith}
+use Rattle.std.proofs.Common.{◌≡◌, ◌≢◌, ◌≤◌, ◌<◌, ◌+◌, ◌*◌, ◌^◌, ◌%◌, ℕ, zero, suc, Bool, true, false, cond, eqb, leb, ltb, ◌&&◌, List, [], ◌∷◌, ◌++◌, length, take, None, refl, sym, ap, ◌∙◌, append_assoc, append-nil, length-append, arith}
 use Rattle.std.proofs.lemmas.Fmt.{length-decimal-le}
 use Rattle.std.proofs.lemmas.Bool.{and_parts, ltb-true, leb-true}
-use Rattle.std.proofs.lemmas.List.{take_at, drop_at, take-append-le}
+use Rattle.std.proofs.lemmas.List.{take-append-le}
 use Rattle.std.specs.Fmt.{decimal}
 use Rattle.std.specs.List.{flat_map, AllByRecursion}
 use Rattle.strat_base.specs.Change.{Change, Put, Delete, Clone}
@@ -11,7 +11,7 @@ use Rattle.strat_base.specs.Tree.{Parents}
 use Rattle.strat_base.proofs.NumberLemmas.{length-be, number-be, number-take}
 use Rattle.strat_model.specs.Spelling.{command_body, counted}
 use Rattle.strat_model.specs.Stream.{frame, IsBody, Splits, Whole, Rest, Long, ending_of, is_too_long}
-use Rattle.strat_model.proofs.StreamLemmas.{one_splitting}
+use Rattle.strat_model.proofs.StreamLemmas.{one_splitting, same_frame}
 use Rattle.strat_recovery.specs.StateTable.{request_for}
 use Rattle.strat_recovery.specs.Workload.{next_draw, drawn, leaf_from, drawn_key, drawn_update, drawn_change, changes_from, workload_changes}
 use Rattle.strat_state.specs.State.{tree_after}
@@ -102,21 +102,9 @@ as_many seed count = bodies_many 1 (workload_changes seed count) ∙ (lengths se
 pub all_of_it : (seed count : ℕ) (bodies : List (List ℕ)) (rest : List ℕ) → count < 2 ^ 32 → Splits (workload_bytes seed count) bodies rest → (bodies ≡ workload_bodies seed count) × (rest ≡ [])
 all_of_it seed count bodies rest few splits = one_splitting (workload_bytes seed count) bodies (workload_bodies seed count) rest [] splits (whole seed count few)
 
--- the number in front of a frame is its body's length, and what stands behind it
+-- the number in front of a frame is its body's length
 front_number : (body rest : List ℕ) → IsBody body → number 4 (frame body ++ rest) ≡ length body
 front_number body rest short = ap (number 4) (append_assoc (be 4 (length body)) body rest) ∙ number-be 4 (length body) (body ++ rest) (omega (arith, short))
-
-behind_number : (body rest : List ℕ) → drop 4 (frame body ++ rest) ≡ body ++ rest
-behind_number body rest = ap (drop 4) (append_assoc (be 4 (length body)) body rest) ∙ drop_at (be 4 (length body)) (body ++ rest) 4 (length-be 4 (length body))
-
--- two frames in front of the same bytes are one
-one_frame : (a b front rest : List ℕ) → IsBody a → IsBody b → frame a ++ front ≡ frame b ++ rest → (a ≡ b) × (front ≡ rest)
-one_frame a b front rest short_a short_b e =
-    let len : length a ≡ length b = sym (front_number a front short_a) ∙ ap (number 4) e ∙ front_number b rest short_b in
-    let behind : a ++ front ≡ b ++ rest = sym (behind_number a front) ∙ ap (drop 4) e ∙ behind_number b rest in (
-      sym (take_at a front (length b) len) ∙ ap (take (length b)) behind ∙ take_at b rest (length b) refl,
-      sym (drop_at a front (length b) len) ∙ ap (drop (length b)) behind ∙ drop_at b rest (length b) refl,
-    )
 
 -- bytes in front of frames that may be begin with no length that is too long
 not_long : (bodies : List (List ℕ)) (rest left : List ℕ) → AllByRecursion IsBody bodies → rest ++ left ≡ flat_map frame bodies → is_too_long rest ≡ true → ⊥
@@ -141,7 +129,7 @@ first_bodies (a ∷ bodies) [] rest left each other_each e =
 first_bodies (a ∷ bodies) (b ∷ others) rest left each other_each e =
     let both : frame a ++ ((flat_map frame bodies ++ rest) ++ left) ≡ frame b ++ flat_map frame others =
     sym (append_assoc (frame a) (flat_map frame bodies ++ rest) left) ∙ ap (λ (x : List ℕ). x ++ left) (sym (append_assoc (frame a) (flat_map frame bodies) rest)) ∙ e in
-    let first = one_frame a b ((flat_map frame bodies ++ rest) ++ left) (flat_map frame others) each.0 other_each.0 both in
+    let first = same_frame a b ((flat_map frame bodies ++ rest) ++ left) (flat_map frame others) each.0 other_each.0 both in
     let next = first_bodies bodies others rest left each.1 other_each.1 first.1 in
     ((λ j. sym first.0 j ∷ next.0 j), next.1)
 
