@@ -1,13 +1,13 @@
 //! A store whose only array is damaged behind its back, in block 7.
 
 use crate::rows::THIRTEEN_PUTS;
-use crate::scripts::{Script, block_blamed, changes_of, command};
+use crate::scripts::{Script, block_blamed, changes_of, command, told};
 use crate::support::{gives, is_done, small_store};
 use std::alloc::Global;
 use strat_base::PairBuf;
 use strat_disk::MemDisk;
 use strat_io::{MemSink, MemSource};
-use strat_model::{Command, Ended};
+use strat_model::{Command, Ended, Reply};
 use strat_serve::serve;
 use strat_store::Store;
 
@@ -82,7 +82,8 @@ fn is_blamed(alloc: Global, disk: &mut MemDisk) -> Option<bool> {
     Some(
         say_entries(disk, 0)
             && blames_block_7(alloc, disk, &get)?
-            && blames_block_7(alloc, disk, &scan)?,
+            && blames_block_7(alloc, disk, &scan)?
+            && blames_block_7_to_a_cursor(alloc, disk)?,
     )
 }
 
@@ -92,6 +93,24 @@ fn blames_block_7(alloc: Global, disk: &mut MemDisk, command: &Command<'_>) -> O
     let mut out = PairBuf::new(alloc).ok()?;
     let blamed = block_blamed(&mut store, disk, &mut out, command);
     Some(blamed == Some(7) && store.is_spent())
+}
+
+/// Whether one names it as a cursor that was opened before reads it, and is spent.
+fn blames_block_7_to_a_cursor(alloc: Global, disk: &mut MemDisk) -> Option<bool> {
+    let mut store = Store::attach(alloc, disk).ok()?;
+    let mut out = PairBuf::new(alloc).ok()?;
+    let open = Command::OpenCursor {
+        version: 0,
+        lo: b"",
+        hi: b"",
+    };
+    let next = Command::NextPairs {
+        cursor: 1,
+        limit: 1,
+    };
+    let opened = told(&mut store, disk, &mut out, &open);
+    let blamed = block_blamed(&mut store, disk, &mut out, &next);
+    Some(opened == Some(Reply::Opened { cursor: 1 }) && blamed == Some(7) && store.is_spent())
 }
 
 #[test]
