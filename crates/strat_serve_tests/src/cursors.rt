@@ -85,7 +85,9 @@ fn numbers(alloc: Global) -> Option<Vec<u8>> {
             .extend_from_slice(&[0, 0, 0, 13, 0, 0, 0, n, 6, 0, 0, 0, 0, 0, 0, 0, n])
             .ok()?;
     }
-    replies.extend_from_slice(&[0, 0, 0, 5, 0, 0, 0, 65, 21]).ok()?;
+    replies
+        .extend_from_slice(&[0, 0, 0, 5, 0, 0, 0, 65, 21])
+        .ok()?;
     Some(replies)
 }
 
