@@ -142,7 +142,7 @@ pub record IsToldBy (before now : DiskView) (old : Held) (body : List ℕ) (resp
     (new : Held) : Type 0 where
   pub request : Request
   pub spelled : Spells body response.tag request
-  -- a look-up that met no fault found what level 0 and the arrays hold, or what a cursor keeps of them
+  -- where it asks for no change and met no fault it says what memory and the arrays say
   pub found : (f : Image) → Exposes before f → AreInOrder f (arrays_there old.levels)
       → AreCachedAs f (arrays_there old.levels) old.cached
       → is_fault response.answer.reply ≡ false
