@@ -12,7 +12,7 @@ use Rattle.strat_cursor.specs.CursorFaults.{as_next_fault}
 use Rattle.strat_cursor.specs.Cursors.{OpenCursor, arrays_named}
 use Rattle.strat_cursor.specs.Looking.{LooksThrough}
 use Rattle.strat_cursor.specs.declared.cursors.NextFault.{NextFault}
-use Rattle.strat_cursor.specs.declared.cursors.NextFault.TheVariants.{UnknownCursor, Device, Damaged}
+use Rattle.strat_cursor.specs.declared.cursors.NextFault.TheVariants.{UnknownCursor, Damaged}
 use Rattle.strat_cursor.proofs.PinLemmas.{among_contained}
 
 never_unknown : (x : Fault) → as_next_fault x ≡ UnknownCursor → ⊥

@@ -22,7 +22,7 @@ use Rattle.strat_level.specs.Levels.{desc_for, is_for}
 use Rattle.strat_recovery.proofs.BadLemmas.{contained_at}
 use Rattle.strat_state.specs.Level.{is_distinct}
 use Rattle.strat_model.specs.Pairs.{Pairs}
-use Rattle.strat_cursor.specs.Cursors.{OpenCursor, MayGoOn, moved_at, moved_on, without_cursor, arrays_named}
+use Rattle.strat_cursor.specs.Cursors.{CursorOver, OpenCursor, MayGoOn, moved_at, moved_on, without_cursor, arrays_named}
 use Rattle.strat_cursor.specs.Looking.{AreInOrder, HaveOwnIds, AreCachedFrom, arrays_there, levels_there}
 use Rattle.strat_cursor.specs.Pins.{arena_pinned, arenas_of, shares_of, arrays_asked}
 use Rattle.strat_cursor.proofs.PinLemmas.{among_contained, asked_of_levels, asked_there, each_moved}
@@ -141,7 +141,7 @@ asked_distinct parents v (level ∷ levels) distinct =
         rest
 
 -- a cursor may go on where a look-up in the levels of its start may
-pub asked_may_go_on : (f : Image) (next : ℕ) (parents : Parents) (levels : List (Option LevelDesc)) (v : ℕ) (c : OpenCursor) (cached : Blocks)
+pub asked_may_go_on : {L : Type 0} (f : Image) (next : ℕ) (parents : Parents) (levels : List (Option LevelDesc)) (v : ℕ) (c : CursorOver L) (cached : Blocks)
     → c.arrays ≡ arrays_asked parents levels v → AreInOrder f (arrays_there levels) → HaveOwnIds (arrays_there levels) → AreCachedFrom f next (arrays_there levels) cached
     → MayGoOn f next c cached
 asked_may_go_on f next parents levels v c cached is ordered ids cached_from =
@@ -154,7 +154,7 @@ asked_may_go_on f next parents levels v c cached is ordered ids cached_from =
     }
 
 -- what look-ups in other arrays add to the cache leaves a cursor's blocks in it as they are
-pub goes_on_beside : (f : Image) (next : ℕ) (c : OpenCursor) (others : List ArrayDesc) (old new : Blocks) → MayGoOn f next c old
+pub goes_on_beside : {L : Type 0} (f : Image) (next : ℕ) (c : CursorOver L) (others : List ArrayDesc) (old new : Blocks) → MayGoOn f next c old
     → ((k : ℕ × ℕ) (x : List Entry) → Contains new.entries (k, x)
     → Contains old.entries (k, x) ⊎ ((b : ArrayDesc) × Contains others b × IsBlockRead (Some f) b.id (blocks_of b.extents) k x))
     → ((b : ArrayDesc) → Contains others b → b.id < next)
@@ -182,7 +182,7 @@ goes_on_beside f next c others old new goes added below one = record {
     some_same a b e = cc
 
 -- a cursor may go on in an image that has the same bytes in the blocks of its arrays
-pub goes_on_in : (f g : Image) (next : ℕ) (c : OpenCursor) (cached : Blocks) → ((a : ArrayDesc) → Contains c.arrays a → AgreeOn (blocks_of a.extents) f g)
+pub goes_on_in : {L : Type 0} (f g : Image) (next : ℕ) (c : CursorOver L) (cached : Blocks) → ((a : ArrayDesc) → Contains c.arrays a → AgreeOn (blocks_of a.extents) f g)
     → MayGoOn f next c cached → MayGoOn g next c cached
 goes_on_in f g next c cached agree goes = record {
   ordered = record { each = λ a at. let there = goes.ordered.each a at in (there.0, entries_on-kept f g (blocks_of a.extents) (agree a at) ∙ there.1, there.2) };
@@ -195,21 +195,29 @@ goes_on_in f g next c cached agree goes = record {
   };
 }
 
+-- and with a greater number for the next array
+pub goes_on_later : {L : Type 0} (f : Image) (next later : ℕ) (c : CursorOver L) (cached : Blocks) → next ≤ later → MayGoOn f next c cached → MayGoOn f later c cached
+goes_on_later f next later c cached more goes = record {
+  ordered = goes.ordered;
+  ids = goes.ids;
+  same = record { old = λ k x at. let less = goes.same.old k x at in omega arith; same = goes.same.same };
+}
+
 -- cursors may go on after one of them told a page
-pub goes_on_moved : (f : Image) (next : ℕ) (cached : Blocks) (n : ℕ) (more : Bool) (told : Pairs) (cursors : List OpenCursor)
-    → ((c : OpenCursor) → Contains cursors c → MayGoOn f next c cached) → (c : OpenCursor) → Contains (moved_at n more told cursors) c → MayGoOn f next c cached
+pub goes_on_moved : {L : Type 0} (f : Image) (next : ℕ) (cached : Blocks) (n : ℕ) (more : Bool) (told : Pairs) (cursors : List (CursorOver L))
+    → ((c : CursorOver L) → Contains cursors c → MayGoOn f next c cached) → (c : CursorOver L) → Contains (moved_at n more told cursors) c → MayGoOn f next c cached
 goes_on_moved f next cached n more told cursors each c at =
     each_moved (λ x. MayGoOn f next x cached) n more told cursors
     (λ x goes. record { ordered = goes.ordered; ids = goes.ids; same = goes.same })
     (λ x among. each x (among_contained cursors x among)) c (contained_at c (moved_at n more told cursors) at.0 at.1 at.2)
 
-pub goes_on_without : (f : Image) (next : ℕ) (cached : Blocks) (n : ℕ) (cursors : List OpenCursor)
-    → ((c : OpenCursor) → Contains cursors c → MayGoOn f next c cached) → (c : OpenCursor) → Contains (without_cursor n cursors) c → MayGoOn f next c cached
-goes_on_without f next cached n cursors each c at =
-    each c (among_contained cursors c (filter_among (λ (x : OpenCursor). not (eqb x.number n)) cursors c (contained_at c (without_cursor n cursors) at.0 at.1 at.2)).0)
+pub goes_on_without : {L : Type 0} (f : Image) (next : ℕ) (cached : Blocks) (n : ℕ) (cursors : List (CursorOver L))
+    → ((c : CursorOver L) → Contains cursors c → MayGoOn f next c cached) → (c : CursorOver L) → Contains (without_cursor n cursors) c → MayGoOn f next c cached
+goes_on_without {L} f next cached n cursors each c at =
+    each c (among_contained cursors c (filter_among (λ (x : CursorOver L). not (eqb x.number n)) cursors c (contained_at c (without_cursor n cursors) at.0 at.1 at.2)).0)
 
 -- the arrays that cursors name after one of them told a page
-pub names_moved : (n : ℕ) (more : Bool) (told : Pairs) (cursors : List OpenCursor) → arrays_named (moved_at n more told cursors) ≡ arrays_named cursors
+pub names_moved : {L : Type 0} (n : ℕ) (more : Bool) (told : Pairs) (cursors : List (CursorOver L)) → arrays_named (moved_at n more told cursors) ≡ arrays_named cursors
 names_moved n more told [] = refl
 names_moved n more told (c ∷ cursors) = λ i. by (eqb c.number n) i ++ names_moved n more told cursors i
   where
@@ -217,8 +225,8 @@ names_moved n more told (c ∷ cursors) = λ i. by (eqb c.number n) i ++ names_m
     by true = refl
     by false = refl
 
-pub names_without : (n : ℕ) (cursors : List OpenCursor) (a : ArrayDesc) → Contains (arrays_named (without_cursor n cursors)) a → Contains (arrays_named cursors) a
-names_without n cursors a at =
-    let named = among_flat (λ (c : OpenCursor). c.arrays) (without_cursor n cursors) a (contained_at a (arrays_named (without_cursor n cursors)) at.0 at.1 at.2) in
+pub names_without : {L : Type 0} (n : ℕ) (cursors : List (CursorOver L)) (a : ArrayDesc) → Contains (arrays_named (without_cursor n cursors)) a → Contains (arrays_named cursors) a
+names_without {L} n cursors a at =
+    let named = among_flat (λ (c : CursorOver L). c.arrays) (without_cursor n cursors) a (contained_at a (arrays_named (without_cursor n cursors)) at.0 at.1 at.2) in
     among_contained (arrays_named cursors) a
-    (among_in_flat (λ (c : OpenCursor). c.arrays) cursors named.0 a (filter_among (λ (x : OpenCursor). not (eqb x.number n)) cursors named.0 named.1).0 named.2)
+    (among_in_flat (λ (c : CursorOver L). c.arrays) cursors named.0 a (filter_among (λ (x : CursorOver L). not (eqb x.number n)) cursors named.0 named.1).0 named.2)

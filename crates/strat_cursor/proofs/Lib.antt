@@ -9,11 +9,13 @@ pub mod SeenLemmas
 pub mod TellLemmas
 pub mod BeginLemmas
 pub mod FaultLemmas
+pub mod HeldLemmas
 pub mod HoldingLemmas
 pub mod NextLemmas
 pub mod OpenedLemmas
 pub mod PageReads
 pub mod PinLemmas
+pub mod RetiredLemmas
 pub mod RowLemmas
 pub mod StartLemmas
 pub mod TableRows

@@ -1,5 +1,5 @@
 -- Open cursors by their numbers: which one is meant, and what others keep when it moves on or goes.
-use Rattle.std.proofs.Common.{◌≡◌, ◌<◌, ◌≤◌, ◌+◌, ◌-◌, ℕ, zero, suc, Bool, true, false, not, cond, eqb, ltb, ◌||◌, inl, inr, List, [], ◌∷◌, ◌++◌, Some, None, length, map, get_or, take, drop, refl, sym, ap, ◌∙◌, subst, arith, length-append}
+use Rattle.std.proofs.Common.{◌≡◌, ◌<◌, ◌≤◌, ◌+◌, ℕ, zero, suc, Bool, true, false, not, cond, eqb, ltb, ◌||◌, inl, inr, List, [], ◌∷◌, ◌++◌, Some, None, length, map, get_or, take, drop, refl, sym, ap, ◌∙◌, subst, arith, length-append}
 use Rattle.std.proofs.Math.ListN.{set}
 use Rattle.std.specs.List.{AllByRecursion, filter, list_any, list_all, position, prefix_len, Contains}
 use Rattle.std.specs.List.Sorted.{IsStrictlySortedBy}

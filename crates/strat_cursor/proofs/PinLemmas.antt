@@ -1,7 +1,7 @@
 -- What cursors hold on to, as shares and arenas change.
 use Rattle.std.proofs.Common.{◌≡◌, ◌<◌, ◌≤◌, ◌+◌, ℕ, zero, suc, Bool, false, true, cond, not, eqb, inl, inr, List, [], ◌∷◌, ◌++◌, Option, Some, None, length, get_or, take, drop, refl, sym, ap, ◌∙◌, subst, arith}
 use Rattle.std.specs.List.{Contains, count_by, flat_map, filter_map, cons_option, list_all}
-use Rattle.std.specs.Option.{IfSome}
+use Rattle.std.specs.Option.{IfSome, option_map}
 use Rattle.std.proofs.lemmas.Bool.{eq-eqb}
 use Rattle.std.proofs.lemmas.List.Sums.{sum_by-append, sum_by-cons}
 use Rattle.strat_arena.specs.PoolView.{arena_at, shares_at}
@@ -20,7 +20,8 @@ use Rattle.strat_recovery.specs.TableOver.{are_known}
 use Rattle.strat_recovery.proofs.BadLemmas.{contained_at}
 use Rattle.strat_cursor.specs.Looking.{MayBeFound, arrays_there, levels_there}
 use Rattle.strat_cursor.specs.Ranges.{sealed_held}
-use Rattle.strat_cursor.specs.Cursors.{OpenCursor, zeros_pinned, without_cursor, moved_at, moved_on}
+use Rattle.strat_cursor.specs.Cursors.{CursorOver, OpenCursor, zeros_pinned, without_cursor, moved_at, moved_on}
+use Rattle.strat_cursor.specs.Held.{cursor_held}
 use Rattle.strat_model.specs.Pairs.{Pairs}
 use Rattle.strat_cursor.specs.Pins.{arena_pinned, arenas_of, shares_of, SharesFollow, ListsStand, HoldShares, IsListKnown, IsPinned, ArePinned, MayBePinned, TakesShares, GivesShares, IsCopyOf, IsCopyIfAny, arrays_asked}
 
@@ -77,6 +78,12 @@ sealed_known old new parents (Some list) same known = known_kept old new parents
     first_list [] = []
     first_list (x ∷ xs) = x
 
+sealed_same : (old new : List PoolEntry) (sealed : Option ItemList)
+    → ((list : ItemList) → sealed ≡ Some list → ListStands old list → ListStands new list × (entries_held new list ≡ entries_held old list))
+    → IfSome sealed (ListStands old) → option_map (entries_held new) sealed ≡ option_map (entries_held old) sealed
+sealed_same old new None each stands = refl
+sealed_same old new (Some list) each stands = ap (λ (es : List Entry). Some es) (each list refl stands).1
+
 -- lists of level 0 that stood in a pool stand in another, and read as before
 abbrev pub ListsStay : List PoolEntry → List PoolEntry → OpenCursor → Type 0
 ListsStay old new c = (list : ItemList) → Among list.arena (arenas_of c) → ListStands old list → ListStands new list × (entries_held new list ≡ entries_held old list)
@@ -99,6 +106,13 @@ module _ (old new : List PoolEntry) (c : OpenCursor) (stay : ListsStay old new c
         few = pinned.few;
         version = pinned.version;
       }
+
+  -- and so the cursor is held as before
+  pub cursor_stays : ListsStand old c → cursor_held new c ≡ cursor_held old c
+  cursor_stays stand =
+      let first = stay c.zero (inl refl) stand.zero in
+      let second = sealed_same old new c.sealed (λ list is. stay list (inr (subst (λ (s : Option ItemList). Among list.arena (arena_pinned s)) (sym is) (inl refl)))) stand.sealed in
+      λ i. record { number = c.number; version = c.version; zero = first.1 i; sealed = second i; arrays = c.arrays; from = c.from; hi = c.hi }
 
 -- a cursor's lists stay where its arenas do
 pub arenas_stay : (old new : List PoolEntry) (cursors : List OpenCursor) → ((n : ℕ) → 0 < shares_of cursors n → arena_at new n ≡ arena_at old n)
@@ -258,7 +272,7 @@ closed_pinned old new parents number cursors held follow pinned =
     held.shares
     (λ c among. let at = among_contained (without_cursor number cursors) c among in (less.held.stand c at, less.each c at))
 
-shares_moved : (number : ℕ) (more : Bool) (told : Pairs) (cursors : List OpenCursor) (n : ℕ) → shares_of (moved_at number more told cursors) n ≡ shares_of cursors n
+pub shares_moved : (number : ℕ) (more : Bool) (told : Pairs) (cursors : List OpenCursor) (n : ℕ) → shares_of (moved_at number more told cursors) n ≡ shares_of cursors n
 shares_moved number more told [] n = refl
 shares_moved number more told (c ∷ cursors) n = by (eqb c.number number) (shares_moved number more told cursors n)
   where
@@ -268,8 +282,8 @@ shares_moved number more told (c ∷ cursors) n = by (eqb c.number number) (shar
     by false rest = omega (arith, rest, shares_first c (moved_at number more told cursors) n, shares_first c cursors n)
 
 -- what holds of cursors wherever they go on holds of them after a page
-pub each_moved : (P : OpenCursor → Type 0) (number : ℕ) (more : Bool) (told : Pairs) (cursors : List OpenCursor)
-    → ((c : OpenCursor) → P c → P (moved_on more told c)) → ((c : OpenCursor) → Among c cursors → P c) → (c : OpenCursor) → Among c (moved_at number more told cursors) → P c
+pub each_moved : {L : Type 0} (P : CursorOver L → Type 0) (number : ℕ) (more : Bool) (told : Pairs) (cursors : List (CursorOver L))
+    → ((c : CursorOver L) → P c → P (moved_on more told c)) → ((c : CursorOver L) → Among c cursors → P c) → (c : CursorOver L) → Among c (moved_at number more told cursors) → P c
 each_moved P number more told [] goes each c among = absurd among
 each_moved P number more told (d ∷ cursors) goes each c (inl here) = subst P (sym here) (by (eqb d.number number))
   where

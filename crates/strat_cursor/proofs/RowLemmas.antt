@@ -1,11 +1,11 @@
 -- The cursors of a table, as pools, trees and images change, and as cursors are opened, read and closed.
-use Rattle.std.proofs.Common.{◌≡◌, ◌<◌, ◌≤◌, ◌+◌, ◌&&◌, ℕ, zero, true, not, eqb, ltb, inl, inr, List, [], ◌∷◌, ◌++◌, Option, Some, None, length, map, refl, sym, ap, ◌∙◌, subst, arith, length-append}
+use Rattle.std.proofs.Common.{◌≡◌, ◌<◌, ◌≤◌, ◌&&◌, ℕ, true, not, eqb, ltb, inl, inr, List, [], ◌∷◌, ◌++◌, Option, Some, None, length, map, refl, sym, ap, ◌∙◌, subst, arith, length-append}
 use Rattle.std.specs.List.{Contains, filter, find, list_any}
-use Rattle.std.specs.Option.{option_and_then, option_or, unwrap_or, IfSome}
+use Rattle.std.specs.Option.{option_and_then, option_map, option_or, option_to_list, unwrap_or, IfSome}
 use Rattle.std.proofs.lemmas.Bool.{lt-ltb, ltb-true}
 use Rattle.strat_arena.specs.PoolView.{shares_at}
 use Rattle.strat_arena.specs.declared.pool.PoolEntry.{PoolEntry}
-use Rattle.strat_base.proofs.ListFacts.{Among, among_in_flat, all_from, all_at}
+use Rattle.strat_base.proofs.ListFacts.{Among, among_in_flat, all_from, all_at, map_same}
 use Rattle.strat_base.proofs.TreeLemmas.{path_kept}
 use Rattle.strat_base.specs.Tree.{Parents, path, is_known, with_child, IsTree}
 use Rattle.strat_base.specs.Entries.{Entry, is_of}
@@ -17,31 +17,34 @@ use Rattle.strat_format.specs.Arrays.{blocks_of}
 use Rattle.strat_level.specs.Memtable.{ItemList, entries_held}
 use Rattle.strat_model.specs.Pairs.{Pairs}
 use Rattle.strat_model.specs.Table.{Cursor}
-use Rattle.strat_model.specs.declared.replies.Reply.TheVariants as reply
 use Rattle.strat_recovery.specs.TableOver.{are_known}
 use Rattle.strat_state.specs.LookUp.{first_live}
-use Rattle.strat_cursor.specs.Cursors.{OpenCursor, zeros_pinned, IsMapPinned, arrays_named}
-use Rattle.strat_cursor.specs.CursorTable.{AreCursorsOf}
+use Rattle.strat_cursor.specs.Cursors.{OpenCursor, IsMapPinned, arrays_named}
+use Rattle.strat_cursor.specs.Held.{HeldCursor, cursor_held, opened_held, IsMapHeld, AreRowsOf}
 use Rattle.strat_cursor.specs.Pins.{ArePinned, IsListKnown, shares_of}
-use Rattle.strat_cursor.specs.Ranges.{IsMapSeen, content_on}
-use Rattle.strat_cursor.proofs.PinLemmas.{ListsStay, lists_kept, pins_kept, among_contained}
+use Rattle.strat_cursor.specs.Ranges.{IsMapSeen, content_on, sealed_held}
+use Rattle.strat_cursor.proofs.PinLemmas.{ListsStay, cursor_stays, pins_kept, among_contained}
 
 -- a table's cursors stay where the maps of the open ones do
-rows_stay : (f g : Image) (before after : Parents) (old new : List PoolEntry) (cursors : List OpenCursor) (rows : List Cursor)
-    → ((c : OpenCursor) → Among c cursors → (m : Pairs) → IsMapPinned f before old c m → IsMapPinned g after new c m)
-    → AreCursorsOf f before old cursors rows → AreCursorsOf g after new cursors rows
-rows_stay f g before after old new [] [] each are = tt
-rows_stay f g before after old new [] (row ∷ rows) each are = absurd are
-rows_stay f g before after old new (c ∷ cursors) [] each are = absurd are
-rows_stay f g before after old new (c ∷ cursors) (row ∷ rows) each are = (
+rows_stay : (f g : Image) (before after : Parents) (cursors : List HeldCursor) (rows : List Cursor)
+    → ((c : HeldCursor) → Among c cursors → (m : Pairs) → IsMapHeld f before c m → IsMapHeld g after c m)
+    → AreRowsOf f before cursors rows → AreRowsOf g after cursors rows
+rows_stay f g before after [] [] each are = tt
+rows_stay f g before after [] (row ∷ rows) each are = absurd are
+rows_stay f g before after (c ∷ cursors) [] each are = absurd are
+rows_stay f g before after (c ∷ cursors) (row ∷ rows) each are = (
   record { pairs = are.0.pairs; reads = each c (inl refl) are.0.pairs are.0.reads; row_is = are.0.row_is },
-  rows_stay f g before after old new cursors rows (λ d among. each d (inr among)) are.1,
+  rows_stay f g before after cursors rows (λ d among. each d (inr among)) are.1,
 )
 
--- what a pool has no part in
-pool_reads : (f : Image) (parents : Parents) (old new : List PoolEntry) (c : OpenCursor) (m : Pairs) → zeros_pinned new c ≡ zeros_pinned old c
-    → IsMapPinned f parents old c m → IsMapPinned f parents new c m
-pool_reads f parents old new c m same reads = subst (λ (z : List (List Entry)). IsMapSeen f parents z c.arrays c.version m) (sym same) reads
+-- a cursor as it is held reads what it reads in its pool
+zeros_same : (pool : List PoolEntry) (sealed : Option ItemList) → option_to_list (option_map (entries_held pool) sealed) ≡ sealed_held pool sealed
+zeros_same pool None = refl
+zeros_same pool (Some list) = refl
+
+pub map_pinned : (f : Image) (parents : Parents) (pool : List PoolEntry) (c : OpenCursor) (m : Pairs) → IsMapHeld f parents (cursor_held pool c) m → IsMapPinned f parents pool c m
+map_pinned f parents pool c m reads =
+    subst (λ (z : List (List Entry)). IsMapSeen f parents (entries_held pool c.zero ∷ z) c.arrays c.version m) (zeros_same pool c.sealed) reads
 
 module _ (parents : Parents) (old new : List PoolEntry) (cursors : List OpenCursor)
     (stay : (c : OpenCursor) → Among c cursors → ListsStay old new c) (shares : (n : ℕ) → shares_of cursors n ≤ shares_at new n)
@@ -51,11 +54,10 @@ module _ (parents : Parents) (old new : List PoolEntry) (cursors : List OpenCurs
       pins_kept old new parents cursors stay shares
       (λ c among. let there = among_contained cursors c among in (pinned.held.stand c there, pinned.each c there))
 
-  pub pool_rows : (f : Image) (rows : List Cursor) → AreCursorsOf f parents old cursors rows → AreCursorsOf f parents new cursors rows
-  pool_rows f rows are =
-      rows_stay f f parents parents old new cursors rows
-      (λ c among m reads. pool_reads f parents old new c m (lists_kept old new c (stay c among) (pinned.held.stand c (among_contained cursors c among))).1 reads)
-      are
+  pub pool_held : opened_held new cursors ≡ opened_held old cursors
+  pool_held =
+      map_same (cursor_held new) (cursor_held old) cursors
+      (λ c among. cursor_stays old new c (stay c among) (pinned.held.stand c (among_contained cursors c among)))
 
 -- the first entry that is live depends on the path of the version alone
 first_same : (before after : Parents) (lists : List (List Entry)) (v : ℕ) (key : List ℕ) → path after v ≡ path before v
@@ -77,10 +79,9 @@ sealed_grown : (pool : List PoolEntry) (parents : Parents) (p : ℕ) (sealed : O
 sealed_grown pool parents p None known = tt
 sealed_grown pool parents p (Some list) known = all_grown parents p (entries_held pool list) known
 
-module _ (parents : Parents) (p : ℕ) (tree : IsTree parents) (within : p < length parents) (pool : List PoolEntry) (cursors : List OpenCursor)
-    (pinned : ArePinned pool parents cursors) where
-  pub tree_pinned : ArePinned pool (with_child parents p) cursors
-  tree_pinned = record {
+module _ (parents : Parents) (p : ℕ) (tree : IsTree parents) (within : p < length parents) where
+  pub tree_pinned : (pool : List PoolEntry) (cursors : List OpenCursor) → ArePinned pool parents cursors → ArePinned pool (with_child parents p) cursors
+  tree_pinned pool cursors pinned = record {
     held = pinned.held;
     each = λ c there.
         let at = pinned.each c there in
@@ -89,16 +90,17 @@ module _ (parents : Parents) (p : ℕ) (tree : IsTree parents) (within : p < len
         record { zero = all_grown parents p (entries_held pool c.zero) at.zero; sealed = sealed_grown pool parents p c.sealed at.sealed; arrays = at.arrays; few = at.few; version = longer };
   }
 
-  pub tree_rows : (f : Image) (rows : List Cursor) → AreCursorsOf f parents pool cursors rows → AreCursorsOf f (with_child parents p) pool cursors rows
-  tree_rows f rows are =
-      rows_stay f f parents (with_child parents p) pool pool cursors rows
+  pub tree_rows : (f : Image) (cursors : List HeldCursor) (rows : List Cursor) → ((c : HeldCursor) → Contains cursors c → c.version < length parents)
+      → AreRowsOf f parents cursors rows → AreRowsOf f (with_child parents p) cursors rows
+  tree_rows f cursors rows known are =
+      rows_stay f f parents (with_child parents p) cursors rows
       (λ c among m reads. record {
         ordered = reads.ordered;
         each = λ key.
             reads.each key
             ∙ ap (λ (e : Option Entry). option_and_then (λ x. x.value) e)
-            (sym (first_same parents (with_child parents p) (zeros_pinned pool c ++ map (content_on f) c.arrays) c.version key
-            (path_kept parents tree p within c.version (pinned.each c (among_contained cursors c among)).version)));
+            (sym (first_same parents (with_child parents p) ((c.zero ∷ option_to_list c.sealed) ++ map (content_on f) c.arrays) c.version key
+            (path_kept parents tree p within c.version (known c (among_contained cursors c among)))));
       })
       are
 
@@ -108,17 +110,17 @@ contents_stay f g [] each = refl
 contents_stay f g (a ∷ arrays) each =
     λ i. unwrap_or (entries_on-kept f g (blocks_of a.extents) (each a (inl refl)) i) [] ∷ contents_stay f g arrays (λ b among. each b (inr among)) i
 
-pub image_rows : (f g : Image) (parents : Parents) (pool : List PoolEntry) (cursors : List OpenCursor) (rows : List Cursor)
+pub image_rows : (f g : Image) (parents : Parents) (cursors : List HeldCursor) (rows : List Cursor)
     → ((a : ArrayDesc) → Contains (arrays_named cursors) a → AgreeOn (blocks_of a.extents) f g)
-    → AreCursorsOf f parents pool cursors rows → AreCursorsOf g parents pool cursors rows
-image_rows f g parents pool cursors rows agree are =
-    rows_stay f g parents parents pool pool cursors rows
+    → AreRowsOf f parents cursors rows → AreRowsOf g parents cursors rows
+image_rows f g parents cursors rows agree are =
+    rows_stay f g parents parents cursors rows
     (λ c among m reads. record {
       ordered = reads.ordered;
       each = λ key.
           reads.each key
-          ∙ ap (λ (lists : List (List Entry)). option_and_then (λ x. x.value) (first_live parents (zeros_pinned pool c ++ lists) c.version key))
+          ∙ ap (λ (lists : List (List Entry)). option_and_then (λ x. x.value) (first_live parents ((c.zero ∷ option_to_list c.sealed) ++ lists) c.version key))
           (sym (contents_stay f g c.arrays
-          (λ a named. agree a (among_contained (arrays_named cursors) a (among_in_flat (λ (x : OpenCursor). x.arrays) cursors c a among named)))));
+          (λ a named. agree a (among_contained (arrays_named cursors) a (among_in_flat (λ (x : HeldCursor). x.arrays) cursors c a among named)))));
     })
     are

@@ -1,5 +1,5 @@
 -- Cursors: the pairs of a range of a version as they were, told page by page.
-use Rattle.std.specs.Prelude.{◌≡◌, ◌<◌, ◌-◌, ◌+◌, ◌==◌, nat_lt, ℕ, Bool, if◌then◌else◌, not, List, [], ◌∷◌, ◌++◌, length, map, filter, flat_map, drop, slice_index_or, Option, Some, None}
+use Rattle.std.specs.Prelude.{◌≡◌, ◌<◌, ◌-◌, ◌==◌, nat_lt, ℕ, Bool, if◌then◌else◌, not, List, [], ◌∷◌, ◌++◌, length, map, filter, flat_map, drop, slice_index_or, Option, Some, None}
 use Rattle.std.specs.List.{list_any, list_all, AllByRecursion}
 use Rattle.std.specs.List.Sorted.{IsStrictlySortedBy}
 use Rattle.std.specs.Ordering.{nat_cmp}

@@ -1,10 +1,10 @@
 -- Open cursors as a store is seen: their lists are of entries, whatever pool these lie in.
-use Rattle.std.specs.Prelude.{◌≡◌, ℕ, List, [], ◌∷◌, length, map, option_map}
+use Rattle.std.specs.Prelude.{◌≡◌, List, [], ◌∷◌, map, option_map}
 use Rattle.strat_arena.specs.declared.pool.PoolEntry.{PoolEntry}
 use Rattle.strat_base.specs.Entries.{Entry}
 use Rattle.strat_base.specs.Tree.{Parents}
 use Rattle.strat_crash.specs.Image.{Image}
-use Rattle.strat_level.specs.Memtable.{ItemList, entries_held}
+use Rattle.strat_level.specs.Memtable.{entries_held}
 use Rattle.strat_model.specs.Pairs.{Pairs}
 use Rattle.strat_model.specs.Table.{Cursor}
 use Rattle.std.specs.Option.{option_to_list}

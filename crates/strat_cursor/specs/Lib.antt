@@ -7,7 +7,6 @@ pub mod CursorFaults
 pub mod CursorFields
 pub mod CursorsFields
 pub mod Cursors
-pub mod CursorTable
 pub mod Held
 pub mod Pins
 pub mod Ranges

@@ -258,6 +258,7 @@ impl Cursors {
         requires kept { HoldShares pool.old self.old.opened }
         ensures ok { result ≡ is_opened number self.old.opened }
         ensures end { self.new ≡ closed_at number self.old }
+        ensures none { result ≡ false → (self.new ≡ self.old) × (pool.new ≡ pool.old) }
         ensures kept { HoldShares pool.new self.new.opened × ((parents : Parents)
             → ArePinned pool.old parents self.old.opened
             → ArePinned pool.new parents self.new.opened) }

@@ -6,6 +6,7 @@ mod cursor;
 pub mod cursor_laws;
 mod cursors;
 mod desks;
+pub mod held_laws;
 mod picking;
 mod scanning;
 mod sources;

@@ -1,16 +1,19 @@
 -- How a store answers commands that ask for no change, and what of it an answer leaves.
 use Rattle.std.proofs.Common.{◌≡◌, ◌≤◌, ◌&&◌, ℕ, leb, Bor, Bool, true, false, inl, inr, List, [], ◌∷◌, length, Option, Some, None, refl, sym, ap, ◌∙◌, subst, true≢false}
 use Rattle.std.proofs.lemmas.Bool.{and_parts, leb-true}
+use Rattle.std.proofs.lemmas.List.Elements.{Contains-append_left}
 use Rattle.std.specs.Prelude.{if◌then◌else◌, option_and_then}
 use Rattle.strat_base.specs.Change.{Change}
 use Rattle.strat_base.specs.Change as change
 use Rattle.strat_base.specs.Tree.{is_known}
-use Rattle.strat_base.specs.declared.descriptors.LevelDesc.{LevelDesc}
+use Rattle.strat_array.specs.Kept.{Blocks}
 use Rattle.strat_crash.specs.Image.{Image}
 use Rattle.strat_crash.specs.Moments.{DiskView, Since, OnlyReads}
 use Rattle.strat_crash.specs.Trail.{Trail}
 use Rattle.strat_crash.proofs.MomentLemmas.{now_since_start}
 use Rattle.strat_crash.proofs.TrailLemmas.{trail_of_one, trail_of_two}
+use Rattle.strat_cursor.proofs.TableRows.{rows_length}
+use Rattle.strat_cursor.specs.Looking.{LooksThrough, arrays_there}
 use Rattle.strat_format.specs.Damage.{Read}
 use Rattle.strat_model.specs.declared.replies.Reply.{Reply}
 use Rattle.strat_model.specs.declared.replies.Reply.TheVariants as reply
@@ -20,23 +23,25 @@ use Rattle.strat_model.specs.Command.{request_of}
 use Rattle.strat_model.specs.declared.commands.Command.{Command}
 use Rattle.strat_model.specs.declared.commands.Command.TheVariants as command
 use Rattle.strat_model.specs.Answer.{Answer, plain, accepts}
-use Rattle.strat_model.specs.Pairs.{value_of}
+use Rattle.strat_model.specs.Pairs.{range, value_of}
 use Rattle.strat_model.specs.Request.{Request, Put, Delete, Get, Clone, Scan, Info, Stat}
 use Rattle.strat_model.specs.Run.{Position, is_change, reaches_disk, position_after, fill_after}
-use Rattle.strat_model.specs.Spelling.{is_built, is_bound, is_limit, has_lawful_sizes}
-use Rattle.strat_model.specs.Step.{step, replies_with, refuses, has_row, pairs_at, found}
-use Rattle.strat_model.specs.Table.{Table, bare}
+use Rattle.strat_model.specs.Spelling.{is_bound, is_limit, has_lawful_sizes}
+use Rattle.strat_model.specs.Step.{step, replies_with, refuses, has_row, pairs_at, found, page}
+use Rattle.strat_model.specs.Table.{Cursor, Table, bare}
 use Rattle.strat_recovery.specs.Head.{Head}
 use Rattle.strat_recovery.specs.Opening.{state_of, opened}
 use Rattle.strat_recovery.specs.StateTable.{table_of, request_for}
 use Rattle.strat_standing.proofs.FreeLemmas.{shows_contents}
 use Rattle.strat_standing.proofs.PartsLemmas.{reads_head, reads_state}
 use Rattle.strat_standing.specs.Contents.{Contents, contents_head, contents_state}
-use Rattle.strat_standing.specs.Standing.{ShowsTable}
-use Rattle.strat_store.proofs.MemoryLawLemmas.{version_told, store_told, version_unknown}
-use Rattle.strat_store.specs.Applying.{IsAppliedTo, IsLookedUp, FollowsStep, TellsFaultOf, change_wanted, is_fault, ran_short, table_left}
+use Rattle.strat_standing.specs.Standing.{LeavesContent, ShowsTable}
+use Rattle.strat_store.proofs.MemoryLawLemmas.{version_told, store_told_with, version_unknown}
+use Rattle.strat_store.proofs.CursoringLemmas.{looks_wider, stands_now, stands_still, still_going}
+use Rattle.strat_store.specs.Applying.{IsLookedUp, FollowsStep, TellsFaultOf, change_wanted, is_fault, ran_short, table_left}
+use Rattle.strat_store.specs.Cursoring.{IsAppliedAt, is_of_cursor}
 use Rattle.strat_store.specs.Ranging.{TellsFrom}
-use Rattle.strat_store.specs.Held.{Held, position_with, IsConsistent, StandsWith}
+use Rattle.strat_store.specs.Held.{Held, arrays_held, position_at, table_at, IsConsistent, StandsAt, StandsWith}
 use Rattle.strat_store.specs.Memory.{Memory, info_told, stat_told, IsMemoryOf}
 
 -- the request of a change that is wanted
@@ -47,18 +52,23 @@ wanted_for (Clone v) c wanted = let same : change.Clone v ≡ c = cc in ap reque
 wanted_for _ c wanted = absurd (cc)
 
 -- a change looks nothing up
-pub tells_from_wanted : (f : Image) (m : Memory) (levels : List (Option LevelDesc)) (r : Request) (c : Change) (answer : Answer) → change_wanted r ≡ Some c → TellsFrom f m levels r answer
-tells_from_wanted f m levels (Put v key value) c answer wanted = tt
-tells_from_wanted f m levels (Delete v key) c answer wanted = tt
-tells_from_wanted f m levels (Clone v) c answer wanted = tt
-tells_from_wanted f m levels _ c answer wanted = absurd (cc)
+pub tells_from_wanted : (f : Image) (s : Held) (r : Request) (c : Change) (answer : Answer) → change_wanted r ≡ Some c → TellsFrom f s r answer
+tells_from_wanted f s (Put v key value) c answer wanted = tt
+tells_from_wanted f s (Delete v key) c answer wanted = tt
+tells_from_wanted f s (Clone v) c answer wanted = tt
+tells_from_wanted f s _ c answer wanted = absurd (cc)
 
--- and neither does a command that is neither a get nor a scan
-pub tells_other : (f : Image) (m : Memory) (levels : List (Option LevelDesc)) (asked : Command) (answer : Answer) → ((v : ℕ) (key : Bor (List ℕ)) → asked ≡ command.Get v key → ⊥)
-    → ((v : ℕ) (lo hi : Bor (List ℕ)) (limit : ℕ) → asked ≡ command.Scan v lo hi limit → ⊥) → TellsFrom f m levels (request_of asked) answer
-tells_other f m levels (command.Get v key) answer get scan = absurd (get v key refl)
-tells_other f m levels (command.Scan v lo hi limit) answer get scan = absurd (scan v lo hi limit refl)
-tells_other f m levels _ answer get scan = tt
+-- a command that asks for no change and is about no cursor is a get, a scan, or asks what is in memory
+pub none_left : (asked : Command) → change_wanted (request_of asked) ≡ None → is_of_cursor (request_of asked) ≡ false → ((v : ℕ) (key : Bor (List ℕ)) → asked ≡ command.Get v key → ⊥)
+    → ((v : ℕ) (lo hi : Bor (List ℕ)) (limit : ℕ) → asked ≡ command.Scan v lo hi limit → ⊥) → ((v : ℕ) → asked ≡ command.Info v → ⊥) → (asked ≡ command.Stat → ⊥) → ⊥
+none_left (command.Put v key value) none other get scan info stat = let e : Some (change.Put v key.now value.now) ≡ None = none in cc
+none_left (command.Delete v key) none other get scan info stat = let e : Some (change.Delete v key.now) ≡ None = none in cc
+none_left (command.Clone v) none other get scan info stat = let e : Some (change.Clone v) ≡ None = none in cc
+none_left (command.Get v key) none other get scan info stat = get v key refl
+none_left (command.Scan v lo hi limit) none other get scan info stat = scan v lo hi limit refl
+none_left (command.Info v) none other get scan info stat = info v refl
+none_left command.Stat none other get scan info stat = stat refl
+none_left _ none other get scan info stat = absurd (true≢false other)
 
 -- it reaches the disk, and so a fault may be told of it
 reaches_wanted : (r : Request) (c : Change) → change_wanted r ≡ Some c → reaches_disk r ≡ true
@@ -94,27 +104,27 @@ says_kept : (k : Bool) (t : Table) (a : Answer) (r : Refusal) → (if k then rep
 says_kept true t a r = refl
 says_kept false t a r = refl
 
--- a command that is built and wants no change leaves the table as it was
-pub look_kept : (t : Table) (r : Request) → is_built r ≡ true → change_wanted r ≡ None → (step t r).table ≡ t
-look_kept t (Get v key) built none = says_kept (has_row t v) t _ why.UnknownVersion
-look_kept t (Info v) built none = says_kept (has_row t v) t _ why.UnknownVersion
-look_kept t (Scan v lo hi limit) built none = says_kept (has_row t v) t _ why.UnknownVersion
-look_kept t Stat built none = refl
-look_kept t (Put v key value) built none = absurd (cc)
-look_kept t (Delete v key) built none = absurd (cc)
-look_kept t (Clone v) built none = absurd (cc)
-look_kept t _ built none = absurd (true≢false (sym built))
+-- a command that wants no change and is about no cursor leaves the table as it was
+pub look_kept : (t : Table) (r : Request) → is_of_cursor r ≡ false → change_wanted r ≡ None → (step t r).table ≡ t
+look_kept t (Get v key) other none = says_kept (has_row t v) t _ why.UnknownVersion
+look_kept t (Info v) other none = says_kept (has_row t v) t _ why.UnknownVersion
+look_kept t (Scan v lo hi limit) other none = says_kept (has_row t v) t _ why.UnknownVersion
+look_kept t Stat other none = refl
+look_kept t (Put v key value) other none = absurd (cc)
+look_kept t (Delete v key) other none = absurd (cc)
+look_kept t (Clone v) other none = absurd (cc)
+look_kept t _ other none = absurd (true≢false other)
 
 -- it is not a change
-pub look_no_change : (r : Request) → is_built r ≡ true → change_wanted r ≡ None → is_change r ≡ false
-look_no_change (Get v key) built none = refl
-look_no_change (Info v) built none = refl
-look_no_change (Scan v lo hi limit) built none = refl
-look_no_change Stat built none = refl
-look_no_change (Put v key value) built none = absurd (cc)
-look_no_change (Delete v key) built none = absurd (cc)
-look_no_change (Clone v) built none = absurd (cc)
-look_no_change _ built none = absurd (true≢false (sym built))
+pub look_no_change : (r : Request) → is_of_cursor r ≡ false → change_wanted r ≡ None → is_change r ≡ false
+look_no_change (Get v key) other none = refl
+look_no_change (Info v) other none = refl
+look_no_change (Scan v lo hi limit) other none = refl
+look_no_change Stat other none = refl
+look_no_change (Put v key value) other none = absurd (cc)
+look_no_change (Delete v key) other none = absurd (cc)
+look_no_change (Clone v) other none = absurd (cc)
+look_no_change _ other none = absurd (true≢false other)
 
 says_no_fault : (k : Bool) (t : Table) (a : Answer) → is_fault a.reply ≡ false → is_fault (if k then replies_with t a else refuses t why.UnknownVersion).answer.reply ≡ false
 says_no_fault true t a calm = calm
@@ -125,43 +135,62 @@ found_no_fault key None = refl
 found_no_fault key (Some value) = refl
 
 -- and a table answers it with no fault
-pub look_no_fault : (t : Table) (r : Request) → is_built r ≡ true → change_wanted r ≡ None → is_fault (step t r).answer.reply ≡ false
-look_no_fault t (Get v key) built none = says_no_fault (has_row t v) t (found key (value_of (pairs_at t v) key)) (found_no_fault key (value_of (pairs_at t v) key))
-look_no_fault t (Info v) built none = says_no_fault (has_row t v) t _ refl
-look_no_fault t (Scan v lo hi limit) built none = says_no_fault (has_row t v) t _ refl
-look_no_fault t Stat built none = refl
-look_no_fault t (Put v key value) built none = absurd (cc)
-look_no_fault t (Delete v key) built none = absurd (cc)
-look_no_fault t (Clone v) built none = absurd (cc)
-look_no_fault t _ built none = absurd (true≢false (sym built))
+pub look_no_fault : (t : Table) (r : Request) → is_of_cursor r ≡ false → change_wanted r ≡ None → is_fault (step t r).answer.reply ≡ false
+look_no_fault t (Get v key) other none = says_no_fault (has_row t v) t (found key (value_of (pairs_at t v) key)) (found_no_fault key (value_of (pairs_at t v) key))
+look_no_fault t (Info v) other none = says_no_fault (has_row t v) t _ refl
+look_no_fault t (Scan v lo hi limit) other none = says_no_fault (has_row t v) t _ refl
+look_no_fault t Stat other none = refl
+look_no_fault t (Put v key value) other none = absurd (cc)
+look_no_fault t (Delete v key) other none = absurd (cc)
+look_no_fault t (Clone v) other none = absurd (cc)
+look_no_fault t _ other none = absurd (true≢false other)
 
--- a store stands with the same contents whether it is spent or not
-pub spent_stands : (v : DiskView) (s : Held) (x : Contents) (b : Bool) → StandsWith v s x → StandsWith v (record s { spent = b }) x
-spent_stands v s x b w = record { stands = w.stands; held = w.held; cached = w.cached }
+-- what reads a version says the same beside any cursors
+says_same : (k : Bool) (t u : Table) (a : Answer) → (if k then replies_with t a else refuses t why.UnknownVersion).answer ≡ (if k then replies_with u a else refuses u why.UnknownVersion).answer
+says_same true t u a = refl
+says_same false t u a = refl
+
+-- a get, a scan and what is told of a version are the same at a table with cursors
+abbrev SaysSame : Table → List Cursor → ℕ → Request → Type 0
+SaysSame t rows next r = (step (record t { cursors = rows; next_cursor = next }) r).answer ≡ (step t r).answer
+
+pub get_same : (t : Table) (rows : List Cursor) (next v : ℕ) (key : List ℕ) → SaysSame t rows next (Get v key)
+get_same t rows next v key = says_same (has_row t v) (record t { cursors = rows; next_cursor = next }) t (found key (value_of (pairs_at t v) key))
+
+pub scan_same : (t : Table) (rows : List Cursor) (next v : ℕ) (lo hi : List ℕ) (limit : ℕ) → SaysSame t rows next (Scan v lo hi limit)
+scan_same t rows next v lo hi limit = says_same (has_row t v) (record t { cursors = rows; next_cursor = next }) t (page (range (pairs_at t v) lo hi) limit)
+
+info_same : (t : Table) (rows : List Cursor) (next v : ℕ) → SaysSame t rows next (Info v)
+info_same t rows next v = says_same (has_row t v) (record t { cursors = rows; next_cursor = next }) t _
 
 -- what memory tells of versions and of the store is the table's
-module _ (v : DiskView) (s : Held) (x : Contents) (whole : IsConsistent s) (w : StandsWith v s x) where
+module _ (v : DiskView) (s : Held) (x : Contents) (rows : List Cursor) (whole : IsConsistent s) (at : StandsAt v s x rows) where
+  abbrev w : StandsWith v s x
+  w = at.stands
+
   abbrev here : Image
   here = w.stands.content
 
-  pub state_here : state_of here (contents_head x) ≡ Some (contents_state x)
+  state_here : state_of here (contents_head x) ≡ Some (contents_state x)
   state_here =
       let reads = w.stands.reads here w.stands.left in
       ap (λ (found : Read (Option Head)). option_and_then (state_of here) (opened found)) (sym (reads_head here x reads)) ∙ reads_state here x reads
 
-  pub memory_here : IsMemoryOf (contents_head x) s.memory
+  memory_here : IsMemoryOf (contents_head x) s.memory
   memory_here = subst (λ (z : Contents). IsMemoryOf (contents_head z) s.memory) (sym w.held) whole.memory
 
   pub info_here : (version : ℕ) (told : Reply) → (is_known s.memory.parents version ≡ true → told ≡ info_told s.memory version) → (is_known s.memory.parents version ≡ false → told ≡ reply.Refused why.UnknownVersion)
-      → plain told ≡ (step (table_of (contents_state x)) (Info version)).answer
-  info_here version told known unknown = by_test (is_known s.memory.parents version) refl
+      → plain told ≡ (step (table_at s x rows) (Info version)).answer
+  info_here version told known unknown =
+      by_test (is_known s.memory.parents version) refl ∙ sym (info_same (table_of (contents_state x)) rows s.memory.cursors.next version)
     where
       by_test : (b : Bool) → is_known s.memory.parents version ≡ b → plain told ≡ (step (table_of (contents_state x)) (Info version)).answer
       by_test true is = ap plain (known is) ∙ sym (version_told here (contents_head x) (contents_state x) s.memory state_here memory_here version is)
       by_test false is = ap plain (unknown is) ∙ ap (λ o. o.answer) (sym (version_unknown here (contents_head x) (contents_state x) s.memory state_here memory_here version is))
 
-  pub stat_here : plain (stat_told s.memory) ≡ (step (table_of (contents_state x)) Stat).answer
-  stat_here = sym (store_told here (contents_head x) (contents_state x) s.memory state_here memory_here)
+  pub stat_here : plain (stat_told s.memory) ≡ (step (table_at s x rows) Stat).answer
+  stat_here =
+      sym (store_told_with here (contents_head x) (contents_state x) s.memory state_here memory_here rows s.memory.cursors.next (rows_length here s.memory.parents s.memory.cursors.opened rows at.rows_are))
 
 -- the position after a command that changes nothing
 place_kept : (mem : ℕ) (at : Position) (r : Request) → (step at.table r).table ≡ at.table → is_change r ≡ false → position_after mem at r ≡ at
@@ -174,35 +203,52 @@ place_kept mem at r table still = λ i. record { table = table i; fill = fill i 
     fill : (position_after mem at r).fill ≡ at.fill
     fill = by_accept (accepts (step at.table r).answer.reply)
 
--- a command that was looked up is answered as a store may answer it
-pub look_applied : (now : DiskView) (old new : Held) (x : Contents) (r : Request) (answer : Answer) (b : Bool) → is_built r ≡ true → change_wanted r ≡ None → new.log ≡ old.log → is_fault answer.reply ≡ b
-    → IsLookedUp now new x r answer → IsAppliedTo now old x r answer (record new { spent = b })
-look_applied now old new x r answer b built none log fault looked = elim looked [
+-- a command that was looked up as the table says is answered as a store may answer it
+told_at : (now : DiskView) (s new : Held) (x : Contents) (rows : List Cursor) (r : Request) (answer : Answer) → is_of_cursor r ≡ false → change_wanted r ≡ None → new.log ≡ s.log → new.memory ≡ s.memory
+    → new.spent ≡ is_fault answer.reply → answer ≡ (step (table_at s x rows) r).answer → StandsAt now new x rows → IsAppliedAt now s x rows r answer new
+told_at now s new x rows r answer other none log memory spent told stands =
+    let t = table_at s x rows in
+    inl (record {
+      told = told;
+      going = spent ∙ ap (λ (a : Answer). is_fault a.reply) told ∙ look_no_fault t r other none;
+      after = x;
+      left = rows;
+      stands = stands;
+      place = (λ i. record { table = record (table_of (contents_state x)) { cursors = rows; next_cursor = (memory i).cursors.next }; fill = length (log i).list })
+          ∙ sym (place_kept s.log.mem (position_at s x rows) r (look_kept t r other none) (look_no_change r other none));
+    })
+
+-- without a look at the disk
+pub memory_applied : (v : DiskView) (s : Held) (x : Contents) (rows : List Cursor) (whole : IsConsistent s) (at : StandsAt v s x rows) (r : Request) (answer : Answer) → is_of_cursor r ≡ false → change_wanted r ≡ None
+    → answer ≡ (step (table_at s x rows) r).answer → IsAppliedAt v s x rows r answer (record s { spent = is_fault answer.reply })
+memory_applied v s x rows whole at r answer other none told =
+    told_at v s (record s { spent = is_fault answer.reply }) x rows r answer other none refl refl refl told
+    (stands_still v s x rows whole at s.memory (is_fault answer.reply) rows at.rows_are at.going)
+
+-- and with one
+pub look_applied : (v now : DiskView) (s : Held) (x : Contents) (rows : List Cursor) (d : Blocks) (whole : IsConsistent s) (at : StandsAt v s x rows) (looks : LooksThrough v now (arrays_there s.levels) s.cached d) (leaves : LeavesContent now)
+    (r : Request) (answer : Answer) → is_of_cursor r ≡ false → change_wanted r ≡ None → SaysSame (table_of (contents_state x)) rows s.memory.cursors.next r
+    → IsLookedUp now (record s { cached = d }) x r answer → IsAppliedAt now s x rows r answer (record s { cached = d; spent = is_fault answer.reply })
+look_applied v now s x rows d whole at looks leaves r answer other none same looked = elim looked [
   | inl answered ↦
-      let t = table_of (contents_state x) in
-      let calm : b ≡ false = sym fault ∙ ap (λ (a : Answer). is_fault a.reply) answered.0 ∙ look_no_fault t r built none in
-      inl (record {
-        told = answered.0;
-        going = calm;
-        after = x;
-        stands = spent_stands now new x b answered.1;
-        place = (λ i. record { table = t; fill = length (log i).list }) ∙ sym (place_kept old.log.mem (position_with old x) r (look_kept t r built none) (look_no_change r built none));
-      })
+      let wider = looks_wider v now (arrays_there s.levels) (arrays_held s.memory s.levels) s.cached d (λ a of. Contains-append_left (arrays_there s.levels) s.memory.cursors.retired a of) looks in
+      told_at now s (record s { cached = d; spent = is_fault answer.reply }) x rows r answer other none refl refl refl (answered.0 ∙ sym same)
+      (stands_now v s x rows whole at now d wider leaves s.memory (is_fault answer.reply) rows at.rows_are (still_going v s x rows whole at now d wider leaves))
   | inr failed ↦ inr (inr (record {
     reached = failed.1;
-    acceptable = failed.2;
+    acceptable = ap (λ (a : Answer). accepts a.reply) same ∙ failed.2;
     told = failed.0;
-    spent = sym fault ∙ ap (λ (a : Answer). is_fault a.reply) failed.0;
+    spent = ap (λ (a : Answer). is_fault a.reply) failed.0;
   }))
 ]
 
 -- over a disk that is only read the images show the table, before a command that changes nothing and after it
-pub look_follows : (before now : DiskView) (s : Held) (x : Contents) (r : Request) (answer : Answer) → is_built r ≡ true → change_wanted r ≡ None → OnlyReads before now → StandsWith before s x
+pub look_follows : (before now : DiskView) (s : Held) (x : Contents) (r : Request) (answer : Answer) → is_of_cursor r ≡ false → change_wanted r ≡ None → OnlyReads before now → StandsWith before s x
     → FollowsStep before now x r answer
-look_follows before now s x r answer built none looks w =
+look_follows before now s x r answer other none looks w =
     let t = table_of (contents_state x) in
     let each : (c : Image) → Since now before.moment c → ShowsTable c t = λ c since. shows_contents c x w.stands.sound (w.stands.reads c (looks.images.each c since)) in
-    let after : table_left t r answer.reply ≡ t = by_short t (bare (step t r).table) (ap bare (look_kept t r built none)) (ran_short answer.reply) in
+    let after : table_left t r answer.reply ≡ t = by_short t (bare (step t r).table) (ap bare (look_kept t r other none)) (ran_short answer.reply) in
     by_accept t (table_left t r answer.reply) after each (accepts answer.reply)
   where
     by_short : (t u : Table) → u ≡ t → (b : Bool) → (if b then t else u) ≡ t
@@ -226,6 +272,7 @@ spent_consistent s b whole = record {
   accepted = whole.accepted;
   memory = whole.memory;
   placed = whole.placed;
+  kept = whole.kept;
 }
 
 -- a scan of lawful sizes asks for 1 to 256 pairs

@@ -1,6 +1,7 @@
 -- What a store says of a key: level 0 and its levels answer as its table.
 use Rattle.std.proofs.Common.{◌≡◌, ◌<◌, ℕ, Bool, true, false, eqb, ltb, inl, inr, List, [], ◌∷◌, ◌++◌, length, if◌then◌else◌, Contains, flat_map, Option, Some, None, Result, Ok, Err, IfOk, OnErr, IsErrOf, refl, sym, ap, ◌∙◌, subst, true≢false}
 use Rattle.std.proofs.lemmas.Bool.{ltb-true, eqb-true}
+use Rattle.std.proofs.lemmas.List.Elements.{Contains-append_left}
 use Rattle.std.specs.Option.{option_and_then, option_map, option_or}
 use Rattle.strat_array.specs.Kept.{Blocks}
 use Rattle.strat_array.specs.Told.{TheirPairs, TellsFound}
@@ -46,10 +47,11 @@ use Rattle.strat_state.specs.State.{State, versions_of, sources}
 use Rattle.strat_store.proofs.LookLawLemmas.{in_order}
 use Rattle.strat_store.proofs.LookLemmas.{still_cached}
 use Rattle.strat_store.proofs.MemoryLawLemmas.{key_unknown, key_found}
-use Rattle.strat_store.proofs.WholeLemmas.{whole_promotes, array_lawful}
+use Rattle.strat_store.proofs.KeepingLemmas.{own_numbers, low_numbers}
+use Rattle.strat_store.proofs.WholeLemmas.{whole_promotes}
 use Rattle.strat_store.specs.Applying.{is_fault, IsLookedUp, IsDamagedIn}
 use Rattle.strat_store.specs.Getting.{reply_of_get}
-use Rattle.strat_store.specs.Held.{Held, IsConsistent, StandsWith, contents_held, head_held}
+use Rattle.strat_store.specs.Held.{Held, IsConsistent, StandsWith, arrays_held, contents_held, head_held}
 use Rattle.strat_cursor.specs.Looking.{levels_there, arrays_there, MayBeFound, AreInOrder, AreCachedFrom, LooksThrough, NamesNoBlock, HaveOwnIds}
 use Rattle.strat_store.specs.Memory.{Memory}
 
@@ -81,6 +83,19 @@ answer_told content parents entries levels n key c out (Ok told) tells none f ne
 answer_told content parents entries levels n key c out (Err fault.Device) tells none f next exposed ordered own cached = absurd (true≢false none)
 answer_told content parents entries levels n key c out (Err (fault.Damaged block)) tells none f next exposed ordered own cached = absurd (true≢false none)
 
+-- a block of some of the arrays that are held, which is none, is damaged
+pub blamed : (content : Option Image) (m : Memory) (levels : List (Option LevelDesc)) (arrays : List ArrayDesc) (b : ℕ) → ((a : ArrayDesc) → Contains arrays a → Contains (arrays_held m levels) a)
+    → NamesNoBlock content arrays b → IsDamagedIn content m levels b
+blamed content m levels arrays b there is =
+    let at = any_among (λ other. eqb other b) (blocks_of is.array.extents) is.none.0 in
+    let here : at.0 ≡ b = eqb-true at.0 b at.2 in
+    let all = arrays_held m levels in
+    record {
+      listed = among_contained (blocks_listed all) b
+          (among_in_flat (λ (a : ArrayDesc). blocks_of a.extents) all is.array b (contained_among all is.array (there is.array is.one)) (subst (λ (n : ℕ). Among n (blocks_of is.array.extents)) here at.1));
+      bad = λ f exposed few. inl (is.none.1 f exposed);
+    }
+
 -- a block that is told of is one of the arrays'
 pub damaged_told : (content : Option Image) (m : Memory) (levels : List (Option LevelDesc)) (r : Result Seen Fault) (b : ℕ) → ((block : ℕ) → IsErrOf r (fault.Damaged block) → NamesNoBlock content (arrays_there levels) block)
     → reply_of_get r ≡ reply.Refused (why.Damaged b) → IsDamagedIn content m levels b
@@ -90,15 +105,7 @@ damaged_told content m levels (Ok seen.None) b names told = absurd (cc)
 damaged_told content m levels (Err fault.Device) b names told = absurd (cc)
 damaged_told content m levels (Err (fault.Damaged block)) b names told =
     let same : block ≡ b = cc in
-    let is = subst (λ (n : ℕ). NamesNoBlock content (arrays_there levels) n) same (names block refl) in
-    let at = any_among (λ other. eqb other b) (blocks_of is.array.extents) is.none.0 in
-    let here : at.0 ≡ b = eqb-true at.0 b at.2 in
-    record {
-      listed = among_contained (blocks_listed (arrays_there levels)) b
-          (among_in_flat (λ (a : ArrayDesc). blocks_of a.extents) (arrays_there levels) is.array b (contained_among (arrays_there levels) is.array is.one)
-          (subst (λ (n : ℕ). Among n (blocks_of is.array.extents)) here at.1));
-      bad = λ f exposed few. inl (is.none.1 f exposed);
-    }
+    blamed content m levels (arrays_there levels) b (λ a of. Contains-append_left (arrays_there levels) m.cursors.retired a of) (subst (λ (n : ℕ). NamesNoBlock content (arrays_there levels) n) same (names block refl))
 
 -- which has no entries
 pub none_told : (content : Option Image) (arrays : List ArrayDesc) (r : Result Seen Fault) (b : ℕ) → ((block : ℕ) → IsErrOf r (fault.Damaged block) → NamesNoBlock content arrays block)
@@ -142,15 +149,10 @@ pub record MayBeRead (arrays : List ArrayDesc) (next : ℕ) : Type 0 where
 
 pub whole_read : (s : Held) → IsConsistent s → MayBeRead (arrays_there s.levels) s.chained.manifest.next_array
 whole_read s whole =
-    let listed : arrays_there s.levels ≡ descriptors s.chained.manifest = ap (flat_map (λ (l : LevelDesc). l.arrays)) whole.placed.listed_are in
-    let lawful = array_lawful (versions_in s.chained.manifest) s.chained.manifest.next_array s.chained.manifest.levels (pass_at (manifest_tests s.chained.manifest) 8 whole.spelled)
-    (pass_at (belonging_tests s.sb s.chained) 2 whole.belonging) in
     record {
       within = record { each = (whole_promotes s whole).arrays.within };
-      own = subst HaveOwnIds (sym listed) (pass_at (belonging_tests s.sb s.chained) 1 whole.belonging);
-      few = λ a of.
-          ltb-true a.id s.chained.manifest.next_array (pass_at (array_tests s.chained.manifest.next_array a) 1
-          (lawful a (contained_among (descriptors s.chained.manifest) a (subst (λ (rs : List ArrayDesc). Contains rs a) listed of))).0);
+      own = own_numbers s.sb s.chained s.levels whole.placed whole.spelled whole.belonging;
+      few = low_numbers s.sb s.chained s.levels whole.placed whole.spelled whole.belonging;
     }
 
 -- a whole store stands with the contents that it holds

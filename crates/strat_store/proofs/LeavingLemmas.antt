@@ -1,11 +1,13 @@
 -- What a command leaves of the superblock and the manifest of a store.
-use Rattle.std.proofs.Common.{◌≡◌, ◌≤◌, ◌<◌, ◌-◌, ◌&&◌, Bool, true, false, inl, inr, length, Option, Some, None, refl, sym, ap, ◌∙◌, subst, arith, true≢false}
+use Rattle.std.proofs.Common.{◌≡◌, ◌≤◌, ◌<◌, ◌-◌, ◌&&◌, ℕ, List, Bool, true, false, inl, inr, length, Option, Some, None, refl, sym, ap, ◌∙◌, subst, arith, true≢false}
 use Rattle.strat_array.specs.Kept.{Blocks}
 use Rattle.strat_base.specs.Change.{Change}
 use Rattle.strat_base.specs.Change as change
 use Rattle.strat_base.specs.declared.failures.Trouble.{Trouble}
 use Rattle.strat_base.specs.declared.failures.Trouble.TheVariants as trouble
-use Rattle.strat_crash.specs.Moments.{DiskView, Passes, TearsOnly, OnlyReads}
+use Rattle.strat_crash.specs.Blocks.{AgreeOn}
+use Rattle.strat_crash.specs.Image.{Image}
+use Rattle.strat_crash.specs.Moments.{DiskView, Exposes, Passes, TearsOnly, OnlyReads}
 use Rattle.strat_format.specs.Chained.{Chained}
 use Rattle.strat_format.specs.Layout.{region_at, region_size}
 use Rattle.strat_gate.specs.SuperView.{super_of}
@@ -20,7 +22,8 @@ use Rattle.strat_model.specs.declared.replies.Reply.TheVariants as reply
 use Rattle.strat_store.specs.Applying.{IsUntouched, change_wanted, is_fault, may_write, refusal_of_trouble}
 use Rattle.strat_standing.specs.Contents.{Contents, contents_state}
 use Rattle.strat_state.specs.State.{IsPaid}
-use Rattle.strat_store.specs.Held.{Held, IsConsistent, IsOnDisk, StandsWith}
+use Rattle.strat_promote.specs.Job.{blocks_listed}
+use Rattle.strat_store.specs.Held.{Held, IsConsistent, IsOnDisk, StandsWith, arrays_held}
 use Rattle.strat_store.specs.Memory.{Memory, refusal_of_change, reply_to}
 use Rattle.strat_store.specs.Paying.{ArePaidSince, CountsWritten}
 use Rattle.strat_store.specs.Recovering.{held_of, held_after}
@@ -46,6 +49,13 @@ troubled trouble.NoMemory told is = ap (λ (q : Refusal). may_write (reply.Refus
 troubled trouble.Device told is = ap (λ (q : Refusal). may_write (reply.Refused q)) is
 troubled (trouble.Damaged b) told is = ap (λ (q : Refusal). may_write (reply.Refused q)) is
 
+-- a command that asks for a change is one
+wanted_change : (r : Request) (c : Change) → change_wanted r ≡ Some c → is_change r ≡ true
+wanted_change (Put v key value) c wanted = refl
+wanted_change (Delete v key) c wanted = refl
+wanted_change (Clone v) c wanted = refl
+wanted_change _ c wanted = absurd (cc)
+
 -- a change that is refused leaves the disk as it was
 pub untouched_by : (v w : DiskView) (request : Request) (c : Change) (r new : Recovered) (cached : Blocks) (told : Reply) → change_wanted request ≡ Some c
     → ((q : Refusal) → refusal_of_change r.memory c ≡ Some q → (told ≡ reply.Refused q) × OnlyReads v w) → (refusal_of_change r.memory c ≡ None → may_write told ≡ true)
@@ -58,7 +68,7 @@ untouched_by v w request c r new cached told wanted refuses writes = record {
       let one = refuses q (subst (λ (x : Change). refusal_of_change r.memory x ≡ Some q) (sym same) e) in
       (one.0, refl, one.1);
   cached = λ d asks. refl;
-  calm = by_refusal (refusal_of_change r.memory c) refl;
+  calm = λ may. by_refusal (refusal_of_change r.memory c) refl (may (wanted_change request c wanted));
 }
   where
     by_refusal : (o : Option Refusal) → refusal_of_change r.memory c ≡ o → may_write told ≡ false → OnlyReads v w
@@ -71,6 +81,13 @@ keeps_spent s t b same = record { slot = same.slot; sb = same.sb; chained = same
 
 on_spent : (v : DiskView) (s : Held) (b : Bool) → IsOnDisk v s → IsOnDisk v (record s { spent = b })
 on_spent v s b on = record { content = on.content; exposed = on.exposed; newest = on.newest; chain = on.chain }
+
+-- a disk that was only read has the blocks that it had
+agree_same : (v w : DiskView) (f g : Image) (blocks : List ℕ) → OnlyReads v w → Exposes v f → Exposes w g → AgreeOn blocks f g
+agree_same v w f g blocks reads before after =
+    let some : Some f ≡ Some g = sym before ∙ sym reads.same ∙ after in
+    let same : f ≡ g = cc in
+    subst (AgreeOn blocks f) same (λ b there. record { byte = λ i from to. refl })
 
 -- nothing was carried out
 pub left_alone : (v w : DiskView) (s : Held) (carried : Bool) (told : Reply) (b : Bool) → carried ≡ false → OnlyReads v w → LeavesPublished v w s carried told (record s { spent = b })
@@ -85,21 +102,23 @@ left_alone v w s carried told b none reads =
       counted = λ x stands. inl refl;
     }
 
--- nor where blocks were cached
-pub left_cached : (v w : DiskView) (r : Recovered) (old new : Blocks) (carried : Bool) (told : Reply) (b : Bool) → carried ≡ false → OnlyReads v w
-    → LeavesPublished v w (held_of r old) carried told (record (held_of r new) { spent = b })
-left_cached v w r old new carried told b none reads =
+-- nor where blocks were cached, and cursors opened, paged or closed
+pub left_queried : (v w : DiskView) (r new : Recovered) (m : Memory) (old now : Blocks) (carried : Bool) (told : Reply) (b : Bool) → new ≡ record r { memory = m } → carried ≡ false → OnlyReads v w
+    → LeavesPublished v w (held_of r old) carried told (record (held_of new now) { spent = b })
+left_queried v w r new m old now carried told b is none reads =
     let s : Held = held_of r old in
-    let t : Held = record (held_of r new) { spent = b } in
+    let t : Held = record (held_of (record r { memory = m }) now) { spent = b } in
     let same : KeepsPublished s t = record { slot = refl; sb = refl; chained = refl; levels = refl } in
-    record {
+    subst (λ (z : Recovered). LeavesPublished v w s carried told (record (held_of z now) { spent = b })) (sym is)
+    (record {
       either = inl same;
       kept = λ _ _. same;
       next = λ done full. absurd (true≢false (sym done ∙ none));
       on_disk = λ other on. kept_on w s t same (read_on v w s on reads);
+      beside = λ other f g before after. agree_same v w f g (blocks_listed (arrays_held r.memory r.published.levels)) reads before after;
       paid = λ x stands paid. paid_reads v w x stands.stands reads paid;
       counted = λ x stands. inl refl;
-    }
+    })
 
 -- a change was carried out, or met a fault, where the journal had room
 pub leaves_room : (v w : DiskView) (s t : Held) (carried : Bool) (told : Reply) (b : Bool) → length s.log.list < s.log.mem → KeepsPublished s t → (IsOnDisk v s → IsOnDisk w t)
@@ -163,13 +182,6 @@ renews v u w r mid new cached told full slot after keeps refused still pays coun
       paid = pays;
       counted = λ x stands. inr (subst (CountsWritten (manifest_of r.published.manifest)) (sym manifest_is) (counts x stands));
     }
-
--- a command that asks for a change is one
-wanted_change : (r : Request) (c : Change) → change_wanted r ≡ Some c → is_change r ≡ true
-wanted_change (Put v key value) c wanted = refl
-wanted_change (Delete v key) c wanted = refl
-wanted_change (Clone v) c wanted = refl
-wanted_change _ c wanted = absurd (cc)
 
 pub leaves_wanted : (v w : DiskView) (s t : Held) (r : Request) (c : Change) (told : Reply) → change_wanted r ≡ Some c → LeavesPublished v w s (accepts told) told t
     → LeavesPublished v w s (carries_out r told) told t

@@ -2,9 +2,13 @@ pub mod BelongingLemmas
 pub mod FormatLemmas
 pub mod MemoryLawLemmas
 pub mod MemoryLemmas
+pub mod PoolLemmas
 pub mod IdLemmas
 pub mod LookLawLemmas
 pub mod GettingLemmas
+pub mod KeepingLemmas
+pub mod CursoringLemmas
+pub mod AppliedLemmas
 pub mod RangingLemmas
 pub mod LookLemmas
 pub mod NewBlockLemmas

@@ -13,7 +13,7 @@ use Rattle.strat_model.specs.Pairs.{Pairs, set, unset, value_of}
 use Rattle.strat_model.specs.Plain.{update_refusal, clone_refusal}
 use Rattle.strat_model.specs.Request.{Get, Info, Stat}
 use Rattle.strat_model.specs.Step.{Outcome, refuses, replies_with, step, update, found, has_row, is_frozen, pairs_at}
-use Rattle.strat_model.specs.Table.{Table, parents_of}
+use Rattle.strat_model.specs.Table.{Cursor, Table, parents_of}
 use Rattle.strat_model.specs.declared.replies.Refusal.{Refusal}
 use Rattle.strat_model.specs.declared.replies.Refusal.TheVariants as why
 use Rattle.strat_model.specs.declared.replies.Reply.TheVariants as reply
@@ -32,7 +32,7 @@ use Rattle.strat_state.specs.Sound.{is_accepted, accepts_change, IsSound}
 use Rattle.strat_state.specs.State.{State, versions_of, sources, journal_updates, updates_of, changes_of, tree_after, update_of}
 use Rattle.strat_state.proofs.SoundLemmas.{sound_tree}
 use Rattle.strat_state.proofs.UpdateLemmas.{all_lives}
-use Rattle.strat_store.specs.Memory.{Memory, refusal_of_update, refusal_of_clone, refusal_of_change, memory_after, HasRoomFor, reply_to, info_told, stat_told, emptied, fresh_memory, IsMemoryOf}
+use Rattle.strat_store.specs.Memory.{Memory, refusal_of_update, refusal_of_clone, refusal_of_change, memory_after, HasRoomFor, reply_to, info_told, stat_told, emptied, fresh_memory, table_with, IsMemoryOf}
 use Rattle.strat_promotion.proofs.PaidLemmas.{updates_few}
 use Rattle.strat_store.proofs.MemoryLemmas.{left_few}
 use Rattle.strat_store.proofs.ThreeTests.{three_none, three_pass, three_refuse}
@@ -71,77 +71,78 @@ mirrors f h s m read of =
       entries = of.entries ∙ ap (λ (x : State). set_all (journal_updates x)) made.2;
     }
 
-module _ (s : State) (m : Memory) (of : Mirrors s m) where
-  many : length m.parents ≡ length (table_of s).rows
+module _ (s : State) (m : Memory) (of : Mirrors s m) (cursors : List Cursor) (n : ℕ) where
+  many : length m.parents ≡ length (table_with s cursors n).rows
   many = ap (λ (ps : Parents). length ps) of.parents ∙ sym (length-rows (map_over (versions_of s) (sources s)) 0 (versions_of s))
 
-  tree : m.parents ≡ parents_of (table_of s)
+  tree : m.parents ≡ parents_of (table_with s cursors n)
   tree = of.parents ∙ sym (parents-rows (map_over (versions_of s) (sources s)) 0 (versions_of s))
 
-  known : (v : ℕ) → is_known m.parents v ≡ has_row (table_of s) v
+  known : (v : ℕ) → is_known m.parents v ≡ has_row (table_with s cursors n) v
   known v = ap (ltb v) many
 
-  updates_refused : (v : ℕ) → refusal_of_update m v ≡ update_refusal (table_of s) v
+  updates_refused : (v : ℕ) → refusal_of_update m v ≡ update_refusal (table_with s cursors n) v
   updates_refused v =
       λ i. if not (known v i) then Some why.UnknownVersion else if has_child (tree i) v then Some why.Frozen else if eqb (of.changes i) (of.changes_max i) then Some why.ChangeLimit else None
 
-  clones_refused : (v : ℕ) → refusal_of_clone m v ≡ clone_refusal (table_of s) v
+  clones_refused : (v : ℕ) → refusal_of_clone m v ≡ clone_refusal (table_with s cursors n) v
   clones_refused v =
       λ i. if not (known v i) then Some why.UnknownVersion else if eqb (many i) (of.versions_max i) then Some why.VersionLimit else if eqb (of.changes i) (of.changes_max i) then Some why.ChangeLimit else None
 
-  update_refuses : (v : ℕ) (pairs : Pairs) (r : Refusal) → refusal_of_update m v ≡ Some r → update (table_of s) v pairs ≡ refuses (table_of s) r
+  update_refuses : (v : ℕ) (pairs : Pairs) (r : Refusal) → refusal_of_update m v ≡ Some r → update (table_with s cursors n) v pairs ≡ refuses (table_with s cursors n) r
   update_refuses v pairs r e =
-      let t : Table = table_of s in
+      let t : Table = table_with s cursors n in
       three_refuse (has_row t v) (is_frozen t v) (eqb t.changes t.changes_max) t why.UnknownVersion why.Frozen why.ChangeLimit r _ (sym (updates_refused v) ∙ e)
 
-  refused : (c : Change) (r : Refusal) → refusal_of_change m c ≡ Some r → step (table_of s) (request_for c) ≡ refuses (table_of s) r
-  refused (change.Put v key value) r e = update_refuses v (set key value (pairs_at (table_of s) v)) r e
-  refused (change.Delete v key) r e = update_refuses v (unset key (pairs_at (table_of s) v)) r e
+  refused : (c : Change) (r : Refusal) → refusal_of_change m c ≡ Some r → step (table_with s cursors n) (request_for c) ≡ refuses (table_with s cursors n) r
+  refused (change.Put v key value) r e = update_refuses v (set key value (pairs_at (table_with s cursors n) v)) r e
+  refused (change.Delete v key) r e = update_refuses v (unset key (pairs_at (table_with s cursors n) v)) r e
   refused (change.Clone v) r e =
-      let t : Table = table_of s in
+      let t : Table = table_with s cursors n in
       three_refuse (has_row t v) (eqb (length t.rows) t.versions_max) (eqb t.changes t.changes_max) t why.UnknownVersion why.VersionLimit why.ChangeLimit r _ (sym (clones_refused v) ∙ e)
 
-  update_done : (v : ℕ) (pairs : Pairs) → refusal_of_update m v ≡ None → (update (table_of s) v pairs).answer ≡ plain reply.Done
+  update_done : (v : ℕ) (pairs : Pairs) → refusal_of_update m v ≡ None → (update (table_with s cursors n) v pairs).answer ≡ plain reply.Done
   update_done v pairs e =
-      let t : Table = table_of s in
+      let t : Table = table_with s cursors n in
       let three = three_none (has_row t v) (is_frozen t v) (eqb t.changes t.changes_max) why.UnknownVersion why.Frozen why.ChangeLimit (sym (updates_refused v) ∙ e) in
       ap (λ (o : Outcome). o.answer) (three_pass (has_row t v) (is_frozen t v) (eqb t.changes t.changes_max) t why.UnknownVersion why.Frozen why.ChangeLimit _ three.0 three.1 three.2)
 
-  answered : (c : Change) → refusal_of_change m c ≡ None → (step (table_of s) (request_for c)).answer ≡ plain (reply_to m c)
-  answered (change.Put v key value) e = update_done v (set key value (pairs_at (table_of s) v)) e
-  answered (change.Delete v key) e = update_done v (unset key (pairs_at (table_of s) v)) e
+  answered : (c : Change) → refusal_of_change m c ≡ None → (step (table_with s cursors n) (request_for c)).answer ≡ plain (reply_to m c)
+  answered (change.Put v key value) e = update_done v (set key value (pairs_at (table_with s cursors n) v)) e
+  answered (change.Delete v key) e = update_done v (unset key (pairs_at (table_with s cursors n) v)) e
   answered (change.Clone v) e =
-      let t : Table = table_of s in
+      let t : Table = table_with s cursors n in
       let three = three_none (has_row t v) (eqb (length t.rows) t.versions_max) (eqb t.changes t.changes_max) why.UnknownVersion why.VersionLimit why.ChangeLimit (sym (clones_refused v) ∙ e) in
       ap (λ (o : Outcome). o.answer) (three_pass (has_row t v) (eqb (length t.rows) t.versions_max) (eqb t.changes t.changes_max) t why.UnknownVersion why.VersionLimit why.ChangeLimit _ three.0 three.1 three.2)
-      ∙ ap (λ (n : ℕ). plain (reply.Made n)) (sym many)
+      ∙ ap (λ (k : ℕ). plain (reply.Made k)) (sym many)
 
+  informed : (v : ℕ) → is_known m.parents v ≡ true → (step (table_with s cursors n) (Info v)).answer ≡ plain (info_told m v)
+  informed v here =
+      let t : Table = table_with s cursors n in
+      ap (λ (b : Bool). (if b then replies_with t (plain (reply.Info (parent_of (parents_of t) v) (depth (parents_of t) v) (is_frozen t v))) else refuses t why.UnknownVersion).answer) (sym (known v) ∙ here)
+      ∙ ap (λ (ps : Parents). plain (reply.Info (parent_of ps v) (depth ps v) (has_child ps v))) (sym tree)
+
+  counted : length cursors ≡ length m.cursors.opened → (step (table_with s cursors n) Stat).answer ≡ plain (stat_told m)
+  counted same = λ i. plain (reply.Stat (sym many i) (sym of.updates i) (sym of.changes i) (same i))
+
+  uninformed : (v : ℕ) → is_known m.parents v ≡ false → step (table_with s cursors n) (Info v) ≡ refuses (table_with s cursors n) why.UnknownVersion
+  uninformed v off =
+      let t : Table = table_with s cursors n in
+      ap (λ (b : Bool). if b then replies_with t (plain (reply.Info (parent_of (parents_of t) v) (depth (parents_of t) v) (is_frozen t v))) else refuses t why.UnknownVersion) (sym (known v) ∙ off)
+
+  unfound : (v : ℕ) (key : List ℕ) → is_known m.parents v ≡ false → step (table_with s cursors n) (Get v key) ≡ refuses (table_with s cursors n) why.UnknownVersion
+  unfound v key off =
+      let t : Table = table_with s cursors n in
+      ap (λ (b : Bool). if b then replies_with t (found key (value_of (pairs_at t v) key)) else refuses t why.UnknownVersion) (sym (known v) ∙ off)
+
+module _ (s : State) (m : Memory) (of : Mirrors s m) where
   told_accepts : (c : Change) → accepts (reply_to m c) ≡ true
   told_accepts (change.Put v key value) = refl
   told_accepts (change.Delete v key) = refl
   told_accepts (change.Clone v) = refl
 
   taken : (c : Change) → refusal_of_change m c ≡ None → accepts_change s c ≡ true
-  taken c e = sym (accepts_same s c) ∙ ap (λ (a : Answer). accepts a.reply) (answered c e) ∙ told_accepts c
-
-  informed : (v : ℕ) → is_known m.parents v ≡ true → (step (table_of s) (Info v)).answer ≡ plain (info_told m v)
-  informed v here =
-      let t : Table = table_of s in
-      ap (λ (b : Bool). (if b then replies_with t (plain (reply.Info (parent_of (parents_of t) v) (depth (parents_of t) v) (is_frozen t v))) else refuses t why.UnknownVersion).answer) (sym (known v) ∙ here)
-      ∙ ap (λ (ps : Parents). plain (reply.Info (parent_of ps v) (depth ps v) (has_child ps v))) (sym tree)
-
-  counted : (step (table_of s) Stat).answer ≡ plain (stat_told m)
-  counted = λ i. plain (reply.Stat (sym many i) (sym of.updates i) (sym of.changes i) 0)
-
-  uninformed : (v : ℕ) → is_known m.parents v ≡ false → step (table_of s) (Info v) ≡ refuses (table_of s) why.UnknownVersion
-  uninformed v off =
-      let t : Table = table_of s in
-      ap (λ (b : Bool). if b then replies_with t (plain (reply.Info (parent_of (parents_of t) v) (depth (parents_of t) v) (is_frozen t v))) else refuses t why.UnknownVersion) (sym (known v) ∙ off)
-
-  unfound : (v : ℕ) (key : List ℕ) → is_known m.parents v ≡ false → step (table_of s) (Get v key) ≡ refuses (table_of s) why.UnknownVersion
-  unfound v key off =
-      let t : Table = table_of s in
-      ap (λ (b : Bool). if b then replies_with t (found key (value_of (pairs_at t v) key)) else refuses t why.UnknownVersion) (sym (known v) ∙ off)
+  taken c e = sym (accepts_same s c) ∙ ap (λ (a : Answer). accepts a.reply) (answered s m of [] 1 c e) ∙ told_accepts c
 
   lives_same : IsSound s → (v : ℕ) (key : List ℕ) → live_of m.parents m.entries v key ≡ live_of m.parents (level_zero s) v key
   lives_same sound v key =
@@ -149,31 +150,47 @@ module _ (s : State) (m : Memory) (of : Mirrors s m) where
       ap (λ (es : List Entry). live_of (versions_of s) es v key) of.entries ∙ all_lives (versions_of s) (sound_tree s sound) (journal_updates s) v key in
       subst (λ (ps : Parents). live_of ps m.entries v key ≡ live_of ps (level_zero s) v key) (sym of.parents) here
 
--- the laws of a state that was read
+-- the laws of a state that was read, at its table with any cursors
 module _ (f : Image) (h : Head) (s : State) (m : Memory) (read : state_of f h ≡ Some s) (of : IsMemoryOf h m) where
   the : Mirrors s m
   the = mirrors f h s m read of
 
+  module _ (rows : List Cursor) (n : ℕ) where
+    pub change_refused_with : (c : Change) (r : Refusal) → refusal_of_change m c ≡ Some r → step (table_with s rows n) (request_for c) ≡ refuses (table_with s rows n) r
+    change_refused_with = refused s m the rows n
+
+    pub change_answered_with : (c : Change) → refusal_of_change m c ≡ None → (step (table_with s rows n) (request_for c)).answer ≡ plain (reply_to m c)
+    change_answered_with = answered s m the rows n
+
+    pub version_told_with : (v : ℕ) → is_known m.parents v ≡ true → (step (table_with s rows n) (Info v)).answer ≡ plain (info_told m v)
+    version_told_with = informed s m the rows n
+
+    pub store_told_with : length rows ≡ length m.cursors.opened → (step (table_with s rows n) Stat).answer ≡ plain (stat_told m)
+    store_told_with = counted s m the rows n
+
+    pub version_unknown_with : (v : ℕ) → is_known m.parents v ≡ false → step (table_with s rows n) (Info v) ≡ refuses (table_with s rows n) why.UnknownVersion
+    version_unknown_with = uninformed s m the rows n
+
+    pub key_unknown_with : (v : ℕ) (key : List ℕ) → is_known m.parents v ≡ false → step (table_with s rows n) (Get v key) ≡ refuses (table_with s rows n) why.UnknownVersion
+    key_unknown_with = unfound s m the rows n
+
   pub change_refused : (c : Change) (r : Refusal) → refusal_of_change m c ≡ Some r → step (table_of s) (request_for c) ≡ refuses (table_of s) r
-  change_refused = refused s m the
+  change_refused = refused s m the [] 1
 
   pub change_answered : (c : Change) → refusal_of_change m c ≡ None → (step (table_of s) (request_for c)).answer ≡ plain (reply_to m c)
-  change_answered = answered s m the
+  change_answered = answered s m the [] 1
 
   pub change_taken : (c : Change) → refusal_of_change m c ≡ None → accepts_change s c ≡ true
   change_taken = taken s m the
 
   pub version_told : (v : ℕ) → is_known m.parents v ≡ true → (step (table_of s) (Info v)).answer ≡ plain (info_told m v)
-  version_told = informed s m the
-
-  pub store_told : (step (table_of s) Stat).answer ≡ plain (stat_told m)
-  store_told = counted s m the
+  version_told = informed s m the [] 1
 
   pub version_unknown : (v : ℕ) → is_known m.parents v ≡ false → step (table_of s) (Info v) ≡ refuses (table_of s) why.UnknownVersion
-  version_unknown = uninformed s m the
+  version_unknown = uninformed s m the [] 1
 
   pub key_unknown : (v : ℕ) (key : List ℕ) → is_known m.parents v ≡ false → step (table_of s) (Get v key) ≡ refuses (table_of s) why.UnknownVersion
-  key_unknown = unfound s m the
+  key_unknown = unfound s m the [] 1
 
   pub key_found : IsSound s → (v : ℕ) (key : List ℕ) → live_of m.parents m.entries v key ≡ live_of m.parents (level_zero s) v key
   key_found = lives_same s m the

@@ -8,6 +8,7 @@ use Rattle.strat_crash.specs.Moments.{DiskView, Exposes, Images, Since, Passes, 
 use Rattle.strat_crash.specs.Trail.{Trail}
 use Rattle.strat_crash.proofs.MomentLemmas.{each_then, leaves_refl, leaves_tears, passes_trans, reads_trans, settled_at, since_now, at_told, reads_keep_durable}
 use Rattle.strat_crash.proofs.TrailLemmas.{trail_of_one}
+use Rattle.strat_cursor.specs.Held.{no_cursors}
 use Rattle.strat_format.specs.Chained.{manifest_at}
 use Rattle.strat_format.specs.Layout.{region_at, other_region}
 use Rattle.strat_format.specs.SuperBlock.{Super}
@@ -191,9 +192,10 @@ module _ (before synced read now : DiskView) (r : Recovered) (syncs : OnlyReads 
   })
 
   pub opened_as : ((f : Image) (x : Contents) → Exposes read f → IsDurable read → x.sb ≡ super_of r.sb → ReadsAsSound f r.journal.stale x → ContentsStand now x)
-      → ((cached : Blocks) → IsConsistent (held_of r cached)) → (cap : ℕ) → IsOpenedAs before now (held_of r (empty_cache cap))
-  opened_as stands whole cap = record {
+      → r.memory.cursors ≡ no_cursors → ((cached : Blocks) → IsConsistent (held_of r cached)) → (cap : ℕ) → IsOpenedAs before now (held_of r (empty_cache cap))
+  opened_as stands none whole cap = record {
     going = refl;
+    closed = none;
     found = λ f exposed. (found f exposed).head;
     chain = λ f exposed. (found f exposed).chain;
     gate = gate_alone;

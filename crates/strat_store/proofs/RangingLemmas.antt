@@ -1,6 +1,7 @@
 -- What a store says of a range: level 0 and its levels answer as its table.
 use Rattle.std.proofs.Common.{◌≡◌, ◌≤◌, ◌<◌, ℕ, suc, Bool, true, false, cond, eqb, inl, inr, List, [], ◌∷◌, length, map, if◌then◌else◌, Contains, Option, Some, None, Result, Ok, Err, IfOk, OnErr, IsErrOf, refl, sym, ap, ◌∙◌, subst, arith, true≢false}
 use Rattle.std.proofs.lemmas.Bool.{ltb-true, eqb-true}
+use Rattle.std.proofs.lemmas.List.Elements.{Contains-append_left}
 use Rattle.std.specs.BTreeMap.{insert_entry}
 use Rattle.std.specs.List.{filter_map, cons_option, fold}
 use Rattle.std.specs.List.Sorted.{IsStrictlySortedBy}
@@ -42,7 +43,7 @@ use Rattle.strat_state.specs.Level.{Level}
 use Rattle.strat_state.specs.LookUp.{looked_up, first_live}
 use Rattle.strat_state.specs.Maps.{map_over, with_value, value_over}
 use Rattle.strat_state.specs.State.{State, versions_of, sources}
-use Rattle.strat_store.proofs.GettingLemmas.{none_damaged, whole_read, y, it, ordered, cached, known, asked_is, stays}
+use Rattle.strat_store.proofs.GettingLemmas.{blamed, none_damaged, whole_read, y, it, ordered, cached, known, asked_is, stays}
 use Rattle.strat_store.specs.Applying.{is_fault, IsLookedUp, IsDamagedIn}
 use Rattle.strat_store.specs.Held.{Held, IsConsistent, StandsWith, contents_held}
 use Rattle.strat_store.specs.Memory.{Memory}
@@ -80,7 +81,7 @@ seen_is : (f : Image) (parents : Parents) (entries : List Entry) (levels : List 
 seen_is f parents entries levels v key =
     ap (λ (lists : List (List Entry)). first_live parents (entries ∷ lists) v key) (map_picked (content_on f) (λ level. desc_for parents level v) (levels_there levels))
 
-map_seen : (f : Image) (parents : Parents) (entries : List Entry) (levels : List (Option LevelDesc)) (v : ℕ) (m : Pairs) → IsMapAsked f parents entries levels v m → IsMapSeen f parents (entries ∷ []) (picked_of parents levels v) v m
+pub map_seen : (f : Image) (parents : Parents) (entries : List Entry) (levels : List (Option LevelDesc)) (v : ℕ) (m : Pairs) → IsMapAsked f parents entries levels v m → IsMapSeen f parents (entries ∷ []) (picked_of parents levels v) v m
 map_seen f parents entries levels v m is = record {
   ordered = is.ordered;
   each = λ key. is.each key ∙ ap (λ (o : Option Entry). option_and_then (λ e. e.value) o) (sym (seen_is f parents entries levels v key));
@@ -132,15 +133,7 @@ damaged_range content m levels (Ok more) b names told = absurd (cc)
 damaged_range content m levels (Err fault.Device) b names told = absurd (cc)
 damaged_range content m levels (Err (fault.Damaged block)) b names told =
     let same : block ≡ b = cc in
-    let is = subst (λ (n : ℕ). NamesNoBlock content (arrays_there levels) n) same (names block refl) in
-    let at = any_among (λ other. eqb other b) (blocks_of is.array.extents) is.none.0 in
-    let here : at.0 ≡ b = eqb-true at.0 b at.2 in
-    record {
-      listed = among_contained (blocks_listed (arrays_there levels)) b
-          (among_in_flat (λ (a : ArrayDesc). blocks_of a.extents) (arrays_there levels) is.array b (contained_among (arrays_there levels) is.array is.one)
-          (subst (λ (n : ℕ). Among n (blocks_of is.array.extents)) here at.1));
-      bad = λ f exposed few. inl (is.none.1 f exposed);
-    }
+    blamed content m levels (arrays_there levels) b (λ a of. Contains-append_left (arrays_there levels) m.cursors.retired a of) (subst (λ (n : ℕ). NamesNoBlock content (arrays_there levels) n) same (names block refl))
 
 -- which has no entries
 pub none_in_range : (content : Option Image) (arrays : List ArrayDesc) (r : Result Bool Fault) (b : ℕ) → ((block : ℕ) → IsErrOf r (fault.Damaged block) → NamesNoBlock content arrays block)
@@ -186,7 +179,7 @@ module _ (v : DiskView) (s : Held) (levels : List Level) (whole : IsConsistent s
       (sym (known v s levels whole w n) ∙ off)
 
   -- its map is what is asked
-  table_asked : (n : ℕ) → is_known s.memory.parents n ≡ true → IsMapAsked w.stands.content s.memory.parents s.memory.entries s.levels n (table_pairs n)
+  pub table_asked : (n : ℕ) → is_known s.memory.parents n ≡ true → IsMapAsked w.stands.content s.memory.parents s.memory.entries s.levels n (table_pairs n)
   table_asked n is =
       let here : n < length (versions_of state) = subst (λ (ps : Parents). n < length ps) whole.memory.parents (ltb-true n (length s.memory.parents) is) in
       record {

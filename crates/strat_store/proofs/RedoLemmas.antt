@@ -1,10 +1,11 @@
 -- A journal's changes carried out one by one on what is in memory.
 use Rattle.std.proofs.Common.{◌≡◌, ◌≤◌, ◌<◌, ◌+◌, ℕ, suc, true, not, List, [], ◌∷◌, ◌++◌, length, map, take, drop, get_or, Option, None, Ok, Err, refl, sym, ap, ◌∙◌, subst, arith, append_assoc, append-nil}
 use Rattle.std.specs.Prelude.{fold, is_some}
-use Rattle.std.proofs.lemmas.Bool.{cond-true, cond-false}
+use Rattle.std.specs.List.{list_all}
+use Rattle.std.proofs.lemmas.Bool.{and_from, and_parts, cond-true, cond-false}
 use Rattle.std.proofs.lemmas.List.{map_more, drop_more, take_all, drop_all}
 use Rattle.strat_base.proofs.ListFacts.{fold-push}
-use Rattle.strat_base.specs.Change.{Change, Put, Delete, Clone}
+use Rattle.strat_base.specs.Change.{Change, Put, Delete, Clone, is_lawful}
 use Rattle.strat_base.specs.Tree.{Parents}
 use Rattle.strat_format.specs.Damage.{Read, and_then, put_first}
 use Rattle.strat_format.specs.Manifest.{Manifest}
@@ -33,6 +34,7 @@ pub record IsRedone (m : Memory) (logged : List Logged) (k : ℕ) (now : Memory)
   pub now_is : now ≡ fold memory_after m (changes_before k logged)
   pub room : length logged ≤ now.spare + k
   pub rest : accepted_by m logged ≡ after_these (changes_before k logged) (accepted_by now (drop k logged))
+  pub lawful : list_all is_lawful (changes_before k logged) ≡ true
 
 after_none : (r : Read (List Change)) → after_these [] r ≡ r
 after_none (Ok xs) = refl
@@ -70,17 +72,25 @@ room_any m (Delete v key) free = free
 room_any m (Clone v) free = tt
 
 pub redone_none : (m : Memory) (logged : List Logged) → length logged ≤ m.spare → IsRedone m logged 0 m
-redone_none m logged room = record { now_is = refl; room = omega (arith, room); rest = sym (after_none (accepted_by m logged)) }
+redone_none m logged room = record { now_is = refl; room = omega (arith, room); rest = sym (after_none (accepted_by m logged)); lawful = refl }
 
 pub redone_all : (m : Memory) (logged : List Logged) (k : ℕ) (now : Memory) → length logged ≤ k → IsRedone m logged k now
     → (accepted_by m logged ≡ Ok (map (λ (l : Logged). l.change) logged)) × (now ≡ fold memory_after m (map (λ (l : Logged). l.change) logged))
+    × (list_all is_lawful (map (λ (l : Logged). l.change) logged) ≡ true)
 redone_all m logged k now past old =
     let all : changes_before k logged ≡ map (λ (l : Logged). l.change) logged = ap (map (λ (l : Logged). l.change)) (take_all k logged past) in (
       old.rest
           ∙ ap (λ (rest : List Logged). after_these (changes_before k logged) (accepted_by now rest)) (drop_all k logged past)
           ∙ ap (λ (xs : List Change). Ok xs) (append-nil (changes_before k logged) ∙ all),
       old.now_is ∙ ap (λ (xs : List Change). fold memory_after m xs) all,
+      subst (λ (xs : List Change). list_all is_lawful xs ≡ true) all old.lawful,
     )
+
+lawful_more : (xs : List Change) (c : Change) → list_all is_lawful xs ≡ true → is_lawful c ≡ true → list_all is_lawful (xs ++ c ∷ []) ≡ true
+lawful_more [] c each own = and_from (is_lawful c) true own refl
+lawful_more (x ∷ xs) c each own =
+    let parts = and_parts (is_lawful x) (list_all is_lawful xs) each in
+    and_from (is_lawful x) (list_all is_lawful (xs ++ c ∷ [])) parts.0 (lawful_more xs c parts.1 own)
 
 none_some : (o : Option Refusal) → o ≡ None → not (is_some o) ≡ true
 none_some o e = ap (λ (x : Option Refusal). not (is_some x)) e
@@ -102,8 +112,8 @@ module _ (m : Memory) (logged : List Logged) (k : ℕ) (now : Memory) (l : Logge
   redo_room = room_any now l.change (omega (arith, old.room, within))
 
   -- one more was carried out
-  pub redone_more : (after : Memory) → refusal_of_change now l.change ≡ None → after ≡ memory_after now l.change → IsRedone m logged (k + 1) after
-  redone_more after free is =
+  pub redone_more : (after : Memory) → refusal_of_change now l.change ≡ None → after ≡ memory_after now l.change → is_lawful l.change ≡ true → IsRedone m logged (k + 1) after
+  redone_more after free is own =
       let next_count : suc now.changes ≡ (memory_after now l.change).changes = omega (arith, after_changes now l.change) in
       let limits = after_limits now l.change in
       record {
@@ -115,6 +125,7 @@ module _ (m : Memory) (logged : List Logged) (k : ℕ) (now : Memory) (l : Logge
             ∙ after_one (changes_before k logged) l.change (later now (suc now.changes) (tree_after now.parents l.change))
             ∙ (λ i. after_these (sym more i) (accepted_in (sym limits.0 i) (sym limits.1 i) (sym (after_parents now l.change) i) (next_count i) (drop (k + 1) logged)))
             ∙ ap (λ (x : Memory). after_these (changes_before (k + 1) logged) (accepted_by x (drop (k + 1) logged))) (sym is);
+        lawful = subst (λ (xs : List Change). list_all is_lawful xs ≡ true) (sym more) (lawful_more (changes_before k logged) l.change old.lawful own);
       }
 
   -- the next is refused

@@ -1,6 +1,8 @@
 -- An open store, and the disk that it stands on.
 use Rattle.std.specs.Prelude.{◌≡◌, ◌≤◌, ◌<◌, ℕ, Bool, List, [], ◌++◌, length, Contains, Option, Some, Ok, IsTrue}
+use Rattle.std.specs.List.{list_all}
 use Rattle.strat_array.specs.Kept.{Blocks}
+use Rattle.strat_base.specs.Change.{is_lawful}
 use Rattle.strat_base.specs.declared.descriptors.ArrayDesc.{ArrayDesc}
 use Rattle.strat_base.specs.declared.descriptors.LevelDesc.{LevelDesc}
 use Rattle.strat_crash.specs.Image.{Image}
@@ -61,12 +63,14 @@ pub record ArePlaced (listed : List LevelDesc) (levels : List (Option LevelDesc)
   pub numbered : (n : ℕ) (level : LevelDesc) → level_numbered levels n ≡ Some level
       → level.number ≡ n
 
--- a journal in memory goes on behind a superblock: it has no batch, and no more changes than a region
+-- a journal in memory goes on behind a superblock: it has no batch, and no more changes than a region, of sizes that a
+-- change may have
 pub record IsLogBehind (sb : Super) (log : Log) : Type 0 where
   pub mem : log.mem ≡ sb.mem
   pub active : log.active ≡ sb.region
   pub batch : log.batch ≡ []
   pub few : length log.list ≤ sb.mem
+  pub lawful : IsTrue (list_all is_lawful log.list)
 
 -- the arrays of levels, and those that no level names any more but a cursor does
 abbrev pub arrays_held : Memory → List (Option LevelDesc) → List ArrayDesc

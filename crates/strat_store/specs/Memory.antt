@@ -9,14 +9,15 @@ use Rattle.strat_cursor.specs.Cursors.{retired_all}
 use Rattle.strat_crash.specs.Image.{Image}
 use Rattle.strat_cursor.specs.Held.{AreRowsOf, HeldCursor, HeldCursors, no_cursors}
 use Rattle.strat_cursor.specs.Pins.{arrays_asked}
-use Rattle.strat_model.specs.Table.{Cursor}
+use Rattle.strat_model.specs.Table.{Cursor, Table}
 use Rattle.strat_model.specs.declared.replies.Refusal.{Refusal}
 use Rattle.strat_model.specs.declared.replies.Refusal.TheVariants as why
 use Rattle.strat_model.specs.declared.replies.Reply.{Reply}
 use Rattle.strat_model.specs.declared.replies.Reply.TheVariants as reply
 use Rattle.strat_recovery.specs.Head.{Head, head_versions, head_updates, head_changes}
 use Rattle.strat_state.specs.Setting.{set_entry, set_all}
-use Rattle.strat_state.specs.State.{update_of}
+use Rattle.strat_recovery.specs.StateTable.{table_of}
+use Rattle.strat_state.specs.State.{State, update_of}
 
 -- the limits of a store, its versions, what it accepted, the entries of level 0 in their order, for how
 -- many more updates level 0 has room, for how many the next level 0 has, where one stands ready, and the
@@ -132,6 +133,10 @@ abbrev pub KeepsRows : Memory → Memory → Type 0
 KeepsRows old new = (f : Image) (rows : List Cursor)
     → AreRowsOf f old.parents old.cursors.opened rows
     → AreRowsOf f new.parents old.cursors.opened rows
+
+-- the table that a state means, with these cursors and the number of the next one
+abbrev pub table_with : State → List Cursor → ℕ → Table
+table_with s rows n = record (table_of s) { cursors = rows; next_cursor = n }
 
 -- memory is that of a head, and level 0 has room for as many updates more as the journal has for changes
 pub record IsMemoryOf (h : Head) (m : Memory) : Type 0 where

@@ -108,7 +108,6 @@ impl Memory {
 
     /// Takes the versions and the counts of a manifest into new memory, where `parents` are those of
     /// the versions from 1 on. O(versions log versions_max).
-    #[tactic(auto, using(crate::proofs::MemoryLemmas::known_none))]
     pub fn load(&mut self, parents: &[u32], updates: u32, changes: u32)
         requires fits { IsTrue (are_older 1 parents.now) }
         requires room { 1 + length parents.now ≤ self.old.versions_max }
@@ -173,7 +172,6 @@ impl Memory {
     }
 
     /// Sets an entry in level 0.
-    #[tactic(auto, using(crate::proofs::MemoryLemmas::known_set))]
     fn set(&mut self, version: Version, key: &[u8], val: Val<'_>)
         requires none { refusal_of_update self.old version ≡ None }
         requires room { 1 ≤ self.old.spare }
@@ -187,6 +185,7 @@ impl Memory {
           version = version;
           value = val_of val.entry;
         }) }
+        ensures kept { KeepsRows self.old self.new }
     {
         self.updates += 1;
         self.changes += 1;
@@ -194,7 +193,6 @@ impl Memory {
     }
 
     /// Makes a version, a child of another.
-    #[tactic(auto, using(crate::proofs::MemoryLemmas::known_grown))]
     fn add_child(&mut self, version: Version) -> Version
         requires none { refusal_of_clone self.old version ≡ None }
         ensures ok { self.new ≡ record self.old {
@@ -202,6 +200,7 @@ impl Memory {
           changes = self.old.changes + 1;
         } }
         ensures found { result ≡ length self.old.parents }
+        ensures kept { KeepsRows self.old self.new }
     {
         // A tree says with its count that it has room.
         let _ = self.tree.count();
@@ -320,6 +319,8 @@ impl Memory {
         ensures err { OnErr result (self.new ≡ record self.old { ready = None }) }
     {
         self.forget_next();
+        // Cursors say with their count that they are few.
+        let _ = self.cursors.len();
         let next = Zero::new(alloc, &mut self.pool, mem)?;
         self.next = Some(next);
         Ok(())
@@ -361,7 +362,8 @@ impl Memory {
             ↔ (length self.old.cursors.opened ≡ the_most) }
         ensures err { OnErr result (self.new ≡ self.old) }
     {
-        let _ = self.tree.count();
+        // Cursors say with their count that they are few.
+        let _ = self.cursors.len();
         self.cursors.start(
             &mut self.pool,
             &self.tree,
@@ -417,6 +419,7 @@ impl Memory {
     pub fn close_cursor(&mut self, number: u64) -> bool
         ensures ok { result ≡ is_opened number self.old.cursors.opened }
         ensures end { self.new ≡ record self.old { cursors = closed_at number self.old.cursors } }
+        ensures none { result ≡ false → self.new ≡ self.old }
     {
         self.cursors.close(&mut self.pool, number)
     }

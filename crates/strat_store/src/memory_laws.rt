@@ -8,26 +8,29 @@ ghost use Rattle.strat_crash.specs.Image.{Image};
 ghost use Rattle.strat_model.specs.Answer.{plain};
 ghost use Rattle.strat_model.specs.Request.{Get, Info, Stat};
 ghost use Rattle.strat_model.specs.Step.{step, refuses};
+ghost use Rattle.strat_model.specs.Table.{Cursor};
 ghost use Rattle.strat_model.specs.declared.replies.Refusal.{Refusal};
 ghost use Rattle.strat_model.specs.declared.replies.Refusal.TheVariants as why;
 ghost use Rattle.strat_recovery.specs.Head.{Head, head_versions, head_updates, head_changes};
 ghost use Rattle.strat_recovery.specs.Opened.{parents_in};
 ghost use Rattle.strat_recovery.specs.Opening.{state_of};
-ghost use Rattle.strat_recovery.specs.StateTable.{table_of, request_for};
+ghost use Rattle.strat_recovery.specs.StateTable.{request_for};
 ghost use Rattle.strat_state.specs.Reading.{live_of, level_zero};
 ghost use Rattle.strat_state.specs.Sound.{is_accepted, accepts_change, IsSound};
 ghost use Rattle.strat_state.specs.State.{State};
-ghost use Rattle.strat_store.specs.Memory.{Memory, refusal_of_change, memory_after, HasRoomFor, reply_to, info_told, stat_told, emptied, fresh_memory, IsMemoryOf};
+ghost use Rattle.strat_store.specs.Memory.{Memory, refusal_of_change, memory_after, HasRoomFor, reply_to, info_told, stat_told, emptied, fresh_memory, table_with, IsMemoryOf};
 
 /// Memory refuses a change just where the table does, and for the same reason; of any other it tells
-/// what the table answers, wherever the change then goes.
+/// what the table answers, wherever the change then goes and whatever cursors there are.
 pub fn memory_answers_changes_as_the_table()
-    ensures err { (f : Image) (h : Head) (s : State) (m : Memory) (change : Change) (r : Refusal)
+    ensures err { (f : Image) (h : Head) (s : State) (m : Memory) (rows : List Cursor) (n : ℕ)
+        (change : Change) (r : Refusal)
         → state_of f h ≡ Some s → IsMemoryOf h m → refusal_of_change m change ≡ Some r
-        → step (table_of s) (request_for change) ≡ refuses (table_of s) r }
-    ensures ok { (f : Image) (h : Head) (s : State) (m : Memory) (change : Change)
+        → step (table_with s rows n) (request_for change) ≡ refuses (table_with s rows n) r }
+    ensures ok { (f : Image) (h : Head) (s : State) (m : Memory) (rows : List Cursor) (n : ℕ)
+        (change : Change)
         → state_of f h ≡ Some s → IsMemoryOf h m → refusal_of_change m change ≡ None
-        → (step (table_of s) (request_for change)).answer ≡ plain (reply_to m change) }
+        → (step (table_with s rows n) (request_for change)).answer ≡ plain (reply_to m change) }
     ensures found { (f : Image) (h : Head) (s : State) (m : Memory) (change : Change)
         → state_of f h ≡ Some s → IsMemoryOf h m → refusal_of_change m change ≡ None
         → IsTrue (accepts_change s change) }
@@ -40,21 +43,23 @@ pub fn memory_refuses_what_is_not_accepted()
         ≡ not (is_some (refusal_of_change m change)) }
 {}
 
-/// Memory tells of versions and of the whole store what the table answers, and knows the versions that
-/// the table has.
+/// Memory tells of versions and of the whole store what the table answers that has as many cursors as are open, and knows
+/// the versions that the table has.
 pub fn memory_tells_of_versions_as_the_table()
-    ensures found { (f : Image) (h : Head) (s : State) (m : Memory) (v : ℕ)
+    ensures found { (f : Image) (h : Head) (s : State) (m : Memory) (rows : List Cursor) (n v : ℕ)
         → state_of f h ≡ Some s → IsMemoryOf h m → IsTrue (is_known m.parents v)
-        → (step (table_of s) (Info v)).answer ≡ plain (info_told m v) }
-    ensures ok { (f : Image) (h : Head) (s : State) (m : Memory)
-        → state_of f h ≡ Some s → IsMemoryOf h m
-        → (step (table_of s) Stat).answer ≡ plain (stat_told m) }
-    ensures none { (f : Image) (h : Head) (s : State) (m : Memory) (v : ℕ)
+        → (step (table_with s rows n) (Info v)).answer ≡ plain (info_told m v) }
+    ensures ok { (f : Image) (h : Head) (s : State) (m : Memory) (rows : List Cursor) (n : ℕ)
+        → state_of f h ≡ Some s → IsMemoryOf h m → length rows ≡ length m.cursors.opened
+        → (step (table_with s rows n) Stat).answer ≡ plain (stat_told m) }
+    ensures none { (f : Image) (h : Head) (s : State) (m : Memory) (rows : List Cursor) (n v : ℕ)
         → state_of f h ≡ Some s → IsMemoryOf h m → is_known m.parents v ≡ false
-        → step (table_of s) (Info v) ≡ refuses (table_of s) why.UnknownVersion }
-    ensures err { (f : Image) (h : Head) (s : State) (m : Memory) (v : ℕ) (key : List ℕ)
+        → step (table_with s rows n) (Info v) ≡ refuses (table_with s rows n) why.UnknownVersion }
+    ensures err { (f : Image) (h : Head) (s : State) (m : Memory) (rows : List Cursor) (n v : ℕ)
+        (key : List ℕ)
         → state_of f h ≡ Some s → IsMemoryOf h m → is_known m.parents v ≡ false
-        → step (table_of s) (Get v key) ≡ refuses (table_of s) why.UnknownVersion }
+        → step (table_with s rows n) (Get v key)
+        ≡ refuses (table_with s rows n) why.UnknownVersion }
 {}
 
 /// A key is found in the entries of level 0 in memory as in the latest updates of the journal.

@@ -1,11 +1,14 @@
 //! Recovering a store over levels: what its manifest and its journal say is taken into memory.
 
 ghost use Rattle.std.specs.Prelude.{◌≡◌, ◌≢◌, ◌≤◌, ◌+◌, ◌-◌, ℕ, [], length, map, fold, Ok, Err, Some, None, IfOk, IfErr, OnOk, IsErrOf, IsTrue, false, ◌↔◌, is_some};
+ghost use Rattle.std.specs.List.{list_all};
 ghost use Rattle.strat_array.specs.Kept.{Blocks};
+ghost use Rattle.strat_base.specs.Change.{is_lawful};
 ghost use Rattle.strat_base.specs.declared.failures.Trouble.TheVariants.{Damaged, Device};
 ghost use Rattle.strat_crash.specs.Faults.{CountsFaults, HasCause, ReadsAtMost};
 ghost use Rattle.strat_crash.specs.Image.{Image};
 ghost use Rattle.strat_crash.specs.Moments.{Exposes, Since, Passes, TearsOnly, IsDurable, OnlyReads};
+ghost use Rattle.strat_cursor.specs.Held.{no_cursors};
 ghost use Rattle.strat_format.specs.Chain.{chain_length};
 ghost use Rattle.strat_format.specs.Chained.{manifest_at};
 ghost use Rattle.strat_format.specs.Layout.{region_blocks, region_at, other_region};
@@ -80,6 +83,7 @@ fn load_memory(alloc: Global, sb: &SuperBlock, published: &Published) -> Result<
       manifest = (chained_of published.now).manifest;
       journal = [];
     }) m) }
+    ensures end { IfOk result (λ m. m.cursors ≡ no_cursors) }
 {
     let mut memory = Memory::new(alloc, sb.mem, sb.changes_max, sb.versions_max)?;
     memory.load(
@@ -95,6 +99,7 @@ fn redo(memory: &mut Memory, logged: &Logged) -> Result<(), Trouble>
     requires room { HasRoomFor memory.old logged.now.change }
     ensures ok { OnOk result ((refusal_of_change memory.old logged.now.change ≡ None)
         × (memory.new ≡ memory_after memory.old logged.now.change)) }
+    ensures fits { OnOk result (IsTrue (is_lawful logged.now.change)) }
     ensures err { IfErr result (λ e. (e ≡ Damaged logged.now.block)
         × IsTrue (is_some (refusal_of_change memory.old logged.now.change))) }
 {
@@ -117,6 +122,7 @@ fn replay(memory: &mut Memory, logged: &[Logged]) -> Result<(), Trouble>
         ≡ Ok (map (λ l. l.change) logged.now)) }
     ensures ok { OnOk result
         (memory.new ≡ fold memory_after memory.old (map (λ l. l.change) logged.now)) }
+    ensures fits { OnOk result (IsTrue (list_all is_lawful (map (λ l. l.change) logged.now))) }
     ensures damaged { IfErr result (λ e. (b : ℕ) × (e ≡ Damaged b)
         × (accepted_in memory.old.changes_max memory.old.versions_max
         memory.old.parents memory.old.changes (map logged_of logged.now) ≡ Err b)) }
@@ -147,6 +153,8 @@ fn recover_memory(
       manifest = (chained_of published.now).manifest;
       journal = map (λ l. l.change) logged.now;
     }) m) }
+    ensures end { IfOk result (λ m. m.cursors ≡ no_cursors) }
+    ensures fits { OnOk result (IsTrue (list_all is_lawful (map (λ l. l.change) logged.now))) }
     ensures damaged { (block : ℕ) → IsErrOf result (Damaged block)
         → accepted_in sb.now.changes_max sb.now.versions_max
         (parents_in (chained_of published.now).manifest) published.now.manifest.changes
@@ -180,6 +188,7 @@ fn read_journal<D: Disk>(
       manifest = (chained_of published.now).manifest;
       journal = r.0.list;
     }) r.1) }
+    ensures end { IfOk result (λ r. r.1.cursors ≡ no_cursors) }
     ensures damaged { (block : ℕ) → IsErrOf result (Damaged block) → (f : Image)
         → Exposes (D.view disk.old) f
         → recover_journal f (super_of sb.now) (chained_of published.now).manifest ≡ Err block }
@@ -206,6 +215,7 @@ fn recover_at<D: Disk>(
         → newest_in f ≡ Ok (Some (slot, super_of sb)) → IsRecoveredFrom f r) }
     ensures kept { IfOk result (λ r. (cached : Blocks) → IsConsistent (held_of r cached)) }
     ensures ok { IfOk result (λ r. r.sb ≡ sb) }
+    ensures end { IfOk result (λ r. r.memory.cursors ≡ no_cursors) }
     ensures damaged { (block : ℕ) → IsErrOf result (Damaged block) → (f : Image)
         → Exposes (D.view disk.old) f → recover_head f (super_of sb) ≡ Err block }
     ensures same { OnlyReads (D.view disk.old) (D.view disk.new) }
@@ -232,6 +242,7 @@ pub(crate) fn recover_store<D: Disk>(alloc: Global, disk: &mut D) -> Result<Reco
     ensures found { IfOk result (λ r. (f : Image) → Exposes (D.view disk.old) f
         → IsRecoveredFrom f r) }
     ensures kept { IfOk result (λ r. (cached : Blocks) → IsConsistent (held_of r cached)) }
+    ensures end { IfOk result (λ r. r.memory.cursors ≡ no_cursors) }
     ensures none { IsErrOf result fault.NotAStore → (f : Image)
         → Exposes (D.view disk.old) f → recover f ≡ Ok None }
     ensures damaged { (block : ℕ) → IsErrOf result (fault.Damaged block) → (f : Image)

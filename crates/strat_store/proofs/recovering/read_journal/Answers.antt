@@ -1,5 +1,6 @@
-use Rattle.std.proofs.Common.{List, map, Ok, sym, ap, ◌∙◌}
-use Rattle.strat_base.specs.Change.{Change}
+use Rattle.std.proofs.Common.{◌≡◌, List, map, true, Ok, sym, ap, subst, ◌∙◌}
+use Rattle.std.specs.List.{list_all}
+use Rattle.strat_base.specs.Change.{Change, is_lawful}
 use Rattle.strat_gate.specs.SuperView.{super_of}
 use Rattle.strat_journal.specs.Records.{logged_of}
 use Rattle.strat_recovery.specs.Opened.{parents_in}
@@ -15,6 +16,18 @@ returns-clause-found g c = λ f exposed.
           (accepted ∙ ap (λ (js : List Change). Ok js) (sym c.in_ok-journal.ensures.ok.list_is)),
       read.stale,
     )
+
+pub returns-clause-kept : goal.returns-clause-kept
+returns-clause-kept g c =
+    let own = rw c.deref.ensures.value at c.in_ok-memory.ensures.fits in
+    let is = c.in_ok-journal.ensures.ok in
+    record {
+      mem = is.mem_is;
+      active = is.active_is;
+      batch = is.batch_is;
+      few = is.few;
+      lawful = subst (λ (xs : List Change). list_all is_lawful xs ≡ true) (sym is.list_is) own;
+    }
 
 pub returns-clause-fits : goal.returns-clause-fits
 returns-clause-fits g c =

@@ -4,6 +4,7 @@ use Rattle.strat_crash.proofs.MomentLemmas.{reads_trans}
 use Rattle.strat_gate.specs.SuperView.{super_of}
 use Rattle.strat_journal.proofs.ReadLemmas.{same_err}
 use Rattle.strat_store.specs.Recovering.{chained_of}
+use Rattle.strat_store.proofs.KeepingLemmas.{kept_without}
 use Rattle.strat_store.proofs.RecoverLemmas.{manifest_recovered, head_recovered_from, head_damaged_journal, store_recovered_from}
 use Rattle.strat_store.proofs.recovering.recover_at.Goals as goal
 
@@ -39,6 +40,8 @@ returns-clause-kept g c = λ cap. record {
   accepted = c.in_ok-journal.ensures.fits;
   memory = c.in_ok-journal.ensures.ok;
   placed = c.in_ok-published.ensures.kept.placed;
+  kept = kept_without (super_of c.args.sb) (chained_of c.in_ok-published.published) c.in_ok-published.published.levels c.in_ok-published.ensures.kept.placed
+      c.in_ok-published.ensures.kept.spelled c.in_ok-published.ensures.kept.belonging c.in_ok-journal.memory c.in_ok-journal.ensures.end;
 }
 
 pub returns-clause-same : goal.returns-clause-same

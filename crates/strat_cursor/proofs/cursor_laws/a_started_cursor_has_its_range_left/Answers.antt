@@ -1,5 +1,0 @@
-use Rattle.strat_cursor.proofs.TableRows.{table_started}
-use Rattle.strat_cursor.proofs.cursor_laws.a_started_cursor_has_its_range_left.Goals as goal
-
-pub returns : goal.returns
-returns c = record { kept = table_started }

@@ -1,0 +1,189 @@
+-- A change at a store with open cursors: it does to the table with its cursors what it does to the one without.
+use Rattle.std.proofs.Common.{◌≡◌, ◌≢◌, ◌≤◌, ◌+◌, ℕ, Bool, true, false, cond, not, eqb, inl, inr, List, [], ◌∷◌, ◌++◌, length, Contains, Option, Some, None, refl, sym, ap, subst, ◌∙◌, arith, true≢false}
+use Rattle.std.specs.Prelude.{if◌then◌else◌}
+use Rattle.strat_base.specs.Change.{Change}
+use Rattle.strat_base.specs.Change as change
+use Rattle.strat_base.specs.declared.descriptors.ArrayDesc.{ArrayDesc}
+use Rattle.strat_crash.specs.Blocks.{AgreeOn}
+use Rattle.strat_crash.specs.Image.{Image}
+use Rattle.strat_crash.specs.Moments.{DiskView, Exposes}
+use Rattle.strat_cursor.proofs.HoldingLemmas.{goes_on_in, goes_on_later}
+use Rattle.strat_cursor.proofs.RowLemmas.{image_rows}
+use Rattle.strat_cursor.proofs.RetiredLemmas.{retired_rest}
+use Rattle.strat_cursor.specs.Cursors.{MayGoOn, arrays_named}
+use Rattle.strat_cursor.specs.Held.{AreRowsOf, HeldCursor, HeldCursors}
+use Rattle.strat_format.specs.Arrays.{blocks_of}
+use Rattle.strat_format.specs.Chained.{Chained}
+use Rattle.strat_format.specs.Manifest.{Manifest}
+use Rattle.strat_model.specs.Answer.{Answer, accepts, plain}
+use Rattle.strat_model.specs.Pairs.{Pairs, set, unset}
+use Rattle.strat_model.specs.Request.{Request}
+use Rattle.strat_model.specs.Run.{Position, fill_after, is_change, position_after, takes_memory}
+use Rattle.strat_model.specs.Step.{Outcome, clone, has_row, is_frozen, pairs_at, refuses, step, update, with_pairs}
+use Rattle.strat_model.specs.Table.{Cursor, Table}
+use Rattle.strat_model.specs.declared.replies.Refusal.TheVariants as why
+use Rattle.strat_model.specs.declared.replies.Reply.{Reply}
+use Rattle.strat_model.specs.declared.replies.Reply.TheVariants as reply
+use Rattle.strat_recovery.specs.StateTable.{request_for, table_of}
+use Rattle.strat_standing.specs.Next.{arrays_made}
+use Rattle.strat_standing.specs.Contents.{Contents, contents_state}
+use Rattle.strat_store.proofs.CursoringLemmas.{agree_of, cursor_names}
+use Rattle.strat_store.specs.Applying.{IsAppliedTo, change_wanted, is_fault}
+use Rattle.strat_store.specs.Cursoring.{IsAppliedAt, LeavesCursors}
+use Rattle.strat_store.specs.Held.{Held, IsConsistent, StandsAt, StandsWith, arrays_held, position_at, position_with}
+use Rattle.strat_store.specs.Memory.{KeepsRows}
+use Rattle.strat_store.specs.Settling.{LeavesPublished, arrays_taken}
+
+-- a table with other cursors
+abbrev beside : Table → List Cursor → ℕ → Table
+beside t rows next = record t { cursors = rows; next_cursor = next }
+
+-- an outcome with other cursors
+abbrev outcome_beside : Outcome → List Cursor → ℕ → Outcome
+outcome_beside o rows next = record { answer = o.answer; table = beside o.table rows next }
+
+update_beside : (t : Table) (rows : List Cursor) (next v : ℕ) (pairs : Pairs) → update (beside t rows next) v pairs ≡ outcome_beside (update t v pairs) rows next
+update_beside t rows next v pairs = by (has_row t v) (is_frozen t v) (eqb t.changes t.changes_max)
+  where
+    done : Table → Outcome
+    done z = record {
+      answer = plain reply.Done;
+      table = record z { rows = with_pairs z.rows v pairs; updates = z.updates + 1; changes = z.changes + 1 };
+    }
+
+    choose : Bool → Bool → Bool → Table → Outcome
+    choose k frozen full z = if not k then refuses z why.UnknownVersion else if frozen then refuses z why.Frozen else if full then refuses z why.ChangeLimit else done z
+
+    by : (k frozen full : Bool) → choose k frozen full (beside t rows next) ≡ outcome_beside (choose k frozen full t) rows next
+    by false frozen full = refl
+    by true true full = refl
+    by true false true = refl
+    by true false false = refl
+
+clone_beside : (t : Table) (rows : List Cursor) (next v : ℕ) → clone (beside t rows next) v ≡ outcome_beside (clone t v) rows next
+clone_beside t rows next v = by (has_row t v) (eqb (length t.rows) t.versions_max) (eqb t.changes t.changes_max)
+  where
+    done : Table → Outcome
+    done z = record {
+      answer = plain (reply.Made (length z.rows));
+      table = record z { rows = z.rows ++ record { parent = Some v; pairs = pairs_at z v } ∷ []; changes = z.changes + 1 };
+    }
+
+    choose : Bool → Bool → Bool → Table → Outcome
+    choose k many full z = if not k then refuses z why.UnknownVersion else if many then refuses z why.VersionLimit else if full then refuses z why.ChangeLimit else done z
+
+    by : (k many full : Bool) → choose k many full (beside t rows next) ≡ outcome_beside (choose k many full t) rows next
+    by false many full = refl
+    by true true full = refl
+    by true false true = refl
+    by true false false = refl
+
+-- a change does the same beside any cursors
+change_beside : (t : Table) (rows : List Cursor) (next : ℕ) (c : Change) → step (beside t rows next) (request_for c) ≡ outcome_beside (step t (request_for c)) rows next
+change_beside t rows next (change.Put v key value) = update_beside t rows next v (set key value (pairs_at t v))
+change_beside t rows next (change.Delete v key) = update_beside t rows next v (unset key (pairs_at t v))
+change_beside t rows next (change.Clone v) = clone_beside t rows next v
+
+-- a position with other cursors
+abbrev place_beside : Position → List Cursor → ℕ → Position
+place_beside p rows next = record { table = beside p.table rows next; fill = p.fill }
+
+after_beside : (mem : ℕ) (p : Position) (rows : List Cursor) (next : ℕ) (c : Change)
+    → position_after mem (place_beside p rows next) (request_for c) ≡ place_beside (position_after mem p (request_for c)) rows next
+after_beside mem p rows next c =
+    let r = request_for c in
+    ap (λ (o : Outcome). record { table = o.table; fill = if accepts o.answer.reply then (if is_change r then fill_after mem p.fill else p.fill) else p.fill }) (change_beside p.table rows next c)
+
+-- a change takes memory
+takes_for : (c : Change) → takes_memory (request_for c) ≡ true
+takes_for (change.Put v key value) = refl
+takes_for (change.Delete v key) = refl
+takes_for (change.Clone v) = refl
+
+wanted_of : (c : Change) → change_wanted (request_for c) ≡ Some c
+wanted_of (change.Put v key value) = refl
+wanted_of (change.Delete v key) = refl
+wanted_of (change.Clone v) = refl
+
+-- a store that stands after a change has the cursors that it had
+module _ (v now : DiskView) (s new : Held) (x : Contents) (rows : List Cursor) (c : Change) (answer : Answer) (carried : Bool) (whole : IsConsistent s) (at : StandsAt v s x rows)
+    (leaves : LeavesPublished v now s carried answer.reply new) (cursors : LeavesCursors s (request_for c) answer new) (keeps : KeepsRows s.memory new.memory) (cached : new.cached ≡ s.cached) where
+  abbrev f : Image
+  f = at.stands.stands.content
+
+  abbrev t : Table
+  t = table_of (contents_state x)
+
+  kept_cursors : (new.memory.cursors.opened ≡ s.memory.cursors.opened) × (new.memory.cursors.next ≡ s.memory.cursors.next)
+  kept_cursors = elim (cursors.changed c (wanted_of c)) [
+    | inl same ↦ (ap (λ (k : HeldCursors). k.opened) same, ap (λ (k : HeldCursors). k.next) same)
+    | inr has ↦
+        let gone = arrays_taken has.after.target s.chained.manifest in (
+          ap (λ (k : HeldCursors). k.opened) has.after.cursors_are ∙ (retired_rest s.memory.cursors gone).0,
+          ap (λ (k : HeldCursors). k.next) has.after.cursors_are ∙ (retired_rest s.memory.cursors gone).1,
+        )
+  ]
+
+  later : s.chained.manifest.next_array ≤ new.chained.manifest.next_array
+  later = elim leaves.either [
+    | inl same ↦ let e : new.chained.manifest.next_array ≡ s.chained.manifest.next_array = ap (λ (k : Chained). k.manifest.next_array) same.chained in omega (arith, e)
+    | inr has ↦
+        let e : new.chained.manifest.next_array ≡ s.chained.manifest.next_array + length (arrays_made has.after.are.made) = ap (λ (k : Manifest). k.next_array) has.after.are.manifest_is in
+        omega (arith, e)
+  ]
+
+  stands_after : (y : Contents) → answer.reply ≢ reply.Refused why.DeviceFault → StandsWith now new y → StandsAt now new y rows
+  stands_after y calm w = record {
+    stands = w;
+    rows_are = subst (λ (cs : List HeldCursor). AreRowsOf g new.memory.parents cs rows) (sym kept_cursors.0) (keeps g rows (image_rows f g s.memory.parents s.memory.cursors.opened rows agree_all at.rows_are));
+    going = λ k of.
+        let here = subst (λ (cs : List HeldCursor). Contains cs k) kept_cursors.0 of in
+        goes_on_later g s.chained.manifest.next_array new.chained.manifest.next_array k new.cached later
+        (subst (MayGoOn g s.chained.manifest.next_array k) (sym cached)
+        (goes_on_in f g s.chained.manifest.next_array k s.cached (λ a one. agree_all a (cursor_names s.memory.cursors.opened k a here one)) (at.going k here)));
+  }
+    where
+      g : Image
+      g = w.stands.content
+
+      agree_all : (a : ArrayDesc) → Contains (arrays_named s.memory.cursors.opened) a → AgreeOn (blocks_of a.extents) f g
+      agree_all a of = agree_of (arrays_held s.memory s.levels) f g a (whole.kept.named a of) (leaves.beside calm f g at.stands.stands.exposed w.stands.exposed)
+
+  place_after : (y : Contents) (p : Position) → position_with new y ≡ p → position_at new y rows ≡ place_beside p rows s.memory.cursors.next
+  place_after y p is =
+      ap (λ (n : ℕ). record { table = beside (table_of (contents_state y)) rows n; fill = length new.log.list }) kept_cursors.1
+      ∙ ap (λ (q : Position). place_beside q rows s.memory.cursors.next) is
+
+  -- no fault of the device
+  calm_of : new.spent ≡ is_fault answer.reply → new.spent ≡ false → answer.reply ≢ reply.Refused why.DeviceFault
+  calm_of spent going = λ failed. true≢false (sym (ap is_fault failed) ∙ (sym spent ∙ going))
+
+  pub change_applied : new.spent ≡ is_fault answer.reply → IsAppliedTo now s x (request_for c) answer new → IsAppliedAt now s x rows (request_for c) answer new
+  change_applied spent applied =
+      let same = change_beside t rows s.memory.cursors.next c in
+      elim applied [
+        | inl is ↦ inl (record {
+          told = is.told ∙ sym (ap (λ (o : Outcome). o.answer) same);
+          going = is.going;
+          after = is.after;
+          left = rows;
+          stands = stands_after is.after (calm_of spent is.going) is.stands;
+          place = place_after is.after (position_after s.log.mem (position_with s x) (request_for c)) is.place
+              ∙ sym (after_beside s.log.mem (position_with s x) rows s.memory.cursors.next c);
+        })
+        | inr (inl is) ↦ inr (inl (record {
+          takes = takes_for c;
+          acceptable = ap (λ (o : Outcome). accepts o.answer.reply) same ∙ is.acceptable;
+          full = λ _. is.full;
+          told = is.told;
+          going = is.going;
+          stands = stands_after x (calm_of spent is.going) is.stands;
+          place = place_after x (position_with s x) is.place;
+        }))
+        | inr (inr is) ↦ inr (inr (record {
+          reached = is.reached;
+          acceptable = ap (λ (o : Outcome). accepts o.answer.reply) same ∙ is.acceptable;
+          told = is.told;
+          spent = is.spent;
+        }))
+      ]

@@ -1,0 +1,116 @@
+-- What open cursors hold on to stays there, as a store goes on.
+use Rattle.std.proofs.Common.{◌≡◌, ◌≤◌, ◌<◌, ℕ, Bool, true, inl, inr, List, [], ◌∷◌, ◌++◌, map, Contains, flat_map, Option, refl, sym, ap, subst, append-nil}
+use Rattle.std.specs.Prelude.{fold}
+use Rattle.std.proofs.lemmas.Bool.{ltb-true}
+use Rattle.std.proofs.lemmas.List.Concat.{flat_map-append}
+use Rattle.std.proofs.lemmas.List.Elements.{Contains-append_left}
+use Rattle.strat_base.proofs.ListFacts.{Among, among_left, among_right, among_split}
+use Rattle.strat_base.specs.Change.{Change, Put, Delete, Clone}
+use Rattle.strat_base.specs.declared.descriptors.ArrayDesc.{ArrayDesc}
+use Rattle.strat_base.specs.declared.descriptors.LevelDesc.{LevelDesc}
+use Rattle.strat_cursor.proofs.HoldingLemmas.{names_moved, names_without}
+use Rattle.strat_cursor.proofs.PinLemmas.{asked_there}
+use Rattle.strat_cursor.proofs.RetiredLemmas.{closed_from, closed_ids, closed_keeps_named}
+use Rattle.strat_cursor.specs.Cursors.{arrays_named, closed_at, moved_at}
+use Rattle.strat_cursor.specs.Held.{HeldCursor, no_cursors}
+use Rattle.strat_cursor.specs.Looking.{HaveOwnIds, arrays_there}
+use Rattle.strat_cursor.specs.Pins.{arrays_asked}
+use Rattle.strat_format.proofs.ManifestLemmas.{pass_at}
+use Rattle.strat_format.specs.Chained.{Chained}
+use Rattle.strat_format.specs.Manifest.{is_lawful_manifest, versions_in}
+use Rattle.strat_format.specs.SuperBlock.{Super}
+use Rattle.strat_recovery.proofs.OpeningLemmas.{manifest_tests}
+use Rattle.strat_recovery.proofs.PassedLemmas.{array_tests, belonging_tests}
+use Rattle.strat_recovery.specs.Head.{descriptors}
+use Rattle.strat_recovery.specs.Opening.{belongs}
+use Rattle.strat_model.specs.Pairs.{Pairs}
+use Rattle.strat_standing.proofs.ListLemmas.{among_contained, contained_among}
+use Rattle.strat_store.proofs.WholeLemmas.{array_lawful}
+use Rattle.strat_store.specs.Held.{AreKept, ArePlaced, arrays_held}
+use Rattle.strat_store.specs.Memory.{Memory, memory_after, cursor_from, with_cursor}
+
+-- the arrays of a manifest that belongs have numbers of their own, below the next one
+module _ (sb : Super) (chained : Chained) (levels : List (Option LevelDesc)) (placed : ArePlaced chained.manifest.levels levels)
+    (spelled : is_lawful_manifest chained.manifest ≡ true) (belonging : belongs sb chained ≡ true) where
+  listed : arrays_there levels ≡ descriptors chained.manifest
+  listed = ap (flat_map (λ (l : LevelDesc). l.arrays)) placed.listed_are
+
+  pub own_numbers : HaveOwnIds (arrays_there levels)
+  own_numbers = subst HaveOwnIds (sym listed) (pass_at (belonging_tests sb chained) 1 belonging)
+
+  pub low_numbers : (a : ArrayDesc) → Contains (arrays_there levels) a → a.id < chained.manifest.next_array
+  low_numbers a of =
+      let lawful = array_lawful (versions_in chained.manifest) chained.manifest.next_array chained.manifest.levels (pass_at (manifest_tests chained.manifest) 8 spelled) (pass_at (belonging_tests sb chained) 2 belonging) in
+      ltb-true a.id chained.manifest.next_array (pass_at (array_tests chained.manifest.next_array a) 1
+      (lawful a (contained_among (descriptors chained.manifest) a (subst (λ (rs : List ArrayDesc). Contains rs a) listed of))).0)
+
+  -- without cursors all that is named is there
+  pub kept_without : (m : Memory) → m.cursors ≡ no_cursors → AreKept sb chained.manifest.next_array levels m
+  kept_without m none =
+      let all : arrays_held m levels ≡ arrays_there levels = ap (λ (c : _). arrays_there levels ++ c.retired) none ∙ append-nil (arrays_there levels) in
+      record {
+        named = λ a of. absurd (subst (λ (c : _). Contains (flat_map (λ k. k.arrays) c.opened) a) none of);
+        ids = subst HaveOwnIds (sym all) own_numbers;
+        below = λ a of. low_numbers a (subst (λ (rs : List ArrayDesc). Contains rs a) all of);
+        behind = λ a b of. absurd (subst (λ (c : _). Contains c.retired a) none of);
+      }
+
+-- what commands about cursors leave of that
+module _ (sb : Super) (next : ℕ) (levels : List (Option LevelDesc)) (m : Memory) (kept : AreKept sb next levels m) where
+  pub kept_more : (v : ℕ) (lo hi : List ℕ) → AreKept sb next levels (record m { cursors = with_cursor m.cursors (cursor_from m levels v lo hi) })
+  kept_more v lo hi = record {
+    named = λ a of.
+        let asked = arrays_asked m.parents levels v in
+        let both : Among a (arrays_named m.cursors.opened ++ (asked ++ [])) =
+        subst (Among a) (flat_map-append (λ (c : HeldCursor). c.arrays) m.cursors.opened (cursor_from m levels v lo hi ∷ []))
+        (contained_among (arrays_named (m.cursors.opened ++ cursor_from m levels v lo hi ∷ [])) a of) in
+        elim (among_split (arrays_named m.cursors.opened) (asked ++ []) a both) [
+          | inl before ↦ kept.named a (among_contained (arrays_named m.cursors.opened) a before)
+          | inr new ↦
+              Contains-append_left (arrays_there levels) m.cursors.retired a
+              (among_contained (arrays_there levels) a (asked_there m.parents v levels a (subst (Among a) (append-nil asked) new)))
+        ];
+    ids = kept.ids;
+    below = kept.below;
+    behind = kept.behind;
+  }
+
+  pub kept_paged : (n : ℕ) (more : Bool) (told : Pairs) → AreKept sb next levels (record m { cursors = record m.cursors { opened = moved_at n more told m.cursors.opened } })
+  kept_paged n more told = record {
+    named = λ a of. kept.named a (subst (λ (rs : List ArrayDesc). Contains rs a) (names_moved n more told m.cursors.opened) of);
+    ids = kept.ids;
+    below = kept.below;
+    behind = kept.behind;
+  }
+
+  pub kept_closed : (n : ℕ) → AreKept sb next levels (record m { cursors = closed_at n m.cursors })
+  kept_closed n = record {
+    named = λ a of.
+        let left = (closed_at n m.cursors).retired in
+        elim (among_split (arrays_there levels) m.cursors.retired a (contained_among (arrays_held m levels) a (kept.named a (names_without n m.cursors.opened a of)))) [
+          | inl there ↦ among_contained (arrays_there levels ++ left) a (among_left (arrays_there levels) left a there)
+          | inr retired ↦
+              among_contained (arrays_there levels ++ left) a
+              (among_right (arrays_there levels) left a (contained_among left a (closed_keeps_named m.cursors n a of (among_contained m.cursors.retired a retired))))
+        ];
+    ids = closed_ids m.cursors n (arrays_there levels) kept.ids;
+    below = λ a of. kept.below a (still a of);
+    behind = λ a b of. kept.behind a b (closed_from m.cursors n a of);
+  }
+    where
+      still : (a : ArrayDesc) → Contains (arrays_there levels ++ (closed_at n m.cursors).retired) a → Contains (arrays_held m levels) a
+      still a of =
+          let left = (closed_at n m.cursors).retired in
+          elim (among_split (arrays_there levels) left a (contained_among (arrays_there levels ++ left) a of)) [
+            | inl there ↦ among_contained (arrays_held m levels) a (among_left (arrays_there levels) m.cursors.retired a there)
+            | inr one ↦
+                among_contained (arrays_held m levels) a
+                (among_right (arrays_there levels) m.cursors.retired a (contained_among m.cursors.retired a (closed_from m.cursors n a (among_contained left a one))))
+          ]
+
+-- changes leave the cursors
+pub cursors_redone : (changes : List Change) (m : Memory) → (fold memory_after m changes).cursors ≡ m.cursors
+cursors_redone [] m = refl
+cursors_redone (Put version key value ∷ changes) m = cursors_redone changes (memory_after m (Put version key value))
+cursors_redone (Delete version key ∷ changes) m = cursors_redone changes (memory_after m (Delete version key))
+cursors_redone (Clone version ∷ changes) m = cursors_redone changes (memory_after m (Clone version))
