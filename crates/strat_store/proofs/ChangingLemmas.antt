@@ -1,21 +1,27 @@
 -- A change that is carried out on a store that stands.
 use Rattle.std.proofs.Common.{◌≡◌, ◌≢◌, ◌<◌, ◌+◌, ◌*◌, ℕ, suc, Bool, true, false, inl, inr, not, ltb, if◌then◌else◌, List, [], ◌∷◌, ◌++◌, length, Option, Some, None, refl, sym, ap, ◌∙◌, subst, arith, length-append}
-use Rattle.std.proofs.lemmas.Bool.{and_parts, and_from, lt-ltb}
+use Rattle.std.specs.List.{list_all}
+use Rattle.std.proofs.lemmas.Bool.{and_parts, and_from, le-ltb, lt-ltb}
+use Rattle.std.proofs.lemmas.List.Folds.{list_all-append}
 use Rattle.std.specs.Prelude.{fold, is_some, option_map, flat_map}
 use Rattle.strat_array.specs.Kept.{Blocks}
-use Rattle.strat_base.specs.Change.{Change}
+use Rattle.strat_base.specs.Change.{Change, is_lawful}
 use Rattle.strat_base.specs.Change as change
 use Rattle.strat_base.specs.Tree.{Parents}
 use Rattle.strat_base.specs.declared.descriptors.ArrayDesc.{ArrayDesc}
+use Rattle.strat_base.specs.declared.descriptors.LevelDesc.{LevelDesc}
 use Rattle.strat_base.proofs.ListFacts.{Among, among_in_flat, among_right, get_among}
-use Rattle.strat_crash.specs.Blocks.{AgreeOn, KeepsBlock}
+use Rattle.strat_crash.specs.Blocks.{AgreeOn, KeepsBlock, KeepsTaken}
 use Rattle.strat_crash.specs.Image.{Image}
 use Rattle.strat_crash.specs.Moments.{DiskView, Exposes}
 use Rattle.strat_crash.specs.Trail.{Trail}
 use Rattle.strat_crash.proofs.ImageLemmas.{window_same}
+use Rattle.strat_cursor.specs.Held.{AreRowsOf, HeldCursors}
 use Rattle.strat_format.specs.Arrays.{blocks_of}
 use Rattle.strat_format.specs.Block.{block_in}
 use Rattle.strat_format.specs.Chained.{Chained}
+use Rattle.strat_format.specs.Layout.{first_free}
+use Rattle.strat_format.specs.SuperBlock.{Super}
 use Rattle.strat_gate.specs.SuperView.{super_of}
 use Rattle.strat_journal.specs.Log.{Log}
 use Rattle.strat_model.specs.Answer.{plain, accepts}
@@ -32,18 +38,20 @@ use Rattle.strat_recovery.specs.StateTable.{table_of, request_for}
 use Rattle.strat_recovery.proofs.HeadLemmas.{state_with}
 use Rattle.strat_recovery.proofs.StateTableLemmas.{accepts_same, steps_to}
 use Rattle.strat_standing.specs.Appending.{IsLogOf, with_batch}
-use Rattle.strat_standing.specs.Contents.{Contents, contents_head, contents_state, named_blocks}
+use Rattle.strat_standing.specs.Contents.{Contents, contents_head, contents_state}
 use Rattle.strat_standing.specs.Standing.{ShowsTable, ContentsStand}
 use Rattle.strat_standing.proofs.ListLemmas.{among_contained, contained_among}
 use Rattle.strat_state.specs.Level.{Level}
 use Rattle.strat_state.specs.Sound.{is_accepted, are_accepted, accepts_change, Takes}
 use Rattle.strat_state.specs.State.{tree_after}
 use Rattle.strat_store.specs.Applying.{IsAppliedTo, FollowsStep, is_fault, ran_short, table_left}
-use Rattle.strat_store.specs.Held.{head_held, contents_held, IsConsistent, StandsWith, position_with}
+use Rattle.strat_store.specs.Held.{AreKept, head_held, contents_held, IsConsistent, StandsWith, position_with}
 use Rattle.strat_cursor.specs.Looking.{AreCachedFrom}
-use Rattle.strat_store.specs.Memory.{Memory, refusal_of_change, memory_after, reply_to, IsMemoryOf}
+use Rattle.strat_store.specs.Memory.{KeepsRows, Memory, refusal_of_change, memory_after, reply_to, IsMemoryOf}
+use Rattle.strat_store.specs.Publishing.{is_in_front}
 use Rattle.strat_store.specs.Recovering.{chained_of, held_of, held_after}
 use Rattle.strat_store.specs.declared.recovering.Recovered.{Recovered}
+use Rattle.strat_store.proofs.KeptLemmas.{named_behind}
 use Rattle.strat_store.proofs.MemoryLawLemmas.{accepted_same, change_answered, change_taken, memory_follows}
 
 -- a command that asks for a change reaches the disk, and is one
@@ -81,6 +89,21 @@ accepted_more cm vm parents n (d ∷ journal) c all one =
     and_from (is_accepted cm vm parents n d) (are_accepted cm vm (tree_after parents d) (suc n) (journal ++ c ∷ [])) parts.0
     (accepted_more cm vm (tree_after parents d) (suc n) journal c parts.1 (subst (λ (k : ℕ). is_accepted cm vm (fold tree_after (tree_after parents d) journal) k c ≡ true) at one))
 
+-- a change leaves cursors alone
+pub cursors_stay : (m : Memory) (c : Change) → (memory_after m c).cursors ≡ m.cursors
+cursors_stay m (change.Put v key value) = refl
+cursors_stay m (change.Delete v key) = refl
+cursors_stay m (change.Clone v) = refl
+
+kept_still : (sb : Super) (next : ℕ) (levels : List (Option LevelDesc)) (m k : Memory) → k.cursors ≡ m.cursors → AreKept sb next levels m → AreKept sb next levels k
+kept_still sb next levels m k same kept =
+    let here : AreKept sb next levels (record k { cursors = m.cursors }) = record { named = kept.named; ids = kept.ids; below = kept.below; behind = kept.behind } in
+    subst (λ (cs : HeldCursors). AreKept sb next levels (record k { cursors = cs })) (sym same) here
+
+-- the cursors of a table stay while the versions do
+pub rows_stay : (m k : Memory) → k.parents ≡ m.parents → KeepsRows m k
+rows_stay m k same f rows are = subst (λ (ps : Parents). AreRowsOf f ps m.cursors.opened rows) (sym same) are
+
 -- blocks that are cached are as they stand on the disk while the blocks of arrays do
 cached_still : (f g : Image) (chained : Chained) (c : Blocks) → AgreeOn (chained.blocks ++ flat_map (λ (a : ArrayDesc). blocks_of a.extents) (descriptors chained.manifest)) f g
     → AreCachedFrom f chained.manifest.next_array (descriptors chained.manifest) c → AreCachedFrom g chained.manifest.next_array (descriptors chained.manifest) c
@@ -104,7 +127,7 @@ module _ (r : Recovered) (cached : Blocks) (kept : IsConsistent (held_of r cache
     }
 
   -- a change that is not refused leaves a store consistent
-  module _ (c : Change) (free : refusal_of_change r.memory c ≡ None) (room : length r.journal.list < r.sb.mem) where
+  module _ (c : Change) (lawful : is_lawful c ≡ true) (free : refusal_of_change r.memory c ≡ None) (room : length r.journal.list < r.sb.mem) where
     accepted_last : are_accepted r.sb.changes_max r.sb.versions_max (parents_in (chained_of r.published).manifest) (chained_of r.published).manifest.changes (r.journal.list ++ c ∷ []) ≡ true
     accepted_last =
         let one : is_accepted r.memory.changes_max r.memory.versions_max r.memory.parents r.memory.changes c ≡ true =
@@ -126,6 +149,8 @@ module _ (r : Recovered) (cached : Blocks) (kept : IsConsistent (held_of r cache
             active = ap (λ (l : Log). l.active) grown ∙ kept.log.active;
             batch = ap (λ (l : Log). l.batch) grown ∙ kept.log.batch;
             few = omega (arith, room, ap length list, length-append r.journal.list (c ∷ []));
+            lawful = subst (λ (cs : List Change). list_all is_lawful cs ≡ true) list
+                (list_all-append is_lawful r.journal.list (c ∷ []) ∙ and_from (list_all is_lawful r.journal.list) (list_all is_lawful (c ∷ [])) kept.log.lawful (and_from (is_lawful c) true lawful refl));
           };
           accepted = subst (λ (cs : List Change). are_accepted r.sb.changes_max r.sb.versions_max (parents_in (chained_of r.published).manifest) (chained_of r.published).manifest.changes cs ≡ true) list accepted_last;
           memory =
@@ -133,6 +158,7 @@ module _ (r : Recovered) (cached : Blocks) (kept : IsConsistent (held_of r cache
               subst (λ (m : Memory). IsMemoryOf (record (head_held (held_of r cached)) { journal = j.list }) m) (sym follows)
               (subst (λ (cs : List Change). IsMemoryOf (record (head_held (held_of r cached)) { journal = cs }) (memory_after r.memory c)) list of);
           placed = kept.placed;
+          kept = kept_still (super_of r.sb) (chained_of r.published).manifest.next_array r.published.levels r.memory m (ap (λ (k : Memory). k.cursors) follows ∙ cursors_stay r.memory c) kept.kept;
         }
 
   -- and what stands on the disk answers as its table does
@@ -198,9 +224,9 @@ module _ (r : Recovered) (cached : Blocks) (kept : IsConsistent (held_of r cache
 
         -- the change is carried out
         pub carries : (w : DiskView) (j : Log) (m : Memory) (told : Reply) → j ≡ record r.journal { list = r.journal.list ++ c ∷ [] } → told ≡ reply_to r.memory c → ContentsStand w (with_batch x (c ∷ []))
-            → ((f g : Image) → Exposes v f → Exposes w g → AgreeOn (named_blocks x) f g)
+            → ((f g : Image) → Exposes v f → Exposes w g → KeepsTaken (is_in_front r.journal.mem) f g)
             → IsAppliedTo w (held_of r cached) x (request_for c) (plain told) (held_after (record r { journal = j; memory = m }) cached told)
-        carries w j m told grown tells now agree = inl (record {
+        carries w j m told grown tells now keeps = inl (record {
           told = ap plain tells ∙ sym answered;
           going = ap is_fault tells ∙ (told_well r.memory c).1;
           after = with_batch x (c ∷ []);
@@ -208,8 +234,10 @@ module _ (r : Recovered) (cached : Blocks) (kept : IsConsistent (held_of r cache
             stands = now;
             held = more_held j grown;
             cached = cached_still stands.stands.content now.content (chained_of r.published) cached
-                (subst (λ (ch : Chained). AgreeOn (ch.blocks ++ flat_map (λ (a : ArrayDesc). blocks_of a.extents) (descriptors ch.manifest)) stands.stands.content now.content) (ap (λ (y : Contents). y.chained) stands.held)
-                (agree stands.stands.content now.content stands.stands.exposed now.exposed)) stands.cached;
+                (λ b named.
+                let behind = named_behind (held_of r cached) kept b named in
+                keeps stands.stands.content now.content stands.stands.exposed now.exposed b
+                (le-ltb b (first_free r.journal.mem) (omega (arith, behind, ap first_free kept.log.mem)))) stands.cached;
           };
           place = λ i. record { table = sym (steps_to (contents_state x) c takes) i; fill = filled j grown i };
         })

@@ -68,7 +68,7 @@ entries_counted : (made : Option LevelDesc) → entries_if_any made ≡ sum_by (
 entries_counted None = refl
 entries_counted (Some level) = refl
 
-module _ (v w u : DiskView) (s t r : SpaceView) (m : Memory) (levels : List (Option LevelDesc)) (log : Log) (x : Contents) (may : MayCompute v s m levels log x) (mem : ℕ) (mem_is : x.sb.mem ≡ mem)
+module _ (v w u : DiskView) (s t r : SpaceView) (m : Memory) (levels : List (Option LevelDesc)) (log : Log) (x : Contents) (others : List Extent) (may : MayCompute v s m levels log x others) (mem : ℕ) (mem_is : x.sb.mem ≡ mem)
     (old : Manifest) (old_is : x.chained.manifest ≡ old) (target : ℕ) (made : Option LevelDesc) (first size : ℕ) (chain : List Extent) (promoting : TearsBlocks (is_free s) v w)
     (taken : UsesMore s (extents_of (arrays_made made)) t) (writing : TearsBlocks (is_free t) w u) (marked : IsMarked t chain r) (between : LeavesContent w) (after : LeavesContent u) where
   abbrev f : Image
@@ -89,7 +89,7 @@ module _ (v w u : DiskView) (s t r : SpaceView) (m : Memory) (levels : List (Opt
   used b of =
       let listed : arrays_there levels ≡ descriptors x.chained.manifest = ap (flat_map (λ (l : LevelDesc). l.arrays)) may.placed.listed_are in
       let there = subst (λ (rs : List ArrayDesc). Contains (blocks_listed rs) b) listed of in
-      named_used s x [] may.space b (contained_among (named_blocks x) b (Contains-append_right x.chained.blocks (blocks_listed (descriptors x.chained.manifest)) b there))
+      named_used s x others may.space b (contained_among (named_blocks x) b (Contains-append_right x.chained.blocks (blocks_listed (descriptors x.chained.manifest)) b there))
 
   module _ (promotes : (f g : Image) (st : State) → Exposes v f → Exposes w g → IsSound st → st.mem ≡ mem → HoldInMemory f st m levels → AreUsed s (blocks_listed (arrays_there levels)) → IsPromotedTo g st old.next_array target made)
       (manifest : Manifest) (manifest_is : manifest ≡ manifest_after old m target made)
@@ -111,12 +111,12 @@ module _ (v w u : DiskView) (s t r : SpaceView) (m : Memory) (levels : List (Opt
     next : IsNextOf x new made (descs_to target x.chained.manifest.levels) (descs_behind target x.chained.manifest.levels)
     next = after_next x m target made (made_here.says.fresh ++ levels_behind target x.levels) first size (blocks_of chain) may.memory rising
 
-    used_after : (gone : List Extent) → blocks_of gone ≡ x.chained.blocks → IsSpaceOf r new (gone ++ (extents_of (arrays_in (descs_to target x.chained.manifest.levels)) ++ []))
+    used_after : (gone : List Extent) → blocks_of gone ≡ x.chained.blocks → IsSpaceOf r new (gone ++ (extents_of (arrays_in (descs_to target x.chained.manifest.levels)) ++ others))
     used_after gone gone_is =
-        space_written t r chain marked x new made (descs_to target x.chained.manifest.levels) (descs_behind target x.chained.manifest.levels) gone [] next refl gone_is
-        (taken_beside s t x [] (extents_of (arrays_made made)) may.space taken)
+        space_written t r chain marked x new made (descs_to target x.chained.manifest.levels) (descs_behind target x.chained.manifest.levels) gone others next refl gone_is
+        (taken_beside s t x others (extents_of (arrays_made made)) may.space taken)
 
-    beside : IsWrittenBeside v w u s t r x new target made (may.chain ++ (extents_of (arrays_in (descs_to target x.chained.manifest.levels)) ++ []))
+    beside : IsWrittenBeside v w u s t r x new target made others (may.chain ++ (extents_of (arrays_in (descs_to target x.chained.manifest.levels)) ++ others))
     beside = record {
       stands = may.stands;
       logged = may.logged;
@@ -143,10 +143,10 @@ module _ (v w u : DiskView) (s t r : SpaceView) (m : Memory) (levels : List (Opt
         some_told None g e = absurd (cc)
         some_told (Some h) g e = refl
 
-    pub computed_by : IsComputedBy u r x m log target made first size chain
+    pub computed_by : IsComputedBy u r x m log target made first size chain others
     computed_by = record {
       levels = made_here.says.fresh ++ levels_behind target x.levels;
-      computed = computed v w u s t r x new target made (may.chain ++ (extents_of (arrays_in (descs_to target x.chained.manifest.levels)) ++ [])) beside rising log may.log_is;
+      computed = computed v w u s t r x new target made others (may.chain ++ (extents_of (arrays_in (descs_to target x.chained.manifest.levels)) ++ others)) beside rising log may.log_is;
       used = used_after;
       paid = λ paid honest full.
           let p = made_here.paid paid honest full in

@@ -13,6 +13,7 @@ use Rattle.strat_base.specs.Tree.{is_known}
 use Rattle.strat_base.specs.declared.descriptors.ArrayDesc.{ArrayDesc}
 use Rattle.strat_base.specs.declared.descriptors.LevelDesc.{LevelDesc}
 use Rattle.strat_crash.specs.Blocks.{AgreeOn}
+use Rattle.strat_crash.specs.Faults.{HasCause}
 use Rattle.strat_crash.specs.Image.{Image}
 use Rattle.strat_crash.specs.Moments.{DiskView, Exposes}
 use Rattle.strat_cursor.proofs.HoldingLemmas.{asked_may_go_on, goes_on_in, goes_on_later, goes_on_moved, goes_on_without}
@@ -47,7 +48,7 @@ use Rattle.strat_state.specs.Level.{Level}
 use Rattle.strat_store.proofs.GettingLemmas.{blamed, cached, known, none_damaged, ordered, whole_read}
 use Rattle.strat_store.proofs.LookLemmas.{id_names}
 use Rattle.strat_store.proofs.RangingLemmas.{map_seen, page_told, table_asked}
-use Rattle.strat_store.specs.Applying.{IsDamagedIn, is_fault}
+use Rattle.strat_store.specs.Applying.{FailsAsTold, IsDamagedIn, is_fault}
 use Rattle.strat_store.specs.Cursoring.{IsAppliedAt, cursors_after, reply_of_close, reply_of_next, reply_of_start}
 use Rattle.strat_store.specs.Held.{AreKept, Held, IsConsistent, StandsAt, StandsWith, arrays_held, contents_held, position_at, table_at}
 use Rattle.strat_store.specs.Memory.{Memory, cursor_from, with_cursor}
@@ -261,7 +262,7 @@ module _ (v : DiskView) (s : Held) (x : Contents) (rows : List Cursor) (whole : 
 
   pub known_opened : (n : ℕ) (lo hi : List ℕ) (r : Result ℕ CursorFault) (m : Memory) → is_known s.memory.parents n ≡ true
       → IfOk r (λ k. (k ≡ s.memory.cursors.next) × (m ≡ one_more n lo hi)) → OnErr r (m ≡ s.memory) → (IsErrOf r start_fault.CursorLimit ↔ (length opened ≡ 64))
-      → IsAppliedAt v s x rows (OpenCursor n lo hi) (plain (reply_of_start r)) (record s { memory = m; spent = false })
+      → IsAppliedAt v s x rows (OpenCursor n lo hi) (plain (reply_of_start r)) (record s { memory = m; spent = is_fault (reply_of_start r) })
   known_opened n lo hi (Ok k) m is opens same limit =
       let room : length opened ≢ 64 = λ full. limit.1 full in
       let o = started_by n lo hi is room in
@@ -302,7 +303,7 @@ module _ (v : DiskView) (s : Held) (x : Contents) (rows : List Cursor) (whole : 
 
   -- a closing is answered as the table says
   pub closed_applied : (n : ℕ) (there : Bool) (m : Memory) → there ≡ is_opened n opened → m ≡ record s.memory { cursors = closed_at n s.memory.cursors } → (there ≡ false → m ≡ s.memory)
-      → IsAppliedAt v s x rows (CloseCursor n) (plain (reply_of_close there)) (record s { memory = m; spent = false })
+      → IsAppliedAt v s x rows (CloseCursor n) (plain (reply_of_close there)) (record s { memory = m; spent = is_fault (reply_of_close there) })
   closed_applied n true m is closes none =
       let on : list_any (λ (c : Cursor). eqb c.number n) rows ≡ true = rows_opened f s.memory.parents n opened rows at.rows_are ∙ sym is in
       let o : step t (CloseCursor n) ≡ record { answer = plain reply.Done; table = record t { cursors = filter (λ (c : Cursor). not (eqb c.number n)) rows } } = rw (on) refl in
@@ -405,12 +406,20 @@ unknown_told m n Told off = (λ _. refl, λ is. absurd (true≢false (sym is ∙
 pub known_told : (m : Memory) (n : ℕ) (answer : Answer) (Told : Type 0) → is_known m.parents n ≡ true → Told → TellsOfVersion m n answer Told
 known_told m n answer Told is told = (λ off. absurd (true≢false (sym is ∙ off)), λ _. told)
 
+pub numbers : {P : ℕ → Type 0} {n : ℕ} (r : Result ℕ CursorFault) → IfOk r (λ k. (k ≡ n) × P k) → IfOk r (λ k. k ≡ n)
+numbers (Ok k) opens = opens.0
+numbers (Err e) opens = tt
+
 pub opening_told : (c : HeldCursors) (r : Result ℕ CursorFault) → IfOk r (λ k. k ≡ c.next) → (IsErrOf r start_fault.CursorLimit ↔ (length c.opened ≡ 64)) → TellsOfOpening c (plain (reply_of_start r))
 opening_told c (Ok k) opens limit =
     (λ full. absurd (let e : ◌≡◌ {A = Result ℕ CursorFault} (Ok k) (Err start_fault.CursorLimit) = limit.1 full in cc), λ room. inl (ap (λ (z : ℕ). plain (reply.Opened z)) opens))
 opening_told c (Err start_fault.CursorLimit) opens limit = (λ full. refl, λ room. absurd (room (limit.0 refl)))
 opening_told c (Err start_fault.NoMemory) opens limit =
     (λ full. absurd (let e : ◌≡◌ {A = Result ℕ CursorFault} (Err start_fault.NoMemory) (Err start_fault.CursorLimit) = limit.1 full in cc), λ room. inr refl)
+
+pub nothing_told : {P Q : Type 0} {T E : Type 0} (r : Result T E) → OnErr r (P × Q) → OnErr r Q
+nothing_told (Ok x) same = tt
+nothing_told (Err e) same = same.1
 
 pub cursor_told : (f : Image) (v : DiskView) (s : Held) (n limit : ℕ) (out : TheirPairs) (r : Result Bool NextFault) → Exposes v f → is_fault (reply_of_next r) ≡ false
     → IfOk r (λ more. (c : HeldCursor) → Contains s.memory.cursors.opened c → c.number ≡ n → (g : Image) (k : ℕ) (pairs : Pairs) → Exposes v g → MayGoOn g k c s.cached → IsMapHeld g s.memory.parents c pairs → TellsNext pairs c limit out more)
@@ -444,3 +453,47 @@ page_blames content m levels (Err (next_fault.Damaged block)) b there names told
     let same : block ≡ b = cc in
     let is = subst (λ (n : ℕ). NamesNoBlock content (arrays_named m.cursors.opened) n) same (names block refl) in
     (blamed content m levels (arrays_named m.cursors.opened) b there is, is.none.1)
+
+-- what memory is after each of these
+pub start_leaves : (m new : Memory) (levels : List (Option LevelDesc)) (v : ℕ) (lo hi : List ℕ) (r : Result ℕ CursorFault)
+    → IfOk r (λ k. (k ≡ m.cursors.next) × (new ≡ record m { cursors = with_cursor m.cursors (cursor_from m levels v lo hi) })) → OnErr r (new ≡ m)
+    → new ≡ record m { cursors = cursors_after m levels (OpenCursor v lo hi) (plain (reply_of_start r)) }
+start_leaves m new levels v lo hi (Ok k) opens same = opens.1
+start_leaves m new levels v lo hi (Err start_fault.CursorLimit) opens same = same
+start_leaves m new levels v lo hi (Err start_fault.NoMemory) opens same = same
+
+pub page_leaves : (m new : Memory) (levels : List (Option LevelDesc)) (n limit : ℕ) (out : TheirPairs) (r : Result Bool NextFault)
+    → IfOk r (λ more. new ≡ record m { cursors = record m.cursors { opened = moved_at n more out m.cursors.opened } }) → OnErr r ((new ≡ m) × (out ≡ []))
+    → new ≡ record m { cursors = cursors_after m levels (NextPairs n limit) (as_told (reply_of_next r) out) }
+page_leaves m new levels n limit out (Ok more) moves same = moves
+page_leaves m new levels n limit out (Err next_fault.UnknownCursor) moves same = same.0
+page_leaves m new levels n limit out (Err next_fault.Device) moves same = same.0
+page_leaves m new levels n limit out (Err (next_fault.Damaged b)) moves same = same.0
+
+pub close_leaves : (m new : Memory) (levels : List (Option LevelDesc)) (n : ℕ) (there : Bool) → new ≡ record m { cursors = closed_at n m.cursors } → (there ≡ false → new ≡ m)
+    → new ≡ record m { cursors = cursors_after m levels (CloseCursor n) (plain (reply_of_close there)) }
+close_leaves m new levels n true closes none = closes
+close_leaves m new levels n false closes none = none refl
+
+-- and that no fault is told of them
+pub start_calm : (r : Result ℕ CursorFault) → is_fault (reply_of_start r) ≡ false
+start_calm (Ok k) = refl
+start_calm (Err start_fault.CursorLimit) = refl
+start_calm (Err start_fault.NoMemory) = refl
+
+pub close_calm : (there : Bool) → is_fault (reply_of_close there) ≡ false
+close_calm true = refl
+close_calm false = refl
+
+pub page_found : (r : Result Bool NextFault) → reply_of_next r ≢ reply.Found
+page_found (Ok more) = λ e. cc
+page_found (Err next_fault.UnknownCursor) = λ e. cc
+page_found (Err next_fault.Device) = λ e. cc
+page_found (Err (next_fault.Damaged b)) = λ e. cc
+
+-- over a page a count of faults rises where the device failed
+pub page_fails : (before now : ℕ) (r : Result Bool NextFault) → HasCause next_fault.Device before now r → FailsAsTold before now (reply_of_next r)
+page_fails before now (Ok more) cause = record { later = cause.later; rose = λ e. absurd (cc); same = λ other. cause.ok }
+page_fails before now (Err next_fault.UnknownCursor) cause = record { later = cause.later; rose = λ e. absurd (cc); same = λ other. cause.other (λ e. cc) }
+page_fails before now (Err next_fault.Device) cause = record { later = cause.later; rose = λ e. cause.device refl; same = λ other. absurd (other refl) }
+page_fails before now (Err (next_fault.Damaged b)) cause = record { later = cause.later; rose = λ e. absurd (cc); same = λ other. cause.other (λ e. cc) }

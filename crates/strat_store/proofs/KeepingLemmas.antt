@@ -1,10 +1,11 @@
 -- What open cursors hold on to stays there, as a store goes on.
-use Rattle.std.proofs.Common.{◌≡◌, ◌≤◌, ◌<◌, ℕ, Bool, true, inl, inr, List, [], ◌∷◌, ◌++◌, map, Contains, flat_map, Option, refl, sym, ap, subst, append-nil}
-use Rattle.std.specs.Prelude.{fold}
+use Rattle.std.proofs.Common.{◌≡◌, ◌≤◌, ◌<◌, ℕ, Bool, true, false, inl, inr, List, [], ◌∷◌, ◌++◌, map, Contains, flat_map, Option, refl, sym, ap, subst, append-nil}
+use Rattle.std.specs.Prelude.{fold, if◌then◌else◌}
 use Rattle.std.proofs.lemmas.Bool.{ltb-true}
 use Rattle.std.proofs.lemmas.List.Concat.{flat_map-append}
 use Rattle.std.proofs.lemmas.List.Elements.{Contains-append_left}
 use Rattle.strat_base.proofs.ListFacts.{Among, among_left, among_right, among_split}
+use Rattle.strat_array.specs.Kept.{Blocks}
 use Rattle.strat_base.specs.Change.{Change, Put, Delete, Clone}
 use Rattle.strat_base.specs.declared.descriptors.ArrayDesc.{ArrayDesc}
 use Rattle.strat_base.specs.declared.descriptors.LevelDesc.{LevelDesc}
@@ -12,7 +13,7 @@ use Rattle.strat_cursor.proofs.HoldingLemmas.{names_moved, names_without}
 use Rattle.strat_cursor.proofs.PinLemmas.{asked_there}
 use Rattle.strat_cursor.proofs.RetiredLemmas.{closed_from, closed_ids, closed_keeps_named}
 use Rattle.strat_cursor.specs.Cursors.{arrays_named, closed_at, moved_at}
-use Rattle.strat_cursor.specs.Held.{HeldCursor, no_cursors}
+use Rattle.strat_cursor.specs.Held.{HeldCursor, HeldCursors, no_cursors}
 use Rattle.strat_cursor.specs.Looking.{HaveOwnIds, arrays_there}
 use Rattle.strat_cursor.specs.Pins.{arrays_asked}
 use Rattle.strat_format.proofs.ManifestLemmas.{pass_at}
@@ -23,11 +24,19 @@ use Rattle.strat_recovery.proofs.OpeningLemmas.{manifest_tests}
 use Rattle.strat_recovery.proofs.PassedLemmas.{array_tests, belonging_tests}
 use Rattle.strat_recovery.specs.Head.{descriptors}
 use Rattle.strat_recovery.specs.Opening.{belongs}
+use Rattle.strat_gate.specs.SuperView.{super_of}
+use Rattle.strat_model.specs.Answer.{Answer, accepts}
 use Rattle.strat_model.specs.Pairs.{Pairs}
+use Rattle.strat_model.specs.Request.{Request, OpenCursor, NextPairs, CloseCursor}
+use Rattle.strat_model.specs.declared.replies.Reply.{Reply}
+use Rattle.strat_model.specs.declared.replies.Reply.TheVariants as reply
 use Rattle.strat_standing.proofs.ListLemmas.{among_contained, contained_among}
 use Rattle.strat_store.proofs.WholeLemmas.{array_lawful}
-use Rattle.strat_store.specs.Held.{AreKept, ArePlaced, arrays_held}
+use Rattle.strat_store.specs.Cursoring.{cursors_after, paged_at}
+use Rattle.strat_store.specs.Held.{AreKept, ArePlaced, IsConsistent, arrays_held}
 use Rattle.strat_store.specs.Memory.{Memory, memory_after, cursor_from, with_cursor}
+use Rattle.strat_store.specs.Recovering.{chained_of, held_of}
+use Rattle.strat_store.specs.declared.recovering.Recovered.{Recovered}
 
 -- the arrays of a manifest that belongs have numbers of their own, below the next one
 module _ (sb : Super) (chained : Chained) (levels : List (Option LevelDesc)) (placed : ArePlaced chained.manifest.levels levels)
@@ -114,3 +123,56 @@ cursors_redone [] m = refl
 cursors_redone (Put version key value ∷ changes) m = cursors_redone changes (memory_after m (Put version key value))
 cursors_redone (Delete version key ∷ changes) m = cursors_redone changes (memory_after m (Delete version key))
 cursors_redone (Clone version ∷ changes) m = cursors_redone changes (memory_after m (Clone version))
+
+-- so a store stays consistent
+consistent_with : (r : Recovered) (m : Memory) (cached : Blocks) (c : HeldCursors) → IsConsistent (held_of r cached) → m ≡ record r.memory { cursors = c }
+    → AreKept (super_of r.sb) (chained_of r.published).manifest.next_array r.published.levels (record r.memory { cursors = c }) → IsConsistent (held_of (record r { memory = m }) cached)
+consistent_with r m cached c whole is kept =
+    subst (λ (z : Memory). IsConsistent (held_of (record r { memory = z }) cached)) (sym is)
+    (record {
+      slot = whole.slot;
+      lawful = whole.lawful;
+      spelled = whole.spelled;
+      belonging = whole.belonging;
+      log = whole.log;
+      accepted = whole.accepted;
+      memory = record {
+        changes_max = whole.memory.changes_max;
+        versions_max = whole.memory.versions_max;
+        parents = whole.memory.parents;
+        updates = whole.memory.updates;
+        changes = whole.memory.changes;
+        entries = whole.memory.entries;
+        room = whole.memory.room;
+      };
+      placed = whole.placed;
+      kept = kept;
+    })
+
+-- after any command that asks for no change
+pub consistent_after : (r : Recovered) (m : Memory) (request : Request) (answer : Answer) → ((cached : Blocks) → IsConsistent (held_of r cached))
+    → m ≡ record r.memory { cursors = cursors_after r.memory r.published.levels request answer } → (cached : Blocks) → IsConsistent (held_of (record r { memory = m }) cached)
+consistent_after r m request answer whole is cached = consistent_with r m cached (cursors_after r.memory r.published.levels request answer) (whole cached) is (by request answer)
+  where
+    Kept : HeldCursors → Type 0
+    Kept c = AreKept (super_of r.sb) (chained_of r.published).manifest.next_array r.published.levels (record r.memory { cursors = c })
+
+    kept : Kept r.memory.cursors
+    kept = (whole cached).kept
+
+    by_accept : (b : Bool) (c : HeldCursors) → Kept c → Kept (if b then c else r.memory.cursors)
+    by_accept true c more = more
+    by_accept false c more = kept
+
+    by_page : (n : ℕ) (told : Reply) (pairs : Pairs) → Kept (paged_at n told pairs r.memory.cursors)
+    by_page n (reply.Pairs more) pairs = kept_paged (super_of r.sb) (chained_of r.published).manifest.next_array r.published.levels r.memory kept n more pairs
+    by_page n _ pairs = kept
+
+    by : (request : Request) (answer : Answer) → Kept (cursors_after r.memory r.published.levels request answer)
+    by (OpenCursor v lo hi) answer =
+        by_accept (accepts answer.reply) (with_cursor r.memory.cursors (cursor_from r.memory r.published.levels v lo hi))
+        (kept_more (super_of r.sb) (chained_of r.published).manifest.next_array r.published.levels r.memory kept v lo hi)
+    by (NextPairs n limit) answer = by_page n answer.reply answer.pairs
+    by (CloseCursor n) answer =
+        by_accept (accepts answer.reply) (closed_at n r.memory.cursors) (kept_closed (super_of r.sb) (chained_of r.published).manifest.next_array r.published.levels r.memory kept n)
+    by _ answer = kept

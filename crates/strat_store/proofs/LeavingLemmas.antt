@@ -1,18 +1,28 @@
 -- What a command leaves of the superblock and the manifest of a store.
-use Rattle.std.proofs.Common.{◌≡◌, ◌≤◌, ◌<◌, ◌-◌, ◌&&◌, ℕ, List, Bool, true, false, inl, inr, length, Option, Some, None, refl, sym, ap, ◌∙◌, subst, arith, true≢false}
+use Rattle.std.proofs.Common.{◌≡◌, ◌≢◌, ◌≤◌, ◌<◌, ◌-◌, ◌&&◌, ℕ, Bool, true, false, inl, inr, List, length, Contains, Option, Some, None, refl, sym, ap, ◌∙◌, subst, arith, true≢false}
+use Rattle.std.proofs.lemmas.List.Elements.{Contains-append_right}
 use Rattle.strat_array.specs.Kept.{Blocks}
 use Rattle.strat_base.specs.Change.{Change}
 use Rattle.strat_base.specs.Change as change
+use Rattle.strat_base.specs.Tree.{Parents}
+use Rattle.strat_base.specs.declared.descriptors.ArrayDesc.{ArrayDesc}
 use Rattle.strat_base.specs.declared.failures.Trouble.{Trouble}
 use Rattle.strat_base.specs.declared.failures.Trouble.TheVariants as trouble
-use Rattle.strat_crash.specs.Blocks.{AgreeOn}
+use Rattle.strat_crash.proofs.BlockLemmas.{keeps_trans}
+use Rattle.strat_crash.specs.Blocks.{AgreeOn, KeepsTaken}
 use Rattle.strat_crash.specs.Image.{Image}
 use Rattle.strat_crash.specs.Moments.{DiskView, Exposes, Passes, TearsOnly, OnlyReads}
+use Rattle.strat_cursor.proofs.RetiredLemmas.{retired_rest}
+use Rattle.strat_cursor.specs.Cursors.{retired_all}
+use Rattle.strat_cursor.specs.Held.{AreRowsOf, HeldCursor, HeldCursors}
+use Rattle.strat_cursor.specs.Looking.{arrays_there}
 use Rattle.strat_format.specs.Chained.{Chained}
 use Rattle.strat_format.specs.Layout.{region_at, region_size}
+use Rattle.strat_format.specs.Manifest.{Manifest}
+use Rattle.strat_format.specs.SuperBlock.{Super}
 use Rattle.strat_gate.specs.SuperView.{super_of}
 use Rattle.strat_manifest.specs.ManifestView.{manifest_of}
-use Rattle.strat_model.specs.Answer.{accepts}
+use Rattle.strat_model.specs.Answer.{Answer, accepts}
 use Rattle.strat_model.specs.Request.{Request, Put, Delete, Clone}
 use Rattle.strat_model.specs.Run.{is_change}
 use Rattle.strat_model.specs.declared.replies.Refusal.{Refusal}
@@ -20,17 +30,22 @@ use Rattle.strat_model.specs.declared.replies.Refusal.TheVariants as why
 use Rattle.strat_model.specs.declared.replies.Reply.{Reply}
 use Rattle.strat_model.specs.declared.replies.Reply.TheVariants as reply
 use Rattle.strat_store.specs.Applying.{IsUntouched, change_wanted, is_fault, may_write, refusal_of_trouble}
+use Rattle.strat_promote.specs.Job.{blocks_listed}
+use Rattle.strat_recovery.specs.StateTable.{request_for}
 use Rattle.strat_standing.specs.Contents.{Contents, contents_state}
 use Rattle.strat_state.specs.State.{IsPaid}
-use Rattle.strat_promote.specs.Job.{blocks_listed}
-use Rattle.strat_store.specs.Held.{Held, IsConsistent, IsOnDisk, StandsWith, arrays_held}
-use Rattle.strat_store.specs.Memory.{Memory, refusal_of_change, reply_to}
+use Rattle.strat_store.specs.Cursoring.{LeavesCursors}
+use Rattle.strat_store.specs.Held.{Held, ArePlaced, IsConsistent, IsOnDisk, StandsWith, arrays_held}
+use Rattle.strat_store.specs.Memory.{KeepsRows, Memory, refusal_of_change, reply_to}
 use Rattle.strat_store.specs.Paying.{ArePaidSince, CountsWritten}
 use Rattle.strat_store.specs.Recovering.{held_of, held_after}
-use Rattle.strat_store.specs.Settling.{ArePublishedAfter, KeepsPublished, HasPublished, LeavesPublished, carries_out}
+use Rattle.strat_store.specs.Publishing.{is_in_front}
+use Rattle.strat_store.specs.Settling.{ArePublishedAfter, KeepsCursors, KeepsPublished, HasPublished, LeavesPublished, arrays_taken, carries_out}
 use Rattle.strat_store.specs.declared.recovering.Recovered.{Recovered}
-use Rattle.strat_store.proofs.OnDiskLemmas.{kept_on, read_on, logged_on}
+use Rattle.strat_store.proofs.KeptLemmas.{behind_kept, left_held}
+use Rattle.strat_store.proofs.OnDiskLemmas.{kept_on, read_on, logged_on, some_told, told_some}
 use Rattle.strat_store.proofs.PayingLemmas.{paid_reads}
+use Rattle.strat_store.proofs.SettledLemmas.{agree_once}
 
 -- a change that was logged
 pub logged_leaves : (v w : DiskView) (s t : Held) → IsConsistent s → KeepsPublished s t → TearsOnly v w (region_at s.log.mem s.log.active) (region_size s.log.mem) → Passes v w
@@ -42,6 +57,11 @@ pub taken_well : (m : Memory) (c : Change) (told : Reply) → told ≡ reply_to 
 taken_well m (change.Put v key value) told is = (λ refused. absurd (true≢false (sym (ap accepts is) ∙ refused)), ap may_write is)
 taken_well m (change.Delete v key) told is = (λ refused. absurd (true≢false (sym (ap accepts is) ∙ refused)), ap may_write is)
 taken_well m (change.Clone v) told is = (λ refused. absurd (true≢false (sym (ap accepts is) ∙ refused)), ap may_write is)
+
+pub taken_calm : (m : Memory) (c : Change) (told : Reply) → told ≡ reply_to m c → (b : ℕ) → told ≡ reply.Refused (why.Damaged b) → ⊥
+taken_calm m (change.Put v key value) told is b bad = true≢false (sym (ap accepts is) ∙ ap accepts bad)
+taken_calm m (change.Delete v key) told is b bad = true≢false (sym (ap accepts is) ∙ ap accepts bad)
+taken_calm m (change.Clone v) told is b bad = true≢false (sym (ap accepts is) ∙ ap accepts bad)
 
 -- nor is want of memory, or a fault, one that leaves the disk
 pub troubled : (t : Trouble) (told : Refusal) → told ≡ refusal_of_trouble t → may_write (reply.Refused told) ≡ true
@@ -75,19 +95,29 @@ untouched_by v w request c r new cached told wanted refuses writes = record {
     by_refusal None is still = absurd (true≢false (sym (writes is) ∙ still))
     by_refusal (Some q) is still = (refuses q is).1
 
+-- the blocks of the arrays that a store holds are as they were
+abbrev pub KeepsArrays : DiskView → DiskView → Held → Type 0
+KeepsArrays v w s = (f g : Image) → Exposes v f → Exposes w g → AgreeOn (blocks_listed (arrays_held s.memory s.levels)) f g
+
+read_keeps : (v w : DiskView) (s : Held) → OnlyReads v w → KeepsArrays v w s
+read_keeps v w s reads f g was now = agree_once v f g (blocks_listed (arrays_held s.memory s.levels)) was (sym reads.same ∙ now)
+
+-- where those behind the journal stay
+pub front_keeps : (v w : DiskView) (s : Held) → IsConsistent s → ((f g : Image) → Exposes v f → Exposes w g → KeepsTaken (is_in_front s.sb.mem) f g) → KeepsArrays v w s
+front_keeps v w s whole keeps f g was now = behind_kept s s.sb.mem f g whole refl (keeps f g was now)
+
+-- over two calls
+pub both_keep : (v u w : DiskView) (s : Held) (mem : ℕ) → IsConsistent s → mem ≡ s.sb.mem → Passes v u → KeepsArrays v u s → ((f g : Image) → Exposes u f → Exposes w g → KeepsTaken (is_in_front mem) f g) → KeepsArrays v w s
+both_keep v u w s mem whole mem_is time first second f g was now b of =
+    let mid = some_told u.content (time.exposed (told_some v.content f was)) in
+    keeps_trans b f mid.0 g (first f mid.0 was mid.1 b of) (behind_kept s mem mid.0 g whole mem_is (second mid.0 g mid.1 now) b of)
+
 -- a store that is spent or not holds the same
 keeps_spent : (s t : Held) (b : Bool) → KeepsPublished s t → KeepsPublished s (record t { spent = b })
 keeps_spent s t b same = record { slot = same.slot; sb = same.sb; chained = same.chained; levels = same.levels }
 
 on_spent : (v : DiskView) (s : Held) (b : Bool) → IsOnDisk v s → IsOnDisk v (record s { spent = b })
 on_spent v s b on = record { content = on.content; exposed = on.exposed; newest = on.newest; chain = on.chain }
-
--- a disk that was only read has the blocks that it had
-agree_same : (v w : DiskView) (f g : Image) (blocks : List ℕ) → OnlyReads v w → Exposes v f → Exposes w g → AgreeOn blocks f g
-agree_same v w f g blocks reads before after =
-    let some : Some f ≡ Some g = sym before ∙ sym reads.same ∙ after in
-    let same : f ≡ g = cc in
-    subst (AgreeOn blocks f) same (λ b there. record { byte = λ i from to. refl })
 
 -- nothing was carried out
 pub left_alone : (v w : DiskView) (s : Held) (carried : Bool) (told : Reply) (b : Bool) → carried ≡ false → OnlyReads v w → LeavesPublished v w s carried told (record s { spent = b })
@@ -98,6 +128,7 @@ left_alone v w s carried told b none reads =
       kept = λ _ _. same;
       next = λ done full. absurd (true≢false (sym done ∙ none));
       on_disk = λ other on. on_spent w s b (read_on v w s on reads);
+      beside = λ other. read_keeps v w s reads;
       paid = λ x stands paid. paid_reads v w x stands.stands reads paid;
       counted = λ x stands. inl refl;
     }
@@ -115,22 +146,23 @@ left_queried v w r new m old now carried told b is none reads =
       kept = λ _ _. same;
       next = λ done full. absurd (true≢false (sym done ∙ none));
       on_disk = λ other on. kept_on w s t same (read_on v w s on reads);
-      beside = λ other f g before after. agree_same v w f g (blocks_listed (arrays_held r.memory r.published.levels)) reads before after;
+      beside = λ other. read_keeps v w s reads;
       paid = λ x stands paid. paid_reads v w x stands.stands reads paid;
       counted = λ x stands. inl refl;
     })
 
 -- a change was carried out, or met a fault, where the journal had room
 pub leaves_room : (v w : DiskView) (s t : Held) (carried : Bool) (told : Reply) (b : Bool) → length s.log.list < s.log.mem → KeepsPublished s t → (IsOnDisk v s → IsOnDisk w t)
-    → ((x : Contents) → StandsWith v s x → IsPaid (contents_state x) → ArePaidSince w v.moment)
+    → ((x : Contents) → StandsWith v s x → IsPaid (contents_state x) → ArePaidSince w v.moment) → (told ≢ reply.Refused why.DeviceFault → KeepsArrays v w s)
     → LeavesPublished v w s carried told (record t { spent = b })
-leaves_room v w s t carried told b room same still pays =
+leaves_room v w s t carried told b room same still pays agree =
     let all = keeps_spent s t b same in
     record {
       either = inl all;
       kept = λ _ _. all;
       next = λ done full. absurd (omega (arith, full, room));
       on_disk = λ other on. on_spent w t b (still on);
+      beside = agree;
       paid = pays;
       counted = λ x stands. inl (ap (λ (c : Chained). c.manifest) same.chained);
     }
@@ -138,50 +170,98 @@ leaves_room v w s t carried told b room same still pays =
 -- a publication gave up
 pub gives_up : (v w : DiskView) (r new : Recovered) (cached : Blocks) (t : Trouble) (told : Refusal) → told ≡ refusal_of_trouble t → KeepsPublished (held_of r cached) (held_of new cached)
     → ((t ≡ trouble.Device → ⊥) → IsOnDisk v (held_of r cached) → IsOnDisk w (held_of new cached))
-    → ((x : Contents) → StandsWith v (held_of r cached) x → IsPaid (contents_state x) → ArePaidSince w v.moment)
+    → ((x : Contents) → StandsWith v (held_of r cached) x → IsPaid (contents_state x) → ArePaidSince w v.moment) → KeepsArrays v w (held_of r cached)
     → LeavesPublished v w (held_of r cached) false (reply.Refused told) (held_after new cached (reply.Refused told))
-gives_up v w r new cached t told is same still pays =
+gives_up v w r new cached t told is same still pays agree =
     let all = keeps_spent (held_of r cached) (held_of new cached) (is_fault (reply.Refused told)) same in
     record {
       either = inl all;
       kept = λ _ _. all;
       next = λ done full. absurd (true≢false (sym done));
       on_disk = λ other on. on_spent w (held_of new cached) (is_fault (reply.Refused told)) (still (λ e. other (ap (λ (q : Refusal). reply.Refused q) (is ∙ ap refusal_of_trouble e))) on);
+      beside = λ other. agree;
       paid = pays;
       counted = λ x stands. inl (ap (λ (c : Chained). c.manifest) same.chained);
     }
 
--- a publication, and then the change
-pub renews : (v u w : DiskView) (r mid new : Recovered) (cached : Blocks) (told : Reply) → r.journal.mem ≤ length r.journal.list → mid.slot ≡ 1 - r.slot
-    → ArePublishedAfter (super_of r.sb) (manifest_of r.published.manifest) r.memory (super_of mid.sb) (manifest_of mid.published.manifest)
-    → KeepsPublished (held_of mid cached) (held_of new cached) × (IsOnDisk u (held_of mid cached) → IsOnDisk w (held_of new cached))
-    → (accepts told ≡ false → told ≡ reply.Refused why.DeviceFault) → (IsOnDisk v (held_of r cached) → IsOnDisk u (held_of mid cached))
-    → ((x : Contents) → StandsWith v (held_of r cached) x → IsPaid (contents_state x) → ArePaidSince w v.moment)
-    → ((x : Contents) → StandsWith v (held_of r cached) x → CountsWritten (manifest_of r.published.manifest) (manifest_of mid.published.manifest))
-    → LeavesPublished v w (held_of r cached) (accepts told) told (held_after new cached told)
-renews v u w r mid new cached told full slot after keeps refused still pays counts =
-    let same = keeps.0 in
+-- a publication, and then a change that leaves what was published
+pub has_published : (r mid new : Recovered) (cached : Blocks) (told : Reply) → r.journal.mem ≤ length r.journal.list → mid.slot ≡ 1 - r.slot
+    → ArePublishedAfter (super_of r.sb) (manifest_of r.published.manifest) r.memory (super_of mid.sb) (manifest_of mid.published.manifest) mid.memory.cursors
+    → KeepsPublished (held_of mid cached) (held_of new cached) → new.memory.cursors ≡ mid.memory.cursors → HasPublished (held_of r cached) (held_after new cached told)
+has_published r mid new cached told full slot after same cursors =
     let manifest_is : manifest_of new.published.manifest ≡ manifest_of mid.published.manifest = ap (λ (c : Chained). c.manifest) same.chained in
-    let has : HasPublished (held_of r cached) (held_after new cached told) = record {
+    let gone : List ArrayDesc = arrays_taken after.target (manifest_of r.published.manifest) in
+    record {
       full = full;
       slot = same.slot ∙ slot;
       after = record {
         target = after.target;
-        made = after.made;
-        first = after.first;
-        size = after.size;
-        manifest_is = manifest_is ∙ after.manifest_is;
-        sb_is = same.sb ∙ after.sb_is;
+        are = record {
+          made = after.are.made;
+          first = after.are.first;
+          size = after.are.size;
+          numbered = after.are.numbered;
+          manifest_is = manifest_is ∙ after.are.manifest_is;
+          sb_is = same.sb ∙ after.are.sb_is;
+        };
+        cursors_are = subst (λ (cs : HeldCursors). cs ≡ record (retired_all gone r.memory.cursors) { room = cs.room }) (sym cursors) after.cursors_are;
       };
-    } in
+    }
+
+pub renews : (v u w : DiskView) (r mid new : Recovered) (cached : Blocks) (told : Reply) → HasPublished (held_of r cached) (held_after new cached told)
+    → KeepsPublished (held_of mid cached) (held_of new cached) × (IsOnDisk u (held_of mid cached) → IsOnDisk w (held_of new cached))
+    → (accepts told ≡ false → told ≡ reply.Refused why.DeviceFault) → (IsOnDisk v (held_of r cached) → IsOnDisk u (held_of mid cached))
+    → ((x : Contents) → StandsWith v (held_of r cached) x → IsPaid (contents_state x) → ArePaidSince w v.moment)
+    → ((x : Contents) → StandsWith v (held_of r cached) x → CountsWritten (manifest_of r.published.manifest) (manifest_of mid.published.manifest))
+    → (told ≢ reply.Refused why.DeviceFault → KeepsArrays v w (held_of r cached))
+    → LeavesPublished v w (held_of r cached) (accepts told) told (held_after new cached told)
+renews v u w r mid new cached told has keeps refused still pays counts agree =
+    let manifest_is : manifest_of new.published.manifest ≡ manifest_of mid.published.manifest = ap (λ (c : Chained). c.manifest) keeps.0.chained in
     record {
       either = inr has;
       kept = λ none other. absurd (other (refused none));
       next = λ done all. has;
       on_disk = λ other on. on_spent w (held_of new cached) (is_fault told) (keeps.1 (still on));
+      beside = agree;
       paid = pays;
       counted = λ x stands. inr (subst (CountsWritten (manifest_of r.published.manifest)) (sym manifest_is) (counts x stands));
     }
+
+-- what a change leaves of cursors
+wanted_of : (c : Change) → change_wanted (request_for c) ≡ Some c
+wanted_of (change.Put v key value) = refl
+wanted_of (change.Delete v key) = refl
+wanted_of (change.Clone v) = refl
+
+pub cursors_same : (s t : Held) → t.memory.cursors ≡ s.memory.cursors → KeepsCursors s t
+cursors_same s t e = e ∙ (λ i. record s.memory.cursors { room = sym (ap (λ (cs : HeldCursors). cs.room) e) i })
+
+pub cursors_left : (s t : Held) (c : Change) (answer : Answer) → KeepsCursors s t → LeavesCursors s (request_for c) answer t
+cursors_left s t c answer keeps = record {
+  looked = λ none. absurd (let e : Some c ≡ None = sym (wanted_of c) ∙ none in cc);
+  changed = λ d asks. inl keeps;
+  retired = λ a of.
+      let was : Contains s.memory.cursors.retired a = subst (λ (rs : List ArrayDesc). Contains rs a) (ap (λ (cs : HeldCursors). cs.retired) keeps) of in
+      Contains-append_right (arrays_there s.levels) s.memory.cursors.retired a was;
+}
+
+pub cursors_published : (s t : Held) (c : Change) (answer : Answer) → ArePlaced s.chained.manifest.levels s.levels → HasPublished s t → LeavesCursors s (request_for c) answer t
+cursors_published s t c answer placed has = record {
+  looked = λ none. absurd (let e : Some c ≡ None = sym (wanted_of c) ∙ none in cc);
+  changed = λ d asks. inr has;
+  retired = λ a of. left_held s has.after.target a placed (subst (λ (rs : List ArrayDesc). Contains rs a) (ap (λ (cs : HeldCursors). cs.retired) has.after.cursors_are) of);
+}
+
+-- and of the cursors of a table
+pub rows_renewed : (old mid new : Memory) → mid.parents ≡ old.parents → mid.cursors.opened ≡ old.cursors.opened → KeepsRows mid new → KeepsRows old new
+rows_renewed old mid new parents opened keeps f rows are =
+    subst (λ (cs : List HeldCursor). AreRowsOf f new.parents cs rows) opened (keeps f rows (
+      subst (λ (ps : Parents). AreRowsOf f ps mid.cursors.opened rows) (sym parents) (subst (λ (cs : List HeldCursor). AreRowsOf f old.parents cs rows) (sym opened) are)
+    ))
+
+pub opened_after : (sb next_sb : Super) (m next : Manifest) (memory : Memory) (cursors : HeldCursors) → ArePublishedAfter sb m memory next_sb next cursors → cursors.opened ≡ memory.cursors.opened
+opened_after sb next_sb m next memory cursors after =
+    ap (λ (cs : HeldCursors). cs.opened) after.cursors_are ∙ (retired_rest memory.cursors (arrays_taken after.target m)).0
 
 pub leaves_wanted : (v w : DiskView) (s t : Held) (r : Request) (c : Change) (told : Reply) → change_wanted r ≡ Some c → LeavesPublished v w s (accepts told) told t
     → LeavesPublished v w s (carries_out r told) told t

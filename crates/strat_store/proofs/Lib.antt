@@ -32,6 +32,8 @@ pub mod OpenLemmas
 pub mod ThreeTests
 pub mod ApplyLemmas
 pub mod SettlingLemmas
+pub mod RetiringLemmas
+pub mod KeptLemmas
 pub mod SettledLemmas
 pub mod PayingLemmas
 pub mod LoggingLemmas

@@ -122,16 +122,16 @@ after_next old m target made levels first size blocks of rising = record {
 }
 
 -- what was written beside contents is computed
-module _ (v w u : DiskView) (s t r : SpaceView) (old new : Contents) (target : ℕ) (made : Option LevelDesc) (others : List Extent) (b : IsWrittenBeside v w u s t r old new target made others)
+module _ (v w u : DiskView) (s t r : SpaceView) (old new : Contents) (target : ℕ) (made : Option LevelDesc) (besides others : List Extent) (b : IsWrittenBeside v w u s t r old new target made besides others)
     (rising : is_rising (map (λ (d : LevelDesc). d.number) old.chained.manifest.levels) ≡ true) (log : Log) (is_log : IsLogOf old log) where
   between : ContentsStand w old
-  between = free_stands (is_free s) old (free_beside s old [] b.space) v w b.promoting b.stands b.between
+  between = free_stands (is_free s) old (free_beside s old besides b.space) v w b.promoting b.stands b.between
 
-  space_between : IsSpaceOf t old (extents_of (arrays_made made) ++ [])
-  space_between = taken_beside s t old [] (extents_of (arrays_made made)) b.space b.taken
+  space_between : IsSpaceOf t old (extents_of (arrays_made made) ++ besides)
+  space_between = taken_beside s t old besides (extents_of (arrays_made made)) b.space b.taken
 
   at_end : ContentsStand u old
-  at_end = free_stands (is_free t) old (free_beside t old (extents_of (arrays_made made) ++ []) space_between) w u b.writing between b.after
+  at_end = free_stands (is_free t) old (free_beside t old (extents_of (arrays_made made) ++ besides) space_between) w u b.writing between b.after
 
   made_read : all_some (level_on at_end.content) (option_to_list made) ≡ Some b.promoted.says.fresh
   made_read =

@@ -91,11 +91,11 @@ kept_on v s t same on = record {
   chain = λ c left. (λ i. manifest_at c (same.sb i).manifest (same.sb i).length) ∙ on.chain c left ∙ (λ i. Ok (sym same.chained i));
 }
 
-told_some : (o : Option Image) (f : Image) → o ≡ Some f → IsSome o
+pub told_some : (o : Option Image) (f : Image) → o ≡ Some f → IsSome o
 told_some None f e = absurd (cc)
 told_some (Some x) f e = refl
 
-some_told : (o : Option Image) → IsSome o → (g : Image) × (o ≡ Some g)
+pub some_told : (o : Option Image) → IsSome o → (g : Image) × (o ≡ Some g)
 some_told (Some g) some = (g, refl)
 some_told None some = absurd (true≢false (sym some))
 
@@ -230,10 +230,10 @@ written_as v w sb is chained here sb_is chained_is written =
     subst (λ (k : Super). WritesManifest v w k.manifest k.length here) (sym sb_is) (subst (λ (ch : Chained). WritesManifest v w sb.manifest sb.length ch) (sym chained_is) written)
 
 -- a superblock that leads to a manifest written beside what a store holds takes its place
-pub published_on : (v w u : DiskView) (s : Held) (sb : Super) (chained : Chained) (levels : List (Option LevelDesc)) → IsConsistent s → WritesBeside v w s → WritesManifest v w sb.manifest sb.length chained
+pub published_on : (v w u : DiskView) (s : Held) (target : ℕ) (sb : Super) (chained : Chained) (levels : List (Option LevelDesc)) → IsConsistent s → WritesBeside v w s → WritesManifest v w sb.manifest sb.length chained
     → LeavesContent w → LaysSuperblock w u s.log.mem (1 - s.slot) sb → Passes w u → s.sb.generation < sb.generation → sb.mem ≡ s.sb.mem → belongs sb chained ≡ true
-    → IsOnDisk v s → IsOnDisk u (held_next s sb chained levels)
-published_on v w u s sb chained levels whole beside written leaves laid time greater mem belonging on =
+    → IsOnDisk v s → IsOnDisk u (held_next s target sb chained levels)
+published_on v w u s target sb chained levels whole beside written leaves laid time greater mem belonging on =
     let mid = beside_on v w s beside on in
     let told = some_told u.content (time.exposed (told_some w.content mid.content mid.exposed)) in
     let g : Image = mid.content in
@@ -246,6 +246,6 @@ published_on v w u s sb chained levels whole beside written leaves laid time gre
       chain = λ c left.
           manifest_still g c sb.manifest sb.length chained (written (told_some v.content on.content on.exposed) g mid.exposed)
           (λ b among.
-          let behind = chain_behind (held_next s sb chained levels) belonging b among in
+          let behind = chain_behind (held_next s target sb chained levels) belonging b among in
           laid.behind g c mid.exposed left b (le-ltb b (first_free s.log.mem) (omega (arith, behind, mem, log_mem))));
     }

@@ -6,13 +6,13 @@ use Rattle.std.proofs.lemmas.Bool.{and_parts, leb-true, eqb-true, le-ltb}
 use Rattle.std.proofs.lemmas.List.Sums.{sum_by-cons, sum_by-append}
 use Rattle.std.proofs.lemmas.Option.{slice_get_within, get_or_from_slice_get}
 use Rattle.strat_array.specs.Kept.{Blocks}
-use Rattle.strat_base.proofs.ListFacts.{Among, all_at, among_flat, among_in_flat, among_split, among_right, range_among}
+use Rattle.strat_base.proofs.ListFacts.{Among, all_at, among_flat, among_in_flat, among_left, among_split, among_right, range_among}
 use Rattle.strat_base.specs.Change.{Change, Put, Delete, Clone}
 use Rattle.strat_base.specs.Entries.{Entry, is_ascending, lead_entries}
 use Rattle.strat_base.specs.Tree.{Parents}
 use Rattle.strat_base.specs.declared.descriptors.ArrayDesc.{ArrayDesc}
 use Rattle.strat_base.specs.declared.descriptors.LevelDesc.{LevelDesc}
-use Rattle.strat_crash.proofs.BlockLemmas.{blocks_trans, blocks_wider}
+use Rattle.strat_crash.proofs.BlockLemmas.{blocks_trans, blocks_wider, exposed_once, keeps_refl}
 use Rattle.strat_crash.proofs.ImageLemmas.{window_same}
 use Rattle.strat_crash.proofs.TrailLemmas.{trail_join}
 use Rattle.strat_crash.specs.Blocks.{KeepsBlock, TearsBlocks, AgreeOn}
@@ -28,7 +28,7 @@ use Rattle.strat_format.specs.SuperBlock.{Super}
 use Rattle.strat_format.proofs.ManifestLemmas.{pass_at}
 use Rattle.strat_plan.proofs.ListLemmas.{among_map}
 use Rattle.strat_promote.proofs.LeadLemmas.{read_whole}
-use Rattle.strat_promote.specs.Job.{arrays_to, blocks_listed}
+use Rattle.strat_promote.specs.Job.{IsBadInput, arrays_to, blocks_listed}
 use Rattle.strat_promote.specs.Leads.{leads_in, misfit_in}
 use Rattle.strat_plan.specs.Groups.{grouped_entries}
 use Rattle.strat_recovery.proofs.OpeningLemmas.{map_some, next_some}
@@ -49,20 +49,24 @@ use Rattle.strat_state.specs.State.{State, versions_of, tree_after}
 use Rattle.strat_store.proofs.LookLawLemmas.{made_of}
 use Rattle.strat_store.proofs.MemoryLawLemmas.{memory_emptied}
 use Rattle.strat_store.proofs.PromotingLemmas.{to_front, array_there}
+use Rattle.strat_store.proofs.KeptLemmas.{array_named, held_behind, kept_next, named_behind}
+use Rattle.strat_store.proofs.RetiringLemmas.{retired_room}
 use Rattle.strat_store.proofs.SettlingLemmas.{listed_arrays, named_there}
 use Rattle.strat_store.proofs.WholeLemmas.{leads_summed, whole_promotes}
 use Rattle.strat_store.specs.Applying.{IsDamagedIn, IsPublishedAs}
-use Rattle.strat_store.specs.Held.{Held, ArePlaced, IsConsistent, StandsWith, contents_held, head_held}
+use Rattle.strat_store.specs.Held.{Held, AreKept, ArePlaced, IsConsistent, StandsWith, arrays_held, contents_held, head_held}
+use Rattle.strat_cursor.specs.Cursors.{retired_all}
+use Rattle.strat_cursor.specs.Held.{HeldCursors}
 use Rattle.strat_cursor.specs.Looking.{AreCachedFrom, arrays_there}
-use Rattle.strat_store.specs.Memory.{Memory, IsMemoryOf, emptied}
+use Rattle.strat_store.specs.Memory.{Memory, IsMemoryOf, emptied, prepared, renewed}
 use Rattle.strat_store.specs.Promoting.{HaveFewLeads}
 use Rattle.strat_store.specs.Publishing.{is_in_front, manifest_after}
-use Rattle.strat_store.specs.Settling.{held_next, contents_next, MayFollow, WritesBeside, IsReadied, ArePublishedAfter}
+use Rattle.strat_store.specs.Settling.{held_next, contents_next, MayFollow, WritesBeside, IsReadied, ArePublishedAfter, ArePublishedTo, arrays_taken}
 
--- memory in which the next level 0 stands ready, or none does
-pub consistent_ready : (s : Held) (o : Option ℕ) (m : Memory) → m ≡ record s.memory { ready = o } → IsConsistent s → IsConsistent (record s { memory = m })
-consistent_ready s o m is whole =
-    let of : IsMemoryOf (head_held s) (record s.memory { ready = o }) = record {
+-- memory that is prepared for a publication, or is not
+pub consistent_ready : (s : Held) (o : Option ℕ) (n : ℕ) (m : Memory) → m ≡ prepared s.memory o n → IsConsistent s → IsConsistent (record s { memory = m })
+consistent_ready s o n m is whole =
+    let of : IsMemoryOf (head_held s) (prepared s.memory o n) = record {
       changes_max = whole.memory.changes_max;
       versions_max = whole.memory.versions_max;
       parents = whole.memory.parents;
@@ -70,6 +74,12 @@ consistent_ready s o m is whole =
       changes = whole.memory.changes;
       entries = whole.memory.entries;
       room = whole.memory.room;
+    } in
+    let kept : AreKept s.sb s.chained.manifest.next_array s.levels (prepared s.memory o n) = record {
+      named = whole.kept.named;
+      ids = whole.kept.ids;
+      below = whole.kept.below;
+      behind = whole.kept.behind;
     } in
     record {
       slot = whole.slot;
@@ -80,27 +90,49 @@ consistent_ready s o m is whole =
       accepted = whole.accepted;
       memory = subst (λ (k : Memory). IsMemoryOf (head_held s) k) (sym is) of;
       placed = whole.placed;
+      kept = subst (λ (k : Memory). AreKept s.sb s.chained.manifest.next_array s.levels k) (sym is) kept;
     }
 
 pub stands_ready : (v : DiskView) (s : Held) (x : Contents) (m : Memory) → StandsWith v s x → StandsWith v (record s { memory = m }) x
 stands_ready v s x m w = record { stands = w.stands; held = w.held; cached = w.cached }
 
-pub damaged_ready : (content : Option Image) (m k : Memory) (o : Option ℕ) (levels : List (Option LevelDesc)) (b : ℕ) → k ≡ record m { ready = o } → IsDamagedIn content k levels b → IsDamagedIn content m levels b
-damaged_ready content m k o levels b is bad =
-    let here : IsDamagedIn content (record m { ready = o }) levels b = subst (λ (n : Memory). IsDamagedIn content n levels b) is bad in
+pub damaged_ready : (content : Option Image) (m k : Memory) (o : Option ℕ) (n : ℕ) (levels : List (Option LevelDesc)) (b : ℕ) → k ≡ prepared m o n → IsDamagedIn content k levels b → IsDamagedIn content m levels b
+damaged_ready content m k o n levels b is bad =
+    let here : IsDamagedIn content (prepared m o n) levels b = subst (λ (n : Memory). IsDamagedIn content n levels b) is bad in
     record { listed = here.listed; bad = λ f exposed few. here.bad f exposed few }
 
+-- cursors that are prepared are those of before
+pub cursors_ready : (m k : Memory) (o : Option ℕ) (n : ℕ) → k ≡ prepared m o n → k.cursors ≡ record m.cursors { room = k.cursors.room }
+cursors_ready m k o n is = ap (λ (j : Memory). j.cursors) is ∙ (λ i. record m.cursors { room = sym (ap (λ (j : Memory). j.cursors.room) is) i })
+
+-- so are the arrays that it holds, and what a disk exposes is one image
+pub agree_ready : (m k : Memory) (o : Option ℕ) (n : ℕ) (levels : List (Option LevelDesc)) (f g : Image) → k ≡ prepared m o n → AgreeOn (blocks_listed (arrays_held k levels)) f g → AgreeOn (blocks_listed (arrays_held m levels)) f g
+agree_ready m k o n levels f g is agree =
+    let here : AgreeOn (blocks_listed (arrays_held (prepared m o n) levels)) f g = subst (λ (j : Memory). AgreeOn (blocks_listed (arrays_held j levels)) f g) is agree in
+    here
+
+pub agree_once : (v : DiskView) (f g : Image) (blocks : List ℕ) → Exposes v f → Exposes v g → AgreeOn blocks f g
+agree_once v f g blocks was now b of = subst (λ (h : Image). KeepsBlock b f h) (exposed_once v f g was now) (keeps_refl b f)
+
 -- what a promotion leaves, with memory prepared
-pub published_after : (s sb here : Super) (m next there : Manifest) (memory ready : Memory) (o : Option ℕ) → ready ≡ record memory { ready = o } → here ≡ sb → there ≡ next
-    → ArePublishedAfter s m ready sb next → ArePublishedAfter s m memory here there
-published_after s sb here m next there memory ready o same sb_is next_is is = record {
-  target = is.target;
-  made = is.made;
-  first = is.first;
-  size = is.size;
-  manifest_is = next_is ∙ is.manifest_is ∙ ap (λ (k : Memory). manifest_after m k is.target is.made) same;
-  sb_is = sb_is ∙ is.sb_is;
-}
+pub published_after : (target : ℕ) (s sb here : Super) (m next there : Manifest) (memory ready now : Memory) (o : Option ℕ) (n : ℕ) → ready ≡ prepared memory o n → here ≡ sb → there ≡ next
+    → now ≡ renewed s.mem (arrays_taken target m) ready → ArePublishedTo target s m ready sb next → ArePublishedAfter s m memory here there now.cursors
+published_after target s sb here m next there memory ready now o n same sb_is next_is now_is is =
+    let gone : List ArrayDesc = arrays_taken target m in
+    let cursors : now.cursors ≡ record (retired_all gone memory.cursors) { room = n } =
+    ap (λ (k : Memory). k.cursors) now_is ∙ ap (λ (k : Memory). retired_all gone k.cursors) same ∙ retired_room gone memory.cursors n in
+    record {
+      target = target;
+      are = record {
+        made = is.made;
+        first = is.first;
+        size = is.size;
+        numbered = is.numbered;
+        manifest_is = next_is ∙ is.manifest_is ∙ ap (λ (k : Memory). manifest_after m k target is.made) same;
+        sb_is = sb_is ∙ is.sb_is;
+      };
+      cursors_are = cursors ∙ (λ i. record (retired_all gone memory.cursors) { room = sym (ap (λ (c : HeldCursors). c.room) cursors) i });
+    }
 
 -- while free blocks are written
 module _ (v w : DiskView) (s : Held) (x : Contents) (stands : StandsWith v s x) (beside : WritesBeside v w s) where
@@ -130,13 +162,6 @@ cached_on f g next later arrays after c le each cached = record {
   ];
 }
 
--- a block of an array that a manifest names is named
-array_named : (s : Held) (a : ArrayDesc) (b : ℕ) → Contains (descriptors s.chained.manifest) a → Contains (blocks_of a.extents) b → Contains (named_blocks (contents_held s [])) b
-array_named s a b of here =
-    let arrays : List ArrayDesc = descriptors s.chained.manifest in
-    among_contained (named_blocks (contents_held s [])) b
-    (among_right s.chained.blocks (blocks_listed arrays) b (among_in_flat (λ (d : ArrayDesc). blocks_of d.extents) arrays a b (contained_among arrays a of) (contained_among (blocks_of a.extents) b here)))
-
 -- memory ran out after some blocks were written
 pub stands_beside : (v w : DiskView) (s : Held) (x : Contents) → StandsWith v s x → WritesBeside v w s → LeavesContent w → StandsWith w s x
 stands_beside v w s x stands beside leaves =
@@ -152,24 +177,45 @@ stands_beside v w s x stands beside leaves =
           )) stands.cached;
     }
 
--- the blocks of the arrays are as they were
-pub arrays_kept : (v w : DiskView) (s : Held) → WritesBeside v w s → ArePlaced s.chained.manifest.levels s.levels → (f g : Image) → Exposes v f → Exposes w g → AgreeOn (blocks_listed (arrays_there s.levels)) f g
-arrays_kept v w s beside placed f g was now b of = beside.tears.content f g was now b (beside.beside.unnamed b (named_there s placed b of))
+-- no block of an array that a store holds is free
+held_taken : (v w : DiskView) (s : Held) (beside : WritesBeside v w s) → ArePlaced s.chained.manifest.levels s.levels → (b : ℕ) → Contains (blocks_listed (arrays_held s.memory s.levels)) b → beside.free b ≡ false
+held_taken v w s beside placed b of =
+    let retired : List ArrayDesc = s.memory.cursors.retired in
+    let blocks : ArrayDesc → List ℕ = λ a. blocks_of a.extents in
+    let one = among_flat blocks (arrays_there s.levels ++ retired) b (contained_among (blocks_listed (arrays_there s.levels ++ retired)) b of) in
+    elim (among_split (arrays_there s.levels) retired one.0 one.1) [
+      | inl there ↦
+          beside.beside.unnamed b (named_there s placed b (among_contained (blocks_listed (arrays_there s.levels)) b (among_in_flat blocks (arrays_there s.levels) one.0 b there one.2)))
+      | inr kept ↦ beside.retired one.0 b (among_contained retired one.0 kept) (among_contained (blocks_of one.0.extents) b one.2)
+    ]
+
+-- so they are as they were
+pub arrays_kept : (v w : DiskView) (s : Held) → WritesBeside v w s → ArePlaced s.chained.manifest.levels s.levels → (f g : Image) → Exposes v f → Exposes w g
+    → AgreeOn (blocks_listed (arrays_held s.memory s.levels)) f g
+arrays_kept v w s beside placed f g was now b of = beside.tears.content f g was now b (held_taken v w s beside placed b of)
 
 -- a trail and another of the same table
 pub one_trail : {T : Type 0} (shows : Image → T → Type 0) (mid new : DiskView) (start : ℕ) (x : T) → Passes mid new → Trail shows mid start (x ∷ []) 0 → Trail shows new mid.moment (x ∷ []) 0 → Trail shows new start (x ∷ []) 0
 one_trail shows mid new start x time a b = trail_join shows mid new start [] [] x 0 time a b
 
--- what a store holds lies behind the journal
-named_behind : (s : Held) → IsConsistent s → (b : ℕ) → Contains (named_blocks (contents_held s [])) b → first_free s.sb.mem ≤ b
-named_behind s whole b of =
-    let blocks : List ℕ = named_blocks (contents_held s []) in
-    let own = and_parts (is_distinct blocks) (list_all (λ k. leb (first_free s.sb.mem) k) blocks) (pass_at (belonging_tests s.sb s.chained) 0 whole.belonging) in
-    leb-true (first_free s.sb.mem) b (all_at (λ k. leb (first_free s.sb.mem) k) b blocks own.1 (contained_among blocks b of))
-
 or_false : (a b : Bool) → (a || b) ≡ false → (a ≡ false) × (b ≡ false)
 or_false false b e = (refl, e)
 or_false true b e = absurd (true≢false e)
+
+-- what was written beside a store, and then in front of what it holds
+both_torn : (v w u : DiskView) (s : Held) (mem : ℕ) (beside : WritesBeside v w s) → TearsBlocks (is_in_front mem) w u → TearsBlocks (λ b. beside.free b || is_in_front mem b) v u
+both_torn v w u s mem beside front =
+    let either : ℕ → Bool = λ b. beside.free b || is_in_front mem b in
+    blocks_trans either v w u (blocks_wider beside.free either v w (λ b e. (or_false (beside.free b) (is_in_front mem b) e).0) beside.tears)
+    (blocks_wider (is_in_front mem) either w u (λ b e. (or_false (beside.free b) (is_in_front mem b) e).1) front)
+
+pub arrays_stay : (v w u : DiskView) (s : Held) (mem : ℕ) → IsConsistent s → mem ≡ s.sb.mem → WritesBeside v w s → TearsBlocks (is_in_front mem) w u → (f g : Image) → Exposes v f → Exposes u g
+    → AgreeOn (blocks_listed (arrays_held s.memory s.levels)) f g
+arrays_stay v w u s mem whole mem_is beside front f g was now b of =
+    let taken = held_taken v w s beside whole.placed b of in
+    let far = held_behind s whole b of in
+    let behind : is_in_front mem b ≡ false = le-ltb b (first_free mem) (omega (arith, far, ap first_free mem_is)) in
+    (both_torn v w u s mem beside front).content f g was now b (λ i. taken i || behind i)
 
 -- an array of the level that was made
 made_among : (made : Option LevelDesc) (level : LevelDesc) (a : ArrayDesc) → Among level (option_to_list made) → Among a level.arrays → Among a (arrays_made made)
@@ -205,13 +251,10 @@ module _ (w : DiskView) (s : Held) (x : Contents) (held : x ≡ contents_held s 
       omega (arith, more, same)
 
 -- once the next contents stand, the store stands with them
-pub published_as : (v w u : DiskView) (s : Held) (x : Contents) (sb : Super) (chained : Chained) (levels : List (Option LevelDesc)) → IsConsistent s → StandsWith v s x → WritesBeside v w s
-    → (ready : IsReadied w s x sb chained) → TearsBlocks (is_in_front s.sb.mem) w u → ContentsStand u (contents_next s sb chained ready.levels) → IsPublishedAs u x (held_next s sb chained levels)
-published_as v w u s x sb chained levels whole stands beside ready front now =
-    let either : ℕ → Bool = λ b. beside.free b || is_in_front s.sb.mem b in
-    let torn : TearsBlocks either v u =
-    blocks_trans either v w u (blocks_wider beside.free either v w (λ b e. (or_false (beside.free b) (is_in_front s.sb.mem b) e).0) beside.tears)
-    (blocks_wider (is_in_front s.sb.mem) either w u (λ b e. (or_false (beside.free b) (is_in_front s.sb.mem b) e).1) front) in
+pub published_as : (v w u : DiskView) (s : Held) (x : Contents) (target : ℕ) (sb : Super) (chained : Chained) (levels : List (Option LevelDesc)) → IsConsistent s → StandsWith v s x → WritesBeside v w s
+    → (ready : IsReadied w s x sb chained) → TearsBlocks (is_in_front s.sb.mem) w u → ContentsStand u (contents_next s sb chained ready.levels) → IsPublishedAs u x (held_next s target sb chained levels)
+published_as v w u s x target sb chained levels whole stands beside ready front now =
+    let torn = both_torn v w u s s.sb.mem beside front in
     let f : Image = stands.stands.content in
     record {
       after = contents_next s sb chained ready.levels;
@@ -262,9 +305,10 @@ versions_back h =
     ap (λ (ps : Parents). None ∷ map (λ p. Some p) (parent_numbers ps)) grown.1 ∙ ap (λ (ns : List ℕ). None ∷ map (λ p. Some p) ns) (numbers_of grown.0) ∙ sym grown.1
 
 -- what a store holds after a publication is consistent
-pub consistent_next : (s : Held) (sb : Super) (chained : Chained) (levels : List (Option LevelDesc)) → IsConsistent s → MayFollow s sb chained → is_lawful_manifest chained.manifest ≡ true → belongs sb chained ≡ true
-    → ArePlaced chained.manifest.levels levels → IsConsistent (held_next s sb chained levels)
-consistent_next s sb chained levels whole follows spelled belonging placed =
+pub consistent_next : (s : Held) (target : ℕ) (sb : Super) (chained : Chained) (levels : List (Option LevelDesc)) → IsConsistent s → MayFollow s sb chained
+    → ArePublishedTo target s.sb s.chained.manifest s.memory sb chained.manifest → is_lawful_manifest chained.manifest ≡ true → belongs sb chained ≡ true
+    → ArePlaced chained.manifest.levels levels → IsConsistent (held_next s target sb chained levels)
+consistent_next s target sb chained levels whole follows are spelled belonging placed =
     let h : Head = head_held s in
     let new : Head = record { sb = sb; manifest = chained.manifest; journal = [] } in
     let versions : head_versions new ≡ head_versions h =
@@ -281,24 +325,24 @@ consistent_next s sb chained levels whole follows spelled belonging placed =
         active = ap other_region whole.log.active ∙ sym follows.region;
         batch = whole.log.batch;
         few = omega arith;
+        lawful = refl;
       };
       accepted = refl;
-      memory = subst (λ (n : ℕ). IsMemoryOf new (emptied n s.memory)) follows.mem
-          (memory_emptied h new s.memory whole.memory refl follows.changes_max follows.versions_max versions updates changes);
+      memory =
+          let here = memory_emptied h new s.memory whole.memory refl follows.changes_max follows.versions_max versions updates changes in
+          let all : IsMemoryOf new (renewed sb.mem (arrays_taken target s.chained.manifest) s.memory) = record {
+            changes_max = here.changes_max;
+            versions_max = here.versions_max;
+            parents = here.parents;
+            updates = here.updates;
+            changes = here.changes;
+            entries = here.entries;
+            room = here.room;
+          } in
+          subst (λ (n : ℕ). IsMemoryOf new (renewed n (arrays_taken target s.chained.manifest) s.memory)) follows.mem all;
       placed = placed;
+      kept = kept_next s target sb chained levels whole are follows.mem spelled belonging placed;
     }
-
--- each block of entries that are read is read
-none_unread : (f : Image) (blocks : List ℕ) (entries : List Entry) (b : ℕ) → entries_on f blocks ≡ Some entries → Among b blocks → block_on f b ≡ None → ⊥
-unfolding entries_on
-none_unread f [] entries b on among none = absurd among
-none_unread f (c ∷ blocks) entries b on among none =
-    let one = next_some (λ es. option_map (λ rest. es ++ rest) (entries_on f blocks)) (block_on f c) entries on in
-    let rest = map_some (λ es. one.0 ++ es) (entries_on f blocks) entries one.2 in
-    elim among [
-      | inl here ↦ let e : None ≡ Some one.0 = sym none ∙ ap (block_on f) here ∙ one.1 in cc
-      | inr there ↦ none_unread f blocks rest.0 b rest.1 there none
-    ]
 
 -- the arrays of a sound state are read whole, in order, and have as many leads as their descriptors say
 module _ (f : Image) (levels : List LevelDesc) (s : State) (read : all_some (level_on f) levels ≡ Some s.levels) (sound : IsSound s) (a : ArrayDesc) (among : Among a (flat_map (λ (l : LevelDesc). l.arrays) levels)) where
@@ -339,8 +383,8 @@ leads_summed_up f (a ∷ arrays) each =
     let cons = sum_by-cons (λ (d : ArrayDesc). d.leads) a arrays in
     omega (arith, rest, here, both, cons)
 
--- no store that stands on its disk has a damaged block
-pub none_damaged : (v : DiskView) (s : Held) (x : Contents) (b : ℕ) → IsConsistent s → StandsWith v s x → IsDamagedIn v.content s.memory s.levels b → ⊥
+-- no store that stands on its disk has a block that is bad for a promotion
+pub none_damaged : (v : DiskView) (s : Held) (x : Contents) (b : ℕ) → IsConsistent s → StandsWith v s x → ((f : Image) → Exposes v f → HaveFewLeads f s.memory s.levels → IsBadInput f (arrays_there s.levels) b) → ⊥
 none_damaged v s x b whole stands bad =
     let f : Image = stands.stands.content in
     let read = (stands.stands.reads f stands.stands.left).lies.arrays in
@@ -359,18 +403,12 @@ none_damaged v s x b whole stands bad =
     let sums = leads_summed s.levels (length s.memory.entries) whole.placed.count in
     let most = (whole_promotes s whole).few in
     omega (arith, leads, both, two, all, sums, most) in
-    elim (bad.bad f stands.stands.exposed few) [
-      | inl none ↦
-          let one = among_flat (λ (a : ArrayDesc). blocks_of a.extents) arrays b (contained_among (blocks_listed arrays) b bad.listed) in
-          let whole_one = whole_array f levels st read stands.stands.sound one.0 (at one.0 one.1) in
-          none_unread f (blocks_of one.0.extents) whole_one.0 b whole_one.1 one.2 none
-      | inr input ↦
-          let fit = no_misfit_in f levels st read stands.stands.sound input.array (at input.array (contained_among arrays input.array input.one)) in
-          let e : None ≡ Some b = sym fit ∙ input.misfit in
-          cc
-    ]
+    let input = bad f stands.stands.exposed few in
+    let fit = no_misfit_in f levels st read stands.stands.sound input.array (at input.array (contained_among arrays input.array input.one)) in
+    let e : None ≡ Some b = sym fit ∙ input.misfit in
+    cc
 
 -- what was emptied
-pub emptied_next : (s t : Held) (sb : Super) (chained : Chained) (levels : List (Option LevelDesc)) (m : Memory) (o : Option ℕ) → t ≡ held_next (record s { memory = m }) sb chained levels → m ≡ record s.memory { ready = o }
-    → (t.log.list ≡ []) × (t.memory ≡ emptied s.sb.mem s.memory)
-emptied_next s t sb chained levels m o is ready = (ap (λ (h : Held). h.log.list) is, ap (λ (h : Held). h.memory) is ∙ ap (λ (k : Memory). emptied s.sb.mem k) ready)
+pub emptied_next : (mem : ℕ) (gone : List ArrayDesc) (m k now : Memory) (o : Option ℕ) (n : ℕ) → now ≡ renewed mem gone k → k ≡ prepared m o n → now ≡ record (emptied mem m) { cursors = now.cursors }
+emptied_next mem gone m k now o n is ready =
+    is ∙ ap (λ (j : Memory). record (emptied mem j) { cursors = retired_all gone k.cursors }) ready ∙ (λ i. record (emptied mem m) { cursors = sym (ap (λ (j : Memory). j.cursors) is) i })

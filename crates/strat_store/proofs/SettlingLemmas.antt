@@ -1,7 +1,10 @@
 -- A publication of a store: what is written beside it, and what then takes its place.
-use Rattle.std.proofs.Common.{◌≡◌, ◌<◌, ◌-◌, ℕ, false, inr, List, [], length, Contains, flat_map, Option, refl, sym, ap, ◌∙◌, subst, arith}
+use Rattle.std.proofs.Common.{◌≡◌, ◌≤◌, ◌<◌, ◌-◌, ◌&&◌, ℕ, Bool, true, false, not, cond, leb, ltb, inl, inr, List, [], ◌∷◌, ◌++◌, append-nil, length, Contains, flat_map, Option, refl, sym, ap, ◌∙◌, subst, arith}
+use Rattle.std.specs.List.{list_all}
+use Rattle.std.proofs.lemmas.Bool.{and_parts, leb-true, not-true, false_from_ne_true}
 use Rattle.std.proofs.lemmas.List.Elements.{Contains-append_right}
 use Rattle.strat_array.specs.Taking.{AreUsed}
+use Rattle.strat_base.proofs.ListFacts.{Among, all_at, among_flat, among_in_flat, among_left}
 use Rattle.strat_base.specs.declared.descriptors.ArrayDesc.{ArrayDesc}
 use Rattle.strat_base.specs.declared.descriptors.Extent.{Extent}
 use Rattle.strat_base.specs.declared.descriptors.LevelDesc.{LevelDesc}
@@ -9,7 +12,9 @@ use Rattle.strat_crash.proofs.BlockLemmas.{blocks_refl}
 use Rattle.strat_crash.specs.Blocks.{TearsBlocks}
 use Rattle.strat_crash.specs.Image.{Image}
 use Rattle.strat_crash.specs.Moments.{DiskView, Exposes}
-use Rattle.strat_extent.specs.Blocks.{SpaceView, is_free}
+use Rattle.strat_extent.proofs.BlockLemmas.{times_listed}
+use Rattle.strat_extent.proofs.CountLemmas.{times_append}
+use Rattle.strat_extent.specs.Blocks.{SpaceView, is_free, is_used, times_in, uses}
 use Rattle.strat_format.specs.Arrays.{blocks_of}
 use Rattle.strat_format.specs.Chained.{Chained}
 use Rattle.strat_format.specs.Manifest.{Manifest}
@@ -17,12 +22,13 @@ use Rattle.strat_format.specs.SuperBlock.{Super}
 use Rattle.strat_journal.specs.Log.{Log}
 use Rattle.strat_promote.specs.Job.{IsBadInput, blocks_listed}
 use Rattle.strat_recovery.specs.Head.{descriptors}
-use Rattle.strat_standing.proofs.ListLemmas.{contained_among}
-use Rattle.strat_standing.proofs.OccupiedLemmas.{free_beside, named_used}
+use Rattle.strat_standing.proofs.ListLemmas.{contained_among, among_contained}
+use Rattle.strat_standing.proofs.OccupiedLemmas.{counted_some, free_beside, named_used, taken_beside}
 use Rattle.strat_recovery.proofs.PassedLemmas.{read_passes}
 use Rattle.strat_standing.proofs.PartsLemmas.{reads_state}
 use Rattle.strat_standing.specs.Contents.{Contents, contents_state, named_blocks}
-use Rattle.strat_standing.specs.Occupied.{IsSpaceOf}
+use Rattle.strat_standing.specs.Next.{arrays_made}
+use Rattle.strat_standing.specs.Occupied.{IsSpaceOf, UsesMore, extents_of}
 use Rattle.strat_state.specs.Level.{Level}
 use Rattle.strat_state.specs.State.{IsPaid}
 use Rattle.strat_store.specs.Applying.{IsDamagedIn}
@@ -38,12 +44,49 @@ pub unwritten : (v : DiskView) (s : Held) → WritesBeside v v s
 unwritten v s = record {
   free = λ b. false;
   beside = record { behind = λ b low. refl; unnamed = λ b named. refl };
+  retired = λ a b of here. refl;
   tears = blocks_refl (λ b. false) v;
 }
 
+-- a block of some arrays is in their extents
+pub extents_have : (arrays : List ArrayDesc) (a : ArrayDesc) (b : ℕ) → Among a arrays → Among b (blocks_of a.extents) → 1 ≤ times_in (extents_of arrays) b
+extents_have [] a b among here = absurd among
+extents_have (r ∷ arrays) a b (inl same) here =
+    let some = counted_some (blocks_of r.extents) b (subst (λ (d : ArrayDesc). Among b (blocks_of d.extents)) same here) in
+    omega (arith, some, times_listed r.extents b, times_append r.extents (extents_of arrays) b)
+extents_have (r ∷ arrays) a b (inr there) here = omega (arith, extents_have arrays a b there here, times_append r.extents (extents_of arrays) b)
+
+-- no block that is used is free
+used_not_free : (s : SpaceView) (b : ℕ) → 1 ≤ uses s b → is_free s b ≡ false
+used_not_free s b some = false_from_ne_true (is_free s b) (λ free.
+    let no : is_used s b ≡ false = not-true (is_used s b) (and_parts (leb s.first b && ltb b 4294967295) (not (is_used s b)) free).1 in
+    let none : uses s b ≡ 0 = ap {B = ℕ} (λ (u : Bool). cond u 1 0) no in
+    omega (arith, some, none))
+
 -- what was written is free in a space in which the blocks of a store are used
-pub written_free : (v w : DiskView) (s : Held) (space : SpaceView) → IsSpaceOf space (contents_held s []) [] → TearsBlocks (is_free space) v w → WritesBeside v w s
-written_free v w s space own torn = record { free = is_free space; beside = free_beside space (contents_held s []) [] own; tears = torn }
+pub written_free : (v w : DiskView) (s : Held) (space : SpaceView) → IsSpaceOf space (contents_held s []) (extents_of s.memory.cursors.retired) → TearsBlocks (is_free space) v w → WritesBeside v w s
+written_free v w s space own torn =
+    let retired : List ArrayDesc = s.memory.cursors.retired in
+    record {
+      free = is_free space;
+      beside = free_beside space (contents_held s []) (extents_of retired) own;
+      retired = λ a b of here.
+          let some = extents_have retired a b (contained_among retired a of) (contained_among (blocks_of a.extents) b here) in
+          let all = own.used b in
+          used_not_free space b (omega (arith, some, all));
+      tears = torn;
+    }
+
+-- the blocks of a store and those of the arrays that are kept
+pub space_held : (s t : SpaceView) (x : Contents) (retired : List ArrayDesc) → IsSpaceOf s x [] → UsesMore s (extents_of retired) t → IsSpaceOf t x (extents_of retired)
+space_held s t x retired own more = subst (IsSpaceOf t x) (append-nil (extents_of retired)) (taken_beside s t x [] (extents_of retired) own more)
+
+-- the blocks of some arrays are among those of more
+pub listed_left : (xs ys : List ArrayDesc) (b : ℕ) → Contains (blocks_listed xs) b → Contains (blocks_listed (xs ++ ys)) b
+listed_left xs ys b of =
+    let blocks : ArrayDesc → List ℕ = λ a. blocks_of a.extents in
+    let one = among_flat blocks xs b (contained_among (blocks_listed xs) b of) in
+    among_contained (blocks_listed (xs ++ ys)) b (among_in_flat blocks (xs ++ ys) one.0 b (among_left xs ys one.0 one.1) one.2)
 
 -- the arrays in memory are those of the manifest
 pub listed_arrays : (s : Held) → ArePlaced s.chained.manifest.levels s.levels → arrays_there s.levels ≡ descriptors s.chained.manifest
@@ -55,30 +98,31 @@ named_there s placed b of =
     Contains-append_right s.chained.blocks (blocks_listed (descriptors s.chained.manifest)) b
     (subst (λ (rs : List ArrayDesc). Contains (blocks_listed rs) b) (listed_arrays s placed) of)
 
-pub used_held : (s : Held) (space : SpaceView) → IsSpaceOf space (contents_held s []) [] → ArePlaced s.chained.manifest.levels s.levels → AreUsed space (blocks_listed (arrays_there s.levels))
-used_held s space own placed b of =
+pub used_held : (s : Held) (space : SpaceView) (others : List Extent) → IsSpaceOf space (contents_held s []) others → ArePlaced s.chained.manifest.levels s.levels → AreUsed space (blocks_listed (arrays_there s.levels))
+used_held s space others own placed b of =
     let x : Contents = contents_held s [] in
-    named_used space x [] own b (contained_among (named_blocks x) b (named_there s placed b of))
+    named_used space x others own b (contained_among (named_blocks x) b (named_there s placed b of))
 
 -- the block that a promotion blames is damaged
-pub blames_held : (v : DiskView) (s : Held) (space : SpaceView) (b : ℕ) → IsSpaceOf space (contents_held s []) [] → ArePlaced s.chained.manifest.levels s.levels
+pub blames_held : (v : DiskView) (s : Held) (space : SpaceView) (others : List Extent) (b : ℕ) → IsSpaceOf space (contents_held s []) others → ArePlaced s.chained.manifest.levels s.levels
     → Contains (blocks_listed (arrays_there s.levels)) b
     × ((f : Image) → Exposes v f → AreUsed space (blocks_listed (arrays_there s.levels)) → HaveFewLeads f s.memory s.levels → IsBadInput f (arrays_there s.levels) b)
     → IsDamagedIn v.content s.memory s.levels b
-blames_held v s space b own placed told = record {
-  listed = told.0;
-  bad = λ f exposed few. inr (told.1 f exposed (used_held s space own placed) few);
+blames_held v s space others b own placed told = record {
+  listed = listed_left (arrays_there s.levels) s.memory.cursors.retired b told.0;
+  bad = λ f exposed few. inr (told.1 f exposed (used_held s space others own placed) few);
 }
 
 -- the next contents are computed where a store stands, and are those of the next superblock and manifest
-pub readied : (v w : DiskView) (s : Held) (x : Contents) (space after : SpaceView) (old_chain : List Extent) (target : ℕ) (made : Option LevelDesc) (first size : ℕ) (chain : List Extent) (m : Manifest)
-    → IsConsistent s → StandsWith v s x → 0 < length s.log.list → blocks_of old_chain ≡ s.chained.blocks → ((levels : List Level) → IsSpaceOf space (contents_held s levels) [])
-    → ((y : Contents) (log : Log) → MayCompute v space s.memory s.levels log y → y.chained.manifest ≡ s.chained.manifest → y.sb.mem ≡ s.sb.mem → IsComputedBy w after y s.memory log target made first size chain)
+pub readied : (v w : DiskView) (s : Held) (x : Contents) (space after : SpaceView) (old_chain others : List Extent) (target : ℕ) (made : Option LevelDesc) (first size : ℕ) (chain : List Extent) (m : Manifest)
+    → IsConsistent s → StandsWith v s x → 0 < length s.log.list → blocks_of old_chain ≡ s.chained.blocks → ((levels : List Level) → IsSpaceOf space (contents_held s levels) others)
+    → ((y : Contents) (log : Log) (besides : List Extent) → MayCompute v space s.memory s.levels log y besides → y.chained.manifest ≡ s.chained.manifest → y.sb.mem ≡ s.sb.mem
+    → IsComputedBy w after y s.memory log target made first size chain besides)
     → m ≡ manifest_after s.chained.manifest s.memory target made
     → IsReadied w s x (super_after s.sb first size) (record { manifest = m; blocks = blocks_of chain })
-readied v w s x space after old_chain target made first size chain m whole stands logged chain_is own by m_is =
-    let here : IsSpaceOf space x [] = subst (λ (y : Contents). IsSpaceOf space y []) (sym stands.held) (own x.levels) in
-    let c = by x s.log (whole_computes v s x old_chain space whole stands logged chain_is here) (ap (λ (y : Contents). y.chained.manifest) stands.held) (ap (λ (y : Contents). y.sb.mem) stands.held) in
+readied v w s x space after old_chain others target made first size chain m whole stands logged chain_is own by m_is =
+    let here : IsSpaceOf space x others = subst (λ (y : Contents). IsSpaceOf space y others) (sym stands.held) (own x.levels) in
+    let c = by x s.log others (whole_computes v s x old_chain others space whole stands logged chain_is here) (ap (λ (y : Contents). y.chained.manifest) stands.held) (ap (λ (y : Contents). y.sb.mem) stands.held) in
     let new : Contents = contents_after x s.memory target made c.levels first size (blocks_of chain) in
     let sb = super_after s.sb first size in
     let same : new ≡ contents_next s sb (record { manifest = m; blocks = blocks_of chain }) c.levels =
@@ -99,3 +143,7 @@ readied v w s x space after old_chain target made first size chain m whole stand
 pub readied_as : (w : DiskView) (s : Held) (x : Contents) (sb is : Super) (chained here : Chained) → is ≡ sb → here ≡ chained → IsReadied w s x sb chained → IsReadied w s x is here
 readied_as w s x sb is chained here sb_is chained_is ready =
     subst (λ (k : Super). IsReadied w s x k here) (sym sb_is) (subst (λ (ch : Chained). IsReadied w s x sb ch) (sym chained_is) ready)
+
+-- arrays that were made pass a test of their numbers
+pub numbered_from : (n : ℕ) (made : Option LevelDesc) → list_all (λ (a : ArrayDesc). leb n a.id) (arrays_made made) ≡ true → (a : ArrayDesc) → Contains (arrays_made made) a → n ≤ a.id
+numbered_from n made all a of = leb-true n a.id (all_at (λ (d : ArrayDesc). leb n d.id) a (arrays_made made) all (contained_among (arrays_made made) a of))

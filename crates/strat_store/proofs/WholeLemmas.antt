@@ -224,14 +224,14 @@ whole_promotes s whole =
     }
 
 -- a whole store that stands may compute its next contents
-pub whole_computes : (v : DiskView) (s : Held) (x : Contents) (chain : List Extent) (space : SpaceView) → IsConsistent s → StandsWith v s x → 0 < length s.log.list → blocks_of chain ≡ s.chained.blocks
-    → IsSpaceOf space x [] → MayCompute v space s.memory s.levels s.log x
-whole_computes v s x chain space whole w logged chain_is own =
+pub whole_computes : (v : DiskView) (s : Held) (x : Contents) (chain others : List Extent) (space : SpaceView) → IsConsistent s → StandsWith v s x → 0 < length s.log.list → blocks_of chain ≡ s.chained.blocks
+    → IsSpaceOf space x others → MayCompute v space s.memory s.levels s.log x others
+whole_computes v s x chain others space whole w logged chain_is own =
     let y : Contents = contents_held s x.levels in
-    let held : MayCompute v space s.memory s.levels s.log y = record {
+    let held : MayCompute v space s.memory s.levels s.log y others = record {
       stands = subst (ContentsStand v) w.held w.stands;
       logged = logged;
-      space = subst (λ (z : Contents). IsSpaceOf space z []) w.held own;
+      space = subst (λ (z : Contents). IsSpaceOf space z others) w.held own;
       memory = whole.memory;
       placed = whole.placed;
       lawful = whole.spelled;
@@ -239,4 +239,4 @@ whole_computes v s x chain space whole w logged chain_is own =
       chain = chain;
       chain_is = chain_is;
     } in
-    subst (λ (z : Contents). MayCompute v space s.memory s.levels s.log z) (sym w.held) held
+    subst (λ (z : Contents). MayCompute v space s.memory s.levels s.log z others) (sym w.held) held

@@ -11,6 +11,7 @@ use Rattle.strat_cursor.specs.declared.cursors.CursorFault.TheVariants as start_
 use Rattle.strat_cursor.specs.declared.cursors.NextFault.{NextFault}
 use Rattle.strat_cursor.specs.declared.cursors.NextFault.TheVariants as next_fault
 use Rattle.strat_model.specs.Answer.{Answer, accepts, refusal}
+use Rattle.strat_model.specs.Pairs.{Pairs}
 use Rattle.strat_model.specs.Request.{Request, OpenCursor, NextPairs, CloseCursor}
 use Rattle.strat_model.specs.Run.{position_after, reaches_disk, is_change, takes_memory}
 use Rattle.strat_model.specs.Step.{step}
@@ -46,20 +47,19 @@ is_of_cursor (NextPairs number limit) = true
 is_of_cursor (CloseCursor number) = true
 is_of_cursor _ = false
 
--- cursors after a page of the one of a number was told
-abbrev pub paged_at : ℕ → Answer → HeldCursors → HeldCursors
-paged_at number answer c = go answer.reply
-  where
-    abbrev go : Reply → HeldCursors
-    go (reply.Pairs more) = record c { opened = moved_at number more answer.pairs c.opened }
-    go _ = c
+-- cursors after a page of the one of a number was told, or was refused
+abbrev pub paged_at : ℕ → Reply → Pairs → HeldCursors → HeldCursors
+paged_at number (reply.Pairs more) told c =
+    record c { opened = moved_at number more told c.opened }
+paged_at number _ told c = c
 
 -- the cursors of a store after a command that asks for no change was answered so
 abbrev pub cursors_after : Memory → List (Option LevelDesc) → Request → Answer → HeldCursors
 cursors_after m levels (OpenCursor version lo hi) answer =
     if accepts answer.reply then with_cursor m.cursors (cursor_from m levels version lo hi)
     else m.cursors
-cursors_after m levels (NextPairs number limit) answer = paged_at number answer m.cursors
+cursors_after m levels (NextPairs number limit) answer =
+    paged_at number answer.reply answer.pairs m.cursors
 cursors_after m levels (CloseCursor number) answer =
     if accepts answer.reply then closed_at number m.cursors else m.cursors
 cursors_after m levels _ answer = m.cursors

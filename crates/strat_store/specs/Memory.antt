@@ -93,7 +93,11 @@ stat_told m = reply.Stat (length m.parents) m.updates m.changes (length m.cursor
 abbrev pub emptied : ℕ → Memory → Memory
 emptied mem m = record m { entries = []; spare = mem; ready = None }
 
--- and memory after these arrays left the levels, too
+-- memory in which the next level 0 stands ready, or does not, and with this room for arrays that are kept for cursors
+abbrev pub prepared : Memory → Option ℕ → ℕ → Memory
+prepared m o n = record m { ready = o; cursors = record m.cursors { room = n } }
+
+-- memory with a new level 0 after these arrays left the levels, too
 abbrev pub renewed : ℕ → List ArrayDesc → Memory → Memory
 renewed mem gone m =
     record (emptied mem m) { cursors = retired_all gone m.cursors }

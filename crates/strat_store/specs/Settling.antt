@@ -22,6 +22,7 @@ use Rattle.strat_model.specs.Run.{is_change}
 use Rattle.strat_promote.specs.Job.{blocks_listed}
 use Rattle.strat_recovery.specs.Head.{parent_numbers}
 use Rattle.strat_standing.specs.Contents.{Contents, contents_state}
+use Rattle.strat_standing.specs.Next.{arrays_made}
 use Rattle.strat_standing.specs.Occupied.{arrays_in}
 use Rattle.strat_standing.specs.Standing.{AreFree}
 use Rattle.strat_state.specs.Level.{Level}
@@ -98,13 +99,14 @@ pub record IsReadied (v : DiskView) (s : Held) (x : Contents) (sb : Super) (chai
   pub paid : IsPaid (contents_state x) → s.sb.mem ≤ length s.log.list
       → IsPaid (contents_state (contents_next s sb chained levels))
 
--- after a superblock, a manifest and what is in memory come these that one promotion leaves, down to this target, and of a
--- manifest in some blocks
+-- after a superblock, a manifest and what is in memory come these that one promotion leaves, down to this target, of arrays
+-- that have new numbers, and of a manifest in some blocks
 pub record ArePublishedTo (target : ℕ) (sb : Super) (m : Manifest) (memory : Memory)
     (next_sb : Super) (next : Manifest) : Type 0 where
   pub made : Option LevelDesc
   pub first : ℕ
   pub size : ℕ
+  pub numbered : (a : ArrayDesc) → Contains (arrays_made made) a → m.next_array ≤ a.id
   pub manifest_is : next ≡ manifest_after m memory target made
   pub sb_is : next_sb ≡ super_after sb first size
 

@@ -1,10 +1,11 @@
 //! Changes of a store over levels: each is durable before it is in memory, and before it is answered.
 
-ghost use Rattle.std.specs.Prelude.{◌≡◌, ◌≢◌, ◌<◌, ℕ, [], ◌∷◌, ◌++◌, length, Some, None, OnOk, IsTrue, true, false};
+ghost use Rattle.std.specs.List.{list_all};
+ghost use Rattle.std.specs.Prelude.{◌≡◌, ◌≢◌, ◌<◌, ◌≤◌, ℕ, [], ◌∷◌, ◌++◌, length, Some, None, OnOk, IsTrue, true, false};
 ghost use Rattle.strat_array.specs.Kept.{Blocks};
 ghost use Rattle.strat_base.specs.Change.{is_lawful};
 ghost use Rattle.strat_base.specs.ChangeView.{change_of};
-ghost use Rattle.strat_crash.specs.Blocks.{AgreeOn};
+ghost use Rattle.strat_crash.specs.Blocks.{KeepsTaken};
 ghost use Rattle.strat_crash.specs.Faults.{CountsFaults};
 ghost use Rattle.strat_crash.specs.Image.{Image};
 ghost use Rattle.strat_crash.specs.Moments.{Exposes, Passes, TearsOnly};
@@ -14,18 +15,18 @@ ghost use Rattle.strat_model.specs.Answer.{accepts, plain};
 ghost use Rattle.strat_model.specs.declared.replies.Refusal.{Refusal};
 ghost use Rattle.strat_model.specs.declared.replies.Refusal.TheVariants as why;
 ghost use Rattle.strat_model.specs.declared.replies.Reply.TheVariants as reply;
-ghost use Rattle.strat_promote.specs.Job.{blocks_listed};
 ghost use Rattle.strat_recovery.specs.StateTable.{table_of, request_for};
 ghost use Rattle.strat_standing.specs.Appending.{IsLogOf, with_batch};
-ghost use Rattle.strat_standing.specs.Contents.{Contents, contents_state, named_blocks};
+ghost use Rattle.strat_standing.specs.Contents.{Contents, contents_state};
 ghost use Rattle.strat_standing.specs.Standing.{ShowsTable, ContentsStand};
 ghost use Rattle.strat_state.specs.Sound.{Takes};
 ghost use Rattle.strat_state.specs.State.{IsPaid};
 ghost use Rattle.strat_store.specs.Applying.{IsAppliedTo, FollowsStep, FailsAsTold, IsDamagedIn, is_fault, may_write, refusal_of_trouble};
 ghost use Rattle.strat_store.specs.Cursoring.{LeavesCursors};
-ghost use Rattle.strat_store.specs.Held.{IsConsistent, IsOnDisk, StandsWith, arrays_held};
+ghost use Rattle.strat_store.specs.Held.{IsConsistent, IsOnDisk, StandsWith};
 ghost use Rattle.strat_store.specs.Memory.{KeepsRows, refusal_of_change};
 ghost use Rattle.strat_store.specs.Paying.{ArePaidSince};
+ghost use Rattle.strat_store.specs.Publishing.{is_in_front};
 ghost use Rattle.strat_store.specs.Recovering.{held_of, held_after};
 ghost use Rattle.strat_store.specs.Settling.{KeepsPublished, LeavesPublished};
 
@@ -47,6 +48,7 @@ fn log_change<D: Disk>(
     requires fits { IsTrue (is_lawful (change_of change.now)) }
     requires none { journal.old.batch ≡ [] }
     requires room { length journal.old.list < journal.old.mem }
+    requires kept { IsTrue (list_all is_lawful journal.old.list) × (journal.old.active ≤ 1) }
     ensures trail { (x : Contents) → ContentsStand (D.view disk.old) x → IsLogOf x journal.old
         → Takes (contents_state x) (change_of change.now)
         → Trail ShowsTable (D.view disk.new) (D.view disk.old).moment (table_of (contents_state x)
@@ -59,9 +61,8 @@ fn log_change<D: Disk>(
         × ContentsStand (D.view disk.new) (with_batch x (change_of change.now ∷ []))) }
     ensures ok { OnOk result (journal.new
         ≡ record journal.old { list = journal.old.list ++ change_of change.now ∷ [] }) }
-    ensures same { OnOk result ((x : Contents) → ContentsStand (D.view disk.old) x
-        → IsLogOf x journal.old → (f g : Image) → Exposes (D.view disk.old) f
-        → Exposes (D.view disk.new) g → AgreeOn (named_blocks x) f g) }
+    ensures same { OnOk result ((f g : Image) → Exposes (D.view disk.old) f
+        → Exposes (D.view disk.new) g → KeepsTaken (is_in_front journal.old.mem) f g) }
     ensures images { TearsOnly (D.view disk.old) (D.view disk.new)
         (region_at journal.old.mem journal.old.active) (region_size journal.old.mem) }
     ensures time { Passes (D.view disk.old) (D.view disk.new) }
@@ -96,13 +97,13 @@ fn carry_out<D: Disk>(held: &mut Recovered, disk: &mut D, change: &Change<'_>) -
         → IsOnDisk (D.view disk.new) (held_of held.new cached)) }
     ensures found { (held.new.memory.cursors ≡ held.old.memory.cursors)
         × KeepsRows held.old.memory held.new.memory }
-    ensures images { (f g : Image) → Exposes (D.view disk.old) f → Exposes (D.view disk.new) g
-        → AgreeOn (blocks_listed (arrays_held held.old.memory held.old.published.levels)) f g }
-    ensures damaged { (b : ℕ) → result ≡ reply.Refused (why.Damaged b) → ⊥ }
+    ensures images { Passes (D.view disk.old) (D.view disk.new)
+        × (result ≢ reply.Refused why.DeviceFault → (f g : Image) → Exposes (D.view disk.old) f
+        → Exposes (D.view disk.new) g → KeepsTaken (is_in_front held.old.sb.mem) f g) }
     ensures same { (held.new.sb.mem ≡ held.old.sb.mem) × (result ≢ reply.Found)
         × (accepts result ≡ false → result ≡ reply.Refused why.DeviceFault)
-        × (may_write result ≡ true) }
-    ensures time { Passes (D.view disk.old) (D.view disk.new) }
+        × (may_write result ≡ true)
+        × ((b : ℕ) → result ≡ reply.Refused (why.Damaged b) → ⊥) }
     ensures cause { FailsAsTold (D.faults disk.old) (D.faults disk.new) result }
 {
     let Ok(()) = log_change(&mut held.journal, disk, change) else {
@@ -148,11 +149,10 @@ fn carry_out_anew<D: Disk>(
         (held_of held.old cached) (accepts result) result (held_after held.new cached result)
         × LeavesCursors (held_of held.old cached) (request_for (change_of change.now))
         (plain result) (held_after held.new cached result) }
-    ensures found { KeepsRows held.old.memory held.new.memory }
     ensures damaged { (b : ℕ) → result ≡ reply.Refused (why.Damaged b)
         → IsDamagedIn (D.view disk.old).content held.old.memory held.old.published.levels b }
     ensures same { (held.new.sb.mem ≡ held.old.sb.mem) × (result ≢ reply.Found)
-        × (may_write result ≡ true) }
+        × (may_write result ≡ true) × KeepsRows held.old.memory held.new.memory }
     ensures time { Passes (D.view disk.old) (D.view disk.new) }
     ensures cause { FailsAsTold (D.faults disk.old) (D.faults disk.new) result }
 {
@@ -188,7 +188,6 @@ pub(crate) fn change<D: Disk>(
         (held_of held.old cached) (accepts result) result (held_after held.new cached result)
         × LeavesCursors (held_of held.old cached) (request_for (change_of change.now))
         (plain result) (held_after held.new cached result) }
-    ensures found { KeepsRows held.old.memory held.new.memory }
     ensures err { (r : Refusal)
         → refusal_of_change held.old.memory (change_of change.now) ≡ Some r
         → (result ≡ reply.Refused r) × (held.new ≡ held.old) × (disk.new ≡ disk.old) }
@@ -196,7 +195,8 @@ pub(crate) fn change<D: Disk>(
         → may_write result ≡ true }
     ensures damaged { (b : ℕ) → result ≡ reply.Refused (why.Damaged b)
         → IsDamagedIn (D.view disk.old).content held.old.memory held.old.published.levels b }
-    ensures same { (held.new.sb.mem ≡ held.old.sb.mem) × (result ≢ reply.Found) }
+    ensures same { (held.new.sb.mem ≡ held.old.sb.mem) × (result ≢ reply.Found)
+        × KeepsRows held.old.memory held.new.memory }
     ensures time { Passes (D.view disk.old) (D.view disk.new) }
     ensures cause { FailsAsTold (D.faults disk.old) (D.faults disk.new) result }
 {

@@ -1,6 +1,7 @@
 //! A publication of a store, whole: its journal is emptied into its levels.
 
-ghost use Rattle.std.specs.Prelude.{◌≡◌, ◌<◌, ◌≤◌, ℕ, ◌+◌, ◌-◌, ◌*◌, List, [], ◌∷◌, length, Some, IfOk, OnOk, OnErr, IsErrOf, IsTrue};
+ghost use Rattle.std.specs.List.{list_all};
+ghost use Rattle.std.specs.Prelude.{◌≡◌, ◌<◌, ◌≤◌, ℕ, ◌+◌, ◌-◌, ◌*◌, List, [], ◌∷◌, length, nat_le, Some, IfOk, OnOk, OnErr, IsErrOf, IsTrue};
 ghost use Rattle.strat_array.specs.Kept.{Blocks};
 ghost use Rattle.strat_base.specs.declared.failures.Trouble.TheVariants as trouble;
 ghost use Rattle.strat_base.specs.declared.failures.Trouble.TheVariants.{Device, Damaged};
@@ -18,6 +19,7 @@ ghost use Rattle.strat_manifest.specs.ManifestView.{manifest_of};
 ghost use Rattle.strat_promote.specs.Job.{blocks_listed};
 ghost use Rattle.strat_recovery.specs.StateTable.{table_of};
 ghost use Rattle.strat_standing.specs.Contents.{Contents, contents_state};
+ghost use Rattle.strat_standing.specs.Next.{arrays_made};
 ghost use Rattle.strat_standing.specs.Occupied.{IsSpaceOf, arrays_in, extents_of};
 ghost use Rattle.strat_standing.specs.Standing.{ShowsTable, ContentsStand};
 ghost use Rattle.strat_state.specs.Level.{Level};
@@ -26,7 +28,7 @@ ghost use Rattle.strat_store.specs.Applying.{IsDamagedIn, IsPublishedAs, IsOkOrS
 ghost use Rattle.strat_store.specs.Held.{IsConsistent, IsOnDisk, StandsWith, arrays_held, contents_held};
 ghost use Rattle.strat_cursor.specs.Cursors.{retired_all};
 ghost use Rattle.strat_cursor.specs.Looking.{arrays_there};
-ghost use Rattle.strat_store.specs.Memory.{emptied};
+ghost use Rattle.strat_store.specs.Memory.{emptied, prepared};
 ghost use Rattle.strat_store.specs.Paying.{ArePaidSince, CountsWritten};
 ghost use Rattle.strat_store.specs.Publishing.{IsComputed, LaysSuperblock, WritesManifest, descs_to, is_in_front, manifest_after};
 ghost use Rattle.strat_store.specs.Recovering.{chained_of, held_of, IsAdmitted};
@@ -36,15 +38,16 @@ use crate::admitting::{Published, admit};
 use crate::belonging::{mark_arrays, own_blocks};
 use crate::computing::{Computed, compute_next};
 use crate::memory::Memory;
+use crate::promoting::Made;
 use crate::publishing::lay_next;
 use crate::recovering::Recovered;
 use std::alloc::Global;
 use std::mem;
-use strat_base::{Arrays, Extents, Failed, LevelDesc, NoMemory, Trouble};
+use strat_base::{ArrayDesc, Arrays, Failed, LevelDesc, NoMemory, Trouble};
 use strat_disk::Disk;
 use strat_extent::Space;
 use strat_gate::SuperBlock;
-use strat_manifest::{LevelList, Manifest};
+use strat_manifest::LevelList;
 
 /// The superblock after one, with this manifest. `NoMemory` stands for a generation that no store reaches.
 fn next_super(old: &SuperBlock, first: u32, length: u32) -> Result<SuperBlock, NoMemory>
@@ -111,7 +114,9 @@ fn compute_beside<D: Disk>(
         → WritesBeside (D.view disk.old) (D.view disk.new) (held_of held.now cached) }
     ensures cause { HasCause Device (D.faults disk.old) (D.faults disk.new) result }
     ensures damaged { (b : ℕ) → IsErrOf result (Damaged b) → IsDamagedIn
-        (D.view disk.old).content held.now.memory held.now.published.levels b }
+        (D.view disk.old).content held.now.memory held.now.published.levels b
+        × ((x : Contents) (cached : Blocks)
+        → StandsWith (D.view disk.old) (held_of held.now cached) x → ⊥) }
     ensures reads { D.reads disk.new ≤ D.reads disk.old
         + 2 * length (blocks_listed (arrays_there held.now.published.levels)) }
 {
@@ -136,34 +141,54 @@ struct Next {
     target: usize,
 }
 
-/// The next superblock, and the manifest that it leads to, tested as an opening tests them. `NoMemory` also stands for
-/// what an opening would refuse.
-fn admit_next(
-    alloc: Global,
-    old: &SuperBlock,
-    manifest: Manifest,
-    first: u32,
-    length: u32,
-    chain: Extents,
-    target: usize,
-) -> Result<Next, NoMemory>
-    requires kept { IsLawful (super_of old.now)
-        × IsTrue (is_lawful_manifest (manifest_of manifest)) }
-    requires fits { (places.first_free old.now.mem ≤ first) × (first < 4294967295)
-        × (29 ≤ length) }
-    ensures ok { IfOk result (λ next.
-        (super_of next.sb ≡ super_after (super_of old.now) first length)
-        × IsLawful (super_of next.sb) × (next.target ≡ target)) }
-    ensures found { IfOk result (λ next. chained_of next.published
-        ≡ record { manifest = manifest_of manifest; blocks = blocks_of chain }) }
-    ensures kept { IfOk result (λ next. IsAdmitted (super_of next.sb) next.published) }
+/// Whether each of these arrays has a number from one on.
+fn are_numbered_from(arrays: &[ArrayDesc], next_array: u64) -> bool
+    ensures ok { result ≡ list_all (λ a. nat_le next_array a.id) arrays.now }
 {
-    let sb = next_super(old, first, length)?;
-    match admit(alloc, &sb, manifest, chain)? {
+    for array in arrays {
+        if array.id < next_array {
+            return false;
+        }
+    }
+    true
+}
+
+/// Whether each array that a promotion made has a number from one on. O(arrays).
+fn has_new_numbers(made: &Made, next_array: u64) -> bool
+    ensures ok { result ≡ list_all (λ a. nat_le next_array a.id) (arrays_made made.now.level) }
+{
+    match &made.level {
+        Some(level) => are_numbered_from(level.arrays.as_slice(), next_array),
+        None => true,
+    }
+}
+
+/// The next superblock, and the manifest that it leads to, tested as an opening tests them. `NoMemory` also stands for
+/// what an opening would refuse, and for arrays whose numbers are not new.
+fn admit_next(alloc: Global, held: &Recovered, computed: Computed) -> Result<Next, NoMemory>
+    requires kept { IsLawful (super_of held.now.sb)
+        × IsTrue (is_lawful_manifest (manifest_of computed.manifest)) }
+    requires fits { (places.first_free held.now.sb.mem ≤ computed.first)
+        × (computed.first < 4294967295) × (29 ≤ computed.length) }
+    ensures ok { IfOk result (λ next.
+        (super_of next.sb ≡ super_after (super_of held.now.sb) computed.first computed.length)
+        × IsLawful (super_of next.sb) × (next.target ≡ computed.made.target)) }
+    ensures found { IfOk result (λ next. chained_of next.published
+        ≡ record { manifest = manifest_of computed.manifest; blocks = blocks_of computed.chain }) }
+    ensures kept { IfOk result (λ next. IsAdmitted (super_of next.sb) next.published) }
+    ensures same { IfOk result (λ next. IsTrue (list_all
+        (λ a. nat_le held.now.published.manifest.next_array a.id)
+        (arrays_made computed.made.level))) }
+{
+    if !has_new_numbers(&computed.made, held.published.manifest.next_array) {
+        return Err(NoMemory);
+    }
+    let sb = next_super(&held.sb, computed.first, computed.length)?;
+    match admit(alloc, &sb, computed.manifest, computed.chain)? {
         Some(published) => Ok(Next {
             sb,
             published,
-            target,
+            target: computed.made.target,
         }),
         None => Err(NoMemory),
     }
@@ -190,20 +215,14 @@ fn prepare_next<D: Disk>(alloc: Global, held: &Recovered, disk: &mut D) -> Resul
         → WritesBeside (D.view disk.old) (D.view disk.new) (held_of held.now cached) }
     ensures cause { HasCause Device (D.faults disk.old) (D.faults disk.new) result }
     ensures damaged { (b : ℕ) → IsErrOf result (Damaged b) → IsDamagedIn
-        (D.view disk.old).content held.now.memory held.now.published.levels b }
+        (D.view disk.old).content held.now.memory held.now.published.levels b
+        × ((x : Contents) (cached : Blocks)
+        → StandsWith (D.view disk.old) (held_of held.now cached) x → ⊥) }
     ensures reads { D.reads disk.new ≤ D.reads disk.old
         + 2 * length (blocks_listed (arrays_there held.now.published.levels)) }
 {
     let computed = compute_beside(alloc, held, disk)?;
-    let next = admit_next(
-        alloc,
-        &held.sb,
-        computed.manifest,
-        computed.first,
-        computed.length,
-        computed.chain,
-        computed.made.target,
-    )?;
+    let next = admit_next(alloc, held, computed)?;
     Ok(next)
 }
 
@@ -219,6 +238,25 @@ fn count_arrays(levels: &[LevelDesc]) -> Result<usize, NoMemory>
         n = more;
     }
     Ok(n)
+}
+
+/// Takes the memory that settling asks for: the next level 0, and room for all arrays of these levels among those that are
+/// kept. The only error is want of memory, after which the rest of memory is as it was.
+fn make_room(
+    alloc: Global,
+    memory: &mut Memory,
+    mem: u32,
+    levels: &[LevelDesc],
+) -> Result<(), NoMemory>
+    requires fits { (4 ≤ mem) × (mem ≤ 4096) }
+    ensures ok { OnOk result ((memory.new.ready ≡ Some mem)
+        × (length memory.old.cursors.retired + length (arrays_in levels.now)
+        ≤ memory.new.cursors.room)) }
+    ensures same { memory.new ≡ prepared memory.old memory.new.ready memory.new.cursors.room }
+{
+    memory.prepare(alloc, mem)?;
+    let arrays = count_arrays(levels)?;
+    memory.reserve_retired(arrays)
 }
 
 /// Keeps those of these arrays that a cursor names. No memory.
@@ -272,9 +310,8 @@ fn settle<D: Disk>(held: &mut Recovered, next: Next, disk: &mut D) -> Result<(),
         → ArePaidSince (D.view disk.new) (D.view disk.old).moment) }
     ensures end { OnOk result (LaysSuperblock (D.view disk.old) (D.view disk.new)
         held.old.journal.mem (1 - held.old.slot) (super_of next.sb)) }
-    ensures err { OnErr result ((cached : Blocks)
-        → KeepsPublished (held_of held.old cached) (held_of held.new cached)
-        × KeepsCursors (held_of held.old cached) (held_of held.new cached)) }
+    ensures err { OnErr result ((held.new.memory ≡ held.old.memory) × ((cached : Blocks)
+        → KeepsPublished (held_of held.old cached) (held_of held.new cached))) }
     ensures same { held.new.sb.mem ≡ held.old.sb.mem }
     ensures images { TearsBlocks (is_in_front held.old.journal.mem)
         (D.view disk.old) (D.view disk.new) }
@@ -330,22 +367,26 @@ pub(crate) fn publish<D: Disk>(
     ensures kept { IsOkOrShort result → (cached : Blocks)
         → IsConsistent (held_of held.new cached) }
     ensures same { (held.new.sb.mem ≡ held.old.sb.mem)
+        × (held.new.memory.parents ≡ held.old.memory.parents)
         × (IsErrOf result trouble.NoMemory → held.new.journal ≡ held.old.journal)
         × OnErr result ((cached : Blocks)
         → KeepsPublished (held_of held.old cached) (held_of held.new cached)
         × KeepsCursors (held_of held.old cached) (held_of held.new cached)) }
-    ensures images { (f g : Image) → Exposes (D.view disk.old) f → Exposes (D.view disk.new) g
-        → AgreeOn (blocks_listed (arrays_held held.old.memory held.old.published.levels)) f g }
-    ensures time { Passes (D.view disk.old) (D.view disk.new) }
+    ensures images { Passes (D.view disk.old) (D.view disk.new)
+        × ((f g : Image) → Exposes (D.view disk.old) f → Exposes (D.view disk.new) g
+        → AgreeOn (blocks_listed (arrays_held held.old.memory held.old.published.levels)) f g) }
     ensures cause { HasCause Device (D.faults disk.old) (D.faults disk.new) result }
     ensures damaged { (b : ℕ) → IsErrOf result (Damaged b)
         → IsDamagedIn (D.view disk.old).content held.old.memory held.old.published.levels b
         × ((x : Contents) (cached : Blocks)
         → StandsWith (D.view disk.old) (held_of held.old cached) x → ⊥) }
 {
-    held.memory.prepare(alloc, held.sb.mem)?;
-    let arrays = count_arrays(held.published.manifest.levels.as_slice())?;
-    held.memory.reserve_retired(arrays)?;
+    make_room(
+        alloc,
+        &mut held.memory,
+        held.sb.mem,
+        held.published.manifest.levels.as_slice(),
+    )?;
     let next = prepare_next(alloc, held, disk)?;
     settle(held, next, disk)?;
     Ok(())

@@ -1,9 +1,12 @@
-use Rattle.std.proofs.Common.{refl, arith}
+use Rattle.std.proofs.Common.{refl, sym, ap, ◌∙◌, subst, arith, ℕ}
+use Rattle.strat_crash.specs.Blocks.{KeepsTaken}
 use Rattle.strat_store.specs.Recovering.{held_of, empty_cache}
-use Rattle.strat_store.proofs.ChangingLemmas.{log_of, kept_more, breaks, takes, step_trail, told_trail, carries, finds_none}
-use Rattle.strat_store.proofs.LeavingLemmas.{logged_leaves, taken_well}
+use Rattle.strat_store.proofs.ChangingLemmas.{cursors_stay, log_of, kept_more, breaks, takes, step_trail, told_trail, carries, finds_none}
+use Rattle.strat_store.proofs.LeavingLemmas.{logged_leaves, taken_calm, taken_well}
 use Rattle.strat_store.proofs.MemoryLawLemmas.{room_for}
 use Rattle.strat_store.specs.Held.{head_held}
+use Rattle.strat_store.specs.Memory.{Memory}
+use Rattle.strat_store.specs.Publishing.{is_in_front}
 use Rattle.strat_store.proofs.changing.carry_out.Goals as goal
 
 pub log_change-requires-clause-none : goal.log_change-requires-clause-none
@@ -11,6 +14,11 @@ log_change-requires-clause-none g c = (c.requires.kept (empty_cache 0)).log.batc
 
 pub log_change-requires-clause-room : goal.log_change-requires-clause-room
 log_change-requires-clause-room g c = omega (arith, c.requires.room, (c.requires.kept (empty_cache 0)).log.mem)
+
+pub log_change-requires-clause-kept : goal.log_change-requires-clause-kept
+log_change-requires-clause-kept g c =
+    let kept = c.requires.kept (empty_cache 0) in
+    (kept.log.lawful, let active = kept.log.active in let most = kept.lawful.region_most in omega (arith, active, most))
 
 pub returns-in_default-clause-ok : goal.returns-in_default-clause-ok
 returns-in_default-clause-ok g c x cached stands =
@@ -37,7 +45,7 @@ returns-clause-ok g c x cached stands =
     carries c.args.held.now cached kept (g.D.Disk.view c.args.disk.now) x stands _ c.requires.none c.requires.room (g.D.Disk.view c.log_change.new.disk) c.log_change.new.journal c.take.new.self c.take.result
     c.in-Ok.ensures.ok c.take.ensures.found
     (c.in-Ok.ensures.kept x stands.stands of (takes c.args.held.now cached kept (g.D.Disk.view c.args.disk.now) x stands _ c.requires.none c.requires.room)).1
-    (c.in-Ok.ensures.same x stands.stands of)
+    c.in-Ok.ensures.same
 
 pub returns-clause-trail : goal.returns-clause-trail
 returns-clause-trail g c x cached stands =
@@ -51,12 +59,20 @@ returns-clause-trail g c x cached stands =
 
 pub returns-clause-kept : goal.returns-clause-kept
 returns-clause-kept g c calm cached =
-    kept_more c.args.held.now cached (c.requires.kept cached) _ c.requires.none c.requires.room c.log_change.new.journal c.take.new.self c.in-Ok.ensures.ok c.take.ensures.ok
+    kept_more c.args.held.now cached (c.requires.kept cached) _ c.requires.fits c.requires.none c.requires.room c.log_change.new.journal c.take.new.self c.in-Ok.ensures.ok c.take.ensures.ok
 
 pub returns-clause-same : goal.returns-clause-same
 returns-clause-same g c =
     let well = taken_well c.args.held.now.memory _ c.take.result c.take.ensures.found in
-    (refl, finds_none c.args.held.now.memory _ c.take.result c.take.ensures.found, well.0, well.1)
+    (refl, finds_none c.args.held.now.memory _ c.take.result c.take.ensures.found, well.0, well.1, taken_calm c.args.held.now.memory _ c.take.result c.take.ensures.found)
+
+pub returns-clause-found : goal.returns-clause-found
+returns-clause-found g c = (ap (λ (m : Memory). m.cursors) c.take.ensures.ok ∙ cursors_stay c.args.held.now.memory _, c.take.ensures.kept)
+
+pub returns-clause-images : goal.returns-clause-images
+returns-clause-images g c =
+    let mem = (c.requires.kept (empty_cache 0)).log.mem in
+    (c.log_change.ensures.time, λ other f h was now. subst (λ (n : ℕ). KeepsTaken (is_in_front n) f h) mem (c.in-Ok.ensures.same f h was now))
 
 pub returns-in_default-clause-end : goal.returns-in_default-clause-end
 returns-in_default-clause-end g c = λ cached.

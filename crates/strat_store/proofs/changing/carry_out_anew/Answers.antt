@@ -1,9 +1,11 @@
-use Rattle.std.proofs.Common.{◌≡◌, length, Err, ap, arith}
+use Rattle.std.proofs.Common.{◌≡◌, ◌∙◌, length, Err, ap, arith}
 use Rattle.std.specs.Prelude.{Result, IsErrOf}
 use Rattle.strat_base.specs.declared.failures.Trouble.{Trouble}
 use Rattle.strat_base.specs.declared.failures.Trouble.TheVariants as trouble
-use Rattle.strat_store.specs.Recovering.{empty_cache}
-use Rattle.strat_store.proofs.LeavingLemmas.{gives_up, renews, troubled}
+use Rattle.strat_model.specs.declared.replies.Reply.TheVariants as reply
+use Rattle.strat_store.specs.Recovering.{empty_cache, held_after, held_of}
+use Rattle.strat_store.proofs.ChangingLemmas.{rows_stay}
+use Rattle.strat_store.proofs.LeavingLemmas.{both_keep, cursors_left, cursors_published, gives_up, has_published, opened_after, renews, rows_renewed, troubled}
 use Rattle.strat_store.proofs.PayingLemmas.{paid_now, paid_then}
 use Rattle.strat_store.proofs.RenewingLemmas.{calm_short, told_up, renewed, renewed_trail, trail_so_far}
 use Rattle.strat_store.proofs.changing.carry_out_anew.Goals as goal
@@ -18,7 +20,7 @@ publish-requires-clause-len g c = omega (arith, c.requires.room, (c.requires.kep
 pub returns-in-Err-clause-ok : goal.returns-in-Err-clause-ok
 returns-in-Err-clause-ok g c x cached stands =
     told_up c.args.held.now cached (c.requires.kept cached) (g.D.Disk.view c.args.disk.now) x stands _ c.requires.none c.requires.room c.publish.new.held (g.D.Disk.view c.publish.new.disk)
-    c.in-Err.trouble c.refusal_of.result c.refusal_of.ensures.ok (λ short. c.in-Err.ensures.none (handed short) x cached stands) (λ short. c.in-Err.ensures.same.1 (handed short))
+    c.in-Err.trouble c.refusal_of.result c.refusal_of.ensures.ok (λ short. c.in-Err.ensures.none (handed short) x cached stands) (λ short. c.in-Err.ensures.same.2 (handed short))
     (λ b bad. (c.in-Err.ensures.damaged b (handed bad)).1 x cached stands)
 
 pub returns-in-Err-clause-trail : goal.returns-in-Err-clause-trail
@@ -46,29 +48,57 @@ pub returns-clause-trail : goal.returns-clause-trail
 returns-clause-trail g c x cached stands =
     let p = (c.in_default.ensures.ok x cached stands).0 in
     renewed_trail c.args.held.now cached (c.requires.kept cached) (g.D.Disk.view c.args.disk.now) x stands _ c.requires.none c.requires.room c.publish.new.held (g.D.Disk.view c.publish.new.disk)
-    (c.in_default.ensures.kept tt cached) c.in_default.ensures.found.2 p (g.D.Disk.view c.carry_out.new.disk) c.carry_out.result c.carry_out.ensures.time (c.publish.ensures.trail x cached stands).0
+    (c.in_default.ensures.kept tt cached) c.in_default.ensures.found.2 p (g.D.Disk.view c.carry_out.new.disk) c.carry_out.result c.carry_out.ensures.images.0 (c.publish.ensures.trail x cached stands).0
     (c.carry_out.ensures.trail p.after cached p.stands).0
 
 pub returns-in-Err-clause-end : goal.returns-in-Err-clause-end
 returns-in-Err-clause-end g c = λ cached.
-    gives_up (g.D.Disk.view c.args.disk.now) (g.D.Disk.view c.publish.new.disk) c.args.held.now c.publish.new.held cached c.in-Err.trouble c.refusal_of.result c.refusal_of.ensures.ok
-    (c.in-Err.ensures.same.2 cached) (λ other. c.in-Err.ensures.end (λ e. other (let x : ◌≡◌ {A = Result _ Trouble} (Err c.in-Err.trouble) (Err trouble.Device) = e in cc)) cached)
-    (λ x stands. (c.publish.ensures.trail x cached stands).1 (omega (arith, c.requires.room)))
+    let keeps = c.in-Err.ensures.same.3 cached in (
+      gives_up (g.D.Disk.view c.args.disk.now) (g.D.Disk.view c.publish.new.disk) c.args.held.now c.publish.new.held cached c.in-Err.trouble c.refusal_of.result c.refusal_of.ensures.ok
+          keeps.0 (λ other. c.in-Err.ensures.end (λ e. other (let x : ◌≡◌ {A = Result _ Trouble} (Err c.in-Err.trouble) (Err trouble.Device) = e in cc)) cached)
+          (λ x stands. (c.publish.ensures.trail x cached stands).1 (omega (arith, c.requires.room))) c.publish.ensures.images.1,
+      cursors_left (held_of c.args.held.now cached) (held_after c.publish.new.held cached (reply.Refused c.refusal_of.result)) _ _ keeps.1,
+    )
 
 pub returns-clause-end : goal.returns-clause-end
 returns-clause-end g c = λ cached.
     let kept = c.requires.kept cached in
-    renews (g.D.Disk.view c.args.disk.now) (g.D.Disk.view c.publish.new.disk) (g.D.Disk.view c.carry_out.new.disk) c.args.held.now c.publish.new.held c.carry_out.new.held cached c.carry_out.result
-    (omega (arith, c.requires.room, kept.log.mem)) c.in_default.ensures.found.0 c.in_default.ensures.found.1 (c.carry_out.ensures.end cached) c.carry_out.ensures.same.2
-    (c.in_default.ensures.end (λ e. absurd (cc)) cached)
-    (λ x stands paid.
-    let u = g.D.Disk.view c.publish.new.disk in
     let v = g.D.Disk.view c.args.disk.now in
-    let p = (c.in_default.ensures.ok x cached stands).0 in
-    let first = (c.publish.ensures.trail x cached stands).1 (omega (arith, c.requires.room)) paid in
-    paid_then u (g.D.Disk.view c.carry_out.new.disk) v.moment c.carry_out.ensures.time first
-    ((c.carry_out.ensures.trail p.after cached p.stands).1 (paid_now u v.moment p.after p.stands.stands c.publish.ensures.time.later first)))
-    (λ x stands. (c.in_default.ensures.ok x cached stands).1)
+    let u = g.D.Disk.view c.publish.new.disk in
+    let w = g.D.Disk.view c.carry_out.new.disk in
+    let keeps = c.carry_out.ensures.end cached in
+    let has =
+    has_published c.args.held.now c.publish.new.held c.carry_out.new.held cached c.carry_out.result (omega (arith, c.requires.room, kept.log.mem))
+    c.in_default.ensures.found.0 c.in_default.ensures.found.1 keeps.0 c.carry_out.ensures.found.0 in (
+      renews v u w c.args.held.now c.publish.new.held c.carry_out.new.held cached c.carry_out.result has keeps c.carry_out.ensures.same.2
+          (c.in_default.ensures.end (λ e. absurd (cc)) cached)
+          (λ x stands paid.
+          let p = (c.in_default.ensures.ok x cached stands).0 in
+          let first = (c.publish.ensures.trail x cached stands).1 (omega (arith, c.requires.room)) paid in
+          paid_then u w v.moment c.carry_out.ensures.images.0 first
+          ((c.carry_out.ensures.trail p.after cached p.stands).1 (paid_now u v.moment p.after p.stands.stands c.publish.ensures.images.0.later first)))
+          (λ x stands. (c.in_default.ensures.ok x cached stands).1)
+          (λ other.
+          both_keep v u w (held_of c.args.held.now cached) c.publish.new.held.sb.mem kept c.publish.ensures.same.0 c.publish.ensures.images.0 c.publish.ensures.images.1
+          (c.carry_out.ensures.images.1 other)),
+      cursors_published (held_of c.args.held.now cached) (held_after c.carry_out.new.held cached c.carry_out.result) _ _ kept.placed has,
+    )
 
 pub returns-in-Err-clause-same : goal.returns-in-Err-clause-same
-returns-in-Err-clause-same g c = (c.publish.ensures.same.0, λ e. absurd (cc), troubled c.in-Err.trouble c.refusal_of.result c.refusal_of.ensures.ok)
+returns-in-Err-clause-same g c = (
+  c.publish.ensures.same.0,
+  λ e. absurd (cc),
+  troubled c.in-Err.trouble c.refusal_of.result c.refusal_of.ensures.ok,
+  rows_stay c.args.held.now.memory c.publish.new.held.memory c.publish.ensures.same.1,
+)
+
+pub returns-clause-same : goal.returns-clause-same
+returns-clause-same g c = (
+  c.carry_out.ensures.same.0 ∙ c.publish.ensures.same.0,
+  c.carry_out.ensures.same.1,
+  c.carry_out.ensures.same.3,
+  rows_renewed c.args.held.now.memory c.publish.new.held.memory c.carry_out.new.held.memory c.publish.ensures.same.1 (opened_after _ _ _ _ _ _ c.in_default.ensures.found.1) c.carry_out.ensures.found.1,
+)
+
+pub returns-clause-damaged : goal.returns-clause-damaged
+returns-clause-damaged g c b bad = absurd (c.carry_out.ensures.same.4 b bad)

@@ -1,7 +1,8 @@
 use Rattle.std.proofs.Common.{refl, sym, arith}
 use Rattle.strat_crash.proofs.MomentLemmas.{reads_refl}
-use Rattle.strat_store.specs.Recovering.{held_of, empty_cache}
-use Rattle.strat_store.proofs.LeavingLemmas.{left_alone, leaves_room}
+use Rattle.strat_model.specs.declared.replies.Reply.TheVariants as reply
+use Rattle.strat_store.specs.Recovering.{held_after, held_of, empty_cache}
+use Rattle.strat_store.proofs.LeavingLemmas.{cursors_left, cursors_same, front_keeps, left_alone, leaves_room}
 use Rattle.strat_store.proofs.RenewingLemmas.{refused_well, refused_trail}
 use Rattle.strat_store.proofs.changing.change.Goals as goal
 
@@ -25,15 +26,26 @@ carry_out-requires-clause-room g c =
 
 pub returns-in-Some-clause-end : goal.returns-in-Some-clause-end
 returns-in-Some-clause-end g c = λ cached.
-    left_alone (g.D.Disk.view c.args.disk.now) (g.D.Disk.view c.args.disk.now) (held_of c.args.held.now cached) _ _ _ refl (reads_refl (g.D.Disk.view c.args.disk.now))
+    let s = held_of c.args.held.now cached in (
+      left_alone (g.D.Disk.view c.args.disk.now) (g.D.Disk.view c.args.disk.now) s _ _ _ refl (reads_refl (g.D.Disk.view c.args.disk.now)),
+      cursors_left s (held_after c.args.held.now cached (reply.Refused c.in-Some.refusal)) _ _ (cursors_same s (held_after c.args.held.now cached (reply.Refused c.in-Some.refusal)) refl),
+    )
 
 pub returns-clause-end : goal.returns-clause-end
 returns-clause-end g c = λ cached.
     let kept = c.requires.kept cached in
     let both = c.carry_out.ensures.end cached in
-    leaves_room (g.D.Disk.view c.args.disk.now) (g.D.Disk.view c.carry_out.new.disk) (held_of c.args.held.now cached) (held_of c.carry_out.new.held cached) _ c.carry_out.result _
-    (omega (arith, c.if-room-eq0.false, c.room.ensures, kept.log.mem, kept.log.few)) both.0 both.1
-    (λ x stands. (c.carry_out.ensures.trail x cached stands).1)
+    let s = held_of c.args.held.now cached in
+    let t = held_after c.carry_out.new.held cached c.carry_out.result in (
+      leaves_room (g.D.Disk.view c.args.disk.now) (g.D.Disk.view c.carry_out.new.disk) s (held_of c.carry_out.new.held cached) _ c.carry_out.result _
+          (omega (arith, c.if-room-eq0.false, c.room.ensures, kept.log.mem, kept.log.few)) both.0 both.1
+          (λ x stands. (c.carry_out.ensures.trail x cached stands).1)
+          (λ other. front_keeps (g.D.Disk.view c.args.disk.now) (g.D.Disk.view c.carry_out.new.disk) s kept (c.carry_out.ensures.images.1 other)),
+      cursors_left s t _ _ (cursors_same s t c.carry_out.ensures.found.0),
+    )
+
+pub returns-clause-damaged : goal.returns-clause-damaged
+returns-clause-damaged g c b bad = absurd (c.carry_out.ensures.same.4 b bad)
 
 pub returns-clause-trail : goal.returns-clause-trail
 returns-clause-trail g c x cached stands = (c.carry_out.ensures.trail x cached stands).0

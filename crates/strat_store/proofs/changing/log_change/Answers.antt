@@ -1,5 +1,5 @@
 use Rattle.strat_standing.specs.Appending.{AppendsBatch}
-use Rattle.strat_store.proofs.LoggingLemmas.{logged_agrees, logged_paid, logged_trail, logged_stands}
+use Rattle.strat_store.proofs.LoggingLemmas.{logged_behind, logged_paid, logged_trail, logged_stands}
 use Rattle.strat_store.proofs.changing.log_change.Given.{Over}
 use Rattle.strat_store.proofs.changing.log_change.Goals as goal
 use Rattle.strat_store.proofs.changing.log_change.Goals.{After-append}
@@ -28,6 +28,6 @@ returns-clause-kept g c x stands of takes =
     (g.met.D.Disk.leaves_content c.append.new.disk)
 
 pub returns-clause-same : goal.returns-clause-same
-returns-clause-same g c x stands of =
-    logged_agrees _ (g.D.Disk.view c.append.new.disk) x c.args.journal.now c.add.new.self _ stands of c.requires.none c.add.ensures.ok
-    c.requires.fits c.requires.room c.in_ok-append.ensures.durable
+returns-clause-same g c =
+    logged_behind _ (g.D.Disk.view c.append.new.disk) c.args.journal.now c.add.new.self _ c.requires.none c.add.ensures.ok
+    c.requires.fits c.requires.kept.0 c.requires.room c.requires.kept.1 c.in_ok-append.ensures.durable

@@ -4,9 +4,9 @@ use Rattle.strat_store.proofs.ComputedLemmas.{computed_by, torn_on, uses_both}
 use Rattle.strat_store.proofs.computing.compute_next.Goals as goal
 
 pub returns-clause-ok : goal.returns-clause-ok
-returns-clause-ok g c x log may old_is mem_is =
+returns-clause-ok g c x log others may old_is mem_is =
     computed_by (g.D.Disk.view c.args.disk.now) (g.D.Disk.view c.promote.new.disk) (g.D.Disk.view c.write_after.new.disk) c.args.space.now c.promote.new.space c.write_after.new.space
-    c.args.memory.now c.args.levels.now log x may c.args.mem mem_is (manifest_of c.args.old.now) old_is c.in_ok-made.made.target c.in_ok-made.made.level c.in_ok-manifest.first c.in_ok-manifest.length c.in_ok-manifest.chain
+    c.args.memory.now c.args.levels.now log x others may c.args.mem mem_is (manifest_of c.args.old.now) old_is c.in_ok-made.made.target c.in_ok-made.made.level c.in_ok-manifest.first c.in_ok-manifest.length c.in_ok-manifest.chain
     c.promote.ensures.images c.in_ok-made.ensures.room c.write_after.ensures.images c.in_ok-manifest.ensures.room
     (g.met.D.Disk.leaves_content c.promote.new.disk) (g.met.D.Disk.leaves_content c.write_after.new.disk)
     c.in_ok-made.ensures.ok (manifest_of c.in_ok-manifest.manifest) c.in_ok-manifest.ensures.found c.in_ok-manifest.ensures.ok

@@ -1,8 +1,10 @@
 use Rattle.std.proofs.Common.{refl, arith, []}
 use Rattle.strat_array.proofs.SearchLemmas.{if_ok_then}
 use Rattle.strat_manifest.specs.ManifestView.{manifest_of}
+use Rattle.strat_standing.specs.Occupied.{extents_of}
 use Rattle.strat_store.specs.Recovering.{held_of, empty_cache}
-use Rattle.strat_store.proofs.SettlingLemmas.{unwritten, written_free, blames_held, readied}
+use Rattle.strat_store.proofs.SettledLemmas.{none_damaged}
+use Rattle.strat_store.proofs.SettlingLemmas.{unwritten, used_held, written_free, blames_held, readied}
 use Rattle.strat_store.proofs.WholeLemmas.{whole_promotes}
 use Rattle.strat_store.proofs.WritingLemmas.{ok_and}
 use Rattle.strat_store.proofs.publication.compute_beside.Goals as goal
@@ -25,7 +27,8 @@ pub returns-clause-ok : goal.returns-clause-ok
 returns-clause-ok g c =
     ok_and c.compute_next.result _ _ _ (λ r computed found x cached stands.
     readied (g.D.Disk.view c.args.disk.now) (g.D.Disk.view c.compute_next.new.disk) (held_of c.args.held.now cached) x c.in_ok-space.space c.compute_next.new.space
-    c.args.held.now.published.chain r.made.target r.made.level r.first r.length r.chain (manifest_of r.manifest) (c.requires.kept cached) stands c.requires.len refl (c.in_ok-space.ensures.ok cached) computed found)
+    c.args.held.now.published.chain (extents_of c.args.held.now.memory.cursors.retired) r.made.target r.made.level r.first r.length r.chain (manifest_of r.manifest) (c.requires.kept cached) stands
+    c.requires.len refl (c.in_ok-space.ensures.ok cached) computed found)
     c.compute_next.ensures.ok c.compute_next.ensures.found
 
 pub returns-clause-fits : goal.returns-clause-fits
@@ -38,5 +41,11 @@ returns-clause-images g c = λ cached.
 
 pub returns-clause-damaged : goal.returns-clause-damaged
 returns-clause-damaged g c = λ b torn.
-    blames_held (g.D.Disk.view c.args.disk.now) (held_of c.args.held.now (empty_cache 0)) c.in_ok-space.space b (c.in_ok-space.ensures.ok (empty_cache 0) [])
-    (c.requires.kept (empty_cache 0)).placed (c.compute_next.ensures.damaged b torn)
+    let v = g.D.Disk.view c.args.disk.now in
+    let retired = extents_of c.args.held.now.memory.cursors.retired in
+    let told = c.compute_next.ensures.damaged b torn in (
+      blames_held v (held_of c.args.held.now (empty_cache 0)) c.in_ok-space.space retired b (c.in_ok-space.ensures.ok (empty_cache 0) []) (c.requires.kept (empty_cache 0)).placed told,
+      λ x cached stands.
+          none_damaged v (held_of c.args.held.now cached) x b (c.requires.kept cached) stands (λ f exposed few.
+          told.1 f exposed (used_held (held_of c.args.held.now cached) c.in_ok-space.space retired (c.in_ok-space.ensures.ok cached []) (c.requires.kept cached).placed) few),
+    )

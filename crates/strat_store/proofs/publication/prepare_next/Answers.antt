@@ -1,8 +1,10 @@
-use Rattle.std.proofs.Common.{ap, ◌∙◌}
+use Rattle.std.proofs.Common.{sym, ap, ◌∙◌}
 use Rattle.strat_format.specs.Chained.{Chained}
+use Rattle.strat_manifest.specs.ManifestView.{manifest_of}
+use Rattle.strat_store.specs.Publishing.{manifest_after}
 use Rattle.strat_store.specs.Recovering.{held_of, empty_cache}
 use Rattle.strat_store.proofs.OnDiskLemmas.{written_as}
-use Rattle.strat_store.proofs.SettlingLemmas.{readied_as}
+use Rattle.strat_store.proofs.SettlingLemmas.{numbered_from, readied_as}
 use Rattle.strat_store.proofs.publication.prepare_next.Goals as goal
 
 pub admit_next-requires-clause-kept : goal.admit_next-requires-clause-kept
@@ -14,11 +16,12 @@ returns-clause-ok g c = λ x cached stands.
 
 pub returns-clause-found : goal.returns-clause-found
 returns-clause-found g c = record {
-  target = c.in_ok-computed.computed.made.target;
   made = c.in_ok-computed.computed.made.level;
   first = c.in_ok-computed.computed.first;
   size = c.in_ok-computed.computed.length;
-  manifest_is = ap (λ (h : Chained). h.manifest) c.in_ok-next.ensures.found ∙ c.in_ok-computed.ensures.found;
+  numbered = numbered_from _ c.in_ok-computed.computed.made.level c.in_ok-next.ensures.same;
+  manifest_is = ap (λ (h : Chained). h.manifest) c.in_ok-next.ensures.found ∙ c.in_ok-computed.ensures.found
+      ∙ (λ i. manifest_after (manifest_of c.args.held.now.published.manifest) c.args.held.now.memory (sym c.in_ok-next.ensures.ok.2 i) c.in_ok-computed.computed.made.level);
   sb_is = c.in_ok-next.ensures.ok.0;
 }
 

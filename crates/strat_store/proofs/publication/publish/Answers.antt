@@ -1,6 +1,7 @@
-use Rattle.std.proofs.Common.{◌∙◌, ◌≡◌, ◌<◌, ℕ, Some, None, Result, Err, refl, sym, ap, subst, arith}
+use Rattle.std.proofs.Common.{◌∙◌, ◌≡◌, ◌<◌, ℕ, List, length, Result, Err, refl, sym, ap, subst, arith}
 use Rattle.std.proofs.lemmas.Result.{err_from_is_err_and}
 use Rattle.strat_array.specs.Kept.{Blocks}
+use Rattle.strat_base.specs.declared.descriptors.LevelDesc.{LevelDesc}
 use Rattle.strat_base.specs.declared.failures.Trouble.{Trouble}
 use Rattle.strat_base.specs.declared.failures.Trouble.TheVariants as trouble
 use Rattle.strat_crash.proofs.MomentLemmas.{passes_trans}
@@ -10,17 +11,19 @@ use Rattle.strat_gate.specs.SuperView.{super_of}
 use Rattle.strat_journal.proofs.ReadLemmas.{same_err}
 use Rattle.strat_manifest.specs.ManifestView.{manifest_of}
 use Rattle.strat_promote.proofs.OpeningLemmas.{on_err}
+use Rattle.strat_standing.specs.Occupied.{arrays_in}
 use Rattle.strat_standing.specs.Standing.{ShowsTable}
 use Rattle.strat_store.specs.Applying.{IsPublishedAs}
 use Rattle.strat_store.specs.Held.{Held, IsConsistent, IsOnDisk}
-use Rattle.strat_store.specs.Memory.{Memory, emptied}
+use Rattle.strat_store.specs.Memory.{Memory}
 use Rattle.strat_store.specs.Paying.{CountsWritten}
 use Rattle.strat_store.specs.Publishing.{is_in_front}
 use Rattle.strat_store.specs.Recovering.{held_of, empty_cache, chained_of}
+use Rattle.strat_store.specs.Settling.{arrays_taken}
 use Rattle.strat_store.proofs.SettlingLemmas.{unwritten}
 use Rattle.strat_store.proofs.OnDiskLemmas.{kept_on, beside_on, published_on}
 use Rattle.strat_store.proofs.PayingLemmas.{paid_beside, paid_then, counts_next}
-use Rattle.strat_store.proofs.SettledLemmas.{consistent_ready, stands_ready, damaged_ready, trail_beside, stands_beside, arrays_kept, one_trail, published_after, published_as, consistent_next, none_damaged}
+use Rattle.strat_store.proofs.SettledLemmas.{consistent_ready, stands_ready, damaged_ready, cursors_ready, agree_once, agree_ready, trail_beside, stands_beside, arrays_kept, arrays_stay, one_trail, published_after, published_as, consistent_next, emptied_next}
 use Rattle.strat_store.proofs.publication.publish.Goals as goal
 
 -- a fault of the device is no want of memory
@@ -31,42 +34,42 @@ device_short r t is device short =
     let none : trouble.Device ≡ trouble.NoMemory = sym device ∙ same in
     cc
 
-pub prepare-requires : goal.prepare-requires
-prepare-requires g c = let lawful = (c.requires.kept (empty_cache 0)).lawful in record { fits = (lawful.mem_least, lawful.mem_most) }
+pub make_room-requires : goal.make_room-requires
+make_room-requires g c = let lawful = (c.requires.kept (empty_cache 0)).lawful in record { fits = (lawful.mem_least, lawful.mem_most) }
 
-pub returns-in_err-prepare-clause-none : goal.returns-in_err-prepare-clause-none
-returns-in_err-prepare-clause-none g c = λ short x cached stands. stands_ready (g.D.Disk.view c.args.disk.now) (held_of c.args.held.now cached) x c.prepare.new.self stands
+pub returns-in_err-make_room-clause-none : goal.returns-in_err-make_room-clause-none
+returns-in_err-make_room-clause-none g c = λ short x cached stands. stands_ready (g.D.Disk.view c.args.disk.now) (held_of c.args.held.now cached) x c.make_room.new.memory stands
 
-pub returns-in_err-prepare-clause-trail : goal.returns-in_err-prepare-clause-trail
-returns-in_err-prepare-clause-trail g c = λ x cached stands.
+pub returns-in_err-make_room-clause-trail : goal.returns-in_err-make_room-clause-trail
+returns-in_err-make_room-clause-trail g c = λ x cached stands.
     let v = g.D.Disk.view c.args.disk.now in
     let still = unwritten v (held_of c.args.held.now cached) in
     (trail_beside v v (held_of c.args.held.now cached) x stands still, λ full paid. paid_beside v v (held_of c.args.held.now cached) x stands still paid)
 
-pub returns-in_err-prepare-clause-kept : goal.returns-in_err-prepare-clause-kept
-returns-in_err-prepare-clause-kept g c = λ short cached. consistent_ready (held_of c.args.held.now cached) None c.prepare.new.self c.in_err-prepare.ensures.err (c.requires.kept cached)
+pub returns-in_err-make_room-clause-kept : goal.returns-in_err-make_room-clause-kept
+returns-in_err-make_room-clause-kept g c = λ short cached. consistent_ready (held_of c.args.held.now cached) c.make_room.new.memory.ready c.make_room.new.memory.cursors.room c.make_room.new.memory c.make_room.ensures.same (c.requires.kept cached)
 
 pub prepare_next-requires-clause-kept : goal.prepare_next-requires-clause-kept
-prepare_next-requires-clause-kept g c = λ cached. consistent_ready (held_of c.args.held.now cached) (Some c.args.held.now.sb.mem) c.prepare.new.self c.in_ok-prepare.ensures.ok (c.requires.kept cached)
+prepare_next-requires-clause-kept g c = λ cached. consistent_ready (held_of c.args.held.now cached) c.make_room.new.memory.ready c.make_room.new.memory.cursors.room c.make_room.new.memory c.make_room.ensures.same (c.requires.kept cached)
 
 pub returns-in_err-next-clause-none : goal.returns-in_err-next-clause-none
 returns-in_err-next-clause-none g c = λ short x cached stands.
     let v = g.D.Disk.view c.args.disk.now in
-    let mid = record c.args.held.now { memory = c.prepare.new.self } in
-    stands_beside v (g.D.Disk.view c.prepare_next.new.disk) (held_of mid cached) x (stands_ready v (held_of c.args.held.now cached) x c.prepare.new.self stands) (c.prepare_next.ensures.images cached)
+    let mid = record c.args.held.now { memory = c.make_room.new.memory } in
+    stands_beside v (g.D.Disk.view c.prepare_next.new.disk) (held_of mid cached) x (stands_ready v (held_of c.args.held.now cached) x c.make_room.new.memory stands) (c.prepare_next.ensures.images cached)
     (g.met.D.Disk.leaves_content c.prepare_next.new.disk)
 
 pub returns-in_err-next-clause-trail : goal.returns-in_err-next-clause-trail
 returns-in_err-next-clause-trail g c = λ x cached stands.
     let v = g.D.Disk.view c.args.disk.now in
-    let mid = record c.args.held.now { memory = c.prepare.new.self } in
-    let here = stands_ready v (held_of c.args.held.now cached) x c.prepare.new.self stands in (
+    let mid = record c.args.held.now { memory = c.make_room.new.memory } in
+    let here = stands_ready v (held_of c.args.held.now cached) x c.make_room.new.memory stands in (
       trail_beside v (g.D.Disk.view c.prepare_next.new.disk) (held_of mid cached) x here (c.prepare_next.ensures.images cached),
       λ full paid. paid_beside v (g.D.Disk.view c.prepare_next.new.disk) (held_of mid cached) x here (c.prepare_next.ensures.images cached) paid,
     )
 
 pub returns-in_err-next-clause-kept : goal.returns-in_err-next-clause-kept
-returns-in_err-next-clause-kept g c = λ short cached. consistent_ready (held_of c.args.held.now cached) (Some c.args.held.now.sb.mem) c.prepare.new.self c.in_ok-prepare.ensures.ok (c.requires.kept cached)
+returns-in_err-next-clause-kept g c = λ short cached. consistent_ready (held_of c.args.held.now cached) c.make_room.new.memory.ready c.make_room.new.memory.cursors.room c.make_room.new.memory c.make_room.ensures.same (c.requires.kept cached)
 
 pub returns-in_err-next-clause-time : goal.returns-in_err-next-clause-time
 returns-in_err-next-clause-time g c = (c.prepare_next.ensures.images (empty_cache 0)).tears.time
@@ -74,15 +77,19 @@ returns-in_err-next-clause-time g c = (c.prepare_next.ensures.images (empty_cach
 pub returns-in_err-next-clause-damaged : goal.returns-in_err-next-clause-damaged
 returns-in_err-next-clause-damaged g c = λ b torn.
     let v = g.D.Disk.view c.args.disk.now in
-    let mid = record c.args.held.now { memory = c.prepare.new.self } in
+    let m = c.make_room.new.memory in
     let p = err_from_is_err_and c.from_residual-in_err-next.result c.from_residual-in_err-next.ensures.1 in
-    let bad = c.in_err-next.ensures.damaged b (same_err c.from_residual-in_err-next.result p.0 _ _ p.1 p.2 torn) in
-    let whole : (cached : Blocks) → IsConsistent (held_of mid cached) = λ cached.
-    consistent_ready (held_of c.args.held.now cached) (Some c.args.held.now.sb.mem) c.prepare.new.self c.in_ok-prepare.ensures.ok (c.requires.kept cached) in (
-      damaged_ready v.content c.args.held.now.memory c.prepare.new.self (Some c.args.held.now.sb.mem) c.args.held.now.published.levels b c.in_ok-prepare.ensures.ok bad,
-      λ x cached stands. none_damaged v (held_of mid cached) x b (whole cached) (stands_ready v (held_of c.args.held.now cached) x c.prepare.new.self stands) bad,
-      arrays_kept v (g.D.Disk.view c.prepare_next.new.disk) (held_of mid (empty_cache 0)) (c.prepare_next.ensures.images (empty_cache 0)) (whole (empty_cache 0)).placed,
+    let bad = c.in_err-next.ensures.damaged b (same_err c.from_residual-in_err-next.result p.0 _ _ p.1 p.2 torn) in (
+      damaged_ready v.content c.args.held.now.memory m m.ready m.cursors.room c.args.held.now.published.levels b c.make_room.ensures.same bad.0,
+      λ x cached stands. bad.1 x cached (stands_ready v (held_of c.args.held.now cached) x m stands),
     )
+
+pub settle-requires-clause-room : goal.settle-requires-clause-room
+settle-requires-clause-room g c =
+    let room = c.in_ok-make_room.ensures.ok in
+    let kept = ap (λ (m : Memory). length m.cursors.retired) c.make_room.ensures.same in
+    let same = ap (λ (ls : List LevelDesc). length (arrays_in ls)) c.as_slice.ensures.ok in
+    (room.0, omega (arith, room.1, kept, same))
 
 pub settle-requires-clause-fits : goal.settle-requires-clause-fits
 settle-requires-clause-fits g c =
@@ -95,8 +102,8 @@ settle-requires-clause-same g c = (c.in_ok-next.ensures.fits (empty_cache 0)).me
 pub returns-in_err-settle-clause-trail : goal.returns-in_err-settle-clause-trail
 returns-in_err-settle-clause-trail g c = λ x cached stands.
     let v = g.D.Disk.view c.args.disk.now in
-    let mid = record c.args.held.now { memory = c.prepare.new.self } in
-    let here = stands_ready v (held_of c.args.held.now cached) x c.prepare.new.self stands in
+    let mid = record c.args.held.now { memory = c.make_room.new.memory } in
+    let here = stands_ready v (held_of c.args.held.now cached) x c.make_room.new.memory stands in
     let ready = c.in_ok-next.ensures.ok x cached here in
     let laid = c.settle.ensures.trail x _ ready.computed in (
       one_trail ShowsTable (g.D.Disk.view c.prepare_next.new.disk) (g.D.Disk.view c.settle.new.disk) _ _ c.settle.ensures.time
@@ -112,15 +119,15 @@ returns-in_err-settle-clause-time g c = passes_trans (c.prepare_next.ensures.ima
 pub returns-clause-ok : goal.returns-clause-ok
 returns-clause-ok g c = λ x cached stands.
     let v = g.D.Disk.view c.args.disk.now in
-    let mid = record c.args.held.now { memory = c.prepare.new.self } in
-    let here = stands_ready v (held_of c.args.held.now cached) x c.prepare.new.self stands in
-    let whole = consistent_ready (held_of c.args.held.now cached) (Some c.args.held.now.sb.mem) c.prepare.new.self c.in_ok-prepare.ensures.ok (c.requires.kept cached) in
+    let mid = record c.args.held.now { memory = c.make_room.new.memory } in
+    let here = stands_ready v (held_of c.args.held.now cached) x c.make_room.new.memory stands in
+    let whole = consistent_ready (held_of c.args.held.now cached) c.make_room.new.memory.ready c.make_room.new.memory.cursors.room c.make_room.new.memory c.make_room.ensures.same (c.requires.kept cached) in
     let ready = c.in_ok-next.ensures.ok x cached here in
     let next = c.in_ok-next.next in
     let front = subst (λ (n : ℕ). TearsBlocks (is_in_front n) (g.D.Disk.view c.prepare_next.new.disk) (g.D.Disk.view c.settle.new.disk)) whole.log.mem c.settle.ensures.images in
     subst (λ (h : Held). IsPublishedAs (g.D.Disk.view c.settle.new.disk) x h × CountsWritten (manifest_of c.args.held.now.published.manifest) h.chained.manifest)
     (sym (c.in_ok-settle.ensures.ok cached)) (
-      published_as v (g.D.Disk.view c.prepare_next.new.disk) (g.D.Disk.view c.settle.new.disk) (held_of mid cached) x (super_of next.sb) (chained_of next.published) next.published.levels
+      published_as v (g.D.Disk.view c.prepare_next.new.disk) (g.D.Disk.view c.settle.new.disk) (held_of mid cached) x next.target (super_of next.sb) (chained_of next.published) next.published.levels
           whole here (c.prepare_next.ensures.images cached) ready front (c.in_ok-settle.ensures.kept x _ ready.computed),
       counts_next (g.D.Disk.view c.prepare_next.new.disk) (held_of mid cached) x whole here.held (super_of next.sb) (chained_of next.published) ready,
     )
@@ -128,8 +135,8 @@ returns-clause-ok g c = λ x cached stands.
 pub returns-clause-trail : goal.returns-clause-trail
 returns-clause-trail g c = λ x cached stands.
     let v = g.D.Disk.view c.args.disk.now in
-    let mid = record c.args.held.now { memory = c.prepare.new.self } in
-    let here = stands_ready v (held_of c.args.held.now cached) x c.prepare.new.self stands in
+    let mid = record c.args.held.now { memory = c.make_room.new.memory } in
+    let here = stands_ready v (held_of c.args.held.now cached) x c.make_room.new.memory stands in
     let ready = c.in_ok-next.ensures.ok x cached here in
     let laid = c.settle.ensures.trail x _ ready.computed in (
       one_trail ShowsTable (g.D.Disk.view c.prepare_next.new.disk) (g.D.Disk.view c.settle.new.disk) _ _ c.settle.ensures.time
@@ -141,56 +148,121 @@ returns-clause-trail g c = λ x cached stands.
 
 pub returns-clause-kept : goal.returns-clause-kept
 returns-clause-kept g c = λ _ cached.
-    let mid = record c.args.held.now { memory = c.prepare.new.self } in
-    let whole = consistent_ready (held_of c.args.held.now cached) (Some c.args.held.now.sb.mem) c.prepare.new.self c.in_ok-prepare.ensures.ok (c.requires.kept cached) in
+    let mid = record c.args.held.now { memory = c.make_room.new.memory } in
+    let whole = consistent_ready (held_of c.args.held.now cached) c.make_room.new.memory.ready c.make_room.new.memory.cursors.room c.make_room.new.memory c.make_room.ensures.same (c.requires.kept cached) in
     let next = c.in_ok-next.next in
     let admitted = c.in_ok-next.ensures.kept in
     subst IsConsistent (sym (c.in_ok-settle.ensures.ok cached))
-    (consistent_next (held_of mid cached) (super_of next.sb) (chained_of next.published) next.published.levels whole (c.in_ok-next.ensures.fits cached) admitted.spelled admitted.belonging admitted.placed)
+    (consistent_next (held_of mid cached) next.target (super_of next.sb) (chained_of next.published) next.published.levels whole (c.in_ok-next.ensures.fits cached) c.in_ok-next.ensures.found admitted.spelled admitted.belonging admitted.placed)
 
 pub returns-clause-time : goal.returns-clause-time
 returns-clause-time g c = passes_trans (c.prepare_next.ensures.images (empty_cache 0)).tears.time c.settle.ensures.time
 
 pub returns-clause-found : goal.returns-clause-found
 returns-clause-found g c =
-    let all = c.in_ok-settle.ensures.ok (empty_cache 0) in (
+    let all = c.in_ok-settle.ensures.ok (empty_cache 0) in
+    let m = c.make_room.new.memory in
+    let target = c.in_ok-next.next.target in
+    let same = c.make_room.ensures.same in
+    let memory = ap (λ (h : Held). h.memory) all in (
       ap (λ (h : Held). h.slot) all,
-      published_after (super_of c.args.held.now.sb) _ _ (manifest_of c.args.held.now.published.manifest) _ _ c.args.held.now.memory c.prepare.new.self (Some c.args.held.now.sb.mem)
-          c.in_ok-prepare.ensures.ok (ap (λ (h : Held). h.sb) all) (ap (λ (h : Held). h.chained.manifest) all) c.in_ok-next.ensures.found,
+      published_after target (super_of c.args.held.now.sb) _ _ (manifest_of c.args.held.now.published.manifest) _ _ c.args.held.now.memory m _ m.ready m.cursors.room
+          same (ap (λ (h : Held). h.sb) all) (ap (λ (h : Held). h.chained.manifest) all) memory c.in_ok-next.ensures.found,
       ap (λ (h : Held). h.log.list) all,
-      ap (λ (h : Held). h.memory) all ∙ ap (λ (m : Memory). emptied c.args.held.now.sb.mem m) c.in_ok-prepare.ensures.ok,
+      emptied_next c.args.held.now.sb.mem (arrays_taken target (manifest_of c.args.held.now.published.manifest)) c.args.held.now.memory m _ m.ready m.cursors.room memory same,
     )
 
-pub returns-in_err-prepare-clause-end : goal.returns-in_err-prepare-clause-end
-returns-in_err-prepare-clause-end g c = λ other cached on.
-    kept_on (g.D.Disk.view c.args.disk.now) (held_of c.args.held.now cached) (held_of (record c.args.held.now { memory = c.prepare.new.self }) cached) (record { slot = refl; sb = refl; chained = refl; levels = refl }) on
+pub returns-in_err-make_room-clause-end : goal.returns-in_err-make_room-clause-end
+returns-in_err-make_room-clause-end g c = λ other cached on.
+    kept_on (g.D.Disk.view c.args.disk.now) (held_of c.args.held.now cached) (held_of (record c.args.held.now { memory = c.make_room.new.memory }) cached) (record { slot = refl; sb = refl; chained = refl; levels = refl }) on
 
 pub returns-in_err-next-clause-end : goal.returns-in_err-next-clause-end
 returns-in_err-next-clause-end g c = λ other cached on.
-    let mid = record c.args.held.now { memory = c.prepare.new.self } in
+    let mid = record c.args.held.now { memory = c.make_room.new.memory } in
     beside_on (g.D.Disk.view c.args.disk.now) (g.D.Disk.view c.prepare_next.new.disk) (held_of mid cached) (c.prepare_next.ensures.images cached)
     (kept_on (g.D.Disk.view c.args.disk.now) (held_of c.args.held.now cached) (held_of mid cached) (record { slot = refl; sb = refl; chained = refl; levels = refl }) on)
 
 pub returns-clause-end : goal.returns-clause-end
 returns-clause-end g c = λ other cached on.
     let v = g.D.Disk.view c.args.disk.now in
-    let mid = record c.args.held.now { memory = c.prepare.new.self } in
-    let whole = consistent_ready (held_of c.args.held.now cached) (Some c.args.held.now.sb.mem) c.prepare.new.self c.in_ok-prepare.ensures.ok (c.requires.kept cached) in
+    let mid = record c.args.held.now { memory = c.make_room.new.memory } in
+    let whole = consistent_ready (held_of c.args.held.now cached) c.make_room.new.memory.ready c.make_room.new.memory.cursors.room c.make_room.new.memory c.make_room.ensures.same (c.requires.kept cached) in
     let next = c.in_ok-next.next in
     let found = c.in_ok-next.ensures.found in
     let greater : c.args.held.now.sb.generation < next.sb.generation = omega (arith, ap (λ (sb : Super). sb.generation) found.sb_is) in
     subst (λ (h : Held). IsOnDisk (g.D.Disk.view c.settle.new.disk) h) (sym (c.in_ok-settle.ensures.ok cached))
-    (published_on v (g.D.Disk.view c.prepare_next.new.disk) (g.D.Disk.view c.settle.new.disk) (held_of mid cached) (super_of next.sb) (chained_of next.published) next.published.levels
+    (published_on v (g.D.Disk.view c.prepare_next.new.disk) (g.D.Disk.view c.settle.new.disk) (held_of mid cached) next.target (super_of next.sb) (chained_of next.published) next.published.levels
     whole (c.prepare_next.ensures.images cached) c.in_ok-next.ensures.end (g.met.D.Disk.leaves_content c.prepare_next.new.disk) c.in_ok-settle.ensures.end c.settle.ensures.time
     greater (c.in_ok-next.ensures.fits cached).mem c.in_ok-next.ensures.kept.belonging
     (kept_on v (held_of c.args.held.now cached) (held_of mid cached) (record { slot = refl; sb = refl; chained = refl; levels = refl }) on))
 
+pub returns-in_err-make_room-clause-same : goal.returns-in_err-make_room-clause-same
+returns-in_err-make_room-clause-same g c =
+    let m = c.make_room.new.memory in
+    let same = c.make_room.ensures.same in (
+      refl,
+      ap (λ (k : Memory). k.parents) same,
+      λ short. refl,
+      on_err c.from_residual-in_err-make_room.result _
+          (λ cached. (record { slot = refl; sb = refl; chained = refl; levels = refl }, cursors_ready c.args.held.now.memory m m.ready m.cursors.room same)),
+    )
+
+pub returns-in_err-next-clause-same : goal.returns-in_err-next-clause-same
+returns-in_err-next-clause-same g c =
+    let m = c.make_room.new.memory in
+    let same = c.make_room.ensures.same in (
+      refl,
+      ap (λ (k : Memory). k.parents) same,
+      λ short. refl,
+      on_err c.from_residual-in_err-next.result _
+          (λ cached. (record { slot = refl; sb = refl; chained = refl; levels = refl }, cursors_ready c.args.held.now.memory m m.ready m.cursors.room same)),
+    )
+
 pub returns-in_err-settle-clause-same : goal.returns-in_err-settle-clause-same
-returns-in_err-settle-clause-same g c = (
-  c.settle.ensures.same,
-  λ short.
-      let p = err_from_is_err_and c.from_residual-in_err-settle.result c.from_residual-in_err-settle.ensures.1 in
-      absurd (device_short c.from_residual-in_err-settle.result p.0 p.1 p.2 short),
-  on_err c.from_residual-in_err-settle.result _
-      (λ cached. let same = c.in_err-settle.ensures.err cached in record { slot = same.slot; sb = same.sb; chained = same.chained; levels = same.levels }),
-)
+returns-in_err-settle-clause-same g c =
+    let m = c.make_room.new.memory in
+    let told = c.in_err-settle.ensures.err in
+    let same = told.0 ∙ c.make_room.ensures.same in (
+      c.settle.ensures.same,
+      ap (λ (k : Memory). k.parents) same,
+      λ short.
+          let p = err_from_is_err_and c.from_residual-in_err-settle.result c.from_residual-in_err-settle.ensures.1 in
+          absurd (device_short c.from_residual-in_err-settle.result p.0 p.1 p.2 short),
+      on_err c.from_residual-in_err-settle.result _
+          (λ cached.
+          let keeps = told.1 cached in
+          (record { slot = keeps.slot; sb = keeps.sb; chained = keeps.chained; levels = keeps.levels }, cursors_ready c.args.held.now.memory _ m.ready m.cursors.room same)),
+    )
+
+pub returns-clause-same : goal.returns-clause-same
+returns-clause-same g c =
+    let all = c.in_ok-settle.ensures.ok (empty_cache 0) in
+    (c.settle.ensures.same, ap (λ (h : Held). h.memory.parents) all ∙ ap (λ (k : Memory). k.parents) c.make_room.ensures.same, λ short. absurd (cc), tt)
+
+pub returns-in_err-make_room-clause-images : goal.returns-in_err-make_room-clause-images
+returns-in_err-make_room-clause-images g c = λ f h was now. agree_once (g.D.Disk.view c.args.disk.now) f h _ was now
+
+pub returns-in_err-next-clause-images : goal.returns-in_err-next-clause-images
+returns-in_err-next-clause-images g c = λ f h was now.
+    let m = c.make_room.new.memory in
+    let mid = record c.args.held.now { memory = m } in
+    agree_ready c.args.held.now.memory m m.ready m.cursors.room c.args.held.now.published.levels f h c.make_room.ensures.same
+    (arrays_kept (g.D.Disk.view c.args.disk.now) (g.D.Disk.view c.prepare_next.new.disk) (held_of mid (empty_cache 0)) (c.prepare_next.ensures.images (empty_cache 0)) (c.requires.kept (empty_cache 0)).placed f h was now)
+
+pub returns-in_err-settle-clause-images : goal.returns-in_err-settle-clause-images
+returns-in_err-settle-clause-images g c = λ f h was now.
+    let m = c.make_room.new.memory in
+    let mid = record c.args.held.now { memory = m } in
+    let whole = consistent_ready (held_of c.args.held.now (empty_cache 0)) m.ready m.cursors.room m c.make_room.ensures.same (c.requires.kept (empty_cache 0)) in
+    agree_ready c.args.held.now.memory m m.ready m.cursors.room c.args.held.now.published.levels f h c.make_room.ensures.same
+    (arrays_stay (g.D.Disk.view c.args.disk.now) (g.D.Disk.view c.prepare_next.new.disk) (g.D.Disk.view c.settle.new.disk) (held_of mid (empty_cache 0)) c.args.held.now.journal.mem whole whole.log.mem
+    (c.prepare_next.ensures.images (empty_cache 0)) c.settle.ensures.images f h was now)
+
+pub returns-clause-images : goal.returns-clause-images
+returns-clause-images g c = λ f h was now.
+    let m = c.make_room.new.memory in
+    let mid = record c.args.held.now { memory = m } in
+    let whole = consistent_ready (held_of c.args.held.now (empty_cache 0)) m.ready m.cursors.room m c.make_room.ensures.same (c.requires.kept (empty_cache 0)) in
+    agree_ready c.args.held.now.memory m m.ready m.cursors.room c.args.held.now.published.levels f h c.make_room.ensures.same
+    (arrays_stay (g.D.Disk.view c.args.disk.now) (g.D.Disk.view c.prepare_next.new.disk) (g.D.Disk.view c.settle.new.disk) (held_of mid (empty_cache 0)) c.args.held.now.journal.mem whole whole.log.mem
+    (c.prepare_next.ensures.images (empty_cache 0)) c.settle.ensures.images f h was now)
