@@ -1,9 +1,9 @@
 -- Where a run begins.
-use Rattle.std.proofs.Common.{◌≡◌, ℕ, List, [], Option, Some, length, sym, ap, subst, ◌∙◌}
+use Rattle.std.proofs.Common.{◌≡◌, ℕ, [], Option, Some, length, sym, ap, subst, ◌∙◌}
 use Rattle.std.specs.Prelude.{Contains, Ok}
 use Rattle.strat_crash.specs.Image.{Image}
 use Rattle.strat_crash.specs.Moments.{DiskView}
-use Rattle.strat_cursor.specs.Held.{HeldCursor, HeldCursors, AreRowsOf, no_cursors}
+use Rattle.strat_cursor.specs.Held.{HeldCursors, AreRowsOf, no_cursors}
 use Rattle.strat_format.specs.Damage.{Read}
 use Rattle.strat_model.specs.Run.{Position}
 use Rattle.strat_model.specs.Table.{Table}

@@ -1,5 +1,5 @@
 -- The arrays that a store holds were in manifests on the disk while a run went on.
-use Rattle.std.proofs.Common.{◌≡◌, ◌≤◌, ℕ, inl, inr, List, [], ap, subst, arith}
+use Rattle.std.proofs.Common.{◌≡◌, ◌≤◌, inl, inr, List, [], ap, subst, arith}
 use Rattle.std.specs.Prelude.{Contains, IfSome, flat_map}
 use Rattle.std.proofs.lemmas.List.Elements.{Contains-append_cases}
 use Rattle.strat_base.specs.declared.descriptors.ArrayDesc.{ArrayDesc}
