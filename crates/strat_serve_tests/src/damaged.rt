@@ -7,7 +7,7 @@ use std::alloc::Global;
 use strat_base::PairBuf;
 use strat_disk::MemDisk;
 use strat_io::{MemSink, MemSource};
-use strat_model::{Command, Ended, Reply};
+use strat_model::{Command, Ended};
 use strat_serve::serve;
 use strat_store::Store;
 
@@ -70,7 +70,7 @@ fn a_damaged_block_is_told_of(rt: HostRuntime) {
     assert!(rt; is_told(rt.alloc(), &mut disk));
 }
 
-/// Whether an open store names the block that was altered behind its back, and is spent.
+/// Whether an open store names the block that was altered behind its back, and is spent: for a get, a scan, and a cursor.
 fn is_blamed(alloc: Global, disk: &mut MemDisk) -> Option<bool> {
     let get = command(Script::LookThirteen, 0);
     let scan = Command::Scan {
@@ -79,26 +79,6 @@ fn is_blamed(alloc: Global, disk: &mut MemDisk) -> Option<bool> {
         hi: b"k02",
         limit: 1,
     };
-    Some(
-        say_entries(disk, 0)
-            && blames_block_7(alloc, disk, &get)?
-            && blames_block_7(alloc, disk, &scan)?
-            && blames_block_7_to_a_cursor(alloc, disk)?,
-    )
-}
-
-/// Whether a store that is opened names block 7 as it is asked for this, and is spent.
-fn blames_block_7(alloc: Global, disk: &mut MemDisk, command: &Command<'_>) -> Option<bool> {
-    let mut store = Store::attach(alloc, disk).ok()?;
-    let mut out = PairBuf::new(alloc).ok()?;
-    let blamed = block_blamed(&mut store, disk, &mut out, command);
-    Some(blamed == Some(7) && store.is_spent())
-}
-
-/// Whether one names it as a cursor that was opened before reads it, and is spent.
-fn blames_block_7_to_a_cursor(alloc: Global, disk: &mut MemDisk) -> Option<bool> {
-    let mut store = Store::attach(alloc, disk).ok()?;
-    let mut out = PairBuf::new(alloc).ok()?;
     let open = Command::OpenCursor {
         version: 0,
         lo: b"",
@@ -108,9 +88,26 @@ fn blames_block_7_to_a_cursor(alloc: Global, disk: &mut MemDisk) -> Option<bool>
         cursor: 1,
         limit: 1,
     };
-    let opened = told(&mut store, disk, &mut out, &open);
-    let blamed = block_blamed(&mut store, disk, &mut out, &next);
-    Some(opened == Some(Reply::Opened { cursor: 1 }) && blamed == Some(7) && store.is_spent())
+    Some(
+        say_entries(disk, 0)
+            && blames_block_7(alloc, disk, &Command::Stat, &get)?
+            && blames_block_7(alloc, disk, &Command::Stat, &scan)?
+            && blames_block_7(alloc, disk, &open, &next)?,
+    )
+}
+
+/// Whether a store that is opened and takes one command names block 7 as it is asked for another, and is spent.
+fn blames_block_7(
+    alloc: Global,
+    disk: &mut MemDisk,
+    first: &Command<'_>,
+    second: &Command<'_>,
+) -> Option<bool> {
+    let mut store = Store::attach(alloc, disk).ok()?;
+    let mut out = PairBuf::new(alloc).ok()?;
+    let taken = told(&mut store, disk, &mut out, first);
+    let blamed = block_blamed(&mut store, disk, &mut out, second);
+    Some(taken.is_some() && blamed == Some(7) && store.is_spent())
 }
 
 #[test]
