@@ -11,16 +11,15 @@ use Rattle.strat_model.specs.declared.replies.Refusal.TheVariants as why
 use Rattle.strat_model.specs.Answer.{refusal}
 use Rattle.strat_model.specs.Request.{Request, Put, Delete, Get, Clone, Scan, Info, OpenCursor, NextPairs, CloseCursor, Stat}
 use Rattle.strat_model.specs.Run.{Position, Response, Answers, position_after}
-use Rattle.strat_model.specs.Spelling.{counted, command_bytes, command_body, is_built, size_refusal, FitsFields, HasForm, Spells, IsMalformed, HasUnlawfulSize, IsRefusedAs, tag_of}
+use Rattle.strat_model.specs.Spelling.{counted, command_bytes, command_body, size_refusal, FitsFields, HasForm, Spells, IsMalformed, HasUnlawfulSize, IsRefusedAs, tag_of}
 use Rattle.strat_model.specs.Step.{step}
-use Rattle.strat_frame.specs.Fields.{number_then, sole_number, version_key_in, version_pair_in, version_range_in, request_in, command_in}
-use Rattle.strat_frame.proofs.FieldLemmas.{bind_some, map_some, either_arm, no_arm, front_parts, ReadsAll, number_reads, word_reads, sole_reads, version_key_reads, version_pair_reads, version_range_reads}
+use Rattle.strat_frame.specs.Fields.{number_then, sole_number, sole_long, cursor_limit_in, version_key_in, version_pair_in, version_range_in, request_in, command_in}
+use Rattle.strat_frame.proofs.FieldLemmas.{bind_some, map_some, either_arm, no_arm, front_parts, ReadsAll, number_reads, word_reads, sole_reads, sole_long_reads, cursor_limit_reads, version_key_reads, version_pair_reads, version_range_reads}
 
 -- a command whose opcode and fields these are
 record IsRequest (opcode : ℕ) (fields : List ℕ) (request : Request) : Type 0 where
   pub text : opcode ∷ fields ≡ command_bytes request
   pub fits : FitsFields request
-  pub built : is_built request ≡ true
 
 -- the commands of one opcode
 by_fields : {X : Type 0} (code : ℕ) (make : X → Request) (read : List ℕ → Option X) (text : X → List ℕ) (Fits : X → Type 0) → ReadsAll X read text Fits
@@ -40,25 +39,31 @@ no_fields opcode fields test request e =
     let nothing : fields ≡ [] = nil_from_length fields (eqb-true (length fields) 0 g.0) in
     subst (λ (n : ℕ). IsRequest n fields request) (sym (eqb-true opcode 10 test))
     (subst (λ (f : List ℕ). IsRequest 10 f request) (sym nothing)
-    (subst (λ (r : Request). IsRequest 10 [] r) g.1 (record { text = refl; fits = tt; built = refl })))
+    (subst (λ (r : Request). IsRequest 10 [] r) g.1 (record { text = refl; fits = tt })))
 
 request_takes : (opcode : ℕ) (fields : List ℕ) → AreBytes fields → (request : Request) → request_in opcode fields ≡ Some request → IsRequest opcode fields request
 unfolding request_in
 request_takes opcode fields bytes =
     let Is : Request → Type 0 = λ (r : Request). IsRequest opcode fields r in
     either_arm Is (eqb opcode 1) _ _
-    (by_fields 1 (λ x. Put x.0.0 x.0.1 x.1) version_pair_in _ _ version_pair_reads (λ x f. record { text = refl; fits = (f.0.0, f.0.1, f.1); built = refl }) opcode fields bytes)
+    (by_fields 1 (λ x. Put x.0.0 x.0.1 x.1) version_pair_in _ _ version_pair_reads (λ x f. record { text = refl; fits = (f.0.0, f.0.1, f.1) }) opcode fields bytes)
     (either_arm Is (eqb opcode 2) _ _
-    (by_fields 2 (λ x. Delete x.0 x.1) version_key_in _ _ version_key_reads (λ x f. record { text = refl; fits = f; built = refl }) opcode fields bytes)
+    (by_fields 2 (λ x. Delete x.0 x.1) version_key_in _ _ version_key_reads (λ x f. record { text = refl; fits = f }) opcode fields bytes)
     (either_arm Is (eqb opcode 3) _ _
-    (by_fields 3 (λ x. Get x.0 x.1) version_key_in _ _ version_key_reads (λ x f. record { text = refl; fits = f; built = refl }) opcode fields bytes)
+    (by_fields 3 (λ x. Get x.0 x.1) version_key_in _ _ version_key_reads (λ x f. record { text = refl; fits = f }) opcode fields bytes)
     (either_arm Is (eqb opcode 4) _ _
-    (by_fields 4 Clone sole_number _ _ sole_reads (λ x f. record { text = refl; fits = f; built = refl }) opcode fields bytes)
+    (by_fields 4 Clone sole_number _ _ sole_reads (λ x f. record { text = refl; fits = f }) opcode fields bytes)
     (either_arm Is (eqb opcode 5) _ _
-    (by_fields 5 (λ x. Scan x.0.0.0 x.0.0.1 x.0.1 x.1) version_range_in _ _ version_range_reads (λ x f. record { text = refl; fits = (f.0.0.0, f.0.0.1, f.0.1, f.1); built = refl }) opcode fields bytes)
+    (by_fields 5 (λ x. Scan x.0.0.0 x.0.0.1 x.0.1 x.1) version_range_in _ _ version_range_reads (λ x f. record { text = refl; fits = (f.0.0.0, f.0.0.1, f.0.1, f.1) }) opcode fields bytes)
     (either_arm Is (eqb opcode 6) _ _
-    (by_fields 6 Info sole_number _ _ sole_reads (λ x f. record { text = refl; fits = f; built = refl }) opcode fields bytes)
-    (either_arm Is (eqb opcode 10) _ _ (no_fields opcode fields) (no_arm Is)))))))
+    (by_fields 6 Info sole_number _ _ sole_reads (λ x f. record { text = refl; fits = f }) opcode fields bytes)
+    (either_arm Is (eqb opcode 7) _ _
+    (by_fields 7 (λ x. OpenCursor x.0.0 x.0.1 x.1) version_pair_in _ _ version_pair_reads (λ x f. record { text = refl; fits = (f.0.0, f.0.1, f.1) }) opcode fields bytes)
+    (either_arm Is (eqb opcode 8) _ _
+    (by_fields 8 (λ x. NextPairs x.0 x.1) cursor_limit_in _ _ cursor_limit_reads (λ x f. record { text = refl; fits = f }) opcode fields bytes)
+    (either_arm Is (eqb opcode 9) _ _
+    (by_fields 9 CloseCursor sole_long _ _ sole_long_reads (λ x f. record { text = refl; fits = f }) opcode fields bytes)
+    (either_arm Is (eqb opcode 10) _ _ (no_fields opcode fields) (no_arm Is))))))))))
 
 -- what is read is spelled so
 pub command_takes : (body : List ℕ) (tag : ℕ) (request : Request) → AreBytes body → command_in body ≡ Some (tag, request) → HasForm body tag request
@@ -71,7 +76,7 @@ command_takes body tag request fits e =
     let t1 = (number_reads 1 be-number_1).takes a.0.1 b.0.0 b.0.1 t0.1 b.1 in
     let is = request_takes b.0.0 b.0.1 t1.1 d.0 d.1 in
     let text = front_parts body a.0.1 b.0.1 (command_bytes d.0) a.0.0 b.0.0 t0.0 t1.0 t1.2 is.text in
-    let made : HasForm body a.0.0 d.0 = record { text = text; tag_fits = t0.2; fits = is.fits; built = is.built } in
+    let made : HasForm body a.0.0 d.0 = record { text = text; tag_fits = t0.2; fits = is.fits } in
     subst (λ (x : ℕ × Request). HasForm body x.0 x.1) (same_Some (a.0.0, d.0) (tag, request) d.2) made
 
 -- a tag and an opcode in front of fields
@@ -82,32 +87,37 @@ front_again tag opcode fields request tag_fits opcode_fits e =
     rw (word_reads.again tag (opcode ∷ fields) tag_fits) (rw byte (rw ((number_reads 1 be-number_1).again opcode fields opcode_fits, e) refl))
 
 -- what is spelled so is read
-command_again : (tag : ℕ) (request : Request) → tag < 2 ^ 32 → FitsFields request → is_built request ≡ true → command_in (command_body tag request) ≡ Some (tag, request)
+command_again : (tag : ℕ) (request : Request) → tag < 2 ^ 32 → FitsFields request → command_in (command_body tag request) ≡ Some (tag, request)
 unfolding request_in
-command_again tag (Put version key value) tag_fits fits built =
+command_again tag (Put version key value) tag_fits fits =
     front_again tag 1 ((be 4 version ++ counted key) ++ counted value) (Put version key value) tag_fits (omega arith)
     (ap (option_map (λ (x : (ℕ × List ℕ) × List ℕ). Put x.0.0 x.0.1 x.1)) (version_pair_reads.again ((version, key), value) ((fits.0, fits.1), fits.2)))
-command_again tag (Delete version key) tag_fits fits built =
+command_again tag (Delete version key) tag_fits fits =
     front_again tag 2 (be 4 version ++ counted key) (Delete version key) tag_fits (omega arith)
     (ap (option_map (λ (x : ℕ × List ℕ). Delete x.0 x.1)) (version_key_reads.again (version, key) fits))
-command_again tag (Get version key) tag_fits fits built =
+command_again tag (Get version key) tag_fits fits =
     front_again tag 3 (be 4 version ++ counted key) (Get version key) tag_fits (omega arith)
     (ap (option_map (λ (x : ℕ × List ℕ). Get x.0 x.1)) (version_key_reads.again (version, key) fits))
-command_again tag (Clone version) tag_fits fits built =
+command_again tag (Clone version) tag_fits fits =
     front_again tag 4 (be 4 version) (Clone version) tag_fits (omega arith) (ap (option_map Clone) (sole_reads.again version fits))
-command_again tag (Info version) tag_fits fits built =
+command_again tag (Info version) tag_fits fits =
     front_again tag 6 (be 4 version) (Info version) tag_fits (omega arith) (ap (option_map Info) (sole_reads.again version fits))
-command_again tag Stat tag_fits fits built = front_again tag 10 [] Stat tag_fits (omega arith) refl
-command_again tag (Scan version lo hi limit) tag_fits fits built =
+command_again tag Stat tag_fits fits = front_again tag 10 [] Stat tag_fits (omega arith) refl
+command_again tag (Scan version lo hi limit) tag_fits fits =
     front_again tag 5 (((be 4 version ++ counted lo) ++ counted hi) ++ be 2 limit) (Scan version lo hi limit) tag_fits (omega arith)
     (ap (option_map (λ (x : ((ℕ × List ℕ) × List ℕ) × ℕ). Scan x.0.0.0 x.0.0.1 x.0.1 x.1)) (version_range_reads.again (((version, lo), hi), limit) (((fits.0, fits.1), fits.2), fits.3)))
-command_again tag (OpenCursor version lo hi) tag_fits fits built = absurd cc
-command_again tag (NextPairs cursor limit) tag_fits fits built = absurd cc
-command_again tag (CloseCursor cursor) tag_fits fits built = absurd cc
+command_again tag (OpenCursor version lo hi) tag_fits fits =
+    front_again tag 7 ((be 4 version ++ counted lo) ++ counted hi) (OpenCursor version lo hi) tag_fits (omega arith)
+    (ap (option_map (λ (x : (ℕ × List ℕ) × List ℕ). OpenCursor x.0.0 x.0.1 x.1)) (version_pair_reads.again ((version, lo), hi) ((fits.0, fits.1), fits.2)))
+command_again tag (NextPairs cursor limit) tag_fits fits =
+    front_again tag 8 (be 8 cursor ++ be 2 limit) (NextPairs cursor limit) tag_fits (omega arith)
+    (ap (option_map (λ (x : ℕ × ℕ). NextPairs x.0 x.1)) (cursor_limit_reads.again (cursor, limit) fits))
+command_again tag (CloseCursor cursor) tag_fits fits =
+    front_again tag 9 (be 8 cursor) (CloseCursor cursor) tag_fits (omega arith) (ap (option_map CloseCursor) (sole_long_reads.again cursor fits))
 
 -- a body is read as the command whose form it has
 form_is_read : (body : List ℕ) (tag : ℕ) (request : Request) → HasForm body tag request → command_in body ≡ Some (tag, request)
-form_is_read body tag request is = ap command_in is.text ∙ command_again tag request is.tag_fits is.fits is.built
+form_is_read body tag request is = ap command_in is.text ∙ command_again tag request is.tag_fits is.fits
 
 -- what is not read has the form of no command
 none_read : (body : List ℕ) (tag : ℕ) (request : Request) → command_in body ≡ None → HasForm body tag request → ⊥

@@ -5,9 +5,9 @@ use Rattle.std.proofs.lemmas.List.{take_at, drop_at, take-append-drop, append-ni
 use Rattle.std.proofs.lemmas.Option.{cond_some, same_Some}
 use Rattle.std.specs.Option.{option_and_then, option_map}
 use Rattle.strat_base.specs.Numbers.{be, number, AreBytes}
-use Rattle.strat_base.proofs.NumberLemmas.{length-be, number-be, number-lt, AreBytes-drop, be-number_2, be-number_4}
+use Rattle.strat_base.proofs.NumberLemmas.{length-be, number-be, number-lt, AreBytes-drop, be-number_2, be-number_4, be-number_8}
 use Rattle.strat_model.specs.Spelling.{counted, FitsCount}
-use Rattle.strat_frame.specs.Fields.{Reader, number_then, counted_then, both, all_of, sole_number, version_key_in, version_pair_in, version_range_in}
+use Rattle.strat_frame.specs.Fields.{Reader, number_then, counted_then, both, all_of, sole_number, sole_long, cursor_limit_in, version_key_in, version_pair_in, version_range_in}
 
 -- the value of a step that found one
 pub bind_some : {A B : Type 0} (f : A → Option B) (o : Option A) (y : B) → option_and_then f o ≡ Some y → (x : A) × (o ≡ Some x) × (f x ≡ Some y)
@@ -30,7 +30,7 @@ pub no_arm : {A : Type 0} (P : A → Type 0) (y : A) → ◌≡◌ {A = Option A
 no_arm P y e = absurd cc
 
 -- two texts one after the other
-two_parts : (bytes first after second rest : List ℕ) → bytes ≡ first ++ after → after ≡ second ++ rest → bytes ≡ (first ++ second) ++ rest
+pub two_parts : (bytes first after second rest : List ℕ) → bytes ≡ first ++ after → after ≡ second ++ rest → bytes ≡ (first ++ second) ++ rest
 two_parts bytes first after second rest e f = e ∙ ap (λ (x : List ℕ). first ++ x) f ∙ sym (append_assoc first second rest)
 
 -- a text behind which nothing stands
@@ -137,6 +137,22 @@ pub sole_reads : ReadsAll ℕ sole_number (be 4) (λ n. n < 2 ^ 32)
 unfolding sole_number
 sole_reads = all_read (number_then 4) (be 4) (λ n. n < 2 ^ 32) word_reads
 
+-- a number in eight bytes
+long_reads : Reads ℕ (number_then 8) (be 8) (λ n. n < 2 ^ 64)
+long_reads = number_reads 8 be-number_8
+
+-- a number in eight bytes and no others
+pub sole_long_reads : ReadsAll ℕ sole_long (be 8) (λ n. n < 2 ^ 64)
+unfolding sole_long
+sole_long_reads = all_read (number_then 8) (be 8) (λ n. n < 2 ^ 64) long_reads
+
+-- a cursor and a limit
+pub cursor_limit_reads : ReadsAll (ℕ × ℕ) cursor_limit_in (λ x. be 8 x.0 ++ be 2 x.1) (λ x. (x.0 < 2 ^ 64) × (x.1 < 2 ^ 16))
+unfolding cursor_limit_in
+cursor_limit_reads =
+    all_read (both (number_then 8) (number_then 2)) _ _
+    (both_read (number_then 8) (number_then 2) (be 8) (be 2) (λ n. n < 2 ^ 64) (λ n. n < 2 ^ 16) long_reads (number_reads 2 be-number_2))
+
 -- a version and a key
 version_key : Reads (ℕ × List ℕ) (both (number_then 4) counted_then) (λ x. be 4 x.0 ++ counted x.1) (λ x. (x.0 < 2 ^ 32) × FitsCount x.1)
 version_key = both_read (number_then 4) counted_then (be 4) counted (λ n. n < 2 ^ 32) FitsCount word_reads counted_reads
@@ -145,7 +161,7 @@ pub version_key_reads : ReadsAll (ℕ × List ℕ) version_key_in (λ x. be 4 x.
 unfolding version_key_in
 version_key_reads = all_read (both (number_then 4) counted_then) _ _ version_key
 
--- a version, a key and a value
+-- a version and two fields of bytes
 pub version_pair_reads : ReadsAll ((ℕ × List ℕ) × List ℕ) version_pair_in (λ x. (be 4 x.0.0 ++ counted x.0.1) ++ counted x.1)
     (λ x. ((x.0.0 < 2 ^ 32) × FitsCount x.0.1) × FitsCount x.1)
 unfolding version_pair_in

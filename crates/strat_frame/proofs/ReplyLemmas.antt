@@ -13,11 +13,12 @@ use Rattle.strat_model.specs.declared.replies.Refusal.{Refusal}
 use Rattle.strat_model.specs.declared.replies.Refusal.TheVariants as why
 use Rattle.strat_model.specs.Pairs.{Pairs}
 use Rattle.strat_model.specs.Answer.{Answer, plain, as_told}
-use Rattle.strat_model.specs.Spelling.{counted, flag, parent_bytes, status_byte, reply_fields, reply_body, is_given, FitsCount, FitsParent, FitsReply, FitsPairs, SpellsReply}
+use Rattle.strat_model.specs.Spelling.{counted, flag, parent_bytes, pair_bytes, status_byte, reply_fields, reply_body, FitsCount, FitsParent, FitsReply, FitsPairs, SpellsReply}
 use Rattle.std.specs.Prelude.{IfSome, IfNone}
 use Rattle.strat_base.specs.Finds.{Finds}
-use Rattle.strat_frame.specs.Fields.{number_then, counted_then, both, all_of, sole_number, parent_for, parent_then, flag_then, info_in, stat_in, refusal_in, simple_reply, plain_reply_in, reply_value_in, answer_in, reply_in}
-use Rattle.strat_frame.proofs.FieldLemmas.{bind_some, map_some, either_arm, no_arm, front_parts, Reads, ReadsAll, number_reads, word_reads, counted_reads, both_read, all_read, sole_reads}
+use Rattle.strat_frame.specs.Fields.{number_then, counted_then, both, all_of, sole_number, sole_long, parent_for, parent_then, flag_then, info_in, stat_in, refusal_in, simple_reply, plain_reply_in, reply_value_in, listed_then, page_in, answer_in, reply_in}
+use Rattle.strat_frame.proofs.FieldLemmas.{bind_some, map_some, either_arm, no_arm, front_parts, Reads, ReadsAll, number_reads, word_reads, counted_reads, both_read, all_read, sole_reads, sole_long_reads}
+use Rattle.strat_frame.proofs.PageLemmas.{IsListed, listed_reads}
 
 -- a parent is spelled by its number
 parent_text : (n : ℕ) → n < 2 ^ 32 → (be 4 n ≡ parent_bytes (parent_for n)) × FitsParent (parent_for n)
@@ -93,24 +94,23 @@ value_whole = all_read counted_then counted FitsCount counted_reads
 -- a reply without pairs whose status byte and fields these are
 record IsReply (status : ℕ) (fields : List ℕ) (r : Reply) : Type 0 where
   pub text : status ∷ fields ≡ status_byte r ∷ reply_fields r []
-  pub given : is_given r ≡ true
   pub fits : FitsReply r
   pub pairs_fit : FitsPairs r []
 
 -- such a reply without fields
 abbrev IsBare : Reply → Type 0
-IsBare r = (reply_fields r [] ≡ []) × (is_given r ≡ true) × FitsReply r × FitsPairs r []
+IsBare r = (reply_fields r [] ≡ []) × FitsReply r × FitsPairs r []
 
 bare_arm : (status : ℕ) (r : Reply) → IsBare r → eqb status (status_byte r) ≡ true → IsReply status [] r
-bare_arm status r is test = record { text = λ j. eqb-true status (status_byte r) test j ∷ sym is.0 j; given = is.1; fits = is.2; pairs_fit = is.3 }
+bare_arm status r is test = record { text = λ j. eqb-true status (status_byte r) test j ∷ sym is.0 j; fits = is.1; pairs_fit = is.2 }
 
 refusal_takes : (status : ℕ) (cause : Refusal) → refusal_in status ≡ Some cause → IsReply status [] (reply.Refused cause)
 unfolding refusal_in
 refusal_takes status =
-    arm why.UnknownVersion (refl, refl, tt, refl) _ (arm why.Frozen (refl, refl, tt, refl) _ (arm why.VersionLimit (refl, refl, tt, refl) _
-    (arm why.ChangeLimit (refl, refl, tt, refl) _ (arm why.Malformed (refl, refl, tt, refl) _ (arm why.KeySize (refl, refl, tt, refl) _
-    (arm why.ValueSize (refl, refl, tt, refl) _ (arm why.ScanSize (refl, refl, tt, refl) _ (arm why.FrameTooLong (refl, refl, tt, refl) _ (arm why.NoMemory (refl, refl, tt, refl) _
-    (arm why.DeviceFault (refl, refl, tt, refl) _ (no_arm Is)))))))))))
+    arm why.UnknownVersion (refl, tt, refl) _ (arm why.Frozen (refl, tt, refl) _ (arm why.UnknownCursor (refl, tt, refl) _ (arm why.VersionLimit (refl, tt, refl) _
+    (arm why.ChangeLimit (refl, tt, refl) _ (arm why.CursorLimit (refl, tt, refl) _ (arm why.Malformed (refl, tt, refl) _ (arm why.KeySize (refl, tt, refl) _
+    (arm why.ValueSize (refl, tt, refl) _ (arm why.ScanSize (refl, tt, refl) _ (arm why.FrameTooLong (refl, tt, refl) _ (arm why.NoMemory (refl, tt, refl) _
+    (arm why.DeviceFault (refl, tt, refl) _ (no_arm Is)))))))))))))
   where
     Is : Refusal → Type 0
     Is cause = IsReply status [] (reply.Refused cause)
@@ -122,7 +122,7 @@ refusal_takes status =
 simple_takes : (status : ℕ) (r : Reply) → simple_reply status ≡ Some r → IsReply status [] r
 unfolding simple_reply
 simple_takes status =
-    arm reply.Done (refl, refl, tt, refl) _ (arm reply.Absent (refl, refl, tt, refl) _ (λ r e.
+    arm reply.Done (refl, tt, refl) _ (arm reply.Absent (refl, tt, refl) _ (λ r e.
     let m = map_some reply.Refused (refusal_in status) r e in
     subst Is m.2 (refusal_takes status m.0 m.1)))
   where
@@ -149,27 +149,49 @@ unfolding plain_reply_in
 plain_takes status fields bytes =
     let Is : Reply → Type 0 = λ (r : Reply). IsReply status fields r in
     either_arm Is (eqb status 4) _ _
-    (by_status 4 (λ n. reply.Made n) sole_number _ _ sole_reads (λ n f. record { text = refl; given = refl; fits = f; pairs_fit = refl }) status fields bytes)
+    (by_status 4 (λ n. reply.Made n) sole_number _ _ sole_reads (λ n f. record { text = refl; fits = f; pairs_fit = refl }) status fields bytes)
     (either_arm Is (eqb status 5) _ _
-    (by_status 5 (λ x. reply.Info x.0.0 x.0.1 x.1) info_in _ _ info_reads (λ x f. record { text = refl; given = refl; fits = (f.0.0, f.0.1); pairs_fit = refl }) status fields bytes)
+    (by_status 5 (λ x. reply.Info x.0.0 x.0.1 x.1) info_in _ _ info_reads (λ x f. record { text = refl; fits = (f.0.0, f.0.1); pairs_fit = refl }) status fields bytes)
+    (either_arm Is (eqb status 6) _ _
+    (by_status 6 (λ n. reply.Opened n) sole_long _ _ sole_long_reads (λ n f. record { text = refl; fits = f; pairs_fit = refl }) status fields bytes)
     (either_arm Is (eqb status 7) _ _
     (by_status 7 (λ x. reply.Stat x.0.0.0 x.0.0.1 x.0.1 x.1) stat_in _ _ stat_reads
-    (λ x f. record { text = refl; given = refl; fits = (f.0.0.0, f.0.0.1, f.0.1, f.1); pairs_fit = refl }) status fields bytes)
+    (λ x f. record { text = refl; fits = (f.0.0.0, f.0.0.1, f.0.1, f.1); pairs_fit = refl }) status fields bytes)
     (either_arm Is (eqb status 34) _ _
-    (by_status 34 (λ n. reply.Refused (why.Damaged n)) sole_number _ _ sole_reads (λ n f. record { text = refl; given = refl; fits = f; pairs_fit = refl }) status fields bytes)
+    (by_status 34 (λ n. reply.Refused (why.Damaged n)) sole_number _ _ sole_reads (λ n f. record { text = refl; fits = f; pairs_fit = refl }) status fields bytes)
     (either_arm Is (eqb (length fields) 0) _ _
     (λ test r e. subst (λ (f : List ℕ). IsReply status f r) (sym (nil_from_length fields (eqb-true (length fields) 0 test))) (simple_takes status r e))
-    (no_arm Is)))))
+    (no_arm Is))))))
 
 -- an answer whose status byte and fields these are
 record IsAnswer (status : ℕ) (fields : List ℕ) (a : Answer) : Type 0 where
   pub text : status ∷ fields ≡ status_byte a.reply ∷ reply_fields a.reply a.pairs
-  pub given : is_given a.reply ≡ true
   pub fits : FitsReply a.reply
   pub pairs_fit : FitsPairs a.reply a.pairs
 
+-- the answers with pairs of one status byte
+by_pairs : {X : Type 0} (code : ℕ) (make : X → Answer) (read : List ℕ → Option X) (text : X → List ℕ) (Fits : X → Type 0) → ReadsAll X read text Fits
+    → ((x : X) → Fits x → IsAnswer code (text x) (make x))
+    → (status : ℕ) (fields : List ℕ) → AreBytes fields → eqb status code ≡ true → (a : Answer) → option_map make (read fields) ≡ Some a → IsAnswer status fields a
+by_pairs code make read text Fits is makes status fields bytes test a e =
+    let m = map_some make (read fields) a e in
+    let t = is.takes fields m.0 bytes m.1 in
+    subst (λ (n : ℕ). IsAnswer n fields a) (sym (eqb-true status code test))
+    (subst (λ (f : List ℕ). IsAnswer code f a) (sym t.0)
+    (subst (λ (b : Answer). IsAnswer code (text m.0) b) m.2 (makes m.0 t.1)))
+
+abbrev page : Bool × Pairs → Answer
+page x = as_told (reply.Pairs x.0) x.1
+
+-- a page is spelled by its flag, the number of its pairs and these
+page_reads : ReadsAll (Bool × Pairs) page_in (λ x. (flag x.0 ∷ []) ++ (be 2 (length x.1) ++ pair_bytes x.1)) (λ x. Unit {0} × IsListed x.1)
+unfolding page_in
+page_reads =
+    all_read (both flag_then listed_then) _ _
+    (both_read flag_then listed_then (λ b. flag b ∷ []) (λ xs. be 2 (length xs) ++ pair_bytes xs) (λ b. Unit {0}) IsListed flag_reads listed_reads)
+
 abbrev found : List ℕ → Answer
-found value = record { reply = reply.Found; pairs = (63 ∷ [], value) ∷ [] }
+found value = as_told reply.Found ((63 ∷ [], value) ∷ [])
 
 value_takes : (fields value : List ℕ) → AreBytes fields → reply_value_in fields ≡ Some value → (fields ≡ counted value) × (is_value value ≡ true)
 unfolding reply_value_in
@@ -187,11 +209,13 @@ answer_takes status fields bytes =
     (λ test a e.
     let m = map_some found (reply_value_in fields) a e in
     let v = value_takes fields m.0 bytes m.1 in
-    subst Is m.2 (record { text = λ j. eqb-true status 1 test j ∷ v.0 j; given = refl; fits = tt; pairs_fit = (m.0, refl, v.1) }))
+    subst Is m.2 (record { text = λ j. eqb-true status 1 test j ∷ v.0 j; fits = tt; pairs_fit = (m.0, refl, v.1) }))
+    (either_arm Is (eqb status 3) _ _
+    (by_pairs 3 page page_in _ _ page_reads (λ x f. record { text = refl; fits = tt; pairs_fit = (f.1.few, f.1.each) }) status fields bytes)
     (λ a e.
     let m = map_some plain (plain_reply_in status fields) a e in
     let s = plain_takes status fields bytes m.0 m.1 in
-    subst Is m.2 (record { text = s.text; given = s.given; fits = s.fits; pairs_fit = s.pairs_fit }))
+    subst Is m.2 (record { text = s.text; fits = s.fits; pairs_fit = s.pairs_fit })))
 
 -- what is read is spelled so
 reply_takes : (body : List ℕ) (tag : ℕ) (a : Answer) → AreBytes body → reply_in body ≡ Some (tag, a) → SpellsReply body tag a
@@ -204,7 +228,7 @@ reply_takes body tag a fits e =
     let t1 = (number_reads 1 be-number_1).takes t.0.1 s.0.0 s.0.1 t0.1 s.1 in
     let is = answer_takes s.0.0 s.0.1 t1.1 r.0 r.1 in
     let text = front_parts body t.0.1 s.0.1 (status_byte r.0.reply ∷ reply_fields r.0.reply r.0.pairs) t.0.0 s.0.0 t0.0 t1.0 t1.2 is.text in
-    let made : SpellsReply body t.0.0 r.0 = record { text = text; tag_fits = t0.2; given = is.given; fits = is.fits; pairs_fit = is.pairs_fit } in
+    let made : SpellsReply body t.0.0 r.0 = record { text = text; tag_fits = t0.2; fits = is.fits; pairs_fit = is.pairs_fit } in
     subst (λ (x : ℕ × Answer). SpellsReply body x.0 x.1) (same_Some (t.0.0, r.0) (tag, a) r.2) made
 
 -- a tag and a status byte in front of fields
@@ -230,46 +254,50 @@ plain_again tag r pairs tag_fits none byte_fits e =
     subst (ReadsReply tag r) (sym none) (front_again tag (status_byte r) (reply_fields r []) (plain r) tag_fits byte_fits e)
 
 -- what is spelled so is read
-reply_again : (tag : ℕ) (r : Reply) (pairs : Pairs) → tag < 2 ^ 32 → is_given r ≡ true → FitsReply r → FitsPairs r pairs → ReadsReply tag r pairs
+reply_again : (tag : ℕ) (r : Reply) (pairs : Pairs) → tag < 2 ^ 32 → FitsReply r → FitsPairs r pairs → ReadsReply tag r pairs
 unfolding answer_in plain_reply_in simple_reply refusal_in
-reply_again tag reply.Done pairs tag_fits given fits none = plain_again tag reply.Done pairs tag_fits none (omega arith) refl
-reply_again tag reply.Found pairs tag_fits given fits one =
+reply_again tag reply.Done pairs tag_fits fits none = plain_again tag reply.Done pairs tag_fits none (omega arith) refl
+reply_again tag reply.Found pairs tag_fits fits one =
     let e : answer_in 1 (counted one.0) ≡ Some (found one.0) = ap (option_map found) (value_again one.0 one.2) in
     subst (ReadsReply tag reply.Found) (sym one.1) (front_again tag 1 (counted one.0) (found one.0) tag_fits (omega arith) e)
-reply_again tag reply.Absent pairs tag_fits given fits none = plain_again tag reply.Absent pairs tag_fits none (omega arith) refl
-reply_again tag (reply.Made version) pairs tag_fits given fits none =
+reply_again tag reply.Absent pairs tag_fits fits none = plain_again tag reply.Absent pairs tag_fits none (omega arith) refl
+reply_again tag (reply.Made version) pairs tag_fits fits none =
     plain_again tag (reply.Made version) pairs tag_fits none (omega arith)
     (ap (λ (o : Option ℕ). option_map plain (option_map (λ (n : ℕ). reply.Made n) o)) (sole_reads.again version fits))
-reply_again tag (reply.Info parent depth frozen) pairs tag_fits given fits none =
+reply_again tag (reply.Info parent depth frozen) pairs tag_fits fits none =
     plain_again tag (reply.Info parent depth frozen) pairs tag_fits none (omega arith)
     (ap (λ (o : Option ((Option ℕ × ℕ) × Bool)). option_map plain (option_map (λ (x : (Option ℕ × ℕ) × Bool). reply.Info x.0.0 x.0.1 x.1) o))
     (info_reads.again ((parent, depth), frozen) ((fits.0, fits.1), tt)))
-reply_again tag (reply.Stat versions updates changes cursors) pairs tag_fits given fits none =
+reply_again tag (reply.Stat versions updates changes cursors) pairs tag_fits fits none =
     plain_again tag (reply.Stat versions updates changes cursors) pairs tag_fits none (omega arith)
     (ap (λ (o : Option (((ℕ × ℕ) × ℕ) × ℕ)). option_map plain (option_map (λ (x : ((ℕ × ℕ) × ℕ) × ℕ). reply.Stat x.0.0.0 x.0.0.1 x.0.1 x.1) o))
     (stat_reads.again (((versions, updates), changes), cursors) (((fits.0, fits.1), fits.2), fits.3)))
-reply_again tag (reply.Refused why.UnknownVersion) pairs tag_fits given fits none = plain_again tag (reply.Refused why.UnknownVersion) pairs tag_fits none (omega arith) refl
-reply_again tag (reply.Refused why.Frozen) pairs tag_fits given fits none = plain_again tag (reply.Refused why.Frozen) pairs tag_fits none (omega arith) refl
-reply_again tag (reply.Refused why.VersionLimit) pairs tag_fits given fits none = plain_again tag (reply.Refused why.VersionLimit) pairs tag_fits none (omega arith) refl
-reply_again tag (reply.Refused why.ChangeLimit) pairs tag_fits given fits none = plain_again tag (reply.Refused why.ChangeLimit) pairs tag_fits none (omega arith) refl
-reply_again tag (reply.Refused why.Malformed) pairs tag_fits given fits none = plain_again tag (reply.Refused why.Malformed) pairs tag_fits none (omega arith) refl
-reply_again tag (reply.Refused why.KeySize) pairs tag_fits given fits none = plain_again tag (reply.Refused why.KeySize) pairs tag_fits none (omega arith) refl
-reply_again tag (reply.Refused why.ValueSize) pairs tag_fits given fits none = plain_again tag (reply.Refused why.ValueSize) pairs tag_fits none (omega arith) refl
-reply_again tag (reply.Refused why.FrameTooLong) pairs tag_fits given fits none = plain_again tag (reply.Refused why.FrameTooLong) pairs tag_fits none (omega arith) refl
-reply_again tag (reply.Refused why.NoMemory) pairs tag_fits given fits none = plain_again tag (reply.Refused why.NoMemory) pairs tag_fits none (omega arith) refl
-reply_again tag (reply.Refused why.DeviceFault) pairs tag_fits given fits none = plain_again tag (reply.Refused why.DeviceFault) pairs tag_fits none (omega arith) refl
-reply_again tag (reply.Refused (why.Damaged block)) pairs tag_fits given fits none =
+reply_again tag (reply.Refused why.UnknownVersion) pairs tag_fits fits none = plain_again tag (reply.Refused why.UnknownVersion) pairs tag_fits none (omega arith) refl
+reply_again tag (reply.Refused why.Frozen) pairs tag_fits fits none = plain_again tag (reply.Refused why.Frozen) pairs tag_fits none (omega arith) refl
+reply_again tag (reply.Refused why.VersionLimit) pairs tag_fits fits none = plain_again tag (reply.Refused why.VersionLimit) pairs tag_fits none (omega arith) refl
+reply_again tag (reply.Refused why.ChangeLimit) pairs tag_fits fits none = plain_again tag (reply.Refused why.ChangeLimit) pairs tag_fits none (omega arith) refl
+reply_again tag (reply.Refused why.Malformed) pairs tag_fits fits none = plain_again tag (reply.Refused why.Malformed) pairs tag_fits none (omega arith) refl
+reply_again tag (reply.Refused why.KeySize) pairs tag_fits fits none = plain_again tag (reply.Refused why.KeySize) pairs tag_fits none (omega arith) refl
+reply_again tag (reply.Refused why.ValueSize) pairs tag_fits fits none = plain_again tag (reply.Refused why.ValueSize) pairs tag_fits none (omega arith) refl
+reply_again tag (reply.Refused why.FrameTooLong) pairs tag_fits fits none = plain_again tag (reply.Refused why.FrameTooLong) pairs tag_fits none (omega arith) refl
+reply_again tag (reply.Refused why.NoMemory) pairs tag_fits fits none = plain_again tag (reply.Refused why.NoMemory) pairs tag_fits none (omega arith) refl
+reply_again tag (reply.Refused why.DeviceFault) pairs tag_fits fits none = plain_again tag (reply.Refused why.DeviceFault) pairs tag_fits none (omega arith) refl
+reply_again tag (reply.Refused (why.Damaged block)) pairs tag_fits fits none =
     plain_again tag (reply.Refused (why.Damaged block)) pairs tag_fits none (omega arith)
     (ap (λ (o : Option ℕ). option_map plain (option_map (λ (n : ℕ). reply.Refused (why.Damaged n)) o)) (sole_reads.again block fits))
-reply_again tag (reply.Pairs more) pairs tag_fits given fits none = absurd cc
-reply_again tag (reply.Opened cursor) pairs tag_fits given fits none = absurd cc
-reply_again tag (reply.Refused why.UnknownCursor) pairs tag_fits given fits none = absurd cc
-reply_again tag (reply.Refused why.CursorLimit) pairs tag_fits given fits none = absurd cc
-reply_again tag (reply.Refused why.ScanSize) pairs tag_fits given fits none = plain_again tag (reply.Refused why.ScanSize) pairs tag_fits none (omega arith) refl
+reply_again tag (reply.Pairs more) pairs tag_fits fits listed =
+    let e : answer_in 3 (reply_fields (reply.Pairs more) pairs) ≡ Some (page (more, pairs)) = ap (option_map page) (page_reads.again (more, pairs) (tt, record { few = listed.0; each = listed.1 })) in
+    front_again tag 3 (reply_fields (reply.Pairs more) pairs) (page (more, pairs)) tag_fits (omega arith) e
+reply_again tag (reply.Opened cursor) pairs tag_fits fits none =
+    plain_again tag (reply.Opened cursor) pairs tag_fits none (omega arith)
+    (ap (λ (o : Option ℕ). option_map plain (option_map (λ (n : ℕ). reply.Opened n) o)) (sole_long_reads.again cursor fits))
+reply_again tag (reply.Refused why.UnknownCursor) pairs tag_fits fits none = plain_again tag (reply.Refused why.UnknownCursor) pairs tag_fits none (omega arith) refl
+reply_again tag (reply.Refused why.CursorLimit) pairs tag_fits fits none = plain_again tag (reply.Refused why.CursorLimit) pairs tag_fits none (omega arith) refl
+reply_again tag (reply.Refused why.ScanSize) pairs tag_fits fits none = plain_again tag (reply.Refused why.ScanSize) pairs tag_fits none (omega arith) refl
 
 -- a body is read as the reply that it spells
 spelled_is_read : (body : List ℕ) (tag : ℕ) (a : Answer) → SpellsReply body tag a → reply_in body ≡ Some (tag, a)
-spelled_is_read body tag a is = ap reply_in is.text ∙ reply_again tag a.reply a.pairs is.tag_fits is.given is.fits is.pairs_fit
+spelled_is_read body tag a is = ap reply_in is.text ∙ reply_again tag a.reply a.pairs is.tag_fits is.fits is.pairs_fit
 
 -- what was found is spelled so
 pub is_found : (body : List ℕ) (o : Option (ℕ × Reply)) (pairs : Pairs) → AreBytes body → Finds (λ r. (r.0, as_told r.1 pairs)) o (reply_in body)

@@ -1,14 +1,17 @@
 -- Reading the fields of a body from left to right.
-use Rattle.std.specs.Prelude.{ℕ, ◌==◌, nat_le, if◌then◌else◌, Bool, true, false, List, [], ◌∷◌, length, take, drop, Option, Some, None}
+use Rattle.std.specs.Prelude.{ℕ, zero, suc, ◌==◌, nat_le, if◌then◌else◌, Bool, true, false, List, [], ◌∷◌, length, take, drop, Option, Some, None}
 use Rattle.std.specs.Option.{option_and_then, option_map}
 use Rattle.strat_base.specs.Numbers.{number}
-use Rattle.strat_model.specs.Request.{Request, Put, Delete, Get, Clone, Scan, Info, Stat}
+use Rattle.strat_model.specs.Request.{Request, Put, Delete, Get, Clone, Scan, Info, OpenCursor, NextPairs, CloseCursor, Stat}
 use Rattle.strat_base.specs.Sizes.{is_value}
+use Rattle.strat_base.specs.declared.limits.TheConstants.{PAIRS_MAX}
 use Rattle.strat_model.specs.declared.replies.Reply.{Reply}
 use Rattle.strat_model.specs.declared.replies.Reply.TheVariants as reply
 use Rattle.strat_model.specs.declared.replies.Refusal.{Refusal}
 use Rattle.strat_model.specs.declared.replies.Refusal.TheVariants as why
-use Rattle.strat_model.specs.Answer.{Answer, plain}
+use Rattle.strat_model.specs.Pairs.{Pair, Pairs}
+use Rattle.strat_model.specs.Spelling.{is_pair}
+use Rattle.strat_model.specs.Answer.{Answer, plain, as_told}
 
 -- how a field is read: its value, and what follows it, where the bytes begin with one
 abbrev pub Reader : Type 0 → Type 0
@@ -39,11 +42,19 @@ all_of read bytes =
 unfoldable pub sole_number : List ℕ → Option ℕ
 sole_number = all_of (number_then 4)
 
+-- a number in eight bytes and no others
+unfoldable pub sole_long : List ℕ → Option ℕ
+sole_long = all_of (number_then 8)
+
+-- a cursor and a limit
+unfoldable pub cursor_limit_in : List ℕ → Option (ℕ × ℕ)
+cursor_limit_in = all_of (both (number_then 8) (number_then 2))
+
 -- a version and a key
 unfoldable pub version_key_in : List ℕ → Option (ℕ × List ℕ)
 version_key_in = all_of (both (number_then 4) counted_then)
 
--- a version, a key and a value
+-- a version and two fields of bytes
 unfoldable pub version_pair_in : List ℕ → Option ((ℕ × List ℕ) × List ℕ)
 version_pair_in = all_of (both (both (number_then 4) counted_then) counted_then)
 
@@ -62,6 +73,9 @@ request_in opcode fields =
     if opcode == 5 then
     option_map (λ x. Scan x.0.0.0 x.0.0.1 x.0.1 x.1) (version_range_in fields) else
     if opcode == 6 then option_map Info (sole_number fields) else
+    if opcode == 7 then option_map (λ x. OpenCursor x.0.0 x.0.1 x.1) (version_pair_in fields) else
+    if opcode == 8 then option_map (λ x. NextPairs x.0 x.1) (cursor_limit_in fields) else
+    if opcode == 9 then option_map CloseCursor (sole_long fields) else
     if opcode == 10 then (if length fields == 0 then Some Stat else None) else None
 
 -- a tag and a command, all of the bytes
@@ -77,8 +91,10 @@ unfoldable pub refusal_in : ℕ → Option Refusal
 refusal_in status =
     if status == 16 then Some why.UnknownVersion else
     if status == 17 then Some why.Frozen else
+    if status == 18 then Some why.UnknownCursor else
     if status == 19 then Some why.VersionLimit else
     if status == 20 then Some why.ChangeLimit else
+    if status == 21 then Some why.CursorLimit else
     if status == 22 then Some why.Malformed else
     if status == 23 then Some why.KeySize else
     if status == 24 then Some why.ValueSize else
@@ -121,6 +137,7 @@ unfoldable pub plain_reply_in : ℕ → List ℕ → Option Reply
 plain_reply_in status fields =
     if status == 4 then option_map (λ n. reply.Made n) (sole_number fields) else
     if status == 5 then option_map (λ x. reply.Info x.0.0 x.0.1 x.1) (info_in fields) else
+    if status == 6 then option_map (λ n. reply.Opened n) (sole_long fields) else
     if status == 7 then
     option_map (λ x. reply.Stat x.0.0.0 x.0.0.1 x.0.1 x.1) (stat_in fields) else
     if status == 34 then
@@ -132,13 +149,34 @@ unfoldable pub reply_value_in : List ℕ → Option (List ℕ)
 reply_value_in fields = option_and_then
     (λ value. if is_value value then Some value else None) (all_of counted_then fields)
 
+-- a pair of a page
+unfoldable pub pair_then : Reader Pair
+pair_then bytes = option_and_then
+    (λ x. if is_pair x.0 then Some x else None) (both counted_then counted_then bytes)
+
+-- so many pairs, one after the other
+unfoldable pub pairs_then : ℕ → Reader Pairs
+pairs_then zero bytes = Some ([], bytes)
+pairs_then (suc n) bytes =
+    option_and_then (λ x.
+    option_and_then (λ xs. Some (x.0 ∷ xs.0, xs.1)) (pairs_then n x.1)) (pair_then bytes)
+
+-- a number of pairs, no greater than it may be, and so many pairs
+unfoldable pub listed_then : Reader Pairs
+listed_then bytes = option_and_then
+    (λ n. if nat_le n.0 PAIRS_MAX then pairs_then n.0 n.1 else None) (number_then 2 bytes)
+
+-- a page: whether others follow, and its pairs
+unfoldable pub page_in : List ℕ → Option (Bool × Pairs)
+page_in = all_of (both flag_then listed_then)
+
 -- a reply with its pairs, by its status byte and fields
 unfoldable pub answer_in : ℕ → List ℕ → Option Answer
 answer_in status fields =
     if status == 1 then
-    option_map (λ value. record { reply = reply.Found; pairs = (63 ∷ [], value) ∷ [] })
-    (reply_value_in fields)
-    else option_map plain (plain_reply_in status fields)
+    option_map (λ value. as_told reply.Found ((63 ∷ [], value) ∷ [])) (reply_value_in fields) else
+    if status == 3 then option_map (λ x. as_told (reply.Pairs x.0) x.1) (page_in fields) else
+    option_map plain (plain_reply_in status fields)
 
 -- a tag and a reply, all of the bytes
 unfoldable pub reply_in : List ℕ → Option (ℕ × Answer)

@@ -11,7 +11,8 @@ ghost use Rattle.strat_frame.specs.Faults.{refusal_for};
 
 use crate::buffer::{OutBuf, REPLY_MAX};
 use crate::fields::{
-    sole_u32, u8_then, u32_then, version_and_key, version_and_pair, version_and_range,
+    cursor_and_limit, sole_u32, sole_u64, u8_then, u32_then, version_and_key, version_and_range,
+    version_and_two,
 };
 use crate::sizes::size_fault;
 use strat_base::get_u32;
@@ -35,7 +36,7 @@ pub enum BodyFault {
 fn put_of(fields: &[u8]) -> Option<Command<'_>>
     ensures { Finds request_of result (request_in 1 fields.now) }
 {
-    let (version, key, value) = version_and_pair(fields)?;
+    let (version, key, value) = version_and_two(fields)?;
     Some(Command::Put {
         version,
         key,
@@ -93,6 +94,33 @@ fn info_of(fields: &[u8]) -> Option<Command<'_>>
     Some(Command::Info { version })
 }
 
+/// The command of opcode 7, by its fields.
+#[tactic(auto, unfolding(crate::specs::Fields::request_in))]
+fn open_of(fields: &[u8]) -> Option<Command<'_>>
+    ensures { Finds request_of result (request_in 7 fields.now) }
+{
+    let (version, lo, hi) = version_and_two(fields)?;
+    Some(Command::OpenCursor { version, lo, hi })
+}
+
+/// The command of opcode 8, by its fields.
+#[tactic(auto, unfolding(crate::specs::Fields::request_in))]
+fn next_of(fields: &[u8]) -> Option<Command<'_>>
+    ensures { Finds request_of result (request_in 8 fields.now) }
+{
+    let (cursor, limit) = cursor_and_limit(fields)?;
+    Some(Command::NextPairs { cursor, limit })
+}
+
+/// The command of opcode 9, by its fields.
+#[tactic(auto, unfolding(crate::specs::Fields::request_in))]
+fn close_of(fields: &[u8]) -> Option<Command<'_>>
+    ensures { Finds request_of result (request_in 9 fields.now) }
+{
+    let cursor = sole_u64(fields)?;
+    Some(Command::CloseCursor { cursor })
+}
+
 /// The command of opcode 10, by its fields.
 #[tactic(auto, unfolding(crate::specs::Fields::request_in))]
 fn stat_of(fields: &[u8]) -> Option<Command<'_>>
@@ -116,6 +144,9 @@ fn request_for(opcode: u8, fields: &[u8]) -> Option<Command<'_>>
         4 => clone_of(fields),
         5 => scan_of(fields),
         6 => info_of(fields),
+        7 => open_of(fields),
+        8 => next_of(fields),
+        9 => close_of(fields),
         10 => stat_of(fields),
         _ => None,
     }

@@ -2,9 +2,9 @@
 
 ghost use Rattle.std.specs.Prelude.{◌≡◌};
 ghost use Rattle.strat_base.specs.Finds.{Finds};
-ghost use Rattle.strat_frame.specs.Fields.{number_then, counted_then, sole_number, version_key_in, version_pair_in, version_range_in, parent_for, parent_then, flag_then};
+ghost use Rattle.strat_frame.specs.Fields.{number_then, counted_then, sole_number, sole_long, cursor_limit_in, version_key_in, version_pair_in, version_range_in, parent_for, parent_then, flag_then};
 
-use strat_base::{get_u8, get_u16, get_u32};
+use strat_base::{get_u8, get_u16, get_u32, get_u64};
 
 /// A byte.
 #[tactic(auto, unfolding(crate::specs::Fields::counted_then))]
@@ -31,6 +31,14 @@ pub(crate) fn u32_then(bytes: &[u8]) -> Option<(u32, &[u8])>
     Some((n, &bytes[4..]))
 }
 
+/// A number in eight bytes.
+fn u64_then(bytes: &[u8]) -> Option<(u64, &[u8])>
+    ensures { Finds (λ x. (x.0, x.1.now)) result (number_then 8 bytes.now) }
+{
+    let n = get_u64(bytes, 0)?;
+    Some((n, &bytes[8..]))
+}
+
 /// A length in two bytes, and so many bytes.
 #[tactic(auto, unfolding(crate::specs::Fields::counted_then))]
 pub(crate) fn counted_bytes_then(bytes: &[u8]) -> Option<(&[u8], &[u8])>
@@ -53,6 +61,31 @@ pub(crate) fn sole_u32(fields: &[u8]) -> Option<u32>
     if rest.is_empty() { Some(n) } else { None }
 }
 
+/// A number in eight bytes, and nothing behind it.
+#[tactic(auto, unfolding(crate::specs::Fields::sole_long, crate::specs::Fields::all_of))]
+pub(crate) fn sole_u64(fields: &[u8]) -> Option<u64>
+    ensures { result ≡ sole_long fields.now }
+{
+    let (n, rest) = u64_then(fields)?;
+    if !rest.is_empty() {
+        return None;
+    }
+    Some(n)
+}
+
+/// A cursor and a limit, and nothing behind them.
+#[tactic(auto, unfolding(crate::specs::Fields::cursor_limit_in, crate::specs::Fields::all_of, crate::specs::Fields::both))]
+pub(crate) fn cursor_and_limit(fields: &[u8]) -> Option<(u64, u16)>
+    ensures { Finds (λ x. (x.0, x.1)) result (cursor_limit_in fields.now) }
+{
+    let (cursor, rest) = u64_then(fields)?;
+    let (limit, rest) = u16_then(rest)?;
+    if !rest.is_empty() {
+        return None;
+    }
+    Some((cursor, limit))
+}
+
 /// A version and a key, and nothing behind them.
 #[tactic(auto, unfolding(crate::specs::Fields::version_key_in, crate::specs::Fields::all_of, crate::specs::Fields::both))]
 pub(crate) fn version_and_key(fields: &[u8]) -> Option<(u32, &[u8])>
@@ -66,18 +99,18 @@ pub(crate) fn version_and_key(fields: &[u8]) -> Option<(u32, &[u8])>
     Some((version, key))
 }
 
-/// A version, a key and a value, and nothing behind them.
+/// A version and two fields of bytes, and nothing behind them.
 #[tactic(auto, unfolding(crate::specs::Fields::version_pair_in, crate::specs::Fields::all_of, crate::specs::Fields::both))]
-pub(crate) fn version_and_pair(fields: &[u8]) -> Option<(u32, &[u8], &[u8])>
+pub(crate) fn version_and_two(fields: &[u8]) -> Option<(u32, &[u8], &[u8])>
     ensures { Finds (λ x. ((x.0, x.1.now), x.2.now)) result (version_pair_in fields.now) }
 {
     let (version, rest) = u32_then(fields)?;
-    let (key, rest) = counted_bytes_then(rest)?;
-    let (value, rest) = counted_bytes_then(rest)?;
+    let (first, rest) = counted_bytes_then(rest)?;
+    let (second, rest) = counted_bytes_then(rest)?;
     if !rest.is_empty() {
         return None;
     }
-    Some((version, key, value))
+    Some((version, first, second))
 }
 
 /// A version, two bounds and a limit, and nothing behind them.

@@ -6,12 +6,15 @@ ghost use Rattle.strat_model.specs.Spelling.{status_byte, flag, parent_bytes, pa
 ghost use Rattle.strat_model.specs.Spelling.{reply_body, SpellsReply};
 ghost use Rattle.strat_model.specs.Stream.{frame};
 ghost use Rattle.strat_base.specs.Finds.{Finds};
-ghost use Rattle.strat_frame.specs.Fields.{refusal_in, simple_reply, plain_reply_in, reply_value_in, answer_in, reply_in};
+ghost use Rattle.strat_base.specs.PairBuf.{IsPair};
+ghost use Rattle.strat_frame.specs.Fields.{refusal_in, simple_reply, plain_reply_in, reply_value_in, pair_then, pairs_then, listed_then, page_in, answer_in, reply_in};
 
 use crate::buffer::{OutBuf, REPLY_MAX};
-use crate::fields::{counted_bytes_then, flag_then, parent_then, sole_u32, u8_then, u32_then};
-use strat_base::limits::VALUE_MAX;
-use strat_base::{PairBuf, value_ok};
+use crate::fields::{
+    counted_bytes_then, flag_then, parent_then, sole_u32, sole_u64, u8_then, u16_then, u32_then,
+};
+use strat_base::limits::{PAIRS_MAX, VALUE_MAX};
+use strat_base::{PairBuf, key_ok, value_ok};
 use strat_model::{Refusal, Reply};
 
 /// The status byte of a refusal.
@@ -147,8 +150,10 @@ fn refusal_of(status: u8) -> Option<Refusal>
     match status {
         16 => Some(Refusal::UnknownVersion),
         17 => Some(Refusal::Frozen),
+        18 => Some(Refusal::UnknownCursor),
         19 => Some(Refusal::VersionLimit),
         20 => Some(Refusal::ChangeLimit),
+        21 => Some(Refusal::CursorLimit),
         22 => Some(Refusal::Malformed),
         23 => Some(Refusal::KeySize),
         24 => Some(Refusal::ValueSize),
@@ -222,6 +227,15 @@ fn made_of(fields: &[u8]) -> Option<Reply>
     Some(Reply::Made { version })
 }
 
+/// The new cursor, and nothing behind it.
+#[tactic(auto, unfolding(crate::specs::Fields::plain_reply_in))]
+fn opened_of(fields: &[u8]) -> Option<Reply>
+    ensures { result ≡ plain_reply_in 6 fields.now }
+{
+    let cursor = sole_u64(fields)?;
+    Some(Reply::Opened { cursor })
+}
+
 /// The block that is damaged, and nothing behind it.
 #[tactic(auto, unfolding(crate::specs::Fields::plain_reply_in))]
 fn damaged_of(fields: &[u8]) -> Option<Reply>
@@ -239,6 +253,7 @@ fn plain_of(status: u8, fields: &[u8]) -> Option<Reply>
     match status {
         4 => made_of(fields),
         5 => info_of(fields),
+        6 => opened_of(fields),
         7 => stat_of(fields),
         34 => damaged_of(fields),
         _ => {
@@ -263,6 +278,63 @@ fn value_of(fields: &[u8]) -> Option<&[u8]>
     Some(value)
 }
 
+/// A pair of a page.
+#[tactic(auto, unfolding(crate::specs::Fields::pair_then, crate::specs::Fields::both))]
+fn pair_then(bytes: &[u8]) -> Option<(&[u8], &[u8], &[u8])>
+    ensures ok { Finds (λ x. ((x.0.now, x.1.now), x.2.now)) result (pair_then bytes.now) }
+    ensures fits { IfSome result (λ x. IsPair (x.0.now, x.1.now)) }
+{
+    let (key, rest) = counted_bytes_then(bytes)?;
+    let (value, rest) = counted_bytes_then(rest)?;
+    if !key_ok(key) || !value_ok(value) {
+        return None;
+    }
+    Some((key, value, rest))
+}
+
+/// So many pairs, one after the other, and what follows them.
+#[tactic(auto, using(crate::proofs::PageLemmas::continued_none, crate::proofs::PageLemmas::pair_read, crate::proofs::PageLemmas::pair_missing, crate::proofs::PageLemmas::pairs_read))]
+fn pairs_then<'a>(count: u16, bytes: &'a [u8], pairs: &mut PairBuf) -> Option<&'a [u8]>
+    requires none { pairs.old ≡ [] }
+    requires room { count ≤ PAIRS_MAX }
+    ensures ok { Finds (λ x. (pairs.new, x.now)) result (pairs_then count bytes.now) }
+{
+    let mut rest = bytes;
+    for _ in 0..count {
+        let (key, value, behind) = pair_then(rest)?;
+        pairs.push(key, value);
+        rest = behind;
+    }
+    Some(rest)
+}
+
+/// A number of pairs and so many pairs, and what follows them.
+#[tactic(auto, unfolding(crate::specs::Fields::listed_then))]
+fn listed_then<'a>(bytes: &'a [u8], pairs: &mut PairBuf) -> Option<&'a [u8]>
+    requires none { pairs.old ≡ [] }
+    ensures ok { Finds (λ x. (pairs.new, x.now)) result (listed_then bytes.now) }
+{
+    let (count, rest) = u16_then(bytes)?;
+    if count as usize > PAIRS_MAX {
+        return None;
+    }
+    pairs_then(count, rest, pairs)
+}
+
+/// A page, all of the fields: whether others follow. Its pairs stand in the buffer.
+#[tactic(auto, unfolding(crate::specs::Fields::page_in, crate::specs::Fields::all_of, crate::specs::Fields::both))]
+fn page_of(fields: &[u8], pairs: &mut PairBuf) -> Option<bool>
+    requires none { pairs.old ≡ [] }
+    ensures ok { Finds (λ more. (more, pairs.new)) result (page_in fields.now) }
+{
+    let (more, rest) = flag_then(fields)?;
+    let rest = listed_then(rest, pairs)?;
+    if !rest.is_empty() {
+        return None;
+    }
+    Some(more)
+}
+
 /// A status byte and its fields, all of the bytes.
 #[tactic(auto, unfolding(crate::specs::Fields::answer_in))]
 fn answer_of(status: u8, fields: &[u8], pairs: &mut PairBuf) -> Option<Reply>
@@ -273,6 +345,10 @@ fn answer_of(status: u8, fields: &[u8], pairs: &mut PairBuf) -> Option<Reply>
         let value = value_of(fields)?;
         pairs.push(b"?", value);
         return Some(Reply::Found);
+    }
+    if status == 3 {
+        let more = page_of(fields, pairs)?;
+        return Some(Reply::Pairs { more });
     }
     plain_of(status, fields)
 }
@@ -289,8 +365,8 @@ fn reply_of(body: &[u8], pairs: &mut PairBuf) -> Option<(u32, Reply)>
     Some((tag, reply))
 }
 
-/// The tag and the reply of a body, of those that there are so far; the value of `Found` stands in `pairs`
-/// under the key `?`. Nothing is said of the pairs where no reply has this body. Takes no memory.
+/// The tag and the reply of a body; the pairs of a page, and the value of `Found` under the key `?`, stand in
+/// `pairs`. Nothing is said of these where no reply has this body. Takes no memory, and copies each pair once.
 pub fn parse_reply(body: &[u8], pairs: &mut PairBuf) -> Option<(u32, Reply)>
     ensures found { IfSome result (λ r. SpellsReply body.now r.0 (as_told r.1 pairs.new)) }
     ensures none { IfNone result ((tag : ℕ) (a : Answer) → SpellsReply body.now tag a → ⊥) }

@@ -138,7 +138,7 @@ fn commands_are_written_field_by_field(rt: HostRuntime) -> Result<(), Fail> {
 }
 
 // Bodies, their tags and their commands.
-const BODIES: [(&str, u32, Command<'static>); 11] = [
+const BODIES: [(&str, u32, Command<'static>); 15] = [
     ("00000007 01 00000000 0001 61 0001 31", 7, PUT),
     (
         "ffffffff 01 00000201 0002 6162 0000",
@@ -191,6 +191,35 @@ const BODIES: [(&str, u32, Command<'static>); 11] = [
             version: 4294967295,
         },
     ),
+    (
+        "00000005 07 00000102 0001 61 0002 6263",
+        5,
+        Command::OpenCursor {
+            version: 258,
+            lo: b"a",
+            hi: b"bc",
+        },
+    ),
+    (
+        "00000006 08 0000000000000001 0100",
+        6,
+        Command::NextPairs {
+            cursor: 1,
+            limit: 256,
+        },
+    ),
+    (
+        "00000007 09 0000000000000000",
+        7,
+        Command::CloseCursor { cursor: 0 },
+    ),
+    (
+        "00000007 09 ffffffffffffffff",
+        7,
+        Command::CloseCursor {
+            cursor: 18446744073709551615,
+        },
+    ),
     ("0000000b 0a", 11, Command::Stat),
 ];
 
@@ -220,8 +249,8 @@ fn bodies_are_read_as_commands(rt: HostRuntime) -> Result<(), Fail> {
 }
 
 // Bodies that do not have the form of a command, and the tags of their replies. A field too few or a byte too
-// many comes before any size. The commands of cursors are not built.
-const MALFORMED: [(&str, u32); 28] = [
+// many comes before any size.
+const MALFORMED: [(&str, u32); 31] = [
     ("", 0),
     ("aabbcc", 0),
     ("00000009", 9),
@@ -246,9 +275,12 @@ const MALFORMED: [(&str, u32); 28] = [
     ("0000000a 05 00000000 0000 0000 0000 00", 10),
     ("00000001 06 000000", 1),
     ("00000001 06 00000000 00", 1),
-    ("00000001 07 00000000 0000 0000", 1),
-    ("00000002 08 0000000000000001 0100", 2),
-    ("00000004 09 0000000000000001", 4),
+    ("00000001 07 00000000 0000", 1),
+    ("00000001 07 00000000 0000 0000 00", 1),
+    ("00000002 08 0000000000000001 00", 2),
+    ("00000002 08 0000000000000001 0000 00", 2),
+    ("00000004 09 00000000000001", 4),
+    ("00000004 09 0000000000000001 00", 4),
     ("00000001 0a 00", 1),
 ];
 
@@ -261,11 +293,13 @@ const NO_KEYS: [(&str, u32); 5] = [
     ("ffffffff 03 ffffffff 0000", 4294967295),
 ];
 
-// Bodies that ask for no pair or for too many, whatever their version.
-const NO_LIMITS: [(&str, u32); 3] = [
+// Bodies that ask for no pair or for too many, whatever their version or cursor.
+const NO_LIMITS: [(&str, u32); 5] = [
     ("0000000a 05 00000005 0000 0000 0000", 10),
     ("0000000a 05 00000000 0001 61 0001 62 0101", 10),
     ("0000000a 05 00000000 0001 62 0001 61 ffff", 10),
+    ("00000006 08 0000000000000000 0000", 6),
+    ("00000006 08 0000000000000001 0101", 6),
 ];
 
 /// Whether this is the first that is wrong with a body, and its reply has this tag.
@@ -300,7 +334,7 @@ fn a_key_has_a_byte(rt: HostRuntime) -> Result<(), Fail> {
 }
 
 #[test]
-fn a_scan_asks_for_1_to_256_pairs(rt: HostRuntime) -> Result<(), Fail> {
+fn a_page_has_1_to_256_pairs(rt: HostRuntime) -> Result<(), Fail> {
     assert!(rt; are_refused(rt.alloc(), &NO_LIMITS, BodyFault::ScanSize)?);
     Ok(())
 }
@@ -314,16 +348,11 @@ fn push_counted(bytes: &mut Vec<u8>, len: u16, byte: u8) -> Result<(), NoMemory>
     Ok(())
 }
 
-/// These digits, a key and a value of so many bytes.
-fn large_put(
-    alloc: Global,
-    front: &str,
-    key_len: u16,
-    value_len: u16,
-) -> Result<Vec<u8>, NoMemory> {
+/// These digits, and two fields of so many bytes: a key and a value, or two bounds.
+fn large(alloc: Global, front: &str, first_len: u16, second_len: u16) -> Result<Vec<u8>, NoMemory> {
     let mut bytes = hex(alloc, front)?;
-    push_counted(&mut bytes, key_len, 0x6b)?;
-    push_counted(&mut bytes, value_len, 0x76)?;
+    push_counted(&mut bytes, first_len, 0x6b)?;
+    push_counted(&mut bytes, second_len, 0x76)?;
     Ok(bytes)
 }
 
@@ -334,7 +363,7 @@ fn is_largest(body: &[u8]) -> bool {
 
 #[test]
 fn the_largest_put_is_read(rt: HostRuntime) -> Result<(), Fail> {
-    let body = large_put(rt.alloc(), "00000007 01 00000000", 255, 1024)?;
+    let body = large(rt.alloc(), "00000007 01 00000000", 255, 1024)?;
     assert!(rt; is_largest(&body));
     Ok(())
 }
@@ -342,7 +371,7 @@ fn the_largest_put_is_read(rt: HostRuntime) -> Result<(), Fail> {
 #[test]
 fn the_largest_put_is_written(rt: HostRuntime) -> Result<(), Fail> {
     let mut out = OutBuf::new(rt.alloc())?;
-    let frame = large_put(rt.alloc(), "0000050c 00000007 01 00000000", 255, 1024)?;
+    let frame = large(rt.alloc(), "0000050c 00000007 01 00000000", 255, 1024)?;
     assert!(rt; is_written(&mut out, 7, &LARGEST, &frame));
     Ok(())
 }
@@ -363,7 +392,7 @@ fn is_refused_for_sizes(
     value_len: u16,
     fault: BodyFault,
 ) -> Result<bool, NoMemory> {
-    let body = large_put(alloc, "00000007 01 00000000", key_len, value_len)?;
+    let body = large(alloc, "00000007 01 00000000", key_len, value_len)?;
     Ok(is_refused(&body, 7, fault))
 }
 
@@ -375,9 +404,38 @@ fn sizes_of_puts_are_told_the_key_first(rt: HostRuntime) -> Result<(), Fail> {
     Ok(())
 }
 
+// Sizes of the two bounds of a cursor, and what is wrong with them.
+const BOUNDS: [(u16, u16, Option<BodyFault>); 3] = [
+    (255, 255, None),
+    (256, 0, Some(BodyFault::KeySize)),
+    (0, 256, Some(BodyFault::KeySize)),
+];
+
+/// Whether this is wrong with a cursor's bounds of these sizes.
+fn is_wrong_with_bounds(
+    alloc: Global,
+    lo_len: u16,
+    hi_len: u16,
+    fault: Option<BodyFault>,
+) -> Result<bool, NoMemory> {
+    let body = large(alloc, "00000005 07 00000000", lo_len, hi_len)?;
+    Ok(match parse_command(&body) {
+        Ok(_) => fault.is_none(),
+        Err((tag, refused)) => tag == 5 && fault == Some(refused),
+    })
+}
+
+#[test]
+fn bounds_have_up_to_255_bytes(rt: HostRuntime) -> Result<(), Fail> {
+    for (lo_len, hi_len, fault) in &BOUNDS {
+        assert!(rt; is_wrong_with_bounds(rt.alloc(), *lo_len, *hi_len, *fault)?);
+    }
+    Ok(())
+}
+
 #[test]
 fn an_unlawful_put_with_a_byte_behind_it_is_malformed(rt: HostRuntime) -> Result<(), Fail> {
-    let mut body = large_put(rt.alloc(), "00000007 01 00000000", 256, 1025)?;
+    let mut body = large(rt.alloc(), "00000007 01 00000000", 256, 1025)?;
     body.push(0)?;
     assert!(rt; is_refused(&body, 7, BodyFault::Malformed));
     Ok(())

@@ -199,7 +199,7 @@ fn are_digits_of(
 }
 
 // Bodies and their replies.
-const BODIES: [(&str, Reply); 23] = [
+const BODIES: [(&str, Reply); 27] = [
     ("00000007 00", Reply::Done),
     ("00000007 01 0001 31", Reply::Found),
     ("00000007 02", Reply::Absent),
@@ -228,6 +228,13 @@ const BODIES: [(&str, Reply); 23] = [
             frozen: true,
         },
     ),
+    ("00000007 06 0000000000000001", Reply::Opened { cursor: 1 }),
+    (
+        "00000007 06 ffffffffffffffff",
+        Reply::Opened {
+            cursor: 18446744073709551615,
+        },
+    ),
     (
         "00000007 07 00000001 00000000 00000000 00000000",
         Reply::Stat {
@@ -248,8 +255,10 @@ const BODIES: [(&str, Reply); 23] = [
     ),
     ("00000007 10", Reply::Refused(Refusal::UnknownVersion)),
     ("00000007 11", Reply::Refused(Refusal::Frozen)),
+    ("00000007 12", Reply::Refused(Refusal::UnknownCursor)),
     ("00000007 13", Reply::Refused(Refusal::VersionLimit)),
     ("00000007 14", Reply::Refused(Refusal::ChangeLimit)),
+    ("00000007 15", Reply::Refused(Refusal::CursorLimit)),
     ("00000007 16", Reply::Refused(Refusal::Malformed)),
     ("00000007 17", Reply::Refused(Refusal::KeySize)),
     ("00000007 18", Reply::Refused(Refusal::ValueSize)),
@@ -288,15 +297,116 @@ fn replies_are_read_as_they_were_written(rt: HostRuntime) -> Result<(), Fail> {
     Ok(())
 }
 
+// Pages: their bodies, whether others follow, and their pairs.
+const PAGES: [(&str, bool, &[Pair]); 3] = [
+    ("00000007 03 00 0000", false, &[]),
+    ("00000007 03 00 0001 0002 6162 0000", false, &[("ab", "")]),
+    (
+        "00000007 03 01 0002 0001 61 0001 31 0001 62 0001 32",
+        true,
+        &[("a", "1"), ("b", "2")],
+    ),
+];
+
+/// Whether a buffer has just these pairs.
+fn has(buf: &PairBuf, pairs: &[Pair]) -> bool {
+    if buf.len() != pairs.len() {
+        return false;
+    }
+    for (i, (key, value)) in pairs.iter().enumerate() {
+        if buf.key(i) != key.as_bytes() || buf.value(i) != value.as_bytes() {
+            return false;
+        }
+    }
+    true
+}
+
+/// Whether these digits are a page with these pairs.
+fn is_page(
+    alloc: Global,
+    pairs: &mut PairBuf,
+    digits: &str,
+    more: bool,
+    want: &[Pair],
+) -> Result<bool, NoMemory> {
+    let body = hex(alloc, digits)?;
+    Ok(parse_reply(&body, pairs) == Some((7, Reply::Pairs { more })) && has(pairs, want))
+}
+
+/// Whether the pages are read.
+fn reads_pages(alloc: Global, pairs: &mut PairBuf) -> Result<bool, NoMemory> {
+    for (digits, more, want) in &PAGES {
+        if !is_page(alloc, pairs, digits, *more, want)? {
+            return Ok(false);
+        }
+    }
+    Ok(true)
+}
+
+#[test]
+fn pages_are_read_pair_by_pair(rt: HostRuntime) -> Result<(), Fail> {
+    let mut pairs = PairBuf::new(rt.alloc())?;
+    assert!(rt; reads_pages(rt.alloc(), &mut pairs)?);
+    Ok(())
+}
+
+/// Adds a length in two bytes, and so many equal bytes.
+fn push_counted(bytes: &mut Vec<u8>, len: u16, byte: u8) -> Result<(), NoMemory> {
+    bytes.extend_from_slice(&len.to_be_bytes())?;
+    for _ in 0..len {
+        bytes.push(byte)?;
+    }
+    Ok(())
+}
+
+/// A page of so many pairs, each with a key and a value of so many bytes.
+fn page_of(alloc: Global, count: u16, key_len: u16, value_len: u16) -> Result<Vec<u8>, NoMemory> {
+    let mut bytes = hex(alloc, "00000007 03 00")?;
+    bytes.extend_from_slice(&count.to_be_bytes())?;
+    for _ in 0..count {
+        push_counted(&mut bytes, key_len, 0x6b)?;
+        push_counted(&mut bytes, value_len, 0x76)?;
+    }
+    Ok(bytes)
+}
+
+// How many pairs a page has, the sizes of their keys and values, and whether it is a reply.
+const SIZES: [(u16, u16, u16, bool); 6] = [
+    (1, 255, 1024, true),
+    (1, 0, 0, false),
+    (1, 256, 0, false),
+    (1, 1, 1025, false),
+    (256, 1, 0, true),
+    (257, 1, 0, false),
+];
+
+/// Whether the pages of these sizes are read, or are not.
+fn reads_sizes(alloc: Global, pairs: &mut PairBuf) -> Result<bool, NoMemory> {
+    for (count, key_len, value_len, is) in &SIZES {
+        let body = page_of(alloc, *count, *key_len, *value_len)?;
+        if parse_reply(&body, pairs).is_some() != *is {
+            return Ok(false);
+        }
+    }
+    Ok(true)
+}
+
+#[test]
+fn pages_have_up_to_256_pairs_of_lawful_sizes(rt: HostRuntime) -> Result<(), Fail> {
+    let mut pairs = PairBuf::new(rt.alloc())?;
+    assert!(rt; reads_sizes(rt.alloc(), &mut pairs)?);
+    Ok(())
+}
+
 /// Whether these digits are a body of no reply.
 fn is_no_reply(alloc: Global, pairs: &mut PairBuf, digits: &str) -> Result<bool, NoMemory> {
     let body = hex(alloc, digits)?;
     Ok(parse_reply(&body, pairs).is_none())
 }
 
-// Bodies that are no reply: with a field too few or a byte too many, a flag that is neither 0 nor 1, or the
-// status of no reply that is given so far.
-const NO_REPLIES: [&str; 25] = [
+// Bodies that are no reply: with a field or a pair too few or a byte too many, a flag that is neither 0 nor 1,
+// or the status of no reply.
+const NO_REPLIES: [&str; 30] = [
     "",
     "00000007",
     "000007 00",
@@ -305,18 +415,23 @@ const NO_REPLIES: [&str; 25] = [
     "00000007 01 0001",
     "00000007 01 0001 31 00",
     "00000007 02 0001 31",
-    "00000007 03 00 0000",
+    "00000007 03 00",
+    "00000007 03 02 0000",
+    "00000007 03 00 0000 00",
+    "00000007 03 00 0000 0001 61 0001 31",
+    "00000007 03 00 0001 0001 61",
+    "00000007 03 00 0002 0001 61 0001 31",
     "00000007 04",
     "00000007 04 00000001 00",
     "00000007 05 ffffffff 00000000",
     "00000007 05 ffffffff 00000000 02",
     "00000007 05 ffffffff 00000000 00 00",
-    "00000007 06 0000000000000001",
+    "00000007 06 00000000000001",
+    "00000007 06 0000000000000001 00",
     "00000007 07 00000001 00000002 00000003",
     "00000007 07 00000001 00000002 00000003 00000004 00",
     "00000007 11 00",
-    "00000007 12",
-    "00000007 15",
+    "00000007 12 00",
     "00000007 1b",
     "00000007 21 00000007",
     "00000007 22",

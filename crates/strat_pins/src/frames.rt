@@ -6,9 +6,9 @@
 ghost use Rattle.std.specs.Prelude.{◌≡◌, [], ◌∷◌, ◌++◌, replicate, Some, None, true, false};
 ghost use Rattle.strat_model.specs.declared.replies.Refusal.TheVariants as why;
 ghost use Rattle.strat_model.specs.declared.replies.Reply.TheVariants as reply;
-ghost use Rattle.strat_model.specs.Answer.{plain};
+ghost use Rattle.strat_model.specs.Answer.{plain, as_told};
 ghost use Rattle.strat_model.specs.Request.{Put, Delete, Get, Clone, Scan, Info, OpenCursor, NextPairs, CloseCursor, Stat};
-ghost use Rattle.strat_model.specs.Spelling.{command_bytes, command_body, size_refusal, is_built, FitsFields, FitsParent, FitsReply, is_given, reply_body, tag_of};
+ghost use Rattle.strat_model.specs.Spelling.{command_bytes, command_body, size_refusal, FitsFields, FitsParent, FitsReply, FitsPairs, HasForm, reply_body, tag_of};
 
 /// A key has 1 to 255 bytes.
 pub fn keys_have_1_to_255_bytes()
@@ -57,20 +57,6 @@ pub fn the_size_of_a_key_is_told_first()
     ensures limit { size_refusal (Scan 0 (replicate 256 97) [] 0) ≡ Some why.KeySize }
 {}
 
-/// What is built so far: all commands but those of cursors, and the replies that have no list of pairs.
-pub fn cursors_are_not_built()
-    ensures commands { (is_built (Put 0 [] []) ≡ true) × (is_built (Delete 0 []) ≡ true)
-        × (is_built (Get 0 []) ≡ true) × (is_built (Clone 0) ≡ true)
-        × (is_built (Info 0) ≡ true) × (is_built Stat ≡ true)
-        × (is_built (Scan 0 [] [] 1) ≡ true) }
-    ensures cursors { (is_built (OpenCursor 0 [] []) ≡ false)
-        × (is_built (NextPairs 1 1) ≡ false) × (is_built (CloseCursor 1) ≡ false) }
-    ensures replies { (is_given (reply.Pairs true) ≡ false) × (is_given (reply.Opened 1) ≡ false)
-        × (is_given (reply.Refused why.UnknownCursor) ≡ false)
-        × (is_given (reply.Refused why.CursorLimit) ≡ false)
-        × (is_given (reply.Refused why.ScanSize) ≡ true) }
-{}
-
 /// The bytes of each command.
 pub fn bytes_of_commands()
     ensures put { command_body 16909060 (Put 513 (97 ∷ 98 ∷ []) (49 ∷ []))
@@ -110,8 +96,50 @@ pub fn bytes_of_replies()
     ensures stat { reply_body 11 (plain (reply.Stat 1 2 3 4))
         ≡ (0 ∷ 0 ∷ 0 ∷ 11 ∷ 7 ∷ []) ++ (0 ∷ 0 ∷ 0 ∷ 1 ∷ 0 ∷ 0 ∷ 0 ∷ 2 ∷ [])
         ++ (0 ∷ 0 ∷ 0 ∷ 3 ∷ 0 ∷ 0 ∷ 0 ∷ 4 ∷ []) }
+    ensures opened { reply_body 5 (plain (reply.Opened 258))
+        ≡ 0 ∷ 0 ∷ 0 ∷ 5 ∷ 6 ∷ 0 ∷ 0 ∷ 0 ∷ 0 ∷ 0 ∷ 0 ∷ 1 ∷ 2 ∷ [] }
+    ensures cursor { (reply_body 3 (plain (reply.Refused why.UnknownCursor))
+        ≡ 0 ∷ 0 ∷ 0 ∷ 3 ∷ 18 ∷ [])
+        × (reply_body 3 (plain (reply.Refused why.CursorLimit)) ≡ 0 ∷ 0 ∷ 0 ∷ 3 ∷ 21 ∷ []) }
     ensures damaged { reply_body 1 (plain (reply.Refused (why.Damaged 7)))
         ≡ 0 ∷ 0 ∷ 0 ∷ 1 ∷ 34 ∷ 0 ∷ 0 ∷ 0 ∷ 7 ∷ [] }
+{}
+
+/// The bytes of pages: a flag, the number of the pairs, and each pair's key and value.
+pub fn bytes_of_pages()
+    ensures none { reply_body 3 (as_told (reply.Pairs false) [])
+        ≡ 0 ∷ 0 ∷ 0 ∷ 3 ∷ 3 ∷ 0 ∷ 0 ∷ 0 ∷ [] }
+    ensures some { reply_body 3 (as_told (reply.Pairs true)
+        ((97 ∷ [], 49 ∷ []) ∷ (97 ∷ 98 ∷ [], []) ∷ []))
+        ≡ (0 ∷ 0 ∷ 0 ∷ 3 ∷ 3 ∷ 1 ∷ 0 ∷ 2 ∷ []) ++ (0 ∷ 1 ∷ 97 ∷ 0 ∷ 1 ∷ 49 ∷ [])
+        ++ (0 ∷ 2 ∷ 97 ∷ 98 ∷ 0 ∷ 0 ∷ []) }
+{}
+
+/// A page has up to 256 pairs, each with a key of 1 to 255 bytes and a value of up to 1,024. A reply without
+/// pairs has none beside it, and a value that was found stands under a question mark.
+pub fn pages_have_up_to_256_pairs_of_lawful_sizes()
+    ensures most { FitsPairs (reply.Pairs true) (replicate 256 (97 ∷ [], [])) }
+    ensures more { ¬ FitsPairs (reply.Pairs true) (replicate 257 (97 ∷ [], [])) }
+    ensures key { FitsPairs (reply.Pairs false) ((replicate 255 97, []) ∷ [])
+        × (¬ FitsPairs (reply.Pairs false) (([], []) ∷ []))
+        × (¬ FitsPairs (reply.Pairs false) ((replicate 256 97, []) ∷ [])) }
+    ensures value { FitsPairs (reply.Pairs false) ((97 ∷ [], replicate 1024 49) ∷ [])
+        × (¬ FitsPairs (reply.Pairs false) ((97 ∷ [], replicate 1025 49) ∷ [])) }
+    ensures none { FitsPairs reply.Done [] × (¬ FitsPairs reply.Done ((97 ∷ [], []) ∷ [])) }
+    ensures found { FitsPairs reply.Found ((63 ∷ [], replicate 1024 49) ∷ [])
+        × (¬ FitsPairs reply.Found ((97 ∷ [], 49 ∷ []) ∷ []))
+        × (¬ FitsPairs reply.Found ((63 ∷ [], replicate 1025 49) ∷ []))
+        × (¬ FitsPairs reply.Found []) }
+{}
+
+/// Bodies of cursors' commands have a form, whatever the sizes of these.
+pub fn cursors_have_forms()
+    ensures open { HasForm (0 ∷ 0 ∷ 0 ∷ 5 ∷ 7 ∷ 0 ∷ 0 ∷ 0 ∷ 0 ∷ 0 ∷ 0 ∷ 0 ∷ 0 ∷ []) 5
+        (OpenCursor 0 [] []) }
+    ensures next { HasForm (0 ∷ 0 ∷ 0 ∷ 6 ∷ 8 ∷ 0 ∷ 0 ∷ 0 ∷ 0 ∷ 0 ∷ 0 ∷ 0 ∷ 1 ∷ 1 ∷ 1 ∷ []) 6
+        (NextPairs 1 257) }
+    ensures close { HasForm (0 ∷ 0 ∷ 0 ∷ 7 ∷ 9 ∷ 0 ∷ 0 ∷ 0 ∷ 0 ∷ 0 ∷ 0 ∷ 0 ∷ 1 ∷ []) 7
+        (CloseCursor 1) }
 {}
 
 /// The greatest numbers of commands: four bytes for a version, eight for a cursor, two for a limit.
@@ -137,6 +165,8 @@ pub fn numbers_of_replies_fit_their_fields()
     ensures parent { FitsParent (Some 4294967294) × (¬ FitsParent (Some 4294967295)) }
     ensures depth { FitsReply (reply.Info None 4294967295 true)
         × (¬ FitsReply (reply.Info None 4294967296 true)) }
+    ensures opened { FitsReply (reply.Opened 18446744073709551615)
+        × (¬ FitsReply (reply.Opened 18446744073709551616)) }
     ensures stat { FitsReply (reply.Stat 4294967295 4294967295 4294967295 4294967295)
         × (¬ FitsReply (reply.Stat 4294967296 0 0 0))
         × (¬ FitsReply (reply.Stat 0 4294967296 0 0))

@@ -22,9 +22,10 @@ use Rattle.strat_model.specs.declared.replies.Refusal.TheVariants as why
 use Rattle.strat_model.specs.Command.{request_of}
 use Rattle.strat_model.specs.declared.commands.Command.{Command}
 use Rattle.strat_model.specs.declared.commands.Command.TheVariants as command
-use Rattle.strat_model.specs.Answer.{Answer, plain, accepts}
+use Rattle.strat_array.specs.Told.{TheirPairs}
+use Rattle.strat_model.specs.Answer.{Answer, plain, accepts, as_told, refusal}
 use Rattle.strat_model.specs.Pairs.{range, value_of}
-use Rattle.strat_model.specs.Request.{Request, Put, Delete, Get, Clone, Scan, Info, Stat}
+use Rattle.strat_model.specs.Request.{Request, Put, Delete, Get, Clone, Scan, Info, NextPairs, Stat}
 use Rattle.strat_model.specs.Run.{Position, is_change, reaches_disk, position_after, fill_after}
 use Rattle.strat_model.specs.Spelling.{is_bound, is_limit, has_lawful_sizes}
 use Rattle.strat_model.specs.Step.{step, replies_with, refuses, has_row, pairs_at, found, page}
@@ -40,7 +41,7 @@ use Rattle.strat_store.proofs.MemoryLawLemmas.{version_told, store_told_with, ve
 use Rattle.strat_store.proofs.CursoringLemmas.{looks_wider, stands_now, stands_still, still_going}
 use Rattle.strat_store.specs.Applying.{IsLookedUp, FollowsStep, TellsFaultOf, change_wanted, is_fault, ran_short, table_left}
 use Rattle.strat_store.specs.Cursoring.{IsAppliedAt, is_of_cursor}
-use Rattle.strat_store.specs.Ranging.{TellsFrom}
+use Rattle.strat_store.specs.Ranging.{TellsFrom, TellsOfVersion}
 use Rattle.strat_store.specs.Held.{Held, arrays_held, position_at, table_at, IsConsistent, StandsAt, StandsWith}
 use Rattle.strat_store.specs.Memory.{Memory, info_told, stat_told, IsMemoryOf}
 
@@ -70,6 +71,20 @@ none_left (command.Info v) none other get scan info stat = info v refl
 none_left command.Stat none other get scan info stat = stat refl
 none_left _ none other get scan info stat = absurd (true≢false other)
 
+-- one that is none of the three is about no cursor
+pub of_cursor_not : (asked : Command) → ((v : ℕ) (lo hi : Bor (List ℕ)) → asked ≡ command.OpenCursor v lo hi → ⊥) → ((cursor limit : ℕ) → asked ≡ command.NextPairs cursor limit → ⊥)
+    → ((cursor : ℕ) → asked ≡ command.CloseCursor cursor → ⊥) → is_of_cursor (request_of asked) ≡ false
+of_cursor_not (command.OpenCursor v lo hi) opens pages closes = absurd (opens v lo hi refl)
+of_cursor_not (command.NextPairs cursor limit) opens pages closes = absurd (pages cursor limit refl)
+of_cursor_not (command.CloseCursor cursor) opens pages closes = absurd (closes cursor refl)
+of_cursor_not (command.Put v key value) opens pages closes = refl
+of_cursor_not (command.Delete v key) opens pages closes = refl
+of_cursor_not (command.Get v key) opens pages closes = refl
+of_cursor_not (command.Clone v) opens pages closes = refl
+of_cursor_not (command.Scan v lo hi limit) opens pages closes = refl
+of_cursor_not (command.Info v) opens pages closes = refl
+of_cursor_not command.Stat opens pages closes = refl
+
 -- it reaches the disk, and so a fault may be told of it
 reaches_wanted : (r : Request) (c : Change) → change_wanted r ≡ Some c → reaches_disk r ≡ true
 reaches_wanted (Put v key value) c wanted = refl
@@ -98,6 +113,18 @@ info_calm m version told known unknown = by_test (is_known m.parents version) re
     by_test : (b : Bool) → is_known m.parents version ≡ b → is_fault told ≡ false
     by_test true is = ap is_fault (known is)
     by_test false is = ap is_fault (unknown is)
+
+-- so it is told
+pub info_says : (m : Memory) (version : ℕ) (told : Reply) → (is_known m.parents version ≡ true → told ≡ info_told m version) → (is_known m.parents version ≡ false → told ≡ reply.Refused why.UnknownVersion)
+    → TellsOfVersion m version (plain told) (plain told ≡ plain (info_told m version))
+info_says m version told known unknown = (λ off. ap plain (unknown off), λ is. ap plain (known is))
+
+-- a version that is not there is told so, without pairs
+pub unknown_answer : (told : Reply) (out : TheirPairs) → told ≡ reply.Refused why.UnknownVersion → out ≡ [] → as_told told out ≡ refusal why.UnknownVersion
+unknown_answer told out is none = λ i. as_told (is i) (none i)
+
+pub other_than : reply.Refused why.UnknownVersion ≡ reply.Found → ⊥
+other_than e = cc
 
 -- what reads a version leaves the table as it was
 says_kept : (k : Bool) (t : Table) (a : Answer) (r : Refusal) → (if k then replies_with t a else refuses t r).table ≡ t
@@ -281,4 +308,10 @@ scan_fits v lo hi limit lawful =
     let bounds = and_parts (is_bound lo) (is_bound hi && is_limit limit) lawful in
     let asked = and_parts (is_bound hi) (is_limit limit) bounds.1 in
     let ends = and_parts (leb 1 limit) (leb limit 256) asked.1 in
+    (leb-true 1 limit ends.0, leb-true limit 256 ends.1)
+
+-- so does a page of a cursor
+pub next_fits : (cursor limit : ℕ) → has_lawful_sizes (NextPairs cursor limit) ≡ true → (1 ≤ limit) × (limit ≤ 256)
+next_fits cursor limit lawful =
+    let ends = and_parts (leb 1 limit) (leb limit 256) lawful in
     (leb-true 1 limit ends.0, leb-true limit 256 ends.1)

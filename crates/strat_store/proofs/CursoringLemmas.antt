@@ -247,7 +247,7 @@ module _ (v : DiskView) (s : Held) (x : Contents) (rows : List Cursor) (whole : 
       by (inr new) = subst (λ (k : HeldCursor). MayGoOn f next k s.cached) (sym new) (start_goes_on n lo hi)
 
   -- an opening is answered as the table says, or memory ran out
-  pub unknown_not_opened : (n : ℕ) (lo hi : List ℕ) → is_known s.memory.parents n ≡ false
+  unknown_not_opened : (n : ℕ) (lo hi : List ℕ) → is_known s.memory.parents n ≡ false
       → IsAppliedAt v s x rows (OpenCursor n lo hi) (plain (reply.Refused why.UnknownVersion)) (record s { spent = false })
   unknown_not_opened n lo hi off =
       let o = refused_of_unknown n lo hi off in
@@ -260,11 +260,11 @@ module _ (v : DiskView) (s : Held) (x : Contents) (rows : List Cursor) (whole : 
         place = sym (place_of s.log.mem (position_at s x rows) (OpenCursor n lo hi) (refuses t why.UnknownVersion) o refl);
       })
 
-  pub known_opened : (n : ℕ) (lo hi : List ℕ) (r : Result ℕ CursorFault) (m : Memory) → is_known s.memory.parents n ≡ true
+  known_opened : (n : ℕ) (lo hi : List ℕ) (r : Result ℕ CursorFault) (m : Memory) → is_known s.memory.parents n ≡ true
       → IfOk r (λ k. (k ≡ s.memory.cursors.next) × (m ≡ one_more n lo hi)) → OnErr r (m ≡ s.memory) → (IsErrOf r start_fault.CursorLimit ↔ (length opened ≡ 64))
       → IsAppliedAt v s x rows (OpenCursor n lo hi) (plain (reply_of_start r)) (record s { memory = m; spent = is_fault (reply_of_start r) })
   known_opened n lo hi (Ok k) m is opens same limit =
-      let room : length opened ≢ 64 = λ full. limit.1 full in
+      let room : length opened ≢ 64 = λ full. (let e : ◌≡◌ {A = Result ℕ CursorFault} (Ok k) (Err start_fault.CursorLimit) = limit.1 full in cc) in
       let o = started_by n lo hi is room in
       subst (λ (z : Memory). IsAppliedAt v s x rows (OpenCursor n lo hi) (plain (reply.Opened k)) (record s { memory = z; spent = false })) (sym opens.1)
       (inl (record {
@@ -302,13 +302,24 @@ module _ (v : DiskView) (s : Held) (x : Contents) (rows : List Cursor) (whole : 
       })))
 
   -- a closing is answered as the table says
-  pub closed_applied : (n : ℕ) (there : Bool) (m : Memory) → there ≡ is_opened n opened → m ≡ record s.memory { cursors = closed_at n s.memory.cursors } → (there ≡ false → m ≡ s.memory)
-      → IsAppliedAt v s x rows (CloseCursor n) (plain (reply_of_close there)) (record s { memory = m; spent = is_fault (reply_of_close there) })
-  closed_applied n true m is closes none =
-      let on : list_any (λ (c : Cursor). eqb c.number n) rows ≡ true = rows_opened f s.memory.parents n opened rows at.rows_are ∙ sym is in
+  closed_unknown : (n : ℕ) → is_opened n opened ≡ false → IsAppliedAt v s x rows (CloseCursor n) (plain (reply.Refused why.UnknownCursor)) (record s { spent = false })
+  closed_unknown n none =
+      let off : list_any (λ (c : Cursor). eqb c.number n) rows ≡ false = rows_opened f s.memory.parents n opened rows at.rows_are ∙ none in
+      let o : step t (CloseCursor n) ≡ refuses t why.UnknownCursor = rw (off) refl in
+      inl (record {
+        told = ap (λ (z : Outcome). z.answer) (sym o);
+        going = refl;
+        after = x;
+        left = rows;
+        stands = stands_still s.memory false rows at.rows_are at.going;
+        place = sym (place_of s.log.mem (position_at s x rows) (CloseCursor n) (refuses t why.UnknownCursor) o refl);
+      })
+
+  closed_done : (n : ℕ) → is_opened n opened ≡ true → IsAppliedAt v s x rows (CloseCursor n) (plain reply.Done) (record s { memory = record s.memory { cursors = closed_at n s.memory.cursors }; spent = false })
+  closed_done n there =
+      let on : list_any (λ (c : Cursor). eqb c.number n) rows ≡ true = rows_opened f s.memory.parents n opened rows at.rows_are ∙ there in
       let o : step t (CloseCursor n) ≡ record { answer = plain reply.Done; table = record t { cursors = filter (λ (c : Cursor). not (eqb c.number n)) rows } } = rw (on) refl in
-      subst (λ (z : Memory). IsAppliedAt v s x rows (CloseCursor n) (plain reply.Done) (record s { memory = z; spent = false })) (sym closes)
-      (inl (record {
+      inl (record {
         told = ap (λ (z : Outcome). z.answer) (sym o);
         going = refl;
         after = x;
@@ -316,19 +327,58 @@ module _ (v : DiskView) (s : Held) (x : Contents) (rows : List Cursor) (whole : 
         stands = stands_still (record s.memory { cursors = closed_at n s.memory.cursors }) false (filter (λ (c : Cursor). not (eqb c.number n)) rows)
             (rows_less f s.memory.parents n opened rows at.rows_are) (goes_on_without f next s.cached n opened at.going);
         place = sym (place_of s.log.mem (position_at s x rows) (CloseCursor n) (record { answer = plain reply.Done; table = record t { cursors = filter (λ (c : Cursor). not (eqb c.number n)) rows } }) o refl);
-      }))
-  closed_applied n false m is closes none =
-      let off : list_any (λ (c : Cursor). eqb c.number n) rows ≡ false = rows_opened f s.memory.parents n opened rows at.rows_are ∙ sym is in
-      let o : step t (CloseCursor n) ≡ refuses t why.UnknownCursor = rw (off) refl in
-      subst (λ (z : Memory). IsAppliedAt v s x rows (CloseCursor n) (plain (reply.Refused why.UnknownCursor)) (record s { memory = z; spent = false })) (sym (none refl))
-      (inl (record {
-        told = ap (λ (z : Outcome). z.answer) (sym o);
-        going = refl;
-        after = x;
-        left = rows;
-        stands = stands_still s.memory false rows at.rows_are at.going;
-        place = sym (place_of s.log.mem (position_at s x rows) (CloseCursor n) (refuses t why.UnknownCursor) o refl);
-      }))
+      })
+
+  -- so the answers say which of these it was
+  module _ (n : ℕ) (lo hi : List ℕ) (m : Memory) where
+    abbrev Opening : Reply → Memory → Type 0
+    Opening told z = IsAppliedAt v s x rows (OpenCursor n lo hi) (plain told) (record s { memory = z; spent = is_fault told })
+
+    abbrev left : Reply → Memory
+    left told = record s.memory { cursors = cursors_after s.memory s.levels (OpenCursor n lo hi) (plain told) }
+
+    pub opened_applied : (told : Reply) → TellsOfVersion s.memory n (plain told) (TellsOfOpening s.memory.cursors (plain told)) → m ≡ left told → Opening told m
+    opened_applied told tells is = by (is_known s.memory.parents n) refl
+      where
+        told_so : (other : Reply) → plain told ≡ plain other → Opening other (left other) → Opening told m
+        told_so other e applied =
+            let same : told ≡ other = ap (λ (a : Answer). a.reply) e in
+            subst (λ (r : Reply). Opening r m) (sym same) (subst (Opening other) (sym (is ∙ ap left same)) applied)
+
+        by_room : is_known s.memory.parents n ≡ true → (full : Bool) → eqb (length opened) 64 ≡ full → Opening told m
+        by_room on true test =
+            let full = eqb-true (length opened) 64 test in
+            told_so (reply.Refused why.CursorLimit) ((tells.1 on).0 full) (known_opened n lo hi (Err start_fault.CursorLimit) s.memory on tt refl (λ _. full, λ _. refl))
+        by_room on false test =
+            let room : length opened ≢ 64 = λ full. true≢false (sym (eq-eqb (length opened) 64 full) ∙ test) in
+            elim ((tells.1 on).1 room) [
+              | inl e ↦ told_so (reply.Opened s.memory.cursors.next) e (known_opened n lo hi (Ok s.memory.cursors.next) (one_more n lo hi) on (refl, refl) tt (λ e. absurd (cc), λ full. absurd (room full)))
+              | inr e ↦ told_so (reply.Refused why.NoMemory) e (known_opened n lo hi (Err start_fault.NoMemory) s.memory on tt refl (λ e. absurd (cc), λ full. absurd (room full)))
+            ]
+
+        by : (b : Bool) → is_known s.memory.parents n ≡ b → Opening told m
+        by false off = told_so (reply.Refused why.UnknownVersion) (tells.0 off) (unknown_not_opened n lo hi off)
+        by true on = by_room on (eqb (length opened) 64) refl
+
+  pub closing_applied : (n : ℕ) (m : Memory) (told : Reply) → plain told ≡ (if is_opened n opened then plain reply.Done else refusal why.UnknownCursor)
+      → m ≡ record s.memory { cursors = cursors_after s.memory s.levels (CloseCursor n) (plain told) }
+      → IsAppliedAt v s x rows (CloseCursor n) (plain told) (record s { memory = m; spent = is_fault told })
+  closing_applied n m told tells is = by (is_opened n opened) refl tells
+    where
+      Closing : Reply → Memory → Type 0
+      Closing r z = IsAppliedAt v s x rows (CloseCursor n) (plain r) (record s { memory = z; spent = is_fault r })
+
+      left_by : Reply → Memory
+      left_by r = record s.memory { cursors = cursors_after s.memory s.levels (CloseCursor n) (plain r) }
+
+      told_so : (other : Reply) → plain told ≡ plain other → Closing other (left_by other) → Closing told m
+      told_so other e applied =
+          let same : told ≡ other = ap (λ (a : Answer). a.reply) e in
+          subst (λ (r : Reply). Closing r m) (sym same) (subst (Closing other) (sym (is ∙ ap left_by same)) applied)
+
+      by : (b : Bool) → is_opened n opened ≡ b → plain told ≡ (if b then plain reply.Done else refusal why.UnknownCursor) → Closing told m
+      by true on e = told_so reply.Done e (closed_done n on)
+      by false off e = told_so (reply.Refused why.UnknownCursor) e (closed_unknown n off)
 
   -- a page of an open cursor is accepted
   page_accepted : (n limit : ℕ) → is_opened n opened ≡ true → accepts (step t (NextPairs n limit)).answer.reply ≡ true
@@ -369,7 +419,7 @@ module _ (v : DiskView) (s : Held) (x : Contents) (rows : List Cursor) (whole : 
       where
         by_open : (b : Bool) → (b ≡ false → IsErrOf (Ok more) next_fault.UnknownCursor) → b ≡ true
         by_open true none = refl
-        by_open false none = absurd (none refl)
+        by_open false none = let e : ◌≡◌ {A = Result Bool NextFault} (Ok more) (Err next_fault.UnknownCursor) = none refl in absurd (cc)
     page_applied n limit out (Err next_fault.UnknownCursor) m tells moves unknown same names =
         let o = table_none f s.memory.parents opened t n limit at.rows_are (unknown.0 refl) in
         subst (λ (z : Memory). IsAppliedAt now s x rows (NextPairs n limit) (as_told (reply.Refused why.UnknownCursor) out) (record s { memory = z; cached = d; spent = false })) (sym same.0)
@@ -406,9 +456,9 @@ unknown_told m n Told off = (λ _. refl, λ is. absurd (true≢false (sym is ∙
 pub known_told : (m : Memory) (n : ℕ) (answer : Answer) (Told : Type 0) → is_known m.parents n ≡ true → Told → TellsOfVersion m n answer Told
 known_told m n answer Told is told = (λ off. absurd (true≢false (sym is ∙ off)), λ _. told)
 
-pub numbers : {P : ℕ → Type 0} {n : ℕ} (r : Result ℕ CursorFault) → IfOk r (λ k. (k ≡ n) × P k) → IfOk r (λ k. k ≡ n)
-numbers (Ok k) opens = opens.0
-numbers (Err e) opens = tt
+pub numbers : (P : ℕ → Type 0) (n : ℕ) (r : Result ℕ CursorFault) → IfOk r (λ k. (k ≡ n) × P k) → IfOk r (λ k. k ≡ n)
+numbers P n (Ok k) opens = opens.0
+numbers P n (Err e) opens = tt
 
 pub opening_told : (c : HeldCursors) (r : Result ℕ CursorFault) → IfOk r (λ k. k ≡ c.next) → (IsErrOf r start_fault.CursorLimit ↔ (length c.opened ≡ 64)) → TellsOfOpening c (plain (reply_of_start r))
 opening_told c (Ok k) opens limit =
@@ -417,9 +467,9 @@ opening_told c (Err start_fault.CursorLimit) opens limit = (λ full. refl, λ ro
 opening_told c (Err start_fault.NoMemory) opens limit =
     (λ full. absurd (let e : ◌≡◌ {A = Result ℕ CursorFault} (Err start_fault.NoMemory) (Err start_fault.CursorLimit) = limit.1 full in cc), λ room. inr refl)
 
-pub nothing_told : {P Q : Type 0} {T E : Type 0} (r : Result T E) → OnErr r (P × Q) → OnErr r Q
-nothing_told (Ok x) same = tt
-nothing_told (Err e) same = same.1
+pub nothing_told : {T E : Type 0} (P Q : Type 0) (r : Result T E) → OnErr r (P × Q) → OnErr r Q
+nothing_told P Q (Ok x) same = tt
+nothing_told P Q (Err e) same = same.1
 
 pub cursor_told : (f : Image) (v : DiskView) (s : Held) (n limit : ℕ) (out : TheirPairs) (r : Result Bool NextFault) → Exposes v f → is_fault (reply_of_next r) ≡ false
     → IfOk r (λ more. (c : HeldCursor) → Contains s.memory.cursors.opened c → c.number ≡ n → (g : Image) (k : ℕ) (pairs : Pairs) → Exposes v g → MayGoOn g k c s.cached → IsMapHeld g s.memory.parents c pairs → TellsNext pairs c limit out more)

@@ -1,5 +1,5 @@
 -- What open cursors hold on to stays there, as a store goes on.
-use Rattle.std.proofs.Common.{◌≡◌, ◌≤◌, ◌<◌, ℕ, Bool, true, false, inl, inr, List, [], ◌∷◌, ◌++◌, map, Contains, flat_map, Option, refl, sym, ap, subst, append-nil}
+use Rattle.std.proofs.Common.{◌≡◌, ◌≤◌, ◌<◌, ℕ, Bool, true, false, inl, inr, List, [], ◌∷◌, ◌++◌, map, Contains, flat_map, Option, refl, sym, ap, subst, ◌∙◌, append-nil}
 use Rattle.std.specs.Prelude.{fold, if◌then◌else◌}
 use Rattle.std.proofs.lemmas.Bool.{ltb-true}
 use Rattle.std.proofs.lemmas.List.Concat.{flat_map-append}
@@ -56,12 +56,12 @@ module _ (sb : Super) (chained : Chained) (levels : List (Option LevelDesc)) (pl
   -- without cursors all that is named is there
   pub kept_without : (m : Memory) → m.cursors ≡ no_cursors → AreKept sb chained.manifest.next_array levels m
   kept_without m none =
-      let all : arrays_held m levels ≡ arrays_there levels = ap (λ (c : _). arrays_there levels ++ c.retired) none ∙ append-nil (arrays_there levels) in
+      let all : arrays_held m levels ≡ arrays_there levels = ap (λ (c : HeldCursors). arrays_there levels ++ c.retired) none ∙ append-nil (arrays_there levels) in
       record {
-        named = λ a of. absurd (subst (λ (c : _). Contains (flat_map (λ k. k.arrays) c.opened) a) none of);
+        named = λ a of. absurd (contained_among [] a (subst (λ (c : HeldCursors). Contains (arrays_named c.opened) a) none of));
         ids = subst HaveOwnIds (sym all) own_numbers;
         below = λ a of. low_numbers a (subst (λ (rs : List ArrayDesc). Contains rs a) all of);
-        behind = λ a b of. absurd (subst (λ (c : _). Contains c.retired a) none of);
+        behind = λ a b of. absurd (contained_among [] a (subst (λ (c : HeldCursors). Contains c.retired a) none of));
       }
 
 -- what commands about cursors leave of that

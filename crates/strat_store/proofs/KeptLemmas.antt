@@ -165,11 +165,11 @@ module _ (s : Held) (target : ℕ) (sb : Super) (chained : Chained) (levels : Li
   own_left : is_distinct (ids left) ≡ true
   own_left =
       retired_ids c taken [] (
-        ap is_distinct (map-append (λ (a : ArrayDesc). a.id) taken c.retired)
-        ∙ distinct_append (ids taken) (ids c.retired) (distinct_parts (ids taken) (ids behind) own_levels).0 (distinct_parts (ids (taken ++ behind)) (ids c.retired) own_parts).1 (λ v one two.
-        let x = map_among (λ (a : ArrayDesc). a.id) taken v one in
-        let y = map_among (λ (a : ArrayDesc). a.id) c.retired v two in
-        levels_apart x.0 y.0 (among_left taken behind x.0 x.1) y.1 (sym x.2 ∙ y.2))
+      ap is_distinct (map-append (λ (a : ArrayDesc). a.id) taken c.retired)
+      ∙ distinct_append (ids taken) (ids c.retired) (distinct_parts (ids taken) (ids behind) own_levels).0 (distinct_parts (ids (taken ++ behind)) (ids c.retired) own_parts).1 (λ v one two.
+      let x = map_among (λ (a : ArrayDesc). a.id) taken v one in
+      let y = map_among (λ (a : ArrayDesc). a.id) c.retired v two in
+      levels_apart x.0 y.0 (among_left taken behind x.0 x.1) y.1 (sym x.2 ∙ y.2))
       )
 
   -- what is kept stood in a level or was kept

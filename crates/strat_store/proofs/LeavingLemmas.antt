@@ -256,7 +256,7 @@ cursors_published s t c answer placed has = record {
 pub rows_renewed : (old mid new : Memory) → mid.parents ≡ old.parents → mid.cursors.opened ≡ old.cursors.opened → KeepsRows mid new → KeepsRows old new
 rows_renewed old mid new parents opened keeps f rows are =
     subst (λ (cs : List HeldCursor). AreRowsOf f new.parents cs rows) opened (keeps f rows (
-      subst (λ (ps : Parents). AreRowsOf f ps mid.cursors.opened rows) (sym parents) (subst (λ (cs : List HeldCursor). AreRowsOf f old.parents cs rows) (sym opened) are)
+    subst (λ (ps : Parents). AreRowsOf f ps mid.cursors.opened rows) (sym parents) (subst (λ (cs : List HeldCursor). AreRowsOf f old.parents cs rows) (sym opened) are)
     ))
 
 pub opened_after : (sb next_sb : Super) (m next : Manifest) (memory : Memory) (cursors : HeldCursors) → ArePublishedAfter sb m memory next_sb next cursors → cursors.opened ≡ memory.cursors.opened

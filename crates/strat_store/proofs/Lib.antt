@@ -3,6 +3,7 @@ pub mod FormatLemmas
 pub mod MemoryLawLemmas
 pub mod MemoryLemmas
 pub mod PoolLemmas
+pub mod PageLemmas
 pub mod IdLemmas
 pub mod LookLawLemmas
 pub mod GettingLemmas

@@ -1,8 +1,9 @@
 -- A look-up goes through the levels, and asks an array in each.
-use Rattle.std.proofs.Common.{◌≡◌, ◌<◌, ◌+◌, ◌-◌, ℕ, zero, suc, true, false, cond, leb, get_or, drop, inl, inr, ◌⊎◌, List, [], ◌∷◌, length, Contains, map, Option, Some, None, IsTrue, refl, sym, ap, ◌∙◌, subst, arith, true≢false}
+use Rattle.std.proofs.Common.{◌≡◌, ◌≤◌, ◌<◌, ◌+◌, ◌-◌, ℕ, zero, suc, true, false, cond, leb, get_or, drop, inl, inr, ◌⊎◌, List, [], ◌∷◌, length, Contains, map, Option, Some, None, IsTrue, refl, sym, ap, ◌∙◌, subst, arith, true≢false, Result, Ok, Err}
 use Rattle.std.proofs.lemmas.Bool.{and_parts, not-true, le-leb}
-use Rattle.std.proofs.lemmas.List.{drop_more}
+use Rattle.std.proofs.lemmas.List.{drop_all, drop_more}
 use Rattle.std.specs.List.{filter_map, cons_option, slice_get}
+use Rattle.std.specs.Prelude.{IfOk}
 use Rattle.std.specs.Option.{option_and_then, option_map, option_or, unwrap_or}
 use Rattle.strat_array.specs.Kept.{Kept, Blocks, IsBlockRead, Looks, ArrayStands}
 use Rattle.strat_array.specs.Left.{all_in}
@@ -42,7 +43,7 @@ one_id a arrays b own there same =
     let parts = and_parts _ (is_distinct (map (λ a. a.id) arrays)) own in
     true≢false (sym (among_tagged (map (λ a. a.id) arrays) a.id (subst (λ (n : ℕ). Among n (map (λ a. a.id) arrays)) same (id_among arrays b there))) ∙ not-true (is_tagged (map (λ a. a.id) arrays) a.id) parts.0)
 
-id_names : (arrays : List ArrayDesc) (a b : ArrayDesc) → is_distinct (map (λ a. a.id) arrays) ≡ true → Among a arrays → Among b arrays → a.id ≡ b.id → a ≡ b
+pub id_names : (arrays : List ArrayDesc) (a b : ArrayDesc) → is_distinct (map (λ a. a.id) arrays) ≡ true → Among a arrays → Among b arrays → a.id ≡ b.id → a ≡ b
 id_names [] a b own one other same = absurd one
 id_names (x ∷ arrays) a b own (inl one) (inl other) same = one ∙ sym other
 id_names (x ∷ arrays) a b own (inl one) (inr other) same = absurd (one_id x arrays b own other (sym same ∙ ap (λ (y : ArrayDesc). y.id) one))
@@ -233,3 +234,25 @@ names_one content arrays a b of none = record { array = a; one = of; none = none
 
 pub names_earlier : (old mid : Option Image) (arrays : List ArrayDesc) (b : ℕ) → mid ≡ old → NamesNoBlock mid arrays b → NamesNoBlock old arrays b
 names_earlier old mid arrays b same is = record { array = is.array; one = is.one; none = (is.none.0, λ f exposed. is.none.1 f (same ∙ exposed)) }
+
+-- where the whole of the levels was passed, nothing is found
+pub passed_all : (old now : DiskView) (levels : List (Option LevelDesc)) (parents : Parents) (key : List ℕ) (v above : ℕ) (c d : Blocks) → length levels ≤ above → Passing old now levels parents key v above c d
+    → (f : Image) (next : ℕ) → old.content ≡ Some f → AreInOrder f (arrays_there levels) → HaveOwnIds (arrays_there levels) → AreCachedFrom f next (arrays_there levels) c
+    → looked_up (on_disk f) parents [] (levels_there levels) v key ≡ None
+passed_all old now levels parents key v above c d past passing f next exposed ordered own cached =
+    sym (passing.silent f next exposed ordered own cached)
+    ∙ ap (λ (ls : List (Option LevelDesc)). looked_up (on_disk f) parents [] (levels_there ls) v key) (drop_all above levels past)
+
+-- what level 0 says nothing of is what the levels say
+pub looks_on : (content : Option Image) (parents ps : Parents) (entries : List Entry) (levels : List (Option LevelDesc)) (n : ℕ) (key : List ℕ) (c : Blocks) (mid out : TheirPairs) (r : Result Seen Fault)
+    → ps ≡ parents → live_of parents entries n key ≡ None → mid ≡ []
+    → IfOk r (λ seen. (f : Image) (next : ℕ) → content ≡ Some f → AreInOrder f (arrays_there levels) → HaveOwnIds (arrays_there levels) → AreCachedFrom f next (arrays_there levels) c
+    → TellsFound (looked_up (on_disk f) ps [] (levels_there levels) n key) key mid out seen)
+    → IfOk r (λ seen. (f : Image) (next : ℕ) → content ≡ Some f → AreInOrder f (arrays_there levels) → HaveOwnIds (arrays_there levels) → AreCachedFrom f next (arrays_there levels) c
+    → TellsFound (looked_up (on_disk f) parents (entries ∷ []) (levels_there levels) n key) key [] out seen)
+looks_on content parents ps entries levels n key c mid out (Err e) same none empty tells = tt
+looks_on content parents ps entries levels n key c mid out (Ok seen) same none empty tells = λ f next exposed ordered own cached.
+    let rest : Parents → Option Entry = λ (qs : Parents). looked_up (on_disk f) qs [] (levels_there levels) n key in
+    subst (λ (o : Option Entry). TellsFound (option_or o (rest parents)) key [] out seen) (sym none)
+    (subst (λ (p : TheirPairs). TellsFound (rest parents) key p out seen) empty
+    (subst (λ (qs : Parents). TellsFound (rest qs) key mid out seen) same (tells f next exposed ordered own cached)))

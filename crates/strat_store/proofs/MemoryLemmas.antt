@@ -1,5 +1,5 @@
 -- What a store has in memory, as its calls change and read it.
-use Rattle.std.proofs.Common.{◌≡◌, ◌<◌, ◌≤◌, ℕ, zero, suc, ◌+◌, true, ltb, leb, inl, inr, List, [], ◌∷◌, length, map, take, Some, None, sym, ap, ◌∙◌, get_or, arith, length-append}
+use Rattle.std.proofs.Common.{◌≡◌, ◌<◌, ◌≤◌, ℕ, zero, suc, ◌+◌, true, false, eqb, ltb, leb, inl, inr, List, [], ◌∷◌, length, map, take, Some, None, sym, ap, ◌∙◌, get_or, arith, length-append}
 use Rattle.std.specs.Ordering.{match_ordering}
 use Rattle.std.specs.declared.cmp.Ordering.{Ordering}
 use Rattle.std.specs.declared.cmp.Ordering.TheVariants.{Less, Equal, Greater}
@@ -17,7 +17,7 @@ use Rattle.strat_base.specs.EntryBytes.{is_markable, fits_fields}
 use Rattle.strat_base.specs.PairBuf.{IsPair}
 use Rattle.strat_base.specs.Sizes.{is_key}
 use Rattle.strat_base.specs.Order.{entry_cmp}
-use Rattle.strat_base.specs.Tree.{Parents, is_known, with_child}
+use Rattle.strat_base.specs.Tree.{Parents, is_known, has_child, with_child}
 use Rattle.strat_base.proofs.EntryLemmas.{bytes_same}
 use Rattle.strat_base.proofs.ListFacts.{all_at, all_from, find_some, get_among}
 use Rattle.strat_format.specs.Manifest.{are_older}
@@ -26,6 +26,9 @@ use Rattle.strat_recovery.specs.TableOver.{are_known}
 use Rattle.strat_state.specs.Reading.{live_of}
 use Rattle.strat_state.specs.Setting.{set_entry, set_all}
 use Rattle.strat_state.proofs.SettingLemmas.{set_among}
+use Rattle.strat_model.specs.declared.replies.Refusal.TheVariants as why
+use Rattle.strat_store.specs.Memory.{Memory, refusal_of_update, refusal_of_clone}
+use Rattle.strat_store.proofs.ThreeTests.{three_none}
 
 -- a parent is older than its version
 pub older_at : (v i d : ℕ) (ps : List ℕ) → are_older v ps ≡ true → i < length ps → get_or ps i d < v + i
@@ -49,9 +52,17 @@ held_within pool list i within = omega (arith, within, length-map list.items (en
 pub items_counted : (pool : List PoolEntry) (list : ItemList) → length list.items ≡ length (entries_held pool list)
 items_counted pool list = sym (length-map list.items (entry_of_item (arena_at pool list.arena).pairs))
 
--- the versions of entries are there, where there are none
-pub known_none : (parents : Parents) (entries : List Entry) → entries ≡ [] → are_known parents entries ≡ true
-known_none parents entries none = ap (are_known parents) none
+-- the versions of entries that are as before are there
+pub known_same : (parents : Parents) (old new : List Entry) → new ≡ old → are_known parents old ≡ true → are_known parents new ≡ true
+known_same parents old new same known = ap (are_known parents) same ∙ known
+
+-- what an update and a clone that are not refused find
+pub update_taken : (m : Memory) (v : ℕ) → refusal_of_update m v ≡ None → (is_known m.parents v ≡ true) × (has_child m.parents v ≡ false) × (eqb m.changes m.changes_max ≡ false)
+update_taken m v none = three_none (is_known m.parents v) (has_child m.parents v) (eqb m.changes m.changes_max) why.UnknownVersion why.Frozen why.ChangeLimit none
+
+pub clone_taken : (m : Memory) (v : ℕ) → refusal_of_clone m v ≡ None
+    → (is_known m.parents v ≡ true) × (eqb (length m.parents) m.versions_max ≡ false) × (eqb m.changes m.changes_max ≡ false)
+clone_taken m v none = three_none (is_known m.parents v) (eqb (length m.parents) m.versions_max) (eqb m.changes m.changes_max) why.UnknownVersion why.VersionLimit why.ChangeLimit none
 
 -- after an update at a version that is there
 pub known_set : (parents : Parents) (e : Entry) (old new : List Entry) → new ≡ set_entry e old → is_known parents e.version ≡ true → are_known parents old ≡ true → are_known parents new ≡ true

@@ -1,22 +1,24 @@
 -- Level 0, the next one and the cursors in a pool, as calls change it.
-use Rattle.std.proofs.Common.{◌≡◌, ◌≢◌, ◌≤◌, ◌<◌, ◌+◌, ◌*◌, ℕ, Bool, true, false, cond, eqb, inl, inr, List, [], ◌∷◌, Option, Some, None, length, refl, sym, ap, ◌∙◌, subst, arith}
-use Rattle.std.specs.List.{Contains, count_by}
+use Rattle.std.proofs.Common.{◌≡◌, ◌≢◌, ◌≤◌, ◌<◌, ◌+◌, ◌*◌, ℕ, Bool, true, false, cond, eqb, inl, inr, List, [], ◌∷◌, Option, Some, None, Result, Ok, Err, length, refl, sym, ap, ◌∙◌, subst, arith}
+use Rattle.std.specs.List.{count_by}
+use Rattle.std.specs.Option.{option_map}
+use Rattle.std.specs.Result.{OnErr, OnOk}
 use Rattle.std.proofs.lemmas.Bool.{cases_eq, eq-eqb, ne_eqb}
 use Rattle.std.proofs.lemmas.List.Sums.{sum_by-cons}
 use Rattle.strat_arena.specs.Items.{entries_of}
-use Rattle.strat_arena.specs.PoolView.{SameBeside, arena_at, count_shared, pool_entry, shares_at}
+use Rattle.strat_arena.specs.PoolView.{SameBeside, arena_at, count_shared, shares_at}
 use Rattle.strat_arena.specs.declared.items.Item.{Item}
 use Rattle.strat_arena.specs.declared.pool.PoolEntry.{PoolEntry}
-use Rattle.strat_base.specs.Entries.{Entry}
-use Rattle.strat_base.specs.Tree.{Parents}
+use Rattle.strat_base.specs.Tree.{Parents, IsTree, with_child}
 use Rattle.strat_level.specs.Memtable.{ItemList, Memtable, entries_held, ListStands, MemtableStands}
 use Rattle.strat_level.proofs.PutLemmas.{stands_while, memtable_stands_while}
-use Rattle.strat_cursor.specs.Cursors.{OpenCursor}
-use Rattle.strat_cursor.specs.Held.{HeldCursor, cursor_held, opened_held}
+use Rattle.strat_cursor.specs.Cursors.{OpenCursor, CursorsView, moved_at}
+use Rattle.strat_model.specs.Pairs.{Pairs}
+use Rattle.strat_cursor.specs.Held.{opened_held}
 use Rattle.strat_cursor.specs.Pins.{ArePinned, IsSamePool, SharesFollow, shares_of}
-use Rattle.strat_cursor.proofs.PinLemmas.{arenas_stay}
+use Rattle.strat_cursor.proofs.PinLemmas.{arenas_stay, shares_moved}
 use Rattle.strat_cursor.proofs.HoldingLemmas.{pool_few, shares_few}
-use Rattle.strat_cursor.proofs.RowLemmas.{pool_pinned, pool_held}
+use Rattle.strat_cursor.proofs.RowLemmas.{pool_pinned, pool_held, tree_pinned}
 use Rattle.strat_store.specs.MemoryFields.{own_arenas, StandInPool, StandsBeside}
 
 -- whether a number is that of an arena, as a count
@@ -288,3 +290,47 @@ first_stands old new parents z cursors empty none level found same = record {
 -- an empty list has no entries
 pub no_entries : (pool : List PoolEntry) (list : ItemList) → list.items ≡ [] → entries_held pool list ≡ []
 no_entries pool list none = ap (λ (items : List Item). entries_of (arena_at pool list.arena).pairs items) none
+
+-- a next one that has no room is none
+pub none_ready : (next : Option Memtable) → option_map (λ (z : Memtable). z.spare) next ≡ None → next ≡ None
+none_ready None none = refl
+none_ready (Some z) none = absurd (cc)
+
+pub room_ready : (next : Option Memtable) (z : Memtable) (mem : ℕ) → next ≡ Some z → option_map (λ (x : Memtable). x.spare) next ≡ Some mem → z.spare ≡ mem
+room_ready None z mem is ready = absurd (cc)
+room_ready (Some y) z mem is ready =
+    let same : y ≡ z = cc in
+    let room : y.spare ≡ mem = cc in
+    ap (λ (x : Memtable). x.spare) (sym same) ∙ room
+
+-- after the tree got a child
+pub grown_stands : (pool : List PoolEntry) (parents : Parents) (p : ℕ) (zero : Memtable) (next : Option Memtable) (cursors : List OpenCursor) → IsTree parents → p < length parents
+    → StandInPool pool parents zero next cursors → StandInPool pool (with_child parents p) zero next cursors
+grown_stands pool parents p zero next cursors tree within stand = record {
+  level = stand.level;
+  beside = stand.beside;
+  pinned = tree_pinned parents p tree within pool cursors stand.pinned;
+  shares = stand.shares;
+}
+
+-- after a page
+pub paged_stands : (pool : List PoolEntry) (parents : Parents) (zero : Memtable) (next : Option Memtable) (old new : CursorsView) (n : ℕ) (more : Bool) (told : Pairs)
+    → StandInPool pool parents zero next old.opened → ArePinned pool parents new.opened → new ≡ record old { opened = moved_at n more told old.opened }
+    → StandInPool pool parents zero next new.opened
+paged_stands pool parents zero next old new n more told stand pinned end = record {
+  level = stand.level;
+  beside = stand.beside;
+  pinned = pinned;
+  shares = λ m.
+      let same : shares_of new.opened m ≡ shares_of old.opened m = ap (λ (x : CursorsView). shares_of x.opened m) end ∙ shares_moved n more told old.opened m in
+      omega (arith, stand.shares m, same);
+}
+
+-- what is known of shares and cursors after a start, whether it was refused or not
+pub started_follow : {T E : Type 0} (r : Result T E) (old new : List PoolEntry) (parents : Parents) (before after : CursorsView) → ArePinned old parents before.opened
+    → OnOk r (SharesFollow old new before.opened after.opened) → OnOk r (ArePinned new parents after.opened) → OnErr r ((after ≡ before) × IsSamePool old new)
+    → SharesFollow old new before.opened after.opened × ArePinned new parents after.opened
+started_follow (Ok x) old new parents before after pinned follow kept err = (follow, kept)
+started_follow (Err e) old new parents before after pinned follow kept err =
+    subst (λ (x : CursorsView). SharesFollow old new before.opened x.opened × ArePinned new parents x.opened) (sym err.0)
+    (same_follow old new err.1 parents before.opened pinned, same_pinned old new err.1 parents before.opened pinned)

@@ -113,7 +113,7 @@ finds_range content view parents entries levels n lo hi limit c out (Ok more) tr
     (subst (λ (ps : Parents). IsMapSeen f ps (entries ∷ []) (picked_of ps levels n) n m) (sym tree) seen)))
 
 -- a page that is told is the answer
-page_told : (pairs : Pairs) (limit : ℕ) (out : TheirPairs) (more : Bool) → IsPageOf pairs limit out more → as_told (reply_of_scan (Ok more)) out ≡ page pairs limit
+pub page_told : (pairs : Pairs) (limit : ℕ) (out : TheirPairs) (more : Bool) → IsPageOf pairs limit out more → as_told (reply_of_scan (Ok more)) out ≡ page pairs limit
 page_told pairs limit out more is = λ j. record { reply = reply.Pairs (is.more_is j); pairs = is.pairs_are j }
 
 -- unless a fault ended the scan it is so

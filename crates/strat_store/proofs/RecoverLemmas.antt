@@ -91,6 +91,10 @@ manifest_recovered c sb y e own =
     ap (λ (r : Read Chained). and_then r (λ y. passed_or sb.manifest (belongs sb y) y.manifest)) e
     ∙ ap (λ (t : Bool). passed_or sb.manifest t y.manifest) own
 
+-- a result has one error
+pub same_err_in : {T : Type 0} (r : Result T Trouble) (e d : Trouble) → r ≡ Err e → r ≡ Err d → e ≡ d
+same_err_in r e d one other = let both : Err e ≡ Err d = sym one ∙ other in cc
+
 -- an error that names a block names no other
 pub damaged_block : {T : Type 0} (b block : ℕ) → ◌≡◌ {A = Result T Trouble} (Err (Damaged b)) (Err (Damaged block)) → b ≡ block
 damaged_block b block e = cc

@@ -1,5 +1,5 @@
 -- A publication of a store: what stands before it, between its calls and after it.
-use Rattle.std.proofs.Common.{◌≡◌, ◌≤◌, ◌+◌, ◌*◌, ℕ, Bool, true, false, leb, eqb, ◌&&◌, ◌||◌, inl, inr, ◌⊎◌, List, [], ◌∷◌, ◌++◌, length, length-append, Contains, flat_map, fold, map, Option, None, Some, refl, sym, ap, ◌∙◌, subst, arith, true≢false}
+use Rattle.std.proofs.Common.{◌≡◌, ◌≤◌, ◌+◌, ◌-◌, ◌*◌, ℕ, Bool, true, false, leb, eqb, ◌&&◌, ◌||◌, inl, inr, ◌⊎◌, List, [], ◌∷◌, ◌++◌, length, length-append, Contains, flat_map, fold, map, Option, None, Some, refl, sym, ap, ◌∙◌, subst, arith, true≢false}
 use Rattle.std.specs.List.{list_all, sum_by}
 use Rattle.std.specs.Option.{option_to_list, option_map}
 use Rattle.std.proofs.lemmas.Bool.{and_parts, leb-true, eqb-true, le-ltb}
@@ -42,6 +42,7 @@ use Rattle.strat_standing.proofs.ListLemmas.{contained_among, among_contained}
 use Rattle.strat_standing.proofs.TableLemmas.{same_table}
 use Rattle.strat_standing.specs.Contents.{Contents, contents_state, named_blocks}
 use Rattle.strat_standing.specs.Next.{arrays_made}
+use Rattle.strat_standing.specs.Occupied.{arrays_in}
 use Rattle.strat_standing.specs.Standing.{AreFree, LeavesContent, ShowsTable, ContentsStand}
 use Rattle.strat_state.specs.Level.{TaggedArray, Level, own_leads, least_live, is_distinct}
 use Rattle.strat_state.specs.Sound.{IsSound, is_described, has_ascending_entries}
@@ -101,9 +102,18 @@ damaged_ready content m k o n levels b is bad =
     let here : IsDamagedIn content (prepared m o n) levels b = subst (λ (n : Memory). IsDamagedIn content n levels b) is bad in
     record { listed = here.listed; bad = λ f exposed few. here.bad f exposed few }
 
--- cursors that are prepared are those of before
-pub cursors_ready : (m k : Memory) (o : Option ℕ) (n : ℕ) → k ≡ prepared m o n → k.cursors ≡ record m.cursors { room = k.cursors.room }
-cursors_ready m k o n is = ap (λ (j : Memory). j.cursors) is ∙ (λ i. record m.cursors { room = sym (ap (λ (j : Memory). j.cursors.room) is) i })
+-- memory that is prepared has the versions and the cursors of before, and room where there was room beside these
+pub still_ready : (m k now : Memory) (o : Option ℕ) (n : ℕ) → now ≡ k → k ≡ prepared m o n → (now.parents ≡ m.parents) × (now.cursors ≡ record m.cursors { room = now.cursors.room })
+still_ready m k now o n same is =
+    let all : now ≡ prepared m o n = same ∙ is in
+    (ap (λ (j : Memory). j.parents) all, ap (λ (j : Memory). j.cursors) all ∙ (λ i. record m.cursors { room = sym (ap (λ (j : Memory). j.cursors.room) all) i }))
+
+pub room_ready : (m k : Memory) (o : Option ℕ) (n : ℕ) (given held : List LevelDesc) → k ≡ prepared m o n → given ≡ held → length m.cursors.retired + length (arrays_in given) ≤ k.cursors.room
+    → length k.cursors.retired + length (arrays_in held) ≤ k.cursors.room
+room_ready m k o n given held is same room =
+    let kept : length k.cursors.retired ≡ length m.cursors.retired = ap (λ (j : Memory). length j.cursors.retired) is in
+    let size = ap (λ (ls : List LevelDesc). length (arrays_in ls)) same in
+    omega (arith, room, kept, size)
 
 -- so are the arrays that it holds, and what a disk exposes is one image
 pub agree_ready : (m k : Memory) (o : Option ℕ) (n : ℕ) (levels : List (Option LevelDesc)) (f g : Image) → k ≡ prepared m o n → AgreeOn (blocks_listed (arrays_held k levels)) f g → AgreeOn (blocks_listed (arrays_held m levels)) f g
@@ -115,7 +125,7 @@ pub agree_once : (v : DiskView) (f g : Image) (blocks : List ℕ) → Exposes v 
 agree_once v f g blocks was now b of = subst (λ (h : Image). KeepsBlock b f h) (exposed_once v f g was now) (keeps_refl b f)
 
 -- what a promotion leaves, with memory prepared
-pub published_after : (target : ℕ) (s sb here : Super) (m next there : Manifest) (memory ready now : Memory) (o : Option ℕ) (n : ℕ) → ready ≡ prepared memory o n → here ≡ sb → there ≡ next
+published_after : (target : ℕ) (s sb here : Super) (m next there : Manifest) (memory ready now : Memory) (o : Option ℕ) (n : ℕ) → ready ≡ prepared memory o n → here ≡ sb → there ≡ next
     → now ≡ renewed s.mem (arrays_taken target m) ready → ArePublishedTo target s m ready sb next → ArePublishedAfter s m memory here there now.cursors
 published_after target s sb here m next there memory ready now o n same sb_is next_is now_is is =
     let gone : List ArrayDesc = arrays_taken target m in
@@ -383,7 +393,14 @@ leads_summed_up f (a ∷ arrays) each =
     let cons = sum_by-cons (λ (d : ArrayDesc). d.leads) a arrays in
     omega (arith, rest, here, both, cons)
 
--- no store that stands on its disk has a block that is bad for a promotion
+-- so none of their blocks is bad for a promotion
+none_bad : (f : Image) (levels : List LevelDesc) (s : State) (b : ℕ) (arrays : List ArrayDesc) → all_some (level_on f) levels ≡ Some s.levels → IsSound s
+    → ((a : ArrayDesc) → Among a arrays → Among a (flat_map (λ (l : LevelDesc). l.arrays) levels)) → IsBadInput f arrays b → ⊥
+none_bad f levels s b arrays read sound at input =
+    let e : None ≡ Some b = sym {a = misfit_in f input.array} (no_misfit_in f levels s read sound input.array (at input.array (contained_among arrays input.array input.one))) ∙ input.misfit in
+    cc
+
+-- no store that stands on its disk has such a block
 pub none_damaged : (v : DiskView) (s : Held) (x : Contents) (b : ℕ) → IsConsistent s → StandsWith v s x → ((f : Image) → Exposes v f → HaveFewLeads f s.memory s.levels → IsBadInput f (arrays_there s.levels) b) → ⊥
 none_damaged v s x b whole stands bad =
     let f : Image = stands.stands.content in
@@ -403,12 +420,22 @@ none_damaged v s x b whole stands bad =
     let sums = leads_summed s.levels (length s.memory.entries) whole.placed.count in
     let most = (whole_promotes s whole).few in
     omega (arith, leads, both, two, all, sums, most) in
-    let input = bad f stands.stands.exposed few in
-    let fit = no_misfit_in f levels st read stands.stands.sound input.array (at input.array (contained_among arrays input.array input.one)) in
-    let e : None ≡ Some b = sym fit ∙ input.misfit in
-    cc
+    none_bad f levels st b arrays read stands.stands.sound at (bad f stands.stands.exposed few)
 
 -- what was emptied
-pub emptied_next : (mem : ℕ) (gone : List ArrayDesc) (m k now : Memory) (o : Option ℕ) (n : ℕ) → now ≡ renewed mem gone k → k ≡ prepared m o n → now ≡ record (emptied mem m) { cursors = now.cursors }
+emptied_next : (mem : ℕ) (gone : List ArrayDesc) (m k now : Memory) (o : Option ℕ) (n : ℕ) → now ≡ renewed mem gone k → k ≡ prepared m o n → now ≡ record (emptied mem m) { cursors = now.cursors }
 emptied_next mem gone m k now o n is ready =
     is ∙ ap (λ (j : Memory). record (emptied mem j) { cursors = retired_all gone k.cursors }) ready ∙ (λ i. record (emptied mem m) { cursors = sym (ap (λ (j : Memory). j.cursors) is) i })
+
+-- and what is found of a store after a publication
+pub found_next : (s t : Held) (m : Memory) (o : Option ℕ) (n target : ℕ) (sb : Super) (chained : Chained) (levels : List (Option LevelDesc)) → m ≡ prepared s.memory o n
+    → t ≡ held_next (record s { memory = m }) target sb chained levels → ArePublishedTo target s.sb s.chained.manifest m sb chained.manifest
+    → (t.slot ≡ 1 - s.slot) × ArePublishedAfter s.sb s.chained.manifest s.memory t.sb t.chained.manifest t.memory.cursors × (t.log.list ≡ [])
+    × (t.memory ≡ record (emptied s.sb.mem s.memory) { cursors = t.memory.cursors })
+found_next s t m o n target sb chained levels same is are =
+    let memory : t.memory ≡ renewed s.sb.mem (arrays_taken target s.chained.manifest) m = ap (λ (h : Held). h.memory) is in (
+      ap (λ (h : Held). h.slot) is,
+      published_after target s.sb sb t.sb s.chained.manifest chained.manifest t.chained.manifest s.memory m t.memory o n same (ap (λ (h : Held). h.sb) is) (ap (λ (h : Held). h.chained.manifest) is) memory are,
+      ap (λ (h : Held). h.log.list) is,
+      emptied_next s.sb.mem (arrays_taken target s.chained.manifest) s.memory m t.memory o n memory same,
+    )

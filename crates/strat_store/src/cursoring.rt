@@ -1,10 +1,10 @@
 //! Cursors of a store: they are opened, tell their pairs page by page, and are closed.
 
-ghost use Rattle.std.specs.Prelude.{◌≡◌, ◌≢◌, ◌≤◌, ℕ, [], length, true, false, Contains, IfOk};
+ghost use Rattle.std.specs.Prelude.{◌≡◌, ◌≢◌, ◌≤◌, ℕ, List, [], length, true, false, Contains, IfOk};
 ghost use Rattle.strat_array.specs.Kept.{Blocks};
 ghost use Rattle.strat_base.specs.Tree.{is_known};
 ghost use Rattle.strat_crash.specs.Image.{Image};
-ghost use Rattle.strat_crash.specs.Moments.{DiskView, Exposes};
+ghost use Rattle.strat_crash.specs.Moments.{Exposes};
 ghost use Rattle.strat_cursor.specs.Cursors.{arrays_named, closed_at, is_opened};
 ghost use Rattle.strat_cursor.specs.Held.{HeldCursor};
 ghost use Rattle.strat_cursor.specs.Looking.{LooksThrough, NamesNoBlock};
@@ -67,10 +67,6 @@ fn reply_of_close(there: bool) -> Reply
 /// are open. NoMemory: memory ran out. After a refusal all is as before.
 pub(crate) fn open_cursor(held: &mut Recovered, version: Version, lo: &[u8], hi: &[u8]) -> Reply
     requires kept { (cached : Blocks) → IsConsistent (held_of held.old cached) }
-    ensures ok { (v : DiskView) (x : Contents) (rows : List Cursor) (cached : Blocks)
-        → StandsAt v (held_of held.old cached) x rows
-        → IsAppliedAt v (held_of held.old cached) x rows (OpenCursor version lo.now hi.now)
-        (plain result) (held_after held.new cached result) }
     ensures found { (f : Image) (cached : Blocks) → TellsFrom f (held_of held.old cached)
         (OpenCursor version lo.now hi.now) (plain result) }
     ensures kept { (cached : Blocks) → IsConsistent (held_of held.new cached) }
@@ -139,10 +135,6 @@ pub(crate) fn next_pairs<D: Disk>(
 /// no cursor has the number.
 pub(crate) fn close_cursor(held: &mut Recovered, number: u64) -> Reply
     requires kept { (cached : Blocks) → IsConsistent (held_of held.old cached) }
-    ensures ok { (v : DiskView) (x : Contents) (rows : List Cursor) (cached : Blocks)
-        → StandsAt v (held_of held.old cached) x rows
-        → IsAppliedAt v (held_of held.old cached) x rows (CloseCursor number) (plain result)
-        (held_after held.new cached result) }
     ensures found { (f : Image) (cached : Blocks) → TellsFrom f (held_of held.old cached)
         (CloseCursor number) (plain result) }
     ensures kept { (cached : Blocks) → IsConsistent (held_of held.new cached) }

@@ -356,8 +356,10 @@ impl Memory {
         requires found { version < length self.old.parents }
         requires kept { MayBeFound (arrays_there levels.now) }
         ensures ok { IfOk result (λ n. (n ≡ self.old.cursors.next)
-            × (self.new ≡ record self.old { cursors = with_cursor self.old.cursors
-            (cursor_from self.old levels.now version lo.now hi.now) })) }
+            × (self.new ≡ record self.old {
+              cursors = with_cursor self.old.cursors
+                  (cursor_from self.old levels.now version lo.now hi.now);
+            })) }
         ensures cause { IsErrOf result start_fault.CursorLimit
             ↔ (length self.old.cursors.opened ≡ the_most) }
         ensures err { OnErr result (self.new ≡ self.old) }

@@ -259,7 +259,7 @@ fn make_room(
     memory.reserve_retired(arrays)
 }
 
-/// Keeps those of these arrays that a cursor names. No memory.
+/// Keeps those of these arrays that a cursor names. O(arrays * arrays of all cursors), and no memory.
 fn retire_arrays(memory: &mut Memory, mut arrays: Arrays)
     requires room { length memory.old.cursors.retired + length arrays ≤ memory.old.cursors.room }
     ensures ok { memory.new ≡ record memory.old {
@@ -273,7 +273,7 @@ fn retire_arrays(memory: &mut Memory, mut arrays: Arrays)
     }
 }
 
-/// Keeps those arrays of the levels down to a number that a cursor names. No memory.
+/// Keeps those arrays of the levels down to a number that a cursor names. O(arrays * arrays of all cursors), and no memory.
 fn retire_levels(memory: &mut Memory, mut levels: LevelList, target: usize)
     requires room { length memory.old.cursors.retired + length (arrays_in levels)
         ≤ memory.old.cursors.room }
@@ -351,7 +351,7 @@ pub(crate) fn publish<D: Disk>(
         held.new.memory.cursors
         × (held.new.journal.list ≡ [])
         × (held.new.memory ≡ record (emptied held.old.sb.mem held.old.memory)
-        { cursors = held.new.memory.cursors; })) }
+        { cursors = held.new.memory.cursors })) }
     ensures end { (IsErrOf result trouble.Device → ⊥) → (cached : Blocks)
         → IsOnDisk (D.view disk.old) (held_of held.old cached)
         → IsOnDisk (D.view disk.new) (held_of held.new cached) }

@@ -1,6 +1,6 @@
 //! Laws of a publication of a store. Each is the contract of a function that does nothing.
 
-ghost use Rattle.std.specs.Prelude.{◌≡◌, ◌<◌, ℕ, List, [], length, Option, IsTrue};
+ghost use Rattle.std.specs.Prelude.{◌≡◌, ◌<◌, ℕ, List, length, Option, IsTrue};
 ghost use Rattle.strat_base.specs.declared.descriptors.Extent.{Extent};
 ghost use Rattle.strat_base.specs.declared.descriptors.LevelDesc.{LevelDesc};
 ghost use Rattle.strat_extent.specs.Blocks.{SpaceView};
@@ -27,12 +27,13 @@ pub fn a_whole_store_may_promote()
 {}
 
 /// Where such a store stands on its disk and its journal has a change, its next contents may be computed, in a space in
-/// which just its blocks are used. Of the extents of its manifest's chain only the blocks are known.
+/// which just its blocks are used and some others, as those of arrays that are kept for cursors. Of the extents of its
+/// manifest's chain only the blocks are known.
 pub fn a_store_that_stands_may_compute<D: Viewed>()
-    ensures ok { (d : D) (s : Held) (x : Contents) (chain : List Extent) (space : SpaceView)
+    ensures ok { (d : D) (s : Held) (x : Contents) (chain others : List Extent) (space : SpaceView)
         → IsConsistent s → StandsWith (D.view d) s x → 0 < length s.log.list
-        → blocks_of chain ≡ s.chained.blocks → IsSpaceOf space x []
-        → MayCompute (D.view d) space s.memory s.levels s.log x }
+        → blocks_of chain ≡ s.chained.blocks → IsSpaceOf space x others
+        → MayCompute (D.view d) space s.memory s.levels s.log x others }
 {}
 
 /// The contents whose manifest `next_manifest` makes follow those whose manifest and memory it was made of: they take the
@@ -50,8 +51,8 @@ pub fn the_next_manifest_makes_the_next_contents()
 /// may make them those of the disk.
 pub fn what_was_written_beside_is_computed<D: Viewed>()
     ensures ok { (v w u : D) (s t r : SpaceView) (old new : Contents) (target : ℕ)
-        (made : Option LevelDesc) (others : List Extent) (log : Log)
-        → IsWrittenBeside (D.view v) (D.view w) (D.view u) s t r old new target made others
+        (made : Option LevelDesc) (besides others : List Extent) (log : Log)
+        → IsWrittenBeside (D.view v) (D.view w) (D.view u) s t r old new target made besides others
         → IsTrue (is_lawful_manifest old.chained.manifest) → IsLogOf old log
         → IsComputed (D.view u) new.slot new.sb log old new }
 {}

@@ -67,7 +67,8 @@ pub(crate) fn scan_range<D: Disk>(
         held.now.published.levels version m
         → as_told result out.new ≡ page (range m lo.now hi.now) limit }
     ensures none { is_known held.now.memory.parents version ≡ false
-        → (result ≡ reply.Refused why.UnknownVersion) × (disk.new ≡ disk.old) }
+        → (result ≡ reply.Refused why.UnknownVersion) × (disk.new ≡ disk.old)
+        × (out.new ≡ []) }
     ensures same { LooksThrough (D.view disk.old) (D.view disk.new)
         (arrays_there held.now.published.levels) cache.old cache.new }
     ensures cause { FailsAsTold (D.faults disk.old) (D.faults disk.new) result }

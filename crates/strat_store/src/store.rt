@@ -158,8 +158,9 @@ fn look<D: Disk>(
             limit,
         } => scan_range(held, cache, desks, disk, version, lo, hi, limit, out),
         Command::Info { version } => info(&held.memory, version),
-        // The premises leave no other command than `Stat`.
-        _ => held.memory.stat(),
+        Command::Stat => held.memory.stat(),
+        // The premises leave no other command.
+        _ => Reply::Refused(Refusal::Malformed),
     }
 }
 
@@ -197,8 +198,8 @@ fn query<D: Disk>(
     ensures len { result ≡ reply.Found → length out.new ≡ 1 }
     ensures same { LooksThrough (D.view disk.old) (D.view disk.new)
         (arrays_held held.old.memory held.old.published.levels) cache.old cache.new }
-    ensures cause { FailsAsTold (D.faults disk.old) (D.faults disk.new) result }
-    ensures err { TellsFaultOf (D.view disk.old) (request_of command.now) result }
+    ensures cause { FailsAsTold (D.faults disk.old) (D.faults disk.new) result
+        × TellsFaultOf (D.view disk.old) (request_of command.now) result }
     ensures damaged { (b : ℕ) → result ≡ reply.Refused (why.Damaged b)
         → IsDamagedIn (D.view disk.old).content held.old.memory held.old.published.levels b }
 {
@@ -247,8 +248,8 @@ fn answer<D: Disk>(
         (held_of held.old cache.old) result (held_after held.new cache.new result)
         × LeavesPublished (D.view disk.old) (D.view disk.new)
         (held_of held.old cache.old) (carries_out (request_of command.now) result) result
-        (held_after held.new cache.new result) }
-    ensures end { LeavesCursors (held_of held.old cache.old) (request_of command.now)
+        (held_after held.new cache.new result)
+        × LeavesCursors (held_of held.old cache.old) (request_of command.now)
         (as_told result out.new) (held_after held.new cache.new result) }
     ensures time { Passes (D.view disk.old) (D.view disk.new) }
     ensures cause { FailsAsTold (D.faults disk.old) (D.faults disk.new) result
@@ -322,8 +323,8 @@ impl Store {
             × IsUntouched (D.view disk.old) (D.view disk.new) (request_of command.now)
             self.old result self.new
             × LeavesPublished (D.view disk.old) (D.view disk.new) self.old
-            (carries_out (request_of command.now) result) result self.new }
-        ensures end { LeavesCursors self.old (request_of command.now) (as_told result out.new)
+            (carries_out (request_of command.now) result) result self.new
+            × LeavesCursors self.old (request_of command.now) (as_told result out.new)
             self.new }
         ensures time { Passes (D.view disk.old) (D.view disk.new) }
         ensures cause { FailsAsTold (D.faults disk.old) (D.faults disk.new) result }

@@ -3,19 +3,11 @@ use Rattle.strat_model.specs.Answer.{plain}
 use Rattle.strat_model.specs.Request.{CloseCursor}
 use Rattle.strat_model.specs.declared.replies.Reply.{Reply}
 use Rattle.strat_store.specs.Applying.{is_fault}
-use Rattle.strat_store.specs.Cursoring.{IsAppliedAt, cursors_after, reply_of_close}
+use Rattle.strat_store.specs.Cursoring.{cursors_after, reply_of_close}
 use Rattle.strat_store.specs.Memory.{Memory}
-use Rattle.strat_store.specs.Recovering.{held_of, held_after}
-use Rattle.strat_store.proofs.CursoringLemmas.{close_calm, close_leaves, close_told, closed_applied}
+use Rattle.strat_store.proofs.CursoringLemmas.{close_calm, close_leaves, close_told}
 use Rattle.strat_store.proofs.KeepingLemmas.{consistent_after}
 use Rattle.strat_store.proofs.cursoring.close_cursor.Goals as goal
-
-pub returns-clause-ok : goal.returns-clause-ok
-returns-clause-ok c = λ v x rows cached at.
-    let s = held_of c.args.held.now cached in
-    let after = record c.args.held.now { memory = c.close_cursor-there.new.self } in
-    subst (λ (told : Reply). IsAppliedAt v s x rows (CloseCursor c.args.number) (plain told) (held_after after cached told)) (sym c.reply_of_close.ensures.ok)
-    (closed_applied v s x rows (c.requires.kept cached) at c.args.number c.close_cursor-there.result c.close_cursor-there.new.self c.close_cursor-there.ensures.ok c.close_cursor-there.ensures.end c.close_cursor-there.ensures.none)
 
 pub returns-clause-found : goal.returns-clause-found
 returns-clause-found c = λ f cached. ap plain c.reply_of_close.ensures.ok ∙ close_told c.close_cursor-there.result _ c.close_cursor-there.ensures.ok

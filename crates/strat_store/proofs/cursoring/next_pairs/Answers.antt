@@ -30,7 +30,7 @@ pub returns-clause-found : goal.returns-clause-found
 returns-clause-found g c = λ f exposed calm.
     subst (λ (r : Reply). TellsOfCursor f (held_of c.args.held.now c.args.cache.now) c.args.number c.args.limit (as_told r c.next_pairs-told.new.out)) (sym c.reply_of_next.ensures.ok)
     (cursor_told f (g.D.Disk.view c.args.disk.now) (held_of c.args.held.now c.args.cache.now) c.args.number c.args.limit c.next_pairs-told.new.out c.next_pairs-told.result exposed
-    (sym (ap is_fault c.reply_of_next.ensures.ok) ∙ calm) c.next_pairs-told.ensures.ok c.next_pairs-told.ensures.found (nothing_told c.next_pairs-told.result c.next_pairs-told.ensures.err))
+    (sym (ap is_fault c.reply_of_next.ensures.ok) ∙ calm) c.next_pairs-told.ensures.ok c.next_pairs-told.ensures.found (nothing_told _ _ c.next_pairs-told.result c.next_pairs-told.ensures.err))
 
 pub returns-clause-end : goal.returns-clause-end
 returns-clause-end g c =

@@ -4,18 +4,14 @@ use Rattle.strat_model.specs.Answer.{plain}
 use Rattle.strat_model.specs.Request.{OpenCursor}
 use Rattle.strat_model.specs.declared.replies.Reply.{Reply}
 use Rattle.strat_store.specs.Applying.{is_fault}
-use Rattle.strat_store.specs.Cursoring.{IsAppliedAt, cursors_after, reply_of_start}
+use Rattle.strat_store.specs.Cursoring.{cursors_after, reply_of_start}
 use Rattle.strat_store.specs.Memory.{Memory}
 use Rattle.strat_store.specs.Ranging.{TellsOfOpening}
-use Rattle.strat_store.specs.Recovering.{empty_cache, held_of, held_after}
-use Rattle.strat_store.proofs.CursoringLemmas.{known_opened, known_told, numbers, opening_told, start_calm, start_leaves, unknown_not_opened, unknown_told}
+use Rattle.strat_store.specs.Recovering.{empty_cache, held_of}
+use Rattle.strat_store.proofs.CursoringLemmas.{known_told, numbers, opening_told, start_calm, start_leaves, unknown_told}
 use Rattle.strat_store.proofs.GettingLemmas.{whole_read}
 use Rattle.strat_store.proofs.KeepingLemmas.{consistent_after}
 use Rattle.strat_store.proofs.cursoring.open_cursor.Goals as goal
-
-pub returns-then-not-has-clause-ok : goal.returns-then-not-has-clause-ok
-returns-then-not-has-clause-ok c = λ v x rows cached at.
-    unknown_not_opened v (held_of c.args.held.now cached) x rows (c.requires.kept cached) at c.args.version c.args.lo.now c.args.hi.now (sym c.has.ensures.ok ∙ c.if-not-has.true)
 
 pub returns-then-not-has-clause-found : goal.returns-then-not-has-clause-found
 returns-then-not-has-clause-found c = λ f cached.
@@ -27,17 +23,9 @@ open_cursor-started-requires-clause-found c = ltb-true c.args.version (length c.
 pub open_cursor-started-requires-clause-kept : goal.open_cursor-started-requires-clause-kept
 open_cursor-started-requires-clause-kept c = (whole_read (held_of c.args.held.now (empty_cache 0)) (c.requires.kept (empty_cache 0))).within
 
-pub returns-clause-ok : goal.returns-clause-ok
-returns-clause-ok c = λ v x rows cached at.
-    let s = held_of c.args.held.now cached in
-    let after = record c.args.held.now { memory = c.open_cursor-started.new.self } in
-    subst (λ (told : Reply). IsAppliedAt v s x rows (OpenCursor c.args.version c.args.lo.now c.args.hi.now) (plain told) (held_after after cached told)) (sym c.reply_of_start.ensures.ok)
-    (known_opened v s x rows (c.requires.kept cached) at c.args.version c.args.lo.now c.args.hi.now c.open_cursor-started.result c.open_cursor-started.new.self (sym c.has.ensures.ok ∙ c.if-not-has.false)
-    c.open_cursor-started.ensures.ok c.open_cursor-started.ensures.err c.open_cursor-started.ensures.cause)
-
 pub returns-clause-found : goal.returns-clause-found
 returns-clause-found c = λ f cached.
-    let told = opening_told c.args.held.now.memory.cursors c.open_cursor-started.result (numbers c.open_cursor-started.result c.open_cursor-started.ensures.ok) c.open_cursor-started.ensures.cause in
+    let told = opening_told c.args.held.now.memory.cursors c.open_cursor-started.result (numbers _ _ c.open_cursor-started.result c.open_cursor-started.ensures.ok) c.open_cursor-started.ensures.cause in
     known_told c.args.held.now.memory c.args.version _ _ (sym c.has.ensures.ok ∙ c.if-not-has.false)
     (subst (λ (r : Reply). TellsOfOpening c.args.held.now.memory.cursors (plain r)) (sym c.reply_of_start.ensures.ok) told)
 

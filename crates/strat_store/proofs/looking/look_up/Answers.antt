@@ -3,7 +3,7 @@ use Rattle.strat_array.specs.Told.{TheirPairs, TellsFound, AddsPair}
 use Rattle.strat_recovery.specs.Asked.{on_disk}
 use Rattle.strat_state.specs.LookUp.{looked_up}
 use Rattle.strat_cursor.specs.Looking.{levels_there, decides}
-use Rattle.strat_store.proofs.LookLemmas.{through_trans, still_cached, passes_on, passing_answers, reads_left, adds_none}
+use Rattle.strat_store.proofs.LookLemmas.{through_trans, still_cached, passes_on, passing_answers, passed_all, reads_left, adds_none}
 use Rattle.strat_store.proofs.looking.look_up.Goals as goal
 
 pub returns-in_err-seen-clause-same : goal.returns-in_err-seen-clause-same
@@ -71,3 +71,10 @@ pub returns-clause-reads : goal.returns-clause-reads
 returns-clause-reads g c = λ n each.
     let so_far = c.loop-above.invariant.3 n each in
     record { later = so_far.0; bound = omega (arith, so_far.1) }
+
+pub returns-clause-found : goal.returns-clause-found
+returns-clause-found g c = λ f next exposed ordered own cached. (
+  passed_all _ _ c.args.levels.now c.args.tree.now.parents c.args.key.now c.args.v c.loop-above.above c.args.cache.now c.loop-above.cache (omega (arith, c.get-first.ensures.len, c.loop-above-test.false)) c.loop-above.invariant.0
+      f next exposed ordered own cached,
+  c.loop-above.invariant.1,
+)

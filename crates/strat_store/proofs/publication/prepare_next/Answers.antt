@@ -1,5 +1,7 @@
 use Rattle.std.proofs.Common.{sym, ap, ◌∙◌}
+use Rattle.std.proofs.lemmas.Result.{err_from_is_err_and}
 use Rattle.strat_format.specs.Chained.{Chained}
+use Rattle.strat_journal.proofs.ReadLemmas.{same_err}
 use Rattle.strat_manifest.specs.ManifestView.{manifest_of}
 use Rattle.strat_store.specs.Publishing.{manifest_after}
 use Rattle.strat_store.specs.Recovering.{held_of, empty_cache}
@@ -28,3 +30,8 @@ returns-clause-found g c = record {
 pub returns-clause-end : goal.returns-clause-end
 returns-clause-end g c =
     written_as (g.D.Disk.view c.args.disk.now) (g.D.Disk.view c.compute_beside.new.disk) _ _ _ _ c.in_ok-next.ensures.ok.0 c.in_ok-next.ensures.found c.in_ok-computed.ensures.end
+
+pub returns-in_err-computed-clause-damaged : goal.returns-in_err-computed-clause-damaged
+returns-in_err-computed-clause-damaged g c = λ b torn.
+    let p = err_from_is_err_and c.from_residual.result c.from_residual.ensures.1 in
+    c.in_err-computed.ensures.damaged b (same_err c.from_residual.result p.0 _ _ p.1 p.2 torn)

@@ -1,29 +1,26 @@
-use Rattle.std.proofs.Common.{◌∙◌, ◌≡◌, ◌<◌, ℕ, List, length, Result, Err, refl, sym, ap, subst, arith}
+use Rattle.std.proofs.Common.{◌∙◌, ◌≡◌, ◌<◌, ℕ, Result, Err, refl, sym, ap, subst, arith}
 use Rattle.std.proofs.lemmas.Result.{err_from_is_err_and}
 use Rattle.strat_array.specs.Kept.{Blocks}
-use Rattle.strat_base.specs.declared.descriptors.LevelDesc.{LevelDesc}
 use Rattle.strat_base.specs.declared.failures.Trouble.{Trouble}
 use Rattle.strat_base.specs.declared.failures.Trouble.TheVariants as trouble
-use Rattle.strat_crash.proofs.MomentLemmas.{passes_trans}
+use Rattle.strat_crash.proofs.MomentLemmas.{passes_trans, reads_refl}
 use Rattle.strat_crash.specs.Blocks.{TearsBlocks}
 use Rattle.strat_format.specs.SuperBlock.{Super}
 use Rattle.strat_gate.specs.SuperView.{super_of}
 use Rattle.strat_journal.proofs.ReadLemmas.{same_err}
 use Rattle.strat_manifest.specs.ManifestView.{manifest_of}
 use Rattle.strat_promote.proofs.OpeningLemmas.{on_err}
-use Rattle.strat_standing.specs.Occupied.{arrays_in}
+use Rattle.strat_promote.specs.Job.{blocks_listed}
 use Rattle.strat_standing.specs.Standing.{ShowsTable}
 use Rattle.strat_store.specs.Applying.{IsPublishedAs}
-use Rattle.strat_store.specs.Held.{Held, IsConsistent, IsOnDisk}
-use Rattle.strat_store.specs.Memory.{Memory}
+use Rattle.strat_store.specs.Held.{Held, IsConsistent, IsOnDisk, arrays_held}
 use Rattle.strat_store.specs.Paying.{CountsWritten}
 use Rattle.strat_store.specs.Publishing.{is_in_front}
 use Rattle.strat_store.specs.Recovering.{held_of, empty_cache, chained_of}
-use Rattle.strat_store.specs.Settling.{arrays_taken}
 use Rattle.strat_store.proofs.SettlingLemmas.{unwritten}
 use Rattle.strat_store.proofs.OnDiskLemmas.{kept_on, beside_on, published_on}
 use Rattle.strat_store.proofs.PayingLemmas.{paid_beside, paid_then, counts_next}
-use Rattle.strat_store.proofs.SettledLemmas.{consistent_ready, stands_ready, damaged_ready, cursors_ready, agree_once, agree_ready, trail_beside, stands_beside, arrays_kept, arrays_stay, one_trail, published_after, published_as, consistent_next, emptied_next}
+use Rattle.strat_store.proofs.SettledLemmas.{consistent_ready, stands_ready, still_ready, room_ready, damaged_ready, agree_once, agree_ready, trail_beside, stands_beside, arrays_kept, arrays_stay, one_trail, published_as, consistent_next, found_next}
 use Rattle.strat_store.proofs.publication.publish.Goals as goal
 
 -- a fault of the device is no want of memory
@@ -71,9 +68,6 @@ returns-in_err-next-clause-trail g c = λ x cached stands.
 pub returns-in_err-next-clause-kept : goal.returns-in_err-next-clause-kept
 returns-in_err-next-clause-kept g c = λ short cached. consistent_ready (held_of c.args.held.now cached) c.make_room.new.memory.ready c.make_room.new.memory.cursors.room c.make_room.new.memory c.make_room.ensures.same (c.requires.kept cached)
 
-pub returns-in_err-next-clause-time : goal.returns-in_err-next-clause-time
-returns-in_err-next-clause-time g c = (c.prepare_next.ensures.images (empty_cache 0)).tears.time
-
 pub returns-in_err-next-clause-damaged : goal.returns-in_err-next-clause-damaged
 returns-in_err-next-clause-damaged g c = λ b torn.
     let v = g.D.Disk.view c.args.disk.now in
@@ -87,9 +81,8 @@ returns-in_err-next-clause-damaged g c = λ b torn.
 pub settle-requires-clause-room : goal.settle-requires-clause-room
 settle-requires-clause-room g c =
     let room = c.in_ok-make_room.ensures.ok in
-    let kept = ap (λ (m : Memory). length m.cursors.retired) c.make_room.ensures.same in
-    let same = ap (λ (ls : List LevelDesc). length (arrays_in ls)) c.as_slice.ensures.ok in
-    (room.0, omega (arith, room.1, kept, same))
+    let m = c.make_room.new.memory in
+    (room.0, room_ready c.args.held.now.memory m m.ready m.cursors.room _ _ c.make_room.ensures.same c.as_slice.ensures.ok room.1)
 
 pub settle-requires-clause-fits : goal.settle-requires-clause-fits
 settle-requires-clause-fits g c =
@@ -112,9 +105,6 @@ returns-in_err-settle-clause-trail g c = λ x cached stands.
           paid_then (g.D.Disk.view c.prepare_next.new.disk) (g.D.Disk.view c.settle.new.disk) v.moment c.settle.ensures.time
           (paid_beside v (g.D.Disk.view c.prepare_next.new.disk) (held_of mid cached) x here (c.prepare_next.ensures.images cached) paid) (laid.1 paid (ready.paid paid full)),
     )
-
-pub returns-in_err-settle-clause-time : goal.returns-in_err-settle-clause-time
-returns-in_err-settle-clause-time g c = passes_trans (c.prepare_next.ensures.images (empty_cache 0)).tears.time c.settle.ensures.time
 
 pub returns-clause-ok : goal.returns-clause-ok
 returns-clause-ok g c = λ x cached stands.
@@ -155,22 +145,12 @@ returns-clause-kept g c = λ _ cached.
     subst IsConsistent (sym (c.in_ok-settle.ensures.ok cached))
     (consistent_next (held_of mid cached) next.target (super_of next.sb) (chained_of next.published) next.published.levels whole (c.in_ok-next.ensures.fits cached) c.in_ok-next.ensures.found admitted.spelled admitted.belonging admitted.placed)
 
-pub returns-clause-time : goal.returns-clause-time
-returns-clause-time g c = passes_trans (c.prepare_next.ensures.images (empty_cache 0)).tears.time c.settle.ensures.time
-
 pub returns-clause-found : goal.returns-clause-found
 returns-clause-found g c =
-    let all = c.in_ok-settle.ensures.ok (empty_cache 0) in
     let m = c.make_room.new.memory in
-    let target = c.in_ok-next.next.target in
-    let same = c.make_room.ensures.same in
-    let memory = ap (λ (h : Held). h.memory) all in (
-      ap (λ (h : Held). h.slot) all,
-      published_after target (super_of c.args.held.now.sb) _ _ (manifest_of c.args.held.now.published.manifest) _ _ c.args.held.now.memory m _ m.ready m.cursors.room
-          same (ap (λ (h : Held). h.sb) all) (ap (λ (h : Held). h.chained.manifest) all) memory c.in_ok-next.ensures.found,
-      ap (λ (h : Held). h.log.list) all,
-      emptied_next c.args.held.now.sb.mem (arrays_taken target (manifest_of c.args.held.now.published.manifest)) c.args.held.now.memory m _ m.ready m.cursors.room memory same,
-    )
+    let next = c.in_ok-next.next in
+    found_next (held_of c.args.held.now (empty_cache 0)) (held_of c.settle.new.held (empty_cache 0)) m m.ready m.cursors.room next.target (super_of next.sb) (chained_of next.published) next.published.levels
+    c.make_room.ensures.same (c.in_ok-settle.ensures.ok (empty_cache 0)) c.in_ok-next.ensures.found
 
 pub returns-in_err-make_room-clause-end : goal.returns-in_err-make_room-clause-end
 returns-in_err-make_room-clause-end g c = λ other cached on.
@@ -199,70 +179,71 @@ returns-clause-end g c = λ other cached on.
 pub returns-in_err-make_room-clause-same : goal.returns-in_err-make_room-clause-same
 returns-in_err-make_room-clause-same g c =
     let m = c.make_room.new.memory in
-    let same = c.make_room.ensures.same in (
-      refl,
-      ap (λ (k : Memory). k.parents) same,
-      λ short. refl,
-      on_err c.from_residual-in_err-make_room.result _
-          (λ cached. (record { slot = refl; sb = refl; chained = refl; levels = refl }, cursors_ready c.args.held.now.memory m m.ready m.cursors.room same)),
-    )
+    let still = still_ready c.args.held.now.memory m m m.ready m.cursors.room refl c.make_room.ensures.same in
+    (refl, still.0, λ short. refl, on_err c.from_residual.result _ (λ cached. (record { slot = refl; sb = refl; chained = refl; levels = refl }, still.1)))
 
 pub returns-in_err-next-clause-same : goal.returns-in_err-next-clause-same
 returns-in_err-next-clause-same g c =
     let m = c.make_room.new.memory in
-    let same = c.make_room.ensures.same in (
-      refl,
-      ap (λ (k : Memory). k.parents) same,
-      λ short. refl,
-      on_err c.from_residual-in_err-next.result _
-          (λ cached. (record { slot = refl; sb = refl; chained = refl; levels = refl }, cursors_ready c.args.held.now.memory m m.ready m.cursors.room same)),
-    )
+    let still = still_ready c.args.held.now.memory m m m.ready m.cursors.room refl c.make_room.ensures.same in
+    (refl, still.0, λ short. refl, on_err c.from_residual-in_err-next.result _ (λ cached. (record { slot = refl; sb = refl; chained = refl; levels = refl }, still.1)))
 
 pub returns-in_err-settle-clause-same : goal.returns-in_err-settle-clause-same
 returns-in_err-settle-clause-same g c =
     let m = c.make_room.new.memory in
     let told = c.in_err-settle.ensures.err in
-    let same = told.0 ∙ c.make_room.ensures.same in (
+    let still = still_ready c.args.held.now.memory m c.settle.new.held.memory m.ready m.cursors.room told.0 c.make_room.ensures.same in (
       c.settle.ensures.same,
-      ap (λ (k : Memory). k.parents) same,
+      still.0,
       λ short.
           let p = err_from_is_err_and c.from_residual-in_err-settle.result c.from_residual-in_err-settle.ensures.1 in
           absurd (device_short c.from_residual-in_err-settle.result p.0 p.1 p.2 short),
       on_err c.from_residual-in_err-settle.result _
-          (λ cached.
-          let keeps = told.1 cached in
-          (record { slot = keeps.slot; sb = keeps.sb; chained = keeps.chained; levels = keeps.levels }, cursors_ready c.args.held.now.memory _ m.ready m.cursors.room same)),
+          (λ cached. let keeps = told.1 cached in (record { slot = keeps.slot; sb = keeps.sb; chained = keeps.chained; levels = keeps.levels }, still.1)),
     )
 
 pub returns-clause-same : goal.returns-clause-same
 returns-clause-same g c =
-    let all = c.in_ok-settle.ensures.ok (empty_cache 0) in
-    (c.settle.ensures.same, ap (λ (h : Held). h.memory.parents) all ∙ ap (λ (k : Memory). k.parents) c.make_room.ensures.same, λ short. absurd (cc), tt)
+    let m = c.make_room.new.memory in
+    let still = still_ready c.args.held.now.memory m m m.ready m.cursors.room refl c.make_room.ensures.same in
+    (c.settle.ensures.same, ap (λ (h : Held). h.memory.parents) (c.in_ok-settle.ensures.ok (empty_cache 0)) ∙ still.0, λ short. absurd (cc), tt)
 
 pub returns-in_err-make_room-clause-images : goal.returns-in_err-make_room-clause-images
-returns-in_err-make_room-clause-images g c = λ f h was now. agree_once (g.D.Disk.view c.args.disk.now) f h _ was now
+returns-in_err-make_room-clause-images g c = (
+  (reads_refl (g.D.Disk.view c.args.disk.now)).time,
+  λ f h was now. agree_once (g.D.Disk.view c.args.disk.now) f h (blocks_listed (arrays_held c.args.held.now.memory c.args.held.now.published.levels)) was now,
+)
 
 pub returns-in_err-next-clause-images : goal.returns-in_err-next-clause-images
-returns-in_err-next-clause-images g c = λ f h was now.
+returns-in_err-next-clause-images g c =
     let m = c.make_room.new.memory in
-    let mid = record c.args.held.now { memory = m } in
-    agree_ready c.args.held.now.memory m m.ready m.cursors.room c.args.held.now.published.levels f h c.make_room.ensures.same
-    (arrays_kept (g.D.Disk.view c.args.disk.now) (g.D.Disk.view c.prepare_next.new.disk) (held_of mid (empty_cache 0)) (c.prepare_next.ensures.images (empty_cache 0)) (c.requires.kept (empty_cache 0)).placed f h was now)
+    let mid = record c.args.held.now { memory = m } in (
+      (c.prepare_next.ensures.images (empty_cache 0)).tears.time,
+      λ f h was now.
+          agree_ready c.args.held.now.memory m m.ready m.cursors.room c.args.held.now.published.levels f h c.make_room.ensures.same
+          (arrays_kept (g.D.Disk.view c.args.disk.now) (g.D.Disk.view c.prepare_next.new.disk) (held_of mid (empty_cache 0)) (c.prepare_next.ensures.images (empty_cache 0)) (c.requires.kept (empty_cache 0)).placed f h was now),
+    )
 
 pub returns-in_err-settle-clause-images : goal.returns-in_err-settle-clause-images
-returns-in_err-settle-clause-images g c = λ f h was now.
+returns-in_err-settle-clause-images g c =
     let m = c.make_room.new.memory in
     let mid = record c.args.held.now { memory = m } in
-    let whole = consistent_ready (held_of c.args.held.now (empty_cache 0)) m.ready m.cursors.room m c.make_room.ensures.same (c.requires.kept (empty_cache 0)) in
-    agree_ready c.args.held.now.memory m m.ready m.cursors.room c.args.held.now.published.levels f h c.make_room.ensures.same
-    (arrays_stay (g.D.Disk.view c.args.disk.now) (g.D.Disk.view c.prepare_next.new.disk) (g.D.Disk.view c.settle.new.disk) (held_of mid (empty_cache 0)) c.args.held.now.journal.mem whole whole.log.mem
-    (c.prepare_next.ensures.images (empty_cache 0)) c.settle.ensures.images f h was now)
+    let whole = consistent_ready (held_of c.args.held.now (empty_cache 0)) m.ready m.cursors.room m c.make_room.ensures.same (c.requires.kept (empty_cache 0)) in (
+      passes_trans (c.prepare_next.ensures.images (empty_cache 0)).tears.time c.settle.ensures.time,
+      λ f h was now.
+          agree_ready c.args.held.now.memory m m.ready m.cursors.room c.args.held.now.published.levels f h c.make_room.ensures.same
+          (arrays_stay (g.D.Disk.view c.args.disk.now) (g.D.Disk.view c.prepare_next.new.disk) (g.D.Disk.view c.settle.new.disk) (held_of mid (empty_cache 0)) c.args.held.now.journal.mem whole whole.log.mem
+          (c.prepare_next.ensures.images (empty_cache 0)) c.settle.ensures.images f h was now),
+    )
 
 pub returns-clause-images : goal.returns-clause-images
-returns-clause-images g c = λ f h was now.
+returns-clause-images g c =
     let m = c.make_room.new.memory in
     let mid = record c.args.held.now { memory = m } in
-    let whole = consistent_ready (held_of c.args.held.now (empty_cache 0)) m.ready m.cursors.room m c.make_room.ensures.same (c.requires.kept (empty_cache 0)) in
-    agree_ready c.args.held.now.memory m m.ready m.cursors.room c.args.held.now.published.levels f h c.make_room.ensures.same
-    (arrays_stay (g.D.Disk.view c.args.disk.now) (g.D.Disk.view c.prepare_next.new.disk) (g.D.Disk.view c.settle.new.disk) (held_of mid (empty_cache 0)) c.args.held.now.journal.mem whole whole.log.mem
-    (c.prepare_next.ensures.images (empty_cache 0)) c.settle.ensures.images f h was now)
+    let whole = consistent_ready (held_of c.args.held.now (empty_cache 0)) m.ready m.cursors.room m c.make_room.ensures.same (c.requires.kept (empty_cache 0)) in (
+      passes_trans (c.prepare_next.ensures.images (empty_cache 0)).tears.time c.settle.ensures.time,
+      λ f h was now.
+          agree_ready c.args.held.now.memory m m.ready m.cursors.room c.args.held.now.published.levels f h c.make_room.ensures.same
+          (arrays_stay (g.D.Disk.view c.args.disk.now) (g.D.Disk.view c.prepare_next.new.disk) (g.D.Disk.view c.settle.new.disk) (held_of mid (empty_cache 0)) c.args.held.now.journal.mem whole whole.log.mem
+          (c.prepare_next.ensures.images (empty_cache 0)) c.settle.ensures.images f h was now),
+    )

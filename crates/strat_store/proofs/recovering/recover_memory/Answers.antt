@@ -1,7 +1,11 @@
-use Rattle.std.proofs.Common.{map, ap, ◌∙◌}
+use Rattle.std.proofs.Common.{◌≡◌, ℕ, map, Result, Err, ap, sym, ◌∙◌}
+use Rattle.std.proofs.lemmas.Result.{err_from_is_err_and}
+use Rattle.strat_base.specs.declared.failures.Trouble.{Trouble}
+use Rattle.strat_base.specs.declared.failures.Trouble.TheVariants.{Damaged}
+use Rattle.strat_journal.specs.Records.{logged_of}
 use Rattle.strat_gate.specs.SuperView.{super_of}
 use Rattle.strat_store.specs.Recovering.{chained_of}
-use Rattle.strat_store.proofs.RecoverLemmas.{memory_redone}
+use Rattle.strat_store.proofs.RecoverLemmas.{damaged_block, memory_accepts, memory_redone, same_err_in}
 use Rattle.strat_store.specs.Memory.{Memory}
 use Rattle.strat_store.proofs.KeepingLemmas.{cursors_redone}
 use Rattle.strat_store.proofs.recovering.recover_memory.Goals as goal
@@ -14,3 +18,12 @@ returns-clause-ok c =
 pub returns-clause-end : goal.returns-clause-end
 returns-clause-end c =
     ap (λ (m : Memory). m.cursors) c.in_ok-replay.ensures.ok ∙ cursors_redone (map (λ l. l.change) c.args.logged.now) c.in_ok-memory.memory ∙ c.in_ok-memory.ensures.end
+
+pub returns-in_err-replay-clause-damaged : goal.returns-in_err-replay-clause-damaged
+returns-in_err-replay-clause-damaged c = λ block damaged.
+    let p = err_from_is_err_and c.from_residual-in_err-replay.result c.from_residual-in_err-replay.ensures.1 in
+    let d = c.in_err-replay.ensures.damaged in
+    let both : ◌≡◌ {A = Result ℕ Trouble} (Err (Damaged d.0)) (Err (Damaged block)) =
+    ap {B = Result ℕ Trouble} (λ (t : Trouble). Err t) (sym (p.2 ∙ d.1) ∙ same_err_in c.from_residual-in_err-replay.result p.0 (Damaged block) p.1 damaged) in
+    sym (memory_accepts (super_of c.args.sb.now) (chained_of c.args.published.now).manifest c.in_ok-memory.memory c.in_ok-memory.ensures.ok (map logged_of c.args.logged.now))
+    ∙ d.2 ∙ ap (λ (b : ℕ). Err b) (damaged_block d.0 block both)

@@ -1,24 +1,48 @@
-use Rattle.std.proofs.Common.{inl, refl, sym, ap, ◌∙◌}
-use Rattle.strat_model.specs.Answer.{as_told}
+use Rattle.std.proofs.Common.{refl, sym, ap, subst, ◌∙◌, true≢false}
+use Rattle.strat_model.specs.Answer.{as_told, plain}
 use Rattle.strat_model.specs.Command.{request_of}
+use Rattle.strat_model.specs.Pairs.{Pairs}
+use Rattle.strat_model.specs.Request.{Get, Info, Scan, Stat}
 use Rattle.strat_model.specs.declared.replies.Refusal.TheVariants as why
+use Rattle.strat_model.specs.declared.replies.Reply.{Reply}
 use Rattle.strat_model.specs.declared.replies.Reply.TheVariants as reply
 use Rattle.strat_model.specs.Spelling.{has_lawful_sizes}
 use Rattle.strat_model.specs.declared.commands.Command.{Command}
+use Rattle.strat_recovery.specs.StateTable.{table_of}
+use Rattle.strat_standing.specs.Contents.{contents_state}
 use Rattle.strat_store.specs.Applying.{is_fault}
 use Rattle.strat_store.specs.Recovering.{held_of}
-use Rattle.strat_store.proofs.ApplyLemmas.{info_here, stat_here, info_calm, tells_calm, tells_other, scan_fits}
+use Rattle.strat_store.proofs.ApplyLemmas.{get_same, info_calm, info_here, info_says, look_applied, memory_applied, none_left, scan_fits, scan_same, stat_here, tells_calm, other_than, unknown_answer}
 use Rattle.strat_store.proofs.store.look.Goals as goal
 
+pub returns-in-Get-clause-ok : goal.returns-in-Get-clause-ok
+returns-in-Get-clause-ok g c = λ x rows at.
+    let s = held_of c.args.held.now c.args.cache.now in
+    rw (c.in-Get.is)
+    (look_applied (g.D.Disk.view c.args.disk.now) (g.D.Disk.view c.get.new.disk) s x rows c.get.new.cache (c.requires.kept c.args.cache.now) at c.get.ensures.same (g.met.D.Disk.leaves_content c.get.new.disk)
+    (Get c.in-Get.version c.in-Get.key.now) (as_told c.get.result c.get.new.out) refl refl (get_same (table_of (contents_state x)) rows s.memory.cursors.next c.in-Get.version c.in-Get.key.now) (c.get.ensures.ok x at.stands))
+
+pub returns-in-Scan-clause-ok : goal.returns-in-Scan-clause-ok
+returns-in-Scan-clause-ok g c = λ x rows at.
+    let s = held_of c.args.held.now c.args.cache.now in
+    rw (c.in-Scan.is)
+    (look_applied (g.D.Disk.view c.args.disk.now) (g.D.Disk.view c.scan_range.new.disk) s x rows c.scan_range.new.cache (c.requires.kept c.args.cache.now) at c.scan_range.ensures.same
+    (g.met.D.Disk.leaves_content c.scan_range.new.disk) (Scan c.in-Scan.version c.in-Scan.lo.now c.in-Scan.hi.now c.in-Scan.limit) (as_told c.scan_range.result c.scan_range.new.out) refl refl
+    (scan_same (table_of (contents_state x)) rows s.memory.cursors.next c.in-Scan.version c.in-Scan.lo.now c.in-Scan.hi.now c.in-Scan.limit) (c.scan_range.ensures.ok x at.stands))
+
 pub returns-in-Info-clause-ok : goal.returns-in-Info-clause-ok
-returns-in-Info-clause-ok g c = λ x w.
-    let told = info_here (g.D.Disk.view c.args.disk.now) (held_of c.args.held.now c.args.cache.now) x (c.requires.kept c.args.cache.now) w c.in-Info.version c.info.result c.info.ensures.found c.info.ensures.none in
-    rw (c.in-Info.is, c.requires.room) (inl (told, w))
+returns-in-Info-clause-ok g c = λ x rows at.
+    let s = held_of c.args.held.now c.args.cache.now in
+    let whole = c.requires.kept c.args.cache.now in
+    let told = info_here (g.D.Disk.view c.args.disk.now) s x rows whole at c.in-Info.version c.info.result c.info.ensures.found c.info.ensures.none in
+    rw (c.in-Info.is, c.requires.room) (memory_applied (g.D.Disk.view c.args.disk.now) s x rows whole at (Info c.in-Info.version) (plain c.info.result) refl refl told)
 
 pub returns-in-Stat-clause-ok : goal.returns-in-Stat-clause-ok
-returns-in-Stat-clause-ok g c = λ x w.
-    let told = stat_here (g.D.Disk.view c.args.disk.now) (held_of c.args.held.now c.args.cache.now) x (c.requires.kept c.args.cache.now) w in
-    rw (c.in-Stat.is, c.requires.room, c.stat.ensures.ok) (inl (told, w))
+returns-in-Stat-clause-ok g c = λ x rows at.
+    let s = held_of c.args.held.now c.args.cache.now in
+    let whole = c.requires.kept c.args.cache.now in
+    let told = stat_here (g.D.Disk.view c.args.disk.now) s x rows whole at in
+    rw (c.in-Stat.is, c.requires.room) (memory_applied (g.D.Disk.view c.args.disk.now) s x rows whole at Stat (plain c.stat.result) refl refl (ap plain c.stat.ensures.ok ∙ told))
 
 pub returns-in-Get-clause-err : goal.returns-in-Get-clause-err
 returns-in-Get-clause-err g c = rw (c.in-Get.is) (record { reached = λ failed. refl; none = λ none. c.get.ensures.err })
@@ -30,27 +54,36 @@ returns-in-Info-clause-err g c =
 pub returns-in-Stat-clause-err : goal.returns-in-Stat-clause-err
 returns-in-Stat-clause-err g c = tells_calm (g.D.Disk.view c.args.disk.now) _ c.stat.result (ap is_fault c.stat.ensures.ok)
 
-pub returns-in_default-clause-err : goal.returns-in_default-clause-err
-returns-in_default-clause-err g c = tells_calm (g.D.Disk.view c.args.disk.now) _ _ refl
-
 pub scan_range-requires-clause-fits : goal.scan_range-requires-clause-fits
 scan_range-requires-clause-fits g c =
-    scan_fits c.in-Scan.version c.in-Scan.lo.now c.in-Scan.hi.now c.in-Scan.limit (ap (λ (asked : Command). has_lawful_sizes (request_of asked)) (sym c.in-Scan.is) ∙ c.requires.fits.1)
+    scan_fits c.in-Scan.version c.in-Scan.lo.now c.in-Scan.hi.now c.in-Scan.limit (ap (λ (asked : Command). has_lawful_sizes (request_of asked)) (sym c.in-Scan.is) ∙ c.requires.fits)
 
 pub returns-in-Scan-clause-err : goal.returns-in-Scan-clause-err
 returns-in-Scan-clause-err g c = rw (c.in-Scan.is) (record { reached = λ failed. refl; none = λ none. c.scan_range.ensures.err })
 
 pub returns-in-Get-clause-found : goal.returns-in-Get-clause-found
-returns-in-Get-clause-found g c = λ f exposed ordered cached none. rw (c.in-Get.is) (λ known. c.get.ensures.found f exposed ordered cached none known)
+returns-in-Get-clause-found g c = λ f exposed ordered cached calm. rw (c.in-Get.is) (
+  λ off. unknown_answer c.get.result c.get.new.out (c.get.ensures.none off).0 (c.get.ensures.len.1 (λ found. other_than (sym (c.get.ensures.none off).0 ∙ found))),
+  λ known. c.get.ensures.found f exposed ordered cached calm known,
+)
 
 pub returns-in-Scan-clause-found : goal.returns-in-Scan-clause-found
-returns-in-Scan-clause-found g c = λ f exposed ordered cached none. rw (c.in-Scan.is) (λ known pairs asked. c.scan_range.ensures.found f pairs exposed ordered cached none known asked)
+returns-in-Scan-clause-found g c = λ f exposed ordered cached calm. rw (c.in-Scan.is) (
+  λ off. unknown_answer c.scan_range.result c.scan_range.new.out (c.scan_range.ensures.none off).0 (c.scan_range.ensures.none off).2,
+  λ known pairs asked. c.scan_range.ensures.found f pairs exposed ordered cached calm known asked,
+)
 
 pub returns-in-Info-clause-found : goal.returns-in-Info-clause-found
-returns-in-Info-clause-found g c = λ f exposed ordered cached none. rw (c.in-Info.is) tt
+returns-in-Info-clause-found g c = λ f exposed ordered cached calm. rw (c.in-Info.is, c.requires.room) (info_says c.args.held.now.memory c.in-Info.version c.info.result c.info.ensures.found c.info.ensures.none)
 
 pub returns-in-Stat-clause-found : goal.returns-in-Stat-clause-found
-returns-in-Stat-clause-found g c = λ f exposed ordered cached none. rw (c.in-Stat.is) tt
+returns-in-Stat-clause-found g c = λ f exposed ordered cached calm. rw (c.in-Stat.is, c.requires.room) (ap plain c.stat.ensures.ok)
+
+pub returns-in_default-clause-ok : goal.returns-in_default-clause-ok
+returns-in_default-clause-ok g c = absurd (none_left c.args.command.now c.requires.none.0 c.requires.none.1 c.in_default.not-Get c.in_default.not-Scan c.in_default.not-Info c.in_default.not-Stat)
 
 pub returns-in_default-clause-found : goal.returns-in_default-clause-found
-returns-in_default-clause-found g c = λ f exposed ordered cached none. tells_other f c.args.held.now.memory c.args.held.now.published.levels c.args.command.now (as_told (reply.Refused why.Malformed) c.args.out.now) c.in_default.not-Get c.in_default.not-Scan
+returns-in_default-clause-found g c = absurd (none_left c.args.command.now c.requires.none.0 c.requires.none.1 c.in_default.not-Get c.in_default.not-Scan c.in_default.not-Info c.in_default.not-Stat)
+
+pub returns-in_default-clause-err : goal.returns-in_default-clause-err
+returns-in_default-clause-err g c = absurd (none_left c.args.command.now c.requires.none.0 c.requires.none.1 c.in_default.not-Get c.in_default.not-Scan c.in_default.not-Info c.in_default.not-Stat)

@@ -10,7 +10,7 @@ nothing = record { key = []; version = 0; value = None }
 pub push-requires-clause-fits : goal.push-requires-clause-fits
 push-requires-clause-fits c =
     pair_found c.self.inside.tree.parents (entries_held c.self.inside.pool c.self.inside.zero.list) c.args.version c.args.key.now c.in-Some-value.value.now c.in-Some.place nothing
-    c.self.invariant.stands.list.lawful (held_within c.self.inside.pool c.self.inside.zero.list c.in-Some.place c.in-Some.ensures.found) c.in-Some.ensures.ok (c.in-Some-value.ensures.ok nothing)
+    c.self.invariant.stand.level.list.lawful (held_within c.self.inside.pool c.self.inside.zero.list c.in-Some.place c.in-Some.ensures.found) c.in-Some.ensures.ok (c.in-Some-value.ensures.ok nothing)
 
 pub returns-in-None : goal.returns-in-None
 returns-in-None c = record {
