@@ -80,12 +80,12 @@ pub record IsTaggedFor (body : List ℕ) (response : Response) : Type 0 where
 abbrev pub RespondsTo : List ℕ → Response → Type 0
 RespondsTo body response = IsRefusedFor body response ⊎ IsTaggedFor body response
 
--- a body that asks for a change has a response after which a store did not write
+-- a body asks for no change, or its response is none after which a store may have written
 abbrev pub WritesNothing : List ℕ → Response → Type 0
 WritesNothing body response = (request : Request) → Spells body response.tag request
     → is_change request ≡ true → may_write response.answer.reply ≡ false
 
--- so has each of these bodies that has a response
+-- so it is with each of these bodies that has a response
 abbrev pub AreCalm : List (List ℕ) → List Response → Type 0
 AreCalm (body ∷ bodies) (response ∷ responses) =
     WritesNothing body response × AreCalm bodies responses
