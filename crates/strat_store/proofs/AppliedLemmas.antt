@@ -1,5 +1,5 @@
 -- A change at a store with open cursors: it does to the table with its cursors what it does to the one without.
-use Rattle.std.proofs.Common.{◌≡◌, ◌≢◌, ◌≤◌, ◌+◌, ℕ, Bool, true, false, cond, not, eqb, inl, inr, List, [], ◌∷◌, ◌++◌, length, Contains, Option, Some, None, refl, sym, ap, subst, ◌∙◌, arith, true≢false}
+use Rattle.std.proofs.Common.{◌≡◌, ◌≢◌, ◌≤◌, ◌+◌, ℕ, Bool, true, false, cond, not, eqb, inl, inr, ◌⊎◌, List, [], ◌∷◌, ◌++◌, length, Contains, Option, Some, None, refl, sym, ap, subst, ◌∙◌, arith, true≢false}
 use Rattle.std.specs.Prelude.{if◌then◌else◌}
 use Rattle.strat_base.specs.Change.{Change}
 use Rattle.strat_base.specs.Change as change
@@ -32,7 +32,7 @@ use Rattle.strat_store.specs.Applying.{IsAppliedTo, change_wanted, is_fault}
 use Rattle.strat_store.specs.Cursoring.{IsAppliedAt, LeavesCursors}
 use Rattle.strat_store.specs.Held.{Held, IsConsistent, StandsAt, StandsWith, arrays_held, position_at, position_with}
 use Rattle.strat_store.specs.Memory.{KeepsRows}
-use Rattle.strat_store.specs.Settling.{LeavesPublished, arrays_taken}
+use Rattle.strat_store.specs.Settling.{HasPublished, KeepsPublished, LeavesPublished, arrays_taken}
 
 -- a table with other cursors
 abbrev beside : Table → List Cursor → ℕ → Table
@@ -105,6 +105,13 @@ wanted_of (change.Put v key value) = refl
 wanted_of (change.Delete v key) = refl
 wanted_of (change.Clone v) = refl
 
+-- the number of the next array never falls
+pub next_later : (s new : Held) → KeepsPublished s new ⊎ HasPublished s new → s.chained.manifest.next_array ≤ new.chained.manifest.next_array
+next_later s new (inl same) = let e : new.chained.manifest.next_array ≡ s.chained.manifest.next_array = ap (λ (k : Chained). k.manifest.next_array) same.chained in omega (arith, e)
+next_later s new (inr has) =
+    let e : new.chained.manifest.next_array ≡ s.chained.manifest.next_array + length (arrays_made has.after.are.made) = ap (λ (k : Manifest). k.next_array) has.after.are.manifest_is in
+    omega (arith, e)
+
 -- a store that stands after a change has the cursors that it had
 module _ (v now : DiskView) (s new : Held) (x : Contents) (rows : List Cursor) (c : Change) (answer : Answer) (carried : Bool) (whole : IsConsistent s) (at : StandsAt v s x rows)
     (leaves : LeavesPublished v now s carried answer.reply new) (cursors : LeavesCursors s (request_for c) answer new) (keeps : KeepsRows s.memory new.memory) (cached : new.cached ≡ s.cached) where
@@ -125,12 +132,7 @@ module _ (v now : DiskView) (s new : Held) (x : Contents) (rows : List Cursor) (
   ]
 
   later : s.chained.manifest.next_array ≤ new.chained.manifest.next_array
-  later = elim leaves.either [
-    | inl same ↦ let e : new.chained.manifest.next_array ≡ s.chained.manifest.next_array = ap (λ (k : Chained). k.manifest.next_array) same.chained in omega (arith, e)
-    | inr has ↦
-        let e : new.chained.manifest.next_array ≡ s.chained.manifest.next_array + length (arrays_made has.after.are.made) = ap (λ (k : Manifest). k.next_array) has.after.are.manifest_is in
-        omega (arith, e)
-  ]
+  later = next_later s new leaves.either
 
   stands_after : (y : Contents) → answer.reply ≢ reply.Refused why.DeviceFault → StandsWith now new y → StandsAt now new y rows
   stands_after y calm w = record {

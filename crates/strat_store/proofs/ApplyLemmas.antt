@@ -1,8 +1,10 @@
 -- How a store answers commands that ask for no change, and what of it an answer leaves.
-use Rattle.std.proofs.Common.{◌≡◌, ◌≤◌, ◌&&◌, ℕ, leb, Bor, Bool, true, false, inl, inr, List, [], ◌∷◌, length, Option, Some, None, refl, sym, ap, ◌∙◌, subst, true≢false}
+use Rattle.std.proofs.Common.{◌≡◌, ◌≤◌, ◌&&◌, ℕ, leb, Bor, Bool, true, false, inl, inr, List, [], ◌∷◌, length, Option, Some, None, refl, sym, ap, ◌∙◌, subst, true≢false, eqb, not, ◌+◌, ◌++◌, Contains, arith}
 use Rattle.std.proofs.lemmas.Bool.{and_parts, leb-true}
 use Rattle.std.proofs.lemmas.List.Elements.{Contains-append_left}
-use Rattle.std.specs.Prelude.{if◌then◌else◌, option_and_then}
+use Rattle.std.specs.Prelude.{if◌then◌else◌, option_and_then, filter, find}
+use Rattle.std.specs.List.{list_any}
+use Rattle.std.specs.Option.{option_map_or}
 use Rattle.strat_base.specs.Change.{Change}
 use Rattle.strat_base.specs.Change as change
 use Rattle.strat_base.specs.Tree.{is_known}
@@ -13,7 +15,8 @@ use Rattle.strat_crash.specs.Trail.{Trail}
 use Rattle.strat_crash.proofs.MomentLemmas.{now_since_start}
 use Rattle.strat_crash.proofs.TrailLemmas.{trail_of_one, trail_of_two}
 use Rattle.strat_cursor.proofs.TableRows.{rows_length}
-use Rattle.strat_cursor.specs.Looking.{LooksThrough, arrays_there}
+use Rattle.strat_base.specs.Entries.{Entry}
+use Rattle.strat_cursor.specs.Looking.{AreOfOldArrays, LooksThrough, arrays_there}
 use Rattle.strat_format.specs.Damage.{Read}
 use Rattle.strat_model.specs.declared.replies.Reply.{Reply}
 use Rattle.strat_model.specs.declared.replies.Reply.TheVariants as reply
@@ -25,10 +28,10 @@ use Rattle.strat_model.specs.declared.commands.Command.TheVariants as command
 use Rattle.strat_array.specs.Told.{TheirPairs}
 use Rattle.strat_model.specs.Answer.{Answer, plain, accepts, as_told, refusal}
 use Rattle.strat_model.specs.Pairs.{range, value_of}
-use Rattle.strat_model.specs.Request.{Request, Put, Delete, Get, Clone, Scan, Info, NextPairs, Stat}
+use Rattle.strat_model.specs.Request.{Request, Put, Delete, Get, Clone, Scan, Info, OpenCursor, NextPairs, CloseCursor, Stat}
 use Rattle.strat_model.specs.Run.{Position, is_change, reaches_disk, position_after, fill_after}
 use Rattle.strat_model.specs.Spelling.{is_bound, is_limit, has_lawful_sizes}
-use Rattle.strat_model.specs.Step.{step, replies_with, refuses, has_row, pairs_at, found, page}
+use Rattle.strat_model.specs.Step.{Outcome, advanced, step, replies_with, refuses, has_row, pairs_at, found, page}
 use Rattle.strat_model.specs.Table.{Cursor, Table, bare}
 use Rattle.strat_recovery.specs.Head.{Head}
 use Rattle.strat_recovery.specs.Opening.{state_of, opened}
@@ -38,12 +41,14 @@ use Rattle.strat_standing.proofs.PartsLemmas.{reads_head, reads_state}
 use Rattle.strat_standing.specs.Contents.{Contents, contents_head, contents_state}
 use Rattle.strat_standing.specs.Standing.{LeavesContent, ShowsTable}
 use Rattle.strat_store.proofs.MemoryLawLemmas.{version_told, store_told_with, version_unknown}
+use Rattle.strat_store.proofs.AppliedLemmas.{next_later}
 use Rattle.strat_store.proofs.CursoringLemmas.{looks_wider, stands_now, stands_still, still_going}
-use Rattle.strat_store.specs.Applying.{IsLookedUp, FollowsStep, TellsFaultOf, change_wanted, is_fault, ran_short, table_left}
+use Rattle.strat_store.specs.Applying.{IsLookedUp, IsUntouched, FollowsStep, TellsFaultOf, change_wanted, is_fault, ran_short, table_left}
 use Rattle.strat_store.specs.Cursoring.{IsAppliedAt, is_of_cursor}
 use Rattle.strat_store.specs.Ranging.{TellsFrom, TellsOfVersion}
 use Rattle.strat_store.specs.Held.{Held, arrays_held, position_at, table_at, IsConsistent, StandsAt, StandsWith}
 use Rattle.strat_store.specs.Memory.{Memory, info_told, stat_told, IsMemoryOf}
+use Rattle.strat_store.specs.Settling.{LeavesPublished}
 
 -- the request of a change that is wanted
 pub wanted_for : (r : Request) (c : Change) → change_wanted r ≡ Some c → request_for c ≡ r
@@ -143,15 +148,11 @@ look_kept t (Clone v) other none = absurd (cc)
 look_kept t _ other none = absurd (true≢false other)
 
 -- it is not a change
-pub look_no_change : (r : Request) → is_of_cursor r ≡ false → change_wanted r ≡ None → is_change r ≡ false
-look_no_change (Get v key) other none = refl
-look_no_change (Info v) other none = refl
-look_no_change (Scan v lo hi limit) other none = refl
-look_no_change Stat other none = refl
-look_no_change (Put v key value) other none = absurd (cc)
-look_no_change (Delete v key) other none = absurd (cc)
-look_no_change (Clone v) other none = absurd (cc)
-look_no_change _ other none = absurd (true≢false other)
+pub look_no_change : (r : Request) → change_wanted r ≡ None → is_change r ≡ false
+look_no_change (Put v key value) none = absurd (cc)
+look_no_change (Delete v key) none = absurd (cc)
+look_no_change (Clone v) none = absurd (cc)
+look_no_change _ none = refl
 
 says_no_fault : (k : Bool) (t : Table) (a : Answer) → is_fault a.reply ≡ false → is_fault (if k then replies_with t a else refuses t why.UnknownVersion).answer.reply ≡ false
 says_no_fault true t a calm = calm
@@ -242,7 +243,7 @@ told_at now s new x rows r answer other none log memory spent told stands =
       left = rows;
       stands = stands;
       place = (λ i. record { table = record (table_of (contents_state x)) { cursors = rows; next_cursor = (memory i).cursors.next }; fill = length (log i).list })
-          ∙ sym (place_kept s.log.mem (position_at s x rows) r (look_kept t r other none) (look_no_change r other none));
+          ∙ sym (place_kept s.log.mem (position_at s x rows) r (look_kept t r other none) (look_no_change r none));
     })
 
 -- without a look at the disk
@@ -269,13 +270,45 @@ look_applied v now s x rows d whole at looks leaves r answer other none same loo
   }))
 ]
 
+-- a command that asks for no change changes nothing but cursors
+query_bare : (t : Table) (r : Request) → change_wanted r ≡ None → bare (step t r).table ≡ bare t
+query_bare t (Get v key) none = ap bare (says_kept (has_row t v) t _ why.UnknownVersion)
+query_bare t (Info v) none = ap bare (says_kept (has_row t v) t _ why.UnknownVersion)
+query_bare t (Scan v lo hi limit) none = ap bare (says_kept (has_row t v) t _ why.UnknownVersion)
+query_bare t Stat none = refl
+query_bare t (OpenCursor v lo hi) none = by (has_row t v) (eqb (length t.cursors) 64)
+  where
+    more : Outcome
+    more = record {
+      answer = plain (reply.Opened t.next_cursor);
+      table = record t { cursors = t.cursors ++ record { number = t.next_cursor; left = range (pairs_at t v) lo hi } ∷ []; next_cursor = t.next_cursor + 1 };
+    }
+
+    by : (k full : Bool) → bare (if not k then refuses t why.UnknownVersion else if full then refuses t why.CursorLimit else more).table ≡ bare t
+    by false full = refl
+    by true true = refl
+    by true false = refl
+query_bare t (NextPairs n limit) none = by (find (λ (c : Cursor). eqb c.number n) t.cursors)
+  where
+    by : (o : Option Cursor) → bare (option_map_or (λ (c : Cursor). record { answer = page c.left limit; table = record t { cursors = advanced t.cursors n limit } }) o (refuses t why.UnknownCursor)).table ≡ bare t
+    by None = refl
+    by (Some c) = refl
+query_bare t (CloseCursor n) none = by (list_any (λ (c : Cursor). eqb c.number n) t.cursors)
+  where
+    by : (b : Bool) → bare (if b then record { answer = plain reply.Done; table = record t { cursors = filter (λ (c : Cursor). not (eqb c.number n)) t.cursors } } else refuses t why.UnknownCursor).table ≡ bare t
+    by true = refl
+    by false = refl
+query_bare t (Put v key value) none = absurd (cc)
+query_bare t (Delete v key) none = absurd (cc)
+query_bare t (Clone v) none = absurd (cc)
+
 -- over a disk that is only read the images show the table, before a command that changes nothing and after it
-pub look_follows : (before now : DiskView) (s : Held) (x : Contents) (r : Request) (answer : Answer) → is_of_cursor r ≡ false → change_wanted r ≡ None → OnlyReads before now → StandsWith before s x
+pub look_follows : (before now : DiskView) (s : Held) (x : Contents) (r : Request) (answer : Answer) → change_wanted r ≡ None → OnlyReads before now → StandsWith before s x
     → FollowsStep before now x r answer
-look_follows before now s x r answer other none looks w =
+look_follows before now s x r answer none looks w =
     let t = table_of (contents_state x) in
     let each : (c : Image) → Since now before.moment c → ShowsTable c t = λ c since. shows_contents c x w.stands.sound (w.stands.reads c (looks.images.each c since)) in
-    let after : table_left t r answer.reply ≡ t = by_short t (bare (step t r).table) (ap bare (look_kept t r other none)) (ran_short answer.reply) in
+    let after : table_left t r answer.reply ≡ t = by_short t (bare (step t r).table) (query_bare t r none) (ran_short answer.reply) in
     by_accept t (table_left t r answer.reply) after each (accepts answer.reply)
   where
     by_short : (t u : Table) → u ≡ t → (b : Bool) → (if b then t else u) ≡ t
@@ -315,3 +348,30 @@ pub next_fits : (cursor limit : ℕ) → has_lawful_sizes (NextPairs cursor limi
 next_fits cursor limit lawful =
     let ends = and_parts (leb 1 limit) (leb limit 256) lawful in
     (leb-true 1 limit ends.0, leb-true limit 256 ends.1)
+
+-- a store stands with its cursors whether it is spent or not
+pub spent_at : (v : DiskView) (s : Held) (x : Contents) (rows : List Cursor) (b : Bool) → StandsAt v (record s { spent = b }) x rows → StandsAt v s x rows
+spent_at v s x rows b at = record {
+  stands = record { stands = at.stands.stands; held = at.stands.held; cached = at.stands.cached };
+  rows_are = at.rows_are;
+  going = at.going;
+}
+
+-- no command caches a block of an array that is yet to come
+pub old_after : (before now : DiskView) (request : Request) (told : Reply) {s new : Held} {carried : Bool} → IsConsistent s → AreOfOldArrays s.chained.manifest.next_array s.cached
+    → IsUntouched before now request s told new → LeavesPublished before now s carried told new → AreOfOldArrays new.chained.manifest.next_array new.cached
+old_after before now request told {s = s} {new = new} whole old same leaves = by (change_wanted request) refl
+  where
+    later : s.chained.manifest.next_array ≤ new.chained.manifest.next_array
+    later = next_later s new leaves.either
+
+    by : (o : Option Change) → change_wanted request ≡ o → AreOfOldArrays new.chained.manifest.next_array new.cached
+    by None none k x there =
+        let looks = same.looks none in
+        elim (looks.cached k x there) [
+          | inl before_it ↦ omega (arith, old k x before_it, later)
+          | inr got ↦ omega (arith, got.2.mine, whole.kept.below got.0 got.1, later)
+        ]
+    by (Some c) wanted k x there =
+        let here = subst (λ (d : Blocks). Contains d.entries (k, x)) (same.cached c wanted) there in
+        omega (arith, old k x here, later)

@@ -90,12 +90,12 @@ looks_wider v now some more c d wider looks = record {
 }
 
 -- an array that an open cursor names is named
-cursor_names : (cursors : List HeldCursor) (c : HeldCursor) (a : ArrayDesc) → Contains cursors c → Contains c.arrays a → Contains (arrays_named cursors) a
+pub cursor_names : (cursors : List HeldCursor) (c : HeldCursor) (a : ArrayDesc) → Contains cursors c → Contains c.arrays a → Contains (arrays_named cursors) a
 cursor_names cursors c a of one =
     among_contained (arrays_named cursors) a (among_in_flat (λ (k : HeldCursor). k.arrays) cursors c a (contained_among cursors c of) (contained_among c.arrays a one))
 
 -- a block of an array is one of theirs
-agree_of : (arrays : List ArrayDesc) (f g : Image) (a : ArrayDesc) → Contains arrays a → AgreeOn (blocks_listed arrays) f g → AgreeOn (blocks_of a.extents) f g
+pub agree_of : (arrays : List ArrayDesc) (f g : Image) (a : ArrayDesc) → Contains arrays a → AgreeOn (blocks_listed arrays) f g → AgreeOn (blocks_of a.extents) f g
 agree_of arrays f g a of agree = λ b there.
     agree b (among_contained (blocks_listed arrays) b (among_in_flat (λ (d : ArrayDesc). blocks_of d.extents) arrays a b (contained_among arrays a of) (contained_among (blocks_of a.extents) b there)))
 
@@ -534,6 +534,16 @@ start_calm (Err start_fault.NoMemory) = refl
 pub close_calm : (there : Bool) → is_fault (reply_of_close there) ≡ false
 close_calm true = refl
 close_calm false = refl
+
+-- nor that a value was found
+pub start_found : (r : Result ℕ CursorFault) → reply_of_start r ≢ reply.Found
+start_found (Ok k) = λ e. cc
+start_found (Err start_fault.CursorLimit) = λ e. cc
+start_found (Err start_fault.NoMemory) = λ e. cc
+
+pub close_found : (there : Bool) → reply_of_close there ≢ reply.Found
+close_found true = λ e. cc
+close_found false = λ e. cc
 
 pub page_found : (r : Result Bool NextFault) → reply_of_next r ≢ reply.Found
 page_found (Ok more) = λ e. cc

@@ -9,6 +9,7 @@ pub mod LookLawLemmas
 pub mod GettingLemmas
 pub mod KeepingLemmas
 pub mod CursoringLemmas
+pub mod QueryLemmas
 pub mod AppliedLemmas
 pub mod RangingLemmas
 pub mod LookLemmas

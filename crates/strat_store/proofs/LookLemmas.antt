@@ -18,6 +18,7 @@ use Rattle.strat_base.specs.Entries.{Entry, is_ascending, is_tagged}
 use Rattle.strat_base.specs.Tree.{Parents}
 use Rattle.strat_base.specs.declared.descriptors.ArrayDesc.{ArrayDesc}
 use Rattle.strat_base.specs.declared.descriptors.LevelDesc.{LevelDesc}
+use Rattle.strat_base.specs.declared.failures.Fault.{Fault}
 use Rattle.strat_crash.proofs.MomentLemmas.{reads_refl, reads_trans}
 use Rattle.strat_crash.specs.Image.{Image}
 use Rattle.strat_crash.specs.Moments.{DiskView}

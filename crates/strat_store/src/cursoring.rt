@@ -76,7 +76,7 @@ pub(crate) fn open_cursor(held: &mut Recovered, version: Version, lo: &[u8], hi:
             (OpenCursor version lo.now hi.now) (plain result);
       };
     } }
-    ensures same { is_fault result ≡ false }
+    ensures same { (is_fault result ≡ false) × (result ≢ reply.Found) }
 {
     if !held.memory.has(version) {
         return Reply::Refused(Refusal::UnknownVersion);
@@ -144,7 +144,7 @@ pub(crate) fn close_cursor(held: &mut Recovered, number: u64) -> Reply
             (plain result);
       };
     } }
-    ensures same { is_fault result ≡ false }
+    ensures same { (is_fault result ≡ false) × (result ≢ reply.Found) }
 {
     let there = held.memory.close_cursor(number);
     reply_of_close(there)

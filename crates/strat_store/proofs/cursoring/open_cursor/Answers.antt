@@ -8,7 +8,7 @@ use Rattle.strat_store.specs.Cursoring.{cursors_after, reply_of_start}
 use Rattle.strat_store.specs.Memory.{Memory}
 use Rattle.strat_store.specs.Ranging.{TellsOfOpening}
 use Rattle.strat_store.specs.Recovering.{empty_cache, held_of}
-use Rattle.strat_store.proofs.CursoringLemmas.{known_told, numbers, opening_told, start_calm, start_leaves, unknown_told}
+use Rattle.strat_store.proofs.CursoringLemmas.{known_told, numbers, opening_told, start_calm, start_found, start_leaves, unknown_told}
 use Rattle.strat_store.proofs.GettingLemmas.{whole_read}
 use Rattle.strat_store.proofs.KeepingLemmas.{consistent_after}
 use Rattle.strat_store.proofs.cursoring.open_cursor.Goals as goal
@@ -44,4 +44,4 @@ returns-clause-kept c =
     c.open_cursor-started.ensures.ok c.open_cursor-started.ensures.err)
 
 pub returns-clause-same : goal.returns-clause-same
-returns-clause-same c = ap is_fault c.reply_of_start.ensures.ok ∙ start_calm c.open_cursor-started.result
+returns-clause-same c = (ap is_fault c.reply_of_start.ensures.ok ∙ start_calm c.open_cursor-started.result, λ found. start_found c.open_cursor-started.result (sym c.reply_of_start.ensures.ok ∙ found))

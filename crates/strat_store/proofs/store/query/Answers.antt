@@ -42,3 +42,15 @@ returns-in_default-clause-same g c =
 
 pub look-requires-clause-none : goal.look-requires-clause-none
 look-requires-clause-none g c = (c.requires.none, of_cursor_not c.args.command.now c.in_default.not-OpenCursor c.in_default.not-NextPairs c.in_default.not-CloseCursor)
+
+pub returns-in-OpenCursor-clause-found : goal.returns-in-OpenCursor-clause-found
+returns-in-OpenCursor-clause-found g c = λ f exposed ordered cached calm. rw (c.in-OpenCursor.is, c.requires.room) (c.open_cursor.ensures.found f c.args.cache.now)
+
+pub returns-in-OpenCursor-clause-len : goal.returns-in-OpenCursor-clause-len
+returns-in-OpenCursor-clause-len g c = λ found. absurd (c.open_cursor.ensures.same.1 found)
+
+pub returns-in-CloseCursor-clause-found : goal.returns-in-CloseCursor-clause-found
+returns-in-CloseCursor-clause-found g c = λ f exposed ordered cached calm. rw (c.in-CloseCursor.is, c.requires.room) (c.close_cursor.ensures.found f c.args.cache.now)
+
+pub returns-in-CloseCursor-clause-len : goal.returns-in-CloseCursor-clause-len
+returns-in-CloseCursor-clause-len g c = λ found. absurd (c.close_cursor.ensures.same.1 found)

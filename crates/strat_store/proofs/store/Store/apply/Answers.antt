@@ -1,26 +1,57 @@
-use Rattle.std.proofs.Common.{sym, ◌∙◌}
+use Rattle.std.proofs.Common.{Bool, sym, subst, ◌∙◌}
+use Rattle.strat_model.specs.Answer.{as_told}
+use Rattle.strat_model.specs.Command.{request_of}
+use Rattle.strat_store.specs.Cursoring.{IsAppliedAt}
 use Rattle.strat_store.specs.Recovering.{held_of}
-use Rattle.strat_store.proofs.ApplyLemmas.{spent_consistent}
+use Rattle.strat_store.proofs.ApplyLemmas.{old_after, spent_at, spent_consistent}
 use Rattle.strat_store.proofs.PayingLemmas.{stored_since}
 use Rattle.strat_store.proofs.store.Store.apply.Goals as goal
 
 pub answer-told-requires-clause-kept : goal.answer-told-requires-clause-kept
 answer-told-requires-clause-kept g c =
     let going = rw (← c.self.view_is) at c.requires.kept in
-    c.self.invariant going
+    (c.self.invariant going).0
 
 pub invariant_of-self : goal.invariant_of-self
-invariant_of-self g c calm = c.answer-told.ensures.kept (sym c.is_fault-self-inside.ensures.ok ∙ calm)
+invariant_of-self g c calm =
+    let going = rw (← c.self.view_is) at c.requires.kept in
+    let whole = c.self.invariant going in
+    let kept = c.answer-told.ensures.kept (sym c.is_fault-self-inside.ensures.ok ∙ calm) in
+    (kept, old_after _ _ _ _ (whole.0 c.self.inside.cache) whole.1 c.answer-told.ensures.same.0 c.answer-told.ensures.same.1)
 
 pub returns-clause-kept : goal.returns-clause-kept
-returns-clause-kept g c = (
-  c.is_fault-self-inside.ensures.ok,
-  λ calm. spent_consistent (held_of c.answer-told.new.held c.answer-told.new.cache) c.is_fault-self-inside.result
-      (c.answer-told.ensures.kept (sym c.is_fault-self-inside.ensures.ok ∙ calm) c.answer-told.new.cache),
-)
+returns-clause-kept g c =
+    let going = rw (← c.self.view_is) at c.requires.kept in
+    let whole = c.self.invariant going in (
+      c.is_fault-self-inside.ensures.ok,
+      λ calm. (
+        spent_consistent (held_of c.answer-told.new.held c.answer-told.new.cache) c.is_fault-self-inside.result
+            (c.answer-told.ensures.kept (sym c.is_fault-self-inside.ensures.ok ∙ calm) c.answer-told.new.cache),
+        old_after _ _ _ _ (whole.0 c.self.inside.cache) whole.1 c.answer-told.ensures.same.0 c.answer-told.ensures.same.1,
+      ),
+    )
 
 pub returns-clause-damaged : goal.returns-clause-damaged
 returns-clause-damaged g c = rw (← c.self.view_is) c.answer-told.ensures.damaged
+
+pub returns-clause-ok : goal.returns-clause-ok
+returns-clause-ok g c =
+    let going = rw (← c.self.view_is) at c.requires.kept in
+    let s = held_of c.self.inside.held c.self.inside.cache in
+    let t = held_of c.answer-told.new.held c.answer-told.new.cache in
+    let now = g.D.Disk.view c.answer-told.new.disk in
+    let asked = request_of c.args.command.now in
+    let told = as_told c.answer-told.result c.answer-told.new.out in
+    rw (← c.self.view_is) (λ x rows at.
+    subst (λ (b : Bool). IsAppliedAt now (record s { spent = b }) x rows asked told (record t { spent = c.is_fault-self-inside.result })) (sym going)
+    (subst (λ (b : Bool). IsAppliedAt now s x rows asked told (record t { spent = b })) (sym c.is_fault-self-inside.ensures.ok)
+    (c.answer-told.ensures.ok x rows (spent_at (g.D.Disk.view c.args.disk.now) s x rows c.self.inside.spent at))))
+
+pub returns-clause-found : goal.returns-clause-found
+returns-clause-found g c =
+    let going = rw (← c.self.view_is) at c.requires.kept in
+    let whole = c.self.invariant going in
+    rw (← c.self.view_is) (λ f exposed ordered same calm. c.answer-told.ensures.found f exposed ordered (record { old = whole.1; same = same }) calm)
 
 pub returns-clause-trail : goal.returns-clause-trail
 returns-clause-trail g c =
