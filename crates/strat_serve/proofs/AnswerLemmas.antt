@@ -16,18 +16,20 @@ use Rattle.strat_model.specs.declared.replies.Refusal.TheVariants as why
 use Rattle.strat_model.specs.declared.replies.Reply.{Reply}
 use Rattle.strat_model.specs.declared.replies.Reply.TheVariants as reply
 use Rattle.strat_model.specs.Pairs.{Pairs}
-use Rattle.strat_model.specs.Request.{Request, Put, Delete, Get, Clone, Scan, Info, OpenCursor, NextPairs, CloseCursor, Stat}
+use Rattle.strat_model.specs.Request.{Request}
 use Rattle.strat_model.specs.Spelling.{Spells, IsRefusedAs, reply_body}
 use Rattle.strat_model.specs.Step.{step}
 use Rattle.strat_model.specs.Stream.{frame}
-use Rattle.strat_model.specs.Table.{Table, bare}
-use Rattle.strat_model.specs.Run.{Position, Response, position_after, is_change, takes_memory}
+use Rattle.strat_model.specs.Table.{Cursor, Table, bare}
+use Rattle.strat_model.specs.Run.{Position, Response, position_after}
 use Rattle.strat_recovery.specs.StateTable.{table_of}
 use Rattle.strat_standing.specs.Contents.{Contents, contents_state}
 use Rattle.strat_standing.specs.Standing.{ShowsTable}
 use Rattle.strat_standing.proofs.FreeLemmas.{shows_contents}
-use Rattle.strat_store.specs.Applying.{is_fault, ran_short, IsAnsweredBy, IsShortOf, IsBrokenBy, IsAppliedTo, FollowsStep, FailsAsTold}
-use Rattle.strat_store.specs.Held.{Held, StandsWith, position_with}
+use Rattle.strat_store.specs.Applying.{is_fault, ran_short, FollowsStep, FailsAsTold}
+use Rattle.strat_store.specs.Cursoring.{IsAnsweredAt, IsShortAt, IsBrokenAt, IsAppliedAt}
+use Rattle.strat_store.specs.Held.{Held, StandsAt, StandsWith, position_at}
+use Rattle.strat_serve.proofs.BareLemmas.{step_bare}
 use Rattle.strat_serve.specs.Session.{IsAnswered, IsToldBy, ContinuesWith, StopsWith, FailsAsMet, fault_told}
 
 -- what a reply tells of faults
@@ -97,19 +99,6 @@ none_told body.KeySize = refl
 none_told body.ValueSize = refl
 none_told body.ScanSize = refl
 
--- a change takes memory
-change_takes : (r : Request) → is_change r ≡ true → takes_memory r ≡ true
-change_takes (Put version key value) e = e
-change_takes (Delete version key) e = e
-change_takes (Get version key) e = e
-change_takes (Clone version) e = e
-change_takes (Scan version lo hi limit) e = e
-change_takes (Info version) e = e
-change_takes (OpenCursor version lo hi) e = refl
-change_takes (NextPairs cursor limit) e = e
-change_takes (CloseCursor cursor) e = e
-change_takes Stat e = e
-
 -- an element of two
 either : (x y : Table) (i : ℕ) (P : Table → Type 0) → At (x ∷ y ∷ []) i P → P x ⊎ P y
 either x y zero P h = inl h
@@ -158,46 +147,54 @@ module _ (before now : DiskView) (old new : Held) (bytes : List ℕ) (tag : ℕ)
   abbrev told : Response
   told = record { tag = tag; answer = as_told r pairs }
 
-  goes_on : (x : Contents) → IsAnsweredBy now old x request (as_told r pairs) new → FollowsStep before now x request (as_told r pairs) → ContinuesWith before now old x bytes told new
-  goes_on x is trail =
-      let next : bare (step (table_of (contents_state x)) request).table ≡ table_of (contents_state is.after) = ap (λ (p : Position). bare p.table) (sym is.place) in
+  goes_on : (x : Contents) (rows : List Cursor) → IsAnsweredAt now old x rows request (as_told r pairs) new → FollowsStep before now x request (as_told r pairs)
+      → ContinuesWith before now old x rows bytes told new
+  goes_on x rows is trail =
+      let next : bare (step (table_of (contents_state x)) request).table ≡ table_of (contents_state is.after) =
+      sym (step_bare (table_of (contents_state x)) rows old.memory.cursors.next request) ∙ ap (λ (p : Position). bare p.table) (sym is.place) in
       let n : ℕ = if accepts r then 1 else 0 in
       record {
         going = is.going;
         after = is.after;
+        left = is.left;
         stands = is.stands;
         answers = inr (inl (record { request = request; spelled = spelled; answer = is.told; place = is.place }));
         trail = either_reaches (ran_short r) now before.moment (table_of (contents_state x)) (bare (step (table_of (contents_state x)) request).table) (table_of (contents_state is.after)) n
-            next trail (stands_table now new is.after is.stands);
+            next trail (stands_table now new is.after is.stands.stands);
       }
 
-  falls_short : (x : Contents) → IsShortOf now old x request (as_told r pairs) new → FollowsStep before now x request (as_told r pairs) → ContinuesWith before now old x bytes told new
-  falls_short x is trail = record {
+  falls_short : (x : Contents) (rows : List Cursor) → IsShortAt now old x rows request (as_told r pairs) new → FollowsStep before now x request (as_told r pairs)
+      → ContinuesWith before now old x rows bytes told new
+  falls_short x rows is trail = record {
     going = is.going;
     after = x;
+    left = rows;
     stands = is.stands;
-    answers = inr (inr (record { request = request; spelled = spelled; takes = change_takes request is.changes; accepted = is.acceptable; full = λ _. is.full; answer = is.told; same = is.place }));
+    answers = inr (inr (record { request = request; spelled = spelled; takes = is.takes; accepted = is.acceptable; full = is.full; answer = is.told; same = is.place }));
     trail = reaches now before.moment (table_of (contents_state x)) (table_of (contents_state x)) 0
-        (subst (λ (a : Answer). FollowsStep before now x request a) is.told trail) (stands_table now new x is.stands);
+        (subst (λ (a : Answer). FollowsStep before now x request a) is.told trail) (stands_table now new x is.stands.stands);
   }
 
-  breaks : (x : Contents) → IsBrokenBy old x request (as_told r pairs) new → FollowsStep before now x request (as_told r pairs) → StopsWith before now old x bytes told
-  breaks x is trail = record {
-    done = position_after old.log.mem (position_with old x) request;
+  breaks : (x : Contents) (rows : List Cursor) → IsBrokenAt old x rows request (as_told r pairs) new → FollowsStep before now x request (as_told r pairs)
+      → StopsWith before now old x rows bytes told
+  breaks x rows is trail = record {
+    done = position_after old.log.mem (position_at old x rows) request;
     fault = record { request = request; spelled = spelled; reaches = is.reached; accepted = is.acceptable; answer = inl is.told; place = refl };
     answer = is.told;
-    trail = subst (λ (a : Answer). FollowsStep before now x request a) is.told trail;
+    trail = subst (λ (t : Table). Trail ShowsTable now before.moment (table_of (contents_state x) ∷ t ∷ []) 0)
+        (sym (step_bare (table_of (contents_state x)) rows old.memory.cursors.next request))
+        (subst (λ (a : Answer). FollowsStep before now x request a) is.told trail);
   }
 
-  applied : (x : Contents) → IsAppliedTo now old x request (as_told r pairs) new → FollowsStep before now x request (as_told r pairs)
-      → ContinuesWith before now old x bytes told new ⊎ StopsWith before now old x bytes told
-  applied x (inl is) trail = inl (goes_on x is trail)
-  applied x (inr (inl is)) trail = inl (falls_short x is trail)
-  applied x (inr (inr is)) trail = inr (breaks x is trail)
+  applied : (x : Contents) (rows : List Cursor) → IsAppliedAt now old x rows request (as_told r pairs) new → FollowsStep before now x request (as_told r pairs)
+      → ContinuesWith before now old x rows bytes told new ⊎ StopsWith before now old x rows bytes told
+  applied x rows (inl is) trail = inl (goes_on x rows is trail)
+  applied x rows (inr (inl is)) trail = inl (falls_short x rows is trail)
+  applied x rows (inr (inr is)) trail = inr (breaks x rows is trail)
 
   -- a command that the store answered
   pub answered : (met : Option Fault) (out : List ℕ) → met ≡ fault_told r → out ≡ frame (reply_body tag (as_told r pairs)) → IsToldBy before now old bytes told new
-      → ((x : Contents) → StandsWith before old x → IsAppliedTo now old x request (as_told r pairs) new)
+      → ((x : Contents) (rows : List Cursor) → StandsAt before old x rows → IsAppliedAt now old x rows request (as_told r pairs) new)
       → ((x : Contents) → StandsWith before old x → FollowsStep before now x request (as_told r pairs))
       → IsAnswered before now old bytes met new out
   answered met out is sent_bytes by ok trail = record {
@@ -205,7 +202,7 @@ module _ (before now : DiskView) (old new : Held) (bytes : List ℕ) (tag : ℕ)
     spelled = sent_bytes;
     responds = inr by;
     tells = is;
-    run = λ x stands. applied x (ok x stands) (trail x stands);
+    run = λ x rows stands. applied x rows (ok x rows stands) (trail x stands.stands);
   }
 
 -- a body that is no command
@@ -219,11 +216,12 @@ told_faulty v s bytes tag f pairs out going is none sent_bytes =
       spelled = sent_bytes;
       responds = inl (record { refused = record { cause = refusal_for f; refused = is; answer = said }; store = refl; disk = reads_refl v });
       tells = sym (none_told f);
-      run = λ x stands.
-          let at_end = stands_table v s x stands in
+      run = λ x rows stands.
+          let at_end = stands_table v s x stands.stands in
           inl (record {
             going = going;
             after = x;
+            left = rows;
             stands = stands;
             answers = inl (record { cause = refusal_for f; refused = is; answer = said; same = refl });
             trail = trail_of_two ShowsTable v v.moment (table_of (contents_state x)) (table_of (contents_state x)) [] (omega arith) (λ c since. inl (at_end c (since_now v c since))) at_end;

@@ -43,7 +43,7 @@ module _ (i : ℕ) (fits : i < 2 ^ 32) (parents : Parents) (is : IsFew parents) 
       let digits : length (decimal i) ≤ 10 = length-decimal-le 10 i (omega arith) (omega (arith, fits)) (omega (arith, fits)) in
       let value : leb (length (decimal i)) 1024 ≡ true = le-leb (length (decimal i)) 1024 (omega (arith, digits)) in (
         record {
-          form = record { text = refl; tag_fits = fits; fits = (omega (arith, known, is.few), omega arith, omega (arith, digits)); built = refl };
+          form = record { text = refl; tag_fits = fits; fits = (omega (arith, known, is.few), omega arith, omega (arith, digits)) };
           sizes = rw value refl;
         },
         is,
@@ -52,7 +52,7 @@ module _ (i : ℕ) (fits : i < 2 ^ 32) (parents : Parents) (is : IsFew parents) 
   delete_asked : (v r : ℕ) → v < length parents → IsAsked i parents (Delete v (drawn_key r))
   delete_asked v r known = (
     record {
-      form = record { text = refl; tag_fits = fits; fits = (omega (arith, known, is.few), omega arith); built = refl };
+      form = record { text = refl; tag_fits = fits; fits = (omega (arith, known, is.few), omega arith) };
       sizes = refl;
     },
     is,
@@ -62,7 +62,7 @@ module _ (i : ℕ) (fits : i < 2 ^ 32) (parents : Parents) (is : IsFew parents) 
   clone_asked v known room =
       let more : length (parents ++ Some v ∷ []) ≡ suc (length parents) = omega (arith, length-append parents (Some v ∷ [])) in (
         record {
-          form = record { text = refl; tag_fits = fits; fits = omega (arith, known, is.few); built = refl };
+          form = record { text = refl; tag_fits = fits; fits = omega (arith, known, is.few) };
           sizes = refl;
         },
         record { some = omega (arith, more); few = omega (arith, more, room) },

@@ -1,8 +1,9 @@
 -- Where a run begins.
-use Rattle.std.proofs.Common.{◌≡◌, ℕ, Option, Some, length, sym, ap, ◌∙◌}
-use Rattle.std.specs.Prelude.{Ok}
+use Rattle.std.proofs.Common.{◌≡◌, ℕ, [], Option, Some, length, sym, ap, subst, ◌∙◌}
+use Rattle.std.specs.Prelude.{Contains, Ok}
 use Rattle.strat_crash.specs.Image.{Image}
 use Rattle.strat_crash.specs.Moments.{DiskView}
+use Rattle.strat_cursor.specs.Held.{HeldCursors, AreRowsOf, no_cursors}
 use Rattle.strat_format.specs.Damage.{Read}
 use Rattle.strat_model.specs.Run.{Position}
 use Rattle.strat_model.specs.Table.{Table}
@@ -11,10 +12,11 @@ use Rattle.strat_recovery.specs.StateTable.{table_of}
 use Rattle.strat_standing.specs.Contents.{Contents, contents_head, contents_state}
 use Rattle.strat_standing.specs.Standing.{ShowsTable}
 use Rattle.strat_standing.proofs.FreeLemmas.{one_table}
+use Rattle.strat_standing.proofs.ListLemmas.{contained_among}
 use Rattle.strat_standing.proofs.PartsLemmas.{reads_head, state_parts}
 use Rattle.strat_state.specs.State.{State}
 use Rattle.strat_store.specs.Following.{IsOpenedAs}
-use Rattle.strat_store.specs.Held.{Held, head_held, position_with}
+use Rattle.strat_store.specs.Held.{Held, StandsAt, StandsWith, head_held, position_at, table_at}
 use Rattle.strat_serve.specs.Session.{Begins}
 
 -- a run that is served from an image begins at the table that it shows
@@ -23,13 +25,24 @@ begins_there c t mem start shows begins = one_table c start.table t begins.shows
 
 -- a run that opened its store from an image begins there
 pub opens_begins : (before now : DiskView) (s : Held) (f : Image) (t : Table) (x : Contents) → IsOpenedAs before now s → s.log.mem ≡ s.sb.mem
-    → before.content ≡ Some f → ShowsTable f t → table_of (contents_state x) ≡ t → Begins f s.log.mem (position_with s x)
+    → before.content ≡ Some f → ShowsTable f t → table_of (contents_state x) ≡ t → Begins f s.log.mem (position_at s x []) × (table_at s x [] ≡ t)
 opens_begins before now s f t x opened mem exposed shows table =
     let parts = state_parts f shows.state shows.reads in
     let both : ◌≡◌ {A = Read (Option Head)} (Ok (Some (contents_head parts.contents))) (Ok (Some (head_held s))) = sym (reads_head f parts.contents parts.reads) ∙ opened.found f exposed in
     let same : contents_head parts.contents ≡ head_held s = cc in
-    record {
-      shows = record { state = shows.state; reads = shows.reads; sound = shows.sound; table = shows.table ∙ sym table };
-      fill = ap (λ (h : Head). length h.journal) (sym same) ∙ ap (λ (u : State). length u.journal) parts.state;
-      mem_is = mem ∙ ap (λ (h : Head). h.sb.mem) (sym same) ∙ ap (λ (u : State). u.mem) parts.state;
-    }
+    let bare : table_at s x [] ≡ table_of (contents_state x) = ap (λ (c : HeldCursors). record (table_of (contents_state x)) { cursors = []; next_cursor = c.next }) opened.closed in (
+      record {
+        shows = record { state = shows.state; reads = shows.reads; sound = shows.sound; table = shows.table ∙ sym (bare ∙ table) };
+        fill = ap (λ (h : Head). length h.journal) (sym same) ∙ ap (λ (u : State). length u.journal) parts.state;
+        mem_is = mem ∙ ap (λ (h : Head). h.sb.mem) (sym same) ∙ ap (λ (u : State). u.mem) parts.state;
+      },
+      bare ∙ table,
+    )
+
+-- a store that has no cursors stands with none
+pub stands_bare : (v : DiskView) (s : Held) (x : Contents) → s.memory.cursors ≡ no_cursors → StandsWith v s x → StandsAt v s x []
+stands_bare v s x closed stands = record {
+  stands = stands;
+  rows_are = subst (λ (c : HeldCursors). AreRowsOf stands.stands.content s.memory.parents c.opened []) (sym closed) tt;
+  going = λ c among. absurd (contained_among [] c (subst (λ (cs : HeldCursors). Contains cs.opened c) closed among));
+}

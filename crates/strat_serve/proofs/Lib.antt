@@ -1,11 +1,13 @@
 pub mod AnswerLemmas
 pub mod AskedForLemmas
+pub mod BareLemmas
 pub mod BeginLemmas
 pub mod DrawingLemmas
 pub mod FramingLemmas
 pub mod GeneratedLemmas
 pub mod GiveUpLemmas
 pub mod ProgressLemmas
+pub mod PublishedLemmas
 pub mod SendLemmas
 pub mod SessionLemmas
 pub mod StreamLemmas

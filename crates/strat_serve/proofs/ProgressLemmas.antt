@@ -1,10 +1,12 @@
 -- A serving run while it goes on.
 use Rattle.std.proofs.Common.{◌≡◌, ◌≢◌, ◌≤◌, ◌<◌, ℕ, ◌+◌, false, List, [], ◌∷◌, ◌++◌, length, take, drop, map, Option, Some, None, refl, sym, ap, subst, ◌∙◌, ◌⊎◌, inl, inr, append_assoc, length-append, arith}
-use Rattle.std.specs.Prelude.{Ok, is_some}
+use Rattle.std.specs.Prelude.{Contains, IfSome, Ok, is_some}
 use Rattle.std.specs.List.{flat_map, AllByRecursion}
 use Rattle.std.proofs.lemmas.Bool.{and_right}
 use Rattle.std.proofs.lemmas.List.{append-nil, length-map, map-append, take-append-drop, take-append-le}
 use Rattle.std.proofs.lemmas.List.Concat.{flat_map-append}
+use Rattle.std.proofs.lemmas.List.Elements.{Contains-append_right}
+use Rattle.strat_base.specs.declared.descriptors.ArrayDesc.{ArrayDesc}
 use Rattle.strat_base.specs.declared.failures.Fault.{Fault}
 use Rattle.strat_base.specs.declared.failures.Fault.TheVariants as fault
 use Rattle.strat_crash.specs.Blocks.{AgreeOn}
@@ -23,25 +25,26 @@ use Rattle.strat_model.specs.declared.replies.Reply.{Reply}
 use Rattle.strat_model.specs.declared.replies.Reply.TheVariants as reply
 use Rattle.strat_model.specs.Answer.{Answer}
 use Rattle.strat_model.specs.Stream.{frame, IsBody}
-use Rattle.strat_model.specs.Table.{Table, bare}
+use Rattle.strat_model.specs.Table.{Cursor, Table, bare}
 use Rattle.strat_model.specs.Run.{Position, Response, response_bytes, Exchange, Answers, IsRun, is_change, sent_bytes}
 use Rattle.strat_promote.specs.Job.{blocks_listed}
 use Rattle.strat_recovery.specs.Opening.{recover}
 use Rattle.strat_recovery.specs.StateTable.{table_of}
 use Rattle.strat_standing.specs.Contents.{Contents, contents_state}
 use Rattle.strat_standing.specs.Standing.{ShowsTable}
-use Rattle.strat_store.specs.Applying.{IsDamagedIn, may_write}
+use Rattle.strat_store.specs.Applying.{IsDamagedIn}
 use Rattle.strat_store.specs.Following.{ChangesGateAlone, FollowsFrom, IsOpenedAs}
-use Rattle.strat_store.specs.Held.{Held, IsConsistent, IsOnDisk, StandsWith, head_held, position_with}
+use Rattle.strat_store.specs.Held.{Held, IsConsistent, IsOnDisk, StandsAt, StandsWith, arrays_held, head_held, position_at}
 use Rattle.strat_store.specs.Settling.{carries_out}
 use Rattle.strat_state.specs.State.{IsPaid}
 use Rattle.strat_store.specs.Paying.{IsPaidIn, ArePaidSince}
 use Rattle.strat_store.proofs.OnDiskLemmas.{kept_on, read_on}
 use Rattle.strat_store.proofs.PayingLemmas.{paid_now, paid_reads, paid_then, stored_since}
-use Rattle.strat_serve.specs.Session.{Took, IsAtEnd, Begins, RespondsTo, AreAnsweredBy, IsAnswered, ContinuesWith, StopsWith, FailsAsMet, fault_told}
+use Rattle.strat_serve.specs.Session.{Took, IsAtEnd, Begins, RespondsTo, AreAnsweredBy, AreCalm, WritesNothing, IsAnswered, ContinuesWith, StopsWith, FailsAsMet, WasPublished, fault_told}
 use Rattle.strat_serve.specs.World.{World}
 use Rattle.strat_serve.proofs.AnswerLemmas.{told_damaged}
-use Rattle.strat_serve.proofs.BeginLemmas.{opens_begins}
+use Rattle.strat_serve.proofs.BeginLemmas.{opens_begins, stands_bare}
+use Rattle.strat_serve.proofs.PublishedLemmas.{held_at_first, held_then}
 
 -- the tables at which bodies were answered
 abbrev pub tables_before : List Exchange → List Table
@@ -54,11 +57,12 @@ pub record RunSoFar (start current : Held) (before now : DiskView) (f : Image) (
   pub begins : Begins f start.log.mem from
   pub table : from.table ≡ t
   pub contents : Contents
+  pub rows : List Cursor
   pub exchanges : List Exchange
-  pub run : IsRun start.log.mem from exchanges (position_with current contents)
+  pub run : IsRun start.log.mem from exchanges (position_at current contents rows)
   pub bodies_are : map (λ (x : Exchange). x.body) exchanges ≡ bodies
   pub answers_are : map (λ (x : Exchange). x.response) exchanges ≡ answers
-  pub stands : StandsWith now current contents
+  pub stands : StandsAt now current contents rows
   pub follows : FollowsFrom before now f (tables_before exchanges ++ table_of (contents_state contents) ∷ []) (length exchanges)
 
 -- a serving run so far: all whole frames in front of the bytes held were answered, the replies sent, and the changes kept
@@ -80,7 +84,8 @@ pub record Progress (start current : Held) (count : ℕ) (held : List ℕ) (befo
   pub calm : now.disk_faults ≡ before.disk_faults
   pub passes : Passes before.disk now.disk
   pub on_disk : (f : Image) → before.disk.content ≡ Some f → IsOnDisk now.disk current
-  pub still : AllByRecursion (λ (r : Response). may_write r.answer.reply ≡ false) answers → (f : Image) → before.disk.content ≡ Some f
+  pub named : (f : Image) → before.disk.content ≡ Some f → (a : ArrayDesc) → Contains (arrays_held current.memory current.levels) a → WasPublished before.disk now.disk a
+  pub still : AreCalm bodies answers → (f : Image) → before.disk.content ≡ Some f
       → (slot : ℕ) × (sb : Super) × ChangesGateAlone before.disk now.disk f slot sb
   pub runs : (f : Image) (t : Table) → before.disk.content ≡ Some f → ShowsTable f t → RunSoFar start current before.disk now.disk f t bodies answers
 
@@ -147,8 +152,8 @@ answered_more (b ∷ bs) (r ∷ rs) body response all is = (all.0, answered_more
 
 -- a run begins with the store that was opened
 pub begins : (s : Held) (held : List ℕ) (before : World) (disk : DiskView) (faults : ℕ) → held ≡ [] → faults ≡ before.disk_faults
-    → IsOpenedAs before.disk disk s → Passes before.disk disk → IsConsistent s → Progress s s 0 held before (record before { disk = disk; disk_faults = faults })
-begins s held before disk faults empty calm opened time lawful = record {
+    → IsOpenedAs before.disk disk s → Passes before.disk disk → IsConsistent s → IfSome disk.content (Images disk) → Progress s s 0 held before (record before { disk = disk; disk_faults = faults })
+begins s held before disk faults empty calm opened time lawful leaves = record {
   taken = [];
   counted = refl;
   took = took_none before.left;
@@ -166,19 +171,22 @@ begins s held before disk faults empty calm opened time lawful = record {
   calm = calm;
   passes = time;
   on_disk = opened.on_disk;
+  named = λ f exposed a among. held_at_first before.disk disk s time.later leaves opened.closed lawful (opened.on_disk f exposed) a among;
   still = λ quiet f exposed. (s.slot, s.sb, opened.gate f exposed);
   runs = λ f t exposed shows.
       let there = opened.stands f t exposed shows in
+      let at = opens_begins before.disk disk s f t there.0 opened lawful.log.mem exposed shows there.2 in
       record {
-        from = position_with s there.0;
-        begins = opens_begins before.disk disk s f t there.0 opened lawful.log.mem exposed shows there.2;
-        table = there.2;
+        from = position_at s there.0 [];
+        begins = at.0;
+        table = at.1;
         contents = there.0;
+        rows = [];
         exchanges = [];
         run = refl;
         bodies_are = refl;
         answers_are = refl;
-        stands = there.1;
+        stands = stands_bare disk s there.0 opened.closed there.1;
         follows = subst (λ (u : Table). FollowsFrom before.disk disk f (u ∷ []) 0) (sym there.2) (opened.follows f t exposed shows);
       };
 }
@@ -205,6 +213,7 @@ reads start current count n held piece fed before now left faults p took len fee
   calm = p.calm;
   passes = p.passes;
   on_disk = p.on_disk;
+  named = p.named;
   still = p.still;
   runs = p.runs;
 }
@@ -230,6 +239,7 @@ reads_none start current count held before now left faults p took = record {
   calm = p.calm;
   passes = p.passes;
   on_disk = p.on_disk;
+  named = p.named;
   still = p.still;
   runs = p.runs;
 }
@@ -278,6 +288,11 @@ follows_one before mid now f xs x t u at passes so_far more pays =
     subst (λ (n : ℕ). FollowsFrom before now f (tables_before (xs ++ x ∷ []) ++ u ∷ []) n) len
     (subst (λ (l : List Table). FollowsFrom before now f l (length xs + 1)) list joined)
 
+-- a store that is as it was keeps what it held
+kept_alone : (old new : Held) → new ≡ old → (a : ArrayDesc) → Contains new.memory.cursors.retired a → Contains (arrays_held old.memory old.levels) a
+kept_alone old new same a among =
+    Contains-append_right (arrays_there old.levels) old.memory.cursors.retired a (subst (λ (s : Held). Contains s.memory.cursors.retired a) same among)
+
 -- what an answer says whatever the disk shows
 module _ (v w : DiskView) (old : Held) (body : List ℕ) (met : Option Fault) (new : Held) (out : List ℕ) (is : IsAnswered v w old body met new out) where
   pub step_responds : RespondsTo body is.response
@@ -312,11 +327,18 @@ module _ (v w : DiskView) (old : Held) (body : List ℕ) (met : Option Fault) (n
     | inr told ↦ told.leaves.paid x stands paid
   ]
 
-  -- and a reply that is none after which a store may have written left the disk as it was
-  pub step_reads : may_write is.response.answer.reply ≡ false → OnlyReads v w
+  -- a body that asks for no change, or was answered as one after which a store did not write, left the disk as it was
+  pub step_reads : WritesNothing body is.response → OnlyReads v w
   step_reads calm = elim is.responds [
     | inl away ↦ away.disk
-    | inr told ↦ told.same.calm calm
+    | inr told ↦ told.same.calm (λ change. calm told.request told.spelled change)
+  ]
+
+  -- no array is held that was not held before, but for those of the levels
+  pub step_retired : (a : ArrayDesc) → Contains new.memory.cursors.retired a → Contains (arrays_held old.memory old.levels) a
+  step_retired a among = elim is.responds [
+    | inl away ↦ kept_alone old new away.store a among
+    | inr told ↦ told.cursors.retired a among
   ]
 
 -- a disk that changed in a gate alone and then was only read
@@ -327,11 +349,20 @@ gate_still before mid now f slot sb gate passes reads = record {
       (λ c since. gate.images c (now_since_start before mid c passes (reads.images.each c since)));
 }
 
--- responses after none of which a store may have written, and the last of them
-pub quiet_parts : (xs : List Response) (x : Response) → AllByRecursion (λ (r : Response). may_write r.answer.reply ≡ false) (xs ++ x ∷ [])
-    → AllByRecursion (λ (r : Response). may_write r.answer.reply ≡ false) xs × (may_write x.answer.reply ≡ false)
-quiet_parts [] x each = (tt, each.0)
-quiet_parts (y ∷ ys) x each = let rest = quiet_parts ys x each.1 in ((each.0, rest.0), rest.1)
+-- bodies after whose responses a store did not write, and the last of them
+pub calm_parts : (bodies : List (List ℕ)) (answers : List Response) (body : List ℕ) (response : Response) → AreAnsweredBy bodies answers → AreCalm (bodies ++ body ∷ []) (answers ++ response ∷ [])
+    → AreCalm bodies answers × WritesNothing body response
+calm_parts [] [] body response all calm = (tt, calm.0)
+calm_parts [] (r ∷ rs) body response all calm = absurd all
+calm_parts (b ∷ bs) [] body response all calm = absurd all
+calm_parts (b ∷ bs) (r ∷ rs) body response all calm = let rest = calm_parts bs rs body response all.1 calm.1 in ((calm.0, rest.0), rest.1)
+
+-- and those among others
+pub calm_front : (bodies others : List (List ℕ)) (answers : List Response) → AreAnsweredBy bodies answers → AreCalm (bodies ++ others) answers → AreCalm bodies answers
+calm_front [] others [] all calm = tt
+calm_front [] others (r ∷ rs) all calm = absurd all
+calm_front (b ∷ bs) others [] all calm = absurd all
+calm_front (b ∷ bs) others (r ∷ rs) all calm = (calm.0, calm_front bs others rs all.1 calm.1)
 
 -- the world after one answer more
 pub record Answered (old new : Held) (mid now : World) (body : List ℕ) (met : Option Fault) (out : List ℕ) : Type 0 where
@@ -342,8 +373,9 @@ pub record Answered (old new : Held) (mid now : World) (body : List ℕ) (met : 
   pub spent : new.spent ≡ is_some met
   pub kept : met ≡ None → IsConsistent new
   pub same : new.sb.mem ≡ old.sb.mem
+  pub leaves : IfSome now.disk.content (Images now.disk)
   pub damaged : (b : ℕ) → met ≡ Some (fault.Damaged b) → IsDamagedIn mid.disk.content old.memory old.levels b
-      × ((f g : Image) → mid.disk.content ≡ Some f → now.disk.content ≡ Some g → AgreeOn (blocks_listed (arrays_there old.levels)) f g)
+      × ((f g : Image) → mid.disk.content ≡ Some f → now.disk.content ≡ Some g → AgreeOn (blocks_listed (arrays_held old.memory old.levels)) f g)
 
 -- a reply that the device failed tells of a fault
 tells_device : (r : Response) (met : Option Fault) → met ≡ fault_told r.answer.reply → (a : Answer) → r.answer ≡ a → fault_told a.reply ≡ Some fault.Device → met ≡ None → ⊥
@@ -366,25 +398,26 @@ module _ (start old new : Held) (count : ℕ) (held rest body : List ℕ) (met :
   -- what a crash leaves since the last answer is paid for, where the content at the start was
   pub goes_paid : (f : Image) (t : Table) (so_far : RunSoFar start old before.disk mid.disk f t p.bodies p.answers) → IsPaidIn f → ArePaidSince now.disk mid.disk.moment
   goes_paid f t so_far first =
-      step_paid mid.disk now.disk old body met new out done.is so_far.contents so_far.stands
-      (paid_now mid.disk so_far.follows.synced so_far.contents so_far.stands.stands so_far.follows.till (so_far.follows.paid first))
+      step_paid mid.disk now.disk old body met new out done.is so_far.contents so_far.stands.stands
+      (paid_now mid.disk so_far.follows.synced so_far.contents so_far.stands.stands.stands so_far.follows.till (so_far.follows.paid first))
 
   -- the run of the table goes on
   run_on : (f : Image) (t : Table) (so_far : RunSoFar start old before.disk mid.disk f t p.bodies p.answers)
-      → ContinuesWith mid.disk now.disk old so_far.contents body response new ⊎ StopsWith mid.disk now.disk old so_far.contents body response
+      → ContinuesWith mid.disk now.disk old so_far.contents so_far.rows body response new ⊎ StopsWith mid.disk now.disk old so_far.contents so_far.rows body response
       → RunSoFar start new before.disk now.disk f t (p.bodies ++ body ∷ []) (p.answers ++ response ∷ [])
   run_on f t so_far (inr stops) = absurd (tells_device response met done.is.tells _ stops.answer refl none)
   run_on f t so_far (inl is) =
-      let at = position_with old so_far.contents in
+      let at = position_at old so_far.contents so_far.rows in
       let latest : Exchange = record { body = body; response = response; at = at } in
       record {
         from = so_far.from;
         begins = so_far.begins;
         table = so_far.table;
         contents = is.after;
+        rows = is.left;
         exchanges = so_far.exchanges ++ latest ∷ [];
-        run = run_more start.log.mem so_far.from at (position_with new is.after) so_far.exchanges body response so_far.run
-            (subst (λ (m : ℕ). Answers m at body response (position_with new is.after)) p.mem is.answers);
+        run = run_more start.log.mem so_far.from at (position_at new is.after is.left) so_far.exchanges body response so_far.run
+            (subst (λ (m : ℕ). Answers m at body response (position_at new is.after is.left)) p.mem is.answers);
         bodies_are = map-append (λ (x : Exchange). x.body) so_far.exchanges (latest ∷ []) ∙ ap (λ (l : List (List ℕ)). l ++ body ∷ []) so_far.bodies_are;
         answers_are = map-append (λ (x : Exchange). x.response) so_far.exchanges (latest ∷ []) ∙ ap (λ (l : List Response). l ++ response ∷ []) so_far.answers_are;
         stands = is.stands;
@@ -422,11 +455,15 @@ module _ (start old new : Held) (count : ℕ) (held rest body : List ℕ) (met :
           calm = done.cause.same not_device ∙ p.calm;
           passes = passes_trans p.passes done.passes;
           on_disk = λ f exposed. step_on mid.disk now.disk old body met new out done.is not_device (p.on_disk f exposed);
+          named = λ f exposed a among.
+              held_then before.disk mid.disk now.disk old new done.passes (passes_trans p.passes done.passes).later done.leaves lawful
+              (step_on mid.disk now.disk old body met new out done.is not_device (p.on_disk f exposed))
+              (step_retired mid.disk now.disk old body met new out done.is) (p.named f exposed) a among;
           still = λ quiet f exposed.
-              let parts = quiet_parts p.answers response quiet in
+              let parts = calm_parts p.bodies p.answers body response p.answered quiet in
               let gate = p.still parts.0 f exposed in
               (gate.0, gate.1, gate_still before.disk mid.disk now.disk f gate.0 gate.1 gate.2 p.passes (step_reads mid.disk now.disk old body met new out done.is parts.1));
-          runs = λ f t e shows. let so_far = p.runs f t e shows in run_on f t so_far (done.is.run so_far.contents so_far.stands);
+          runs = λ f t e shows. let so_far = p.runs f t e shows in run_on f t so_far (done.is.run so_far.contents so_far.rows so_far.stands);
         },
         refl,
       )

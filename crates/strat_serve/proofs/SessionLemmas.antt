@@ -22,12 +22,12 @@ use Rattle.strat_recovery.specs.StateTable.{table_of}
 use Rattle.strat_standing.specs.Contents.{contents_state}
 use Rattle.strat_standing.specs.Standing.{ShowsTable}
 use Rattle.strat_store.specs.Following.{FollowsFrom}
-use Rattle.strat_store.specs.Applying.{may_write}
-use Rattle.strat_store.specs.Held.{Held, IsConsistent, IsOnDisk, head_held, position_with}
+use Rattle.strat_store.specs.Held.{Held, IsConsistent, IsOnDisk, head_held, position_at}
 use Rattle.strat_store.proofs.PayingLemmas.{paid_now}
-use Rattle.strat_serve.specs.Session.{Took, IsAtEnd, SendsPrefix, too_long_bytes, AreAnsweredBy, ContinuesWith, StopsWith, fault_told, broken_by, Session, IsSession, AnswersAll, all_responses, output, last_output, earlier_bytes, Sends, EndsFor, FollowsRun, Served}
+use Rattle.strat_serve.specs.Session.{Took, IsAtEnd, SendsPrefix, too_long_bytes, AreAnsweredBy, AreCalm, ContinuesWith, StopsWith, fault_told, broken_by, Session, IsSession, AnswersAll, all_responses, output, last_output, earlier_bytes, Sends, EndsFor, FollowsRun, Served}
 use Rattle.strat_serve.specs.World.{World}
-use Rattle.strat_serve.proofs.ProgressLemmas.{Progress, RunSoFar, Answered, tables_before, follows_more, text_more, answered_more, step_responds, step_damaged, step_paid, step_reads, gate_still, quiet_parts, answers}
+use Rattle.strat_serve.proofs.ProgressLemmas.{Progress, RunSoFar, Answered, tables_before, follows_more, text_more, answered_more, step_responds, step_damaged, step_paid, step_reads, gate_still, calm_front, calm_parts, answers}
+use Rattle.strat_serve.proofs.PublishedLemmas.{published_still}
 use Rattle.strat_serve.proofs.StreamLemmas.{partial_not_long, frames_of}
 
 -- bodies one after the other that fit
@@ -96,7 +96,7 @@ module _ (start current : Held) (count budget : ℕ) (held : List ℕ) (before n
   follows_unbroken : (others : List (List ℕ)) (rest : List ℕ) (f : Image) (t : Table) → before.disk.content ≡ Some f → ShowsTable f t → FollowsRun before.disk now.disk f t (session others rest)
   follows_unbroken others rest f t exposed shows =
       let so_far = p.runs f t exposed shows in
-      let transcript : Transcript = record { exchanges = so_far.exchanges; after = position_with current so_far.contents; interruption = None } in
+      let transcript : Transcript = record { exchanges = so_far.exchanges; after = position_at current so_far.contents so_far.rows; interruption = None } in
       let bodies_all : bodies_of transcript ≡ p.bodies = append-nil (map (λ (x : Exchange). x.body) so_far.exchanges) ∙ so_far.bodies_are in
       record {
         mem = start.log.mem;
@@ -132,7 +132,7 @@ module _ (start current : Held) (count budget : ℕ) (held : List ℕ) (before n
     calm = λ _. p.calm;
     damaged = λ block told. absurd told;
     left = λ _ f exposed. (current, p.lawful, p.on_disk f exposed);
-    still = λ quiet. p.still (subst (λ (l : List Response). AllByRecursion (λ (r : Response). may_write r.answer.reply ≡ false) l) tolds_all quiet);
+    still = λ calm. p.still (calm_front p.bodies others p.answers p.answered (subst (λ (l : List Response). AreCalm (p.bodies ++ others) l) tolds_all calm));
     follows = follows_unbroken others rest;
   }
 
@@ -272,6 +272,7 @@ module _ (start old new : Held) (count budget : ℕ) (held rest body : List ℕ)
         spent = done.spent;
         kept = done.kept;
         same = done.same;
+        leaves = done.leaves;
         damaged = done.damaged;
       } in
       let q = answers start old new count held rest body met out before mid sent p told none front fits (took_all mid.held (response_bytes response)) in
@@ -323,13 +324,13 @@ module _ (start old new : Held) (count budget : ℕ) (held rest body : List ℕ)
 
     -- the session is a run of the table, broken off by the device
     run_broken : (g : Image) (t : Table) (so_far : RunSoFar start old before.disk mid.disk g t p.bodies p.answers)
-        → ContinuesWith mid.disk now.disk old so_far.contents body response new ⊎ StopsWith mid.disk now.disk old so_far.contents body response
+        → ContinuesWith mid.disk now.disk old so_far.contents so_far.rows body response new ⊎ StopsWith mid.disk now.disk old so_far.contents so_far.rows body response
         → FollowsRun before.disk now.disk g t broken
     run_broken g t so_far (inl goes) = absurd (let x : false ≡ true = sym goes.going ∙ done.spent ∙ ap is_some some in cc)
     run_broken g t so_far (inr stops) =
         let s = frames_of rest bytes in
         let interruption : Interruption = record { body = body; response = response; done = stops.done } in
-        let transcript : Transcript = record { exchanges = so_far.exchanges; after = position_with old so_far.contents; interruption = Some interruption } in
+        let transcript : Transcript = record { exchanges = so_far.exchanges; after = position_at old so_far.contents so_far.rows; interruption = Some interruption } in
         let bodies_all : bodies_of transcript ≡ p.bodies ++ body ∷ [] = ap (λ (l : List (List ℕ)). l ++ body ∷ []) so_far.bodies_are in
         let same : length so_far.exchanges + 0 ≡ length so_far.exchanges = omega arith in
         record {
@@ -338,7 +339,7 @@ module _ (start old new : Held) (count budget : ℕ) (held rest body : List ℕ)
           begins = so_far.begins;
           table = so_far.table;
           transcript = transcript;
-          is = record { run = so_far.run; interrupted = subst (λ (m : ℕ). AnswersFault m (position_with old so_far.contents) body response stops.done) p.mem stops.fault };
+          is = record { run = so_far.run; interrupted = subst (λ (m : ℕ). AnswersFault m (position_at old so_far.contents so_far.rows) body response stops.done) p.mem stops.fault };
           front = take_at (p.bodies ++ body ∷ []) s.bodies (length (bodies_of transcript)) (sym (ap length bodies_all)) ∙ sym bodies_all;
           answers_are = sym so_far.answers_are;
           broken_is = refl;
@@ -346,8 +347,8 @@ module _ (start old new : Held) (count budget : ℕ) (held rest body : List ℕ)
           follows = subst (λ (n : ℕ). FollowsFrom before.disk now.disk g (tables_before so_far.exchanges ++ table_of (contents_state so_far.contents) ∷ bare stops.done.table ∷ []) n) same
               (follows_more before.disk mid.disk now.disk g so_far.exchanges (table_of (contents_state so_far.contents)) (bare stops.done.table) 0 done.passes so_far.follows stops.trail
               (λ first.
-              step_paid mid.disk now.disk old body met new out done.is so_far.contents so_far.stands
-              (paid_now mid.disk so_far.follows.synced so_far.contents so_far.stands.stands so_far.follows.till (so_far.follows.paid first))));
+              step_paid mid.disk now.disk old body met new out done.is so_far.contents so_far.stands.stands
+              (paid_now mid.disk so_far.follows.synced so_far.contents so_far.stands.stands.stands so_far.follows.till (so_far.follows.paid first))));
         }
 
     -- the superblock and the manifest of the store, unless the device failed
@@ -375,17 +376,21 @@ module _ (start old new : Held) (count budget : ℕ) (held rest body : List ℕ)
             store = old;
             lawful = p.lawful;
             on_disk = λ g exposed. step_damaged mid.disk now.disk old body met new out done.is b e (p.on_disk g exposed);
+            named = λ g exposed a among. published_still before.disk mid.disk now.disk a done.passes (p.named g exposed a among);
             content = mid.disk.content;
             exposed = λ g exposed. let there = still_some before.disk mid.disk g passes exposed in subst IsSome (sym there.1) refl;
             bad = found.0;
             kept = found.1;
           };
       left = λ other g exposed. left_on f refl other g exposed;
-      still = λ quiet g exposed.
-          let parts = quiet_parts p.answers response quiet in
+      still = λ calm g exposed.
+          let s = frames_of rest bytes in
+          let parts = calm_parts p.bodies p.answers body response p.answered
+          (calm_front (p.bodies ++ body ∷ []) s.bodies (p.answers ++ response ∷ [])
+          (answered_more p.bodies p.answers body response p.answered (step_responds mid.disk now.disk old body met new out done.is)) calm) in
           let gate = p.still parts.0 g exposed in
           (gate.0, gate.1, gate_still before.disk mid.disk now.disk g gate.0 gate.1 gate.2 p.passes (step_reads mid.disk now.disk old body met new out done.is parts.1));
-      follows = λ g t e shows. let so_far = p.runs g t e shows in run_broken g t so_far (done.is.run so_far.contents so_far.stands);
+      follows = λ g t e shows. let so_far = p.runs g t e shows in run_broken g t so_far (done.is.run so_far.contents so_far.rows so_far.stands);
     }
 
     -- the sink failed at its reply

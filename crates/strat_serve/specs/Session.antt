@@ -1,7 +1,8 @@
 -- A serving run: what it took, what it answered, what it sent, what it left on the disk, and why
 -- it ended.
-use Rattle.std.specs.Prelude.{◌≡◌, ◌≢◌, ◌≤◌, ◌<◌, ◌⊎◌, ℕ, ◌==◌, ◌&&◌, Bool, true, false, if◌then◌else◌, List, [], ◌∷◌, ◌++◌, ◌-◌, length, take, map, Option, Some, None, IfSome, IsSome, option_map, Ok, Err}
+use Rattle.std.specs.Prelude.{◌≡◌, ◌≢◌, ◌≤◌, ◌<◌, ◌⊎◌, ℕ, ◌==◌, ◌&&◌, Bool, true, false, if◌then◌else◌, List, [], ◌∷◌, ◌++◌, ◌-◌, length, take, map, Contains, Option, Some, None, IfSome, IsSome, option_map, Ok, Err}
 use Rattle.std.specs.List.{AllByRecursion}
+use Rattle.strat_base.specs.declared.descriptors.ArrayDesc.{ArrayDesc}
 use Rattle.strat_base.specs.declared.failures.Fault.{Fault}
 use Rattle.strat_base.specs.declared.failures.Fault.TheVariants as fault
 use Rattle.strat_crash.specs.Blocks.{AgreeOn}
@@ -9,6 +10,7 @@ use Rattle.strat_crash.specs.Faults.{Rose}
 use Rattle.strat_crash.specs.Image.{Image}
 use Rattle.strat_crash.specs.Moments.{DiskView, Exposes, OnlyReads, Passes}
 use Rattle.strat_crash.specs.Trail.{Trail}
+use Rattle.strat_format.specs.Chained.{Chained, manifest_at}
 use Rattle.strat_format.specs.SuperBlock.{Super, newest_in}
 use Rattle.strat_io.specs.Streams.{Appends}
 use Rattle.strat_model.specs.declared.ended.Ended.{Ended}
@@ -21,20 +23,21 @@ use Rattle.strat_model.specs.Answer.{refusal}
 use Rattle.strat_model.specs.Request.{Request}
 use Rattle.strat_model.specs.Spelling.{Spells, IsRefusedAs, reply_body}
 use Rattle.strat_model.specs.Stream.{frame, Splits, Whole, Rest, Long, ending_of, is_too_long}
-use Rattle.strat_model.specs.Table.{Table, bare}
-use Rattle.strat_model.specs.Run.{reaches_disk, Position, Response, response_bytes, Answers, AnswersFault, Transcript, IsTranscript, bodies_of, tables_of, sent_bytes}
+use Rattle.strat_model.specs.Table.{Cursor, Table, bare}
+use Rattle.strat_model.specs.Run.{is_change, reaches_disk, Position, Response, response_bytes, Answers, AnswersFault, Transcript, IsTranscript, bodies_of, tables_of, sent_bytes}
 use Rattle.strat_promote.specs.Job.{blocks_listed}
-use Rattle.strat_recovery.specs.Head.{Head}
+use Rattle.strat_recovery.specs.Head.{Head, descriptors}
 use Rattle.strat_recovery.specs.Opening.{recover}
 use Rattle.strat_recovery.specs.StateTable.{table_of}
 use Rattle.strat_standing.specs.Contents.{Contents, contents_state}
 use Rattle.strat_standing.specs.Standing.{ShowsTable}
 use Rattle.strat_store.specs.Applying.{IsDamagedIn, IsUntouched, TellsFaultOf, is_fault, may_write}
+use Rattle.strat_store.specs.Cursoring.{LeavesCursors}
 use Rattle.strat_store.specs.Following.{ChangesGateAlone, FollowsFrom, IsOpenedAs, IsUnchanged, LeavesOpening}
-use Rattle.strat_store.specs.Held.{Held, IsConsistent, IsOnDisk, StandsWith, position_with}
+use Rattle.strat_store.specs.Held.{Held, IsConsistent, IsOnDisk, StandsAt, arrays_held, position_at}
 use Rattle.strat_store.specs.Ranging.{TellsFrom}
 use Rattle.strat_store.specs.Settling.{LeavesPublished, carries_out}
-use Rattle.strat_cursor.specs.Looking.{AreInOrder, AreCachedFrom, arrays_there}
+use Rattle.strat_cursor.specs.Looking.{AreCachedAs, AreInOrder, arrays_there}
 use Rattle.strat_serve.specs.World.{World}
 
 -- these bytes were taken from the front of a source
@@ -77,6 +80,17 @@ pub record IsTaggedFor (body : List ℕ) (response : Response) : Type 0 where
 abbrev pub RespondsTo : List ℕ → Response → Type 0
 RespondsTo body response = IsRefusedFor body response ⊎ IsTaggedFor body response
 
+-- a body asks for no change, or its response is none after which a store may have written
+abbrev pub WritesNothing : List ℕ → Response → Type 0
+WritesNothing body response = (request : Request) → Spells body response.tag request
+    → is_change request ≡ true → may_write response.answer.reply ≡ false
+
+-- so it is with each of these bodies that has a response
+abbrev pub AreCalm : List (List ℕ) → List Response → Type 0
+AreCalm (body ∷ bodies) (response ∷ responses) =
+    WritesNothing body response × AreCalm bodies responses
+AreCalm _ _ = Unit {0}
+
 -- there is one response for each body, in order
 abbrev pub AreAnsweredBy : List (List ℕ) → List Response → Type 0
 AreAnsweredBy [] [] = Unit {0}
@@ -95,21 +109,23 @@ pub record FailsAsMet (before now : ℕ) (met : Option Fault) : Type 0 where
   pub rose : met ≡ Some fault.Device → Rose before now
   pub same : met ≢ Some fault.Device → now ≡ before
 
--- a body was answered, and a store that stood with these contents goes on
-pub record ContinuesWith (before now : DiskView) (old : Held) (x : Contents) (body : List ℕ)
-    (response : Response) (new : Held) : Type 0 where
+-- a body was answered, and a store that stood with these contents and cursors goes on
+pub record ContinuesWith (before now : DiskView) (old : Held) (x : Contents) (rows : List Cursor)
+    (body : List ℕ) (response : Response) (new : Held) : Type 0 where
   pub going : new.spent ≡ false
   pub after : Contents
-  pub stands : StandsWith now new after
-  pub answers : Answers old.log.mem (position_with old x) body response (position_with new after)
+  pub left : List Cursor
+  pub stands : StandsAt now new after left
+  pub answers : Answers old.log.mem (position_at old x rows) body response
+      (position_at new after left)
   pub trail : Trail ShowsTable now before.moment
       (table_of (contents_state x) ∷ table_of (contents_state after) ∷ []) 1
 
 -- a body met a fault of the device, and the run ends with it
-pub record StopsWith (before now : DiskView) (old : Held) (x : Contents) (body : List ℕ)
-    (response : Response) : Type 0 where
+pub record StopsWith (before now : DiskView) (old : Held) (x : Contents) (rows : List Cursor)
+    (body : List ℕ) (response : Response) : Type 0 where
   pub done : Position
-  pub fault : AnswersFault old.log.mem (position_with old x) body response done
+  pub fault : AnswersFault old.log.mem (position_at old x rows) body response done
   pub answer : response.answer ≡ refusal why.DeviceFault
   pub trail : Trail ShowsTable now before.moment
       (table_of (contents_state x) ∷ bare done.table ∷ []) 0
@@ -126,16 +142,18 @@ pub record IsToldBy (before now : DiskView) (old : Held) (body : List ℕ) (resp
     (new : Held) : Type 0 where
   pub request : Request
   pub spelled : Spells body response.tag request
-  -- a look-up that met no fault found what level 0 and the arrays hold
+  -- where it asks for no change and met no fault it says what memory and the arrays say
   pub found : (f : Image) → Exposes before f → AreInOrder f (arrays_there old.levels)
-      → AreCachedFrom f old.chained.manifest.next_array (arrays_there old.levels) old.cached
+      → AreCachedAs f (arrays_there old.levels) old.cached
       → is_fault response.answer.reply ≡ false
-      → TellsFrom f old.memory old.levels request response.answer
+      → TellsFrom f old request response.answer
   -- it left the disk as it was, or wrote: what it asked for, and what it was told, says which
   pub same : IsUntouched before now request old response.answer.reply new
   pub err : TellsFaultOf before request response.answer.reply
   pub leaves : LeavesPublished before now old (carries_out request response.answer.reply)
       response.answer.reply new
+  -- and of the cursors it left what it asked for
+  pub cursors : LeavesCursors old request response.answer new
 
 -- a body was answered by these bytes, and that says which fault the store met, if it met one; where
 -- the store stood on the disk it was answered as the table says
@@ -146,22 +164,40 @@ pub record IsAnswered (before now : DiskView) (old : Held) (body : List ℕ) (me
   pub responds : IsTurnedAway before now old body response new
       ⊎ IsToldBy before now old body response new
   pub tells : met ≡ fault_told response.answer.reply
-  pub run : (x : Contents) → StandsWith before old x
-      → ContinuesWith before now old x body response new
-      ⊎ StopsWith before now old x body response
+  pub run : (x : Contents) (rows : List Cursor) → StandsAt before old x rows
+      → ContinuesWith before now old x rows body response new
+      ⊎ StopsWith before now old x rows body response
 
--- a block is one of the arrays of a store whose superblock and manifest are those on the disk now,
--- and bad in the content that it had, where it exposed that; and what it exposes now is the same in
--- all blocks of these arrays
+-- an array was in a manifest on the disk at some moment since a run began: a crash at that moment
+-- might have left an image whose newest superblock leads to a manifest that names it
+pub record WasPublished (before now : DiskView) (a : ArrayDesc) : Type 0 where
+  pub moment : ℕ
+  pub since : before.moment ≤ moment
+  pub till : moment ≤ now.moment
+  pub image : Image
+  pub was : now.images_at moment image
+  pub slot : ℕ
+  pub sb : Super
+  pub newest : newest_in image ≡ Ok (Some (slot, sb))
+  pub chained : Chained
+  pub chain : manifest_at image sb.manifest sb.length ≡ Ok chained
+  pub named : Contains (descriptors chained.manifest) a
+
+-- a block is one of the arrays of a store whose superblock and manifest are those on the disk now, or
+-- of those that it keeps for cursors, each of which was on the disk in this run; it is bad in the
+-- content that the disk had, where that was exposed; and what it exposes now is the same in all blocks
+-- of these arrays
 pub record IsFoundDamaged (before now : DiskView) (block : ℕ) : Type 0 where
   pub store : Held
   pub lawful : IsConsistent store
   pub on_disk : (f : Image) → Exposes before f → IsOnDisk now store
+  pub named : (f : Image) → Exposes before f → (a : ArrayDesc)
+      → Contains (arrays_held store.memory store.levels) a → WasPublished before now a
   pub content : Option Image
   pub exposed : (f : Image) → Exposes before f → IsSome content
   pub bad : IsDamagedIn content store.memory store.levels block
   pub kept : (f g : Image) → content ≡ Some f → Exposes now g
-      → AgreeOn (blocks_listed (arrays_there store.levels)) f g
+      → AgreeOn (blocks_listed (arrays_held store.memory store.levels)) f g
 
 -- a run begins where this image leads: at the table that it shows, with as many changes as its
 -- journal has, of which a region takes so many
@@ -296,10 +332,9 @@ pub record Served (budget : ℕ) (how : Ended) (before now : World) : Type 0 whe
   -- of a store as an opening may find it, unless the device failed at a command
   pub left : (EndsWithFault session.broken fault.Device → ⊥) → (f : Image)
       → Exposes before.disk f → (store : Held) × IsConsistent store × IsOnDisk now.disk store
-  -- and where no response is one after which a store may have written, a crash leaves what it might
-  -- have left before, or the content but for one gate
-  pub still : AllByRecursion (λ r. may_write r.answer.reply ≡ false) (all_responses session)
-      → (f : Image) → Exposes before.disk f
+  -- and where no change has a response after which a store may have written, a crash leaves what it
+  -- might have left before, or the content but for one gate
+  pub still : AreCalm session.bodies (all_responses session) → (f : Image) → Exposes before.disk f
       → (slot : ℕ) × (sb : Super) × ChangesGateAlone before.disk now.disk f slot sb
   -- where the disk exposes a content that shows a table, the session is a run of that table
   pub follows : (f : Image) (t : Table) → Exposes before.disk f → ShowsTable f t

@@ -6,13 +6,12 @@ ghost use Rattle.strat_base.specs.declared.failures.Fault.TheVariants as fault;
 ghost use Rattle.strat_crash.specs.Faults.{CountsFaults};
 ghost use Rattle.strat_crash.specs.Image.{Image};
 ghost use Rattle.strat_crash.specs.Moments.{Exposes, Passes};
-ghost use Rattle.strat_cursor.specs.Looking.{arrays_there};
 ghost use Rattle.strat_frame.specs.Faults.{refusal_for};
 ghost use Rattle.strat_io.specs.Streams.{Appends};
 ghost use Rattle.strat_promote.specs.Job.{blocks_listed};
 ghost use Rattle.strat_serve.specs.Session.{IsAnswered, FailsAsMet, fault_told, SendsPrefix, too_long_bytes};
 ghost use Rattle.strat_store.specs.Applying.{IsDamagedIn};
-ghost use Rattle.strat_store.specs.Held.{IsConsistent};
+ghost use Rattle.strat_store.specs.Held.{IsConsistent, arrays_held};
 
 use std::alloc::Global;
 use strat_base::{Failed, Fault, NoMemory, PairBuf};
@@ -88,7 +87,7 @@ pub fn answer<D: Disk>(
     ensures damaged { (b : ℕ) → result ≡ Some (fault.Damaged b)
         → IsDamagedIn (D.view disk.old).content store.old.memory store.old.levels b
         × ((f g : Image) → Exposes (D.view disk.old) f → Exposes (D.view disk.new) g
-        → AgreeOn (blocks_listed (arrays_there store.old.levels)) f g) }
+        → AgreeOn (blocks_listed (arrays_held store.old.memory store.old.levels)) f g) }
 {
     out.clear();
     match parse_command(body) {

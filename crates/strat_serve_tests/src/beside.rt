@@ -61,6 +61,16 @@ fn a_store_answers_as_the_plain_table_does(rt: HostRuntime) -> Result<(), Fail> 
 }
 
 #[test]
+fn a_store_with_cursors_answers_as_the_plain_table_does(rt: HostRuntime) -> Result<(), Fail> {
+    let Some(mut disk) = new_store(rt.alloc(), 4, 300, 40) else {
+        assert!(rt; false);
+        return Ok(());
+    };
+    assert!(rt; once_alike(rt.alloc(), &mut disk, Script::Paging, 400)?);
+    Ok(())
+}
+
+#[test]
 fn a_store_over_levels_answers_as_the_plain_table_does(rt: HostRuntime) -> Result<(), Fail> {
     let Some(mut disk) = new_store(rt.alloc(), 4, 300, 40) else {
         assert!(rt; false);

@@ -1,7 +1,7 @@
 //! A store whose only array is damaged behind its back, in block 7.
 
 use crate::rows::THIRTEEN_PUTS;
-use crate::scripts::{Script, block_blamed, changes_of, command};
+use crate::scripts::{Script, block_blamed, changes_of, command, told};
 use crate::support::{gives, is_done, small_store};
 use std::alloc::Global;
 use strat_base::PairBuf;
@@ -70,7 +70,7 @@ fn a_damaged_block_is_told_of(rt: HostRuntime) {
     assert!(rt; is_told(rt.alloc(), &mut disk));
 }
 
-/// Whether an open store names the block that was altered behind its back, and is spent.
+/// Whether an open store names the block that was altered behind its back, and is spent: for a get, a scan, and a cursor.
 fn is_blamed(alloc: Global, disk: &mut MemDisk) -> Option<bool> {
     let get = command(Script::LookThirteen, 0);
     let scan = Command::Scan {
@@ -79,19 +79,35 @@ fn is_blamed(alloc: Global, disk: &mut MemDisk) -> Option<bool> {
         hi: b"k02",
         limit: 1,
     };
+    let open = Command::OpenCursor {
+        version: 0,
+        lo: b"",
+        hi: b"",
+    };
+    let next = Command::NextPairs {
+        cursor: 1,
+        limit: 1,
+    };
     Some(
         say_entries(disk, 0)
-            && blames_block_7(alloc, disk, &get)?
-            && blames_block_7(alloc, disk, &scan)?,
+            && blames_block_7(alloc, disk, &Command::Stat, &get)?
+            && blames_block_7(alloc, disk, &Command::Stat, &scan)?
+            && blames_block_7(alloc, disk, &open, &next)?,
     )
 }
 
-/// Whether a store that is opened names block 7 as it is asked for this, and is spent.
-fn blames_block_7(alloc: Global, disk: &mut MemDisk, command: &Command<'_>) -> Option<bool> {
+/// Whether a store that is opened and takes one command names block 7 as it is asked for another, and is spent.
+fn blames_block_7(
+    alloc: Global,
+    disk: &mut MemDisk,
+    first: &Command<'_>,
+    second: &Command<'_>,
+) -> Option<bool> {
     let mut store = Store::attach(alloc, disk).ok()?;
     let mut out = PairBuf::new(alloc).ok()?;
-    let blamed = block_blamed(&mut store, disk, &mut out, command);
-    Some(blamed == Some(7) && store.is_spent())
+    let taken = told(&mut store, disk, &mut out, first);
+    let blamed = block_blamed(&mut store, disk, &mut out, second);
+    Some(taken.is_some() && blamed == Some(7) && store.is_spent())
 }
 
 #[test]

@@ -7,6 +7,8 @@ mod beside;
 #[cfg(test)]
 mod chains;
 #[cfg(test)]
+mod cursors;
+#[cfg(test)]
 mod damaged;
 #[cfg(test)]
 mod disks;

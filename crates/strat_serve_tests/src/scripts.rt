@@ -2,7 +2,7 @@
 
 ghost use Rattle.std.specs.Prelude.{◌≡◌, ◌≤◌, ◌<◌, ◌+◌, ◌^◌, true, IsTrue, IfOk};
 ghost use Rattle.strat_model.specs.Command.{request_of};
-ghost use Rattle.strat_model.specs.Spelling.{is_built, has_lawful_sizes};
+ghost use Rattle.strat_model.specs.Spelling.{has_lawful_sizes};
 
 use std::alloc::Global;
 use strat_base::limits::KEY_MAX;
@@ -16,6 +16,8 @@ use strat_store::Store;
 pub enum Script {
     /// Any commands, of which many are refused.
     Any,
+    /// Any commands, of which many are about cursors.
+    Paging,
     /// Changes that are all accepted, over several versions.
     Changes,
     /// Puts of thirteen keys at version 0.
@@ -84,6 +86,26 @@ fn any(n: u32) -> Command<'static> {
             key,
             value: b"other",
         },
+    }
+}
+
+/// Command number n: some open a cursor over a range, page through one of those so far, or close it.
+fn paging(n: u32) -> Command<'static> {
+    const BOUNDS: [&[u8]; 3] = [b"", b"ab", b"b"];
+    let drawn = mixed(n);
+    let cursor = u64::from(drawn / 4 % (1 + n / 8));
+    match n % 8 {
+        2 => Command::OpenCursor {
+            version: drawn % 3,
+            lo: BOUNDS[(drawn / 4 % 3) as usize],
+            hi: BOUNDS[(drawn / 16 % 3) as usize],
+        },
+        3 | 5 => Command::NextPairs {
+            cursor,
+            limit: 1 + (drawn % 2) as u16,
+        },
+        4 if n % 32 == 4 => Command::CloseCursor { cursor },
+        _ => any(n),
     }
 }
 
@@ -167,6 +189,7 @@ fn thirteen(n: u32) -> &'static [u8] {
 pub fn command(script: Script, n: u32) -> Command<'static> {
     match script {
         Script::Any => any(n),
+        Script::Paging => paging(n),
         Script::Changes => change(n),
         Script::Thirteen => Command::Put {
             version: 0,
@@ -181,10 +204,9 @@ pub fn command(script: Script, n: u32) -> Command<'static> {
     }
 }
 
-/// Whether a command is built, and its sizes are as they may be.
+/// Whether the sizes of a command are as they may be.
 fn may_be_given(command: &Command<'_>) -> bool
-    ensures { IsTrue result → (is_built (request_of command.now) ≡ true)
-        × (has_lawful_sizes (request_of command.now) ≡ true) }
+    ensures { IsTrue result → has_lawful_sizes (request_of command.now) ≡ true }
 {
     match *command {
         Command::Put { key, value, .. } => key_ok(key) && value_ok(value),
@@ -192,8 +214,12 @@ fn may_be_given(command: &Command<'_>) -> bool
         Command::Scan { lo, hi, limit, .. } => {
             lo.len() <= KEY_MAX && hi.len() <= KEY_MAX && 1 <= limit && limit <= 256
         }
-        Command::Clone { .. } | Command::Info { .. } | Command::Stat => true,
-        _ => false,
+        Command::OpenCursor { lo, hi, .. } => lo.len() <= KEY_MAX && hi.len() <= KEY_MAX,
+        Command::NextPairs { limit, .. } => 1 <= limit && limit <= 256,
+        Command::Clone { .. }
+        | Command::Info { .. }
+        | Command::CloseCursor { .. }
+        | Command::Stat => true,
     }
 }
 

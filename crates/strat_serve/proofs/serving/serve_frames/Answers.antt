@@ -21,7 +21,7 @@ shown g source sink disk = world (g.S.Source.left source) (g.S.Source.faults sou
 pub loop-store-init : goal.loop-store-init
 loop-store-init g c = record {
   progress = λ d has. begins c.args.store.now c.args.buffers.now.frames.held (shown g c.args.source.now c.args.sink.now d) (g.D.Disk.view c.args.disk.now) (g.D.Disk.faults c.args.disk.now)
-      c.requires.none has.calm has.opened has.passes c.requires.kept;
+      c.requires.none has.calm has.opened has.passes c.requires.kept (g.met.D.Disk.leaves_content c.args.disk.now);
   going = c.requires.fits;
   lawful = c.requires.kept;
   time = passes_refl (g.D.Disk.view c.args.disk.now);
@@ -42,6 +42,7 @@ answered g c = record {
   spent = c.answer-met.ensures.end;
   kept = c.answer-met.ensures.kept;
   same = c.answer-met.ensures.same;
+  leaves = g.met.D.Disk.leaves_content c.answer-met.new.disk;
   damaged = c.answer-met.ensures.damaged;
 }
 
