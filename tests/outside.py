@@ -1253,17 +1253,17 @@ def random_streams_with_cursors_are_answered_over_several_runs(folder):
 def cursors_read_whole_versions_while_all_is_changed(folder):
     chance = random.Random(27)
     store = StoreFile(folder, 16, 100000, 100)
-    for version in range(4):
-        keys = [b"%04d" % key for key in chance.sample(range(2000), 700)]
+    for version in range(3):
+        keys = [b"%03d" % key for key in chance.sample(range(1000), 400)]
         frames = [put(tag, key, chance.randbytes(chance.choice((0, 5, 300))), version) for tag, key in enumerate(keys)]
         store.expect_answers(f"version {version}", [*frames, clone(0, version)])
     with Talk("whole versions", store) as talk:
-        cursors = [talk.open(version=version) for version in (0, 1, 2, 3, 4, 4)]
-        pages = [next_pairs(tag, cursor, chance.choice((1, 100, 256))) for tag, cursor in enumerate(cursors) for _ in range(40)]
+        cursors = [talk.open(version=version) for version in (0, 1, 2, 3, 3)]
+        pages = [next_pairs(tag, cursor, chance.choice((1, 100, 256))) for tag, cursor in enumerate(cursors) for _ in range(20)]
         chance.shuffle(pages)
         for tag, sent in enumerate(pages):
-            for key in chance.sample(range(2000), 6):
-                talk.ask(chance.choice((put(tag, b"%04d" % key, b"%d" % tag, 4), delete(tag, b"%04d" % key, 4))))
+            for key in chance.sample(range(1000), 4):
+                talk.ask(chance.choice((put(tag, b"%03d" % key, b"%d" % tag, 3), delete(tag, b"%03d" % key, 3))))
             talk.ask(sent)
         talk.ask(stat(1))
     store.expect_bytes("whole versions")

@@ -54,7 +54,7 @@ class VersionView(MutableMapping[Data, bytes]):
 
     def keys(self, prefix: Data = b"") -> KeysView[Data]:
         """The keys that begin with the prefix."""
-        return KeysView(VersionView(self.store, self.version, prefix))
+        return Keys(VersionView(self.store, self.version, prefix))
 
     def items(self, prefix: Data = b"") -> ItemsView[Data, bytes]:
         """The pairs whose keys begin with the prefix."""
@@ -69,6 +69,17 @@ class VersionView(MutableMapping[Data, bytes]):
         with self.store.batch() as batch:
             for key in self:
                 batch.delete(self.version, key)
+
+
+class Keys(KeysView[Data]):
+    """Keys whose scan begins where their iteration does."""
+
+    def __init__(self, view: VersionView) -> None:
+        super().__init__(view)
+        self._view = view
+
+    def __iter__(self) -> Iterator[Data]:
+        return iter(self._view)
 
 
 class Items(ItemsView[Data, bytes]):
