@@ -1110,17 +1110,14 @@ def a_long_workload_keeps_its_bounds(folder):
 
 
 def a_workload_of_200_000_changes_keeps_its_bounds(folder):
-    # in memory where it can be, since each change is synced twice
-    memory = "/dev/shm" if os.access("/dev/shm", os.W_OK) else folder
-    with tempfile.TemporaryDirectory(dir=memory) as place:
-        store = StoreFile(place)
-        # the launcher shows meanwhile how far it is
-        out, status, shown = at_a_terminal([LAUNCHER, "workload", store.path, "3", "200000"], 1200)
-        expect("200,000", (status, re.sub(rb"\r\x1b\[K(castle: \d+ MB\r)?", b"", shown)), (0, b""))
-        expect_bounded("200,000", store.path, 3, out.decode())
-        store.model = workloads.store_after(workloads.changes(3, 200_000))
-        expect_alike("200,000", formats.opened(bytes_of(store.path))[1], store.model)
-        store.expect_answers("200,000, served", [*every_pair(store.model), stat(1)])
+    store = StoreFile(folder)
+    # the launcher shows meanwhile how far it is
+    out, status, shown = at_a_terminal([LAUNCHER, "workload", store.path, "3", "200000"], 1200)
+    expect("200,000", (status, re.sub(rb"\r\x1b\[K(castle: \d+ MB\r)?", b"", shown)), (0, b""))
+    expect_bounded("200,000", store.path, 3, out.decode())
+    store.model = workloads.store_after(workloads.changes(3, 200_000))
+    expect_alike("200,000", formats.opened(bytes_of(store.path))[1], store.model)
+    store.expect_answers("200,000, served", [*every_pair(store.model), stat(1)])
 
 
 def a_workload_that_fails_prints_nothing(folder):
@@ -2044,7 +2041,7 @@ def the_bench_finds_both_stores_alike(folder):
     expect("its status", (ran.returncode, ran.stderr.count(b"\n")), (0, 8))
     titles = re.findall(rb"^### `(\w+)`", ran.stdout, re.MULTILINE)
     expect("its tables", titles, [b"puts", b"chain", b"sparse", b"star"])
-    expect("its scans", ran.stdout.count("| µs a scan of 100 | µs a pair, whole version |".encode()), 4)
+    expect("its scans", ran.stdout.count("| µs a scan of 100 | µs a pair, whole version | µs a pair, by a cursor |".encode()), 4)
     rows = re.findall(rb"^\| (40|80) \| (castle|SQLite) \|", ran.stdout, re.MULTILINE)
     expect("its rows", rows, [(b"40", b"castle"), (b"40", b"SQLite"), (b"80", b"castle"), (b"80", b"SQLite")] * 4)
 
@@ -2138,6 +2135,20 @@ CHECKS = [
     the_bench_finds_both_stores_alike,
     the_wear_is_within_its_bounds,
 ]
+# Those of many changes run in memory, where that can be, since each change is synced twice
+IN_MEMORY = {
+    a_workload_of_200_000_changes_keeps_its_bounds,
+    random_streams_with_cursors_are_answered_over_several_runs,
+    cursors_read_whole_versions_while_all_is_changed,
+    blocks_stay_while_a_cursor_reads_them_and_no_longer,
+    a_file_grows_no_more_for_cursors_that_are_closed,
+}
+
+
+def folder_for(check):
+    """A new folder, which is removed behind the check."""
+    has_memory = check in IN_MEMORY and os.access("/dev/shm", os.W_OK)
+    return tempfile.TemporaryDirectory(dir="/dev/shm" if has_memory else None)
 
 
 def is_built():
@@ -2163,7 +2174,7 @@ def main():
             continue
         name = check.__name__.replace("_", " ")
         try:
-            with tempfile.TemporaryDirectory() as folder:
+            with folder_for(check) as folder:
                 check(folder)
         except Skipped as why:
             print(f"outside: skipped: {name}: {why}")

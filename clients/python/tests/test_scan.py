@@ -17,6 +17,8 @@ from castle.shell import Shell, Wrong
 class Filled(StoreCase):
     """A test that fills versions."""
 
+    in_memory = True
+
     def filled(self, store: Store, keys: List[bytes], version: int = 0) -> List[Tuple[bytes, bytes]]:
         """Puts each key with a value of its own, and gives the pairs in order."""
         pairs = {key: b"value of " + key[:9] for key in keys}
