@@ -18,11 +18,12 @@ class Cursor:
     command, whichever that is; nothing waits for it.
     """
 
+    _number: Optional[int] = None
+
     def __init__(self, program: Program, commands: Commands, version: Version, lower: Data = b"", upper: Data = b"",
                  prefix: Data = b"") -> None:
         self._program = program
         self._commands = commands
-        self._number: Optional[int] = None
         self._number = cast(int, program.call(commands.open_cursor, version, lower, upper, prefix))
 
     def pairs(self) -> Generator[Pair, None, None]:

@@ -1,11 +1,10 @@
 """Many commands under way, and scans amid them."""
 
-import collections
 import itertools
 import os
 import random
 import threading
-from typing import Dict, Generator, List, Optional, Tuple
+from typing import Dict, Generator, List, Optional, Set, Tuple, Type
 
 from support import StoreCase
 
@@ -212,10 +211,11 @@ class ReadingTest(StoreCase):
     in_memory = True
 
     def test_scans_amid_commands_give_what_a_dictionary_of_versions_does(self) -> None:
-        chance, plain, want = random.Random(29), Versions(40), []
-        store, readings = self.made(8, 100000, 40), []
+        chance, plain, store = random.Random(29), Versions(40), self.made(8, 100000, 40)
         keys = [b"key/%03d" % number for number in range(700)]
-        seen = collections.Counter()
+        readings: List[Reading] = []
+        want: List[object] = []
+        seen: Set[Optional[Type[Refused]]] = set()
         with store.batch() as filling:
             for key in keys[::2]:
                 filling.put(0, key, b"")
@@ -232,7 +232,7 @@ class ReadingTest(StoreCase):
                     self.assertIsNone(fails)
                 except (errors.UnknownVersion, errors.CursorLimit) as refusal:
                     self.assertIs(type(refusal), fails)
-                seen[fails] += 1
+                seen.add(fails)
             elif draw in ("read", "end") and readings:
                 reading = readings[chance.randrange(len(readings))]
                 if draw == "read":
@@ -252,7 +252,7 @@ class ReadingTest(StoreCase):
                 want.append(plain.answer(command, version, *words))
         for number, (one, other) in enumerate(zip(kinds(batch.finish()), want)):
             self.assertEqual(one, other, f"command {number}")
-        self.assertEqual((len(batch.results), set(seen)), (len(want), {None, errors.UnknownVersion, errors.CursorLimit}))
+        self.assertEqual((len(batch.results), seen), (len(want), {None, errors.UnknownVersion, errors.CursorLimit}))
         for reading in readings:
             self.assertEqual(*reading.take(1000))
         self.assertEqual((store.stat().cursors, plain.cursors), (0, 0))

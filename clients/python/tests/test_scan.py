@@ -6,7 +6,7 @@ import itertools
 import os
 import random
 import sys
-from typing import Dict, Iterator, List, Tuple
+from typing import Dict, Iterator, List, Tuple, cast
 
 from support import StoreCase
 
@@ -210,8 +210,9 @@ class ScanTest(Filled):
             view[key + b"'"] = b""
         self.assertEqual(len(view), 600)
         for key, value in view.items("0"):
-            self.assertEqual(view.pop(key), dict(pairs).get(key, b""))
-            view["1" + key.decode()] = value
+            data = cast(bytes, key)
+            self.assertEqual(view.pop(data), dict(pairs).get(data, b""))
+            view[b"1" + data] = value
         self.assertEqual((len(view), len(view.keys("0")), len(view.values("1"))), (600, 0, 600))
         view.clear()
         self.assertEqual((list(view), list(view.keys()), list(view.values()), self.cursors(store)), ([], [], [], 0))
@@ -371,6 +372,12 @@ class CursorTest(Filled):
         with self.assertRaises(errors.Killed):
             store.scan(0)
         store.close()
+        store = self.opened()
+        scan = store.scan(0)
+        self.assertEqual(next(scan)[0], b"0000")
+        os.kill(store.pid, 9)
+        with self.assertRaises(errors.Killed):  # though no command met it
+            store.close()
         self.assertEqual(len(list(self.opened().scan(0))), 600)
 
     def test_a_damaged_block_is_told_where_a_piece_meets_it(self) -> None:
