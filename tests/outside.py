@@ -117,6 +117,7 @@ class Talk:
 
     def __init__(self, name, store):
         self.name, self.store = name, store
+        self.status = 0  # with which it is to end
 
     def __enter__(self):
         self.store.model.start_run()
@@ -146,7 +147,7 @@ class Talk:
             self.child.kill()
             self.child.wait()
             close(self.child)
-        expect(f"{self.name}, status", status, 0)
+        expect(f"{self.name}, status", status, self.status)
 
 
 def serve(path, pieces, program=PROGRAM, deadline=DEADLINE):
@@ -1181,8 +1182,10 @@ def drawn_frames(chance, count, versions, keys, clones):
     for tag in range(count):
         version, key = chance.randrange(versions + count // 8), b"%d" % chance.randrange(keys)
         bound, limit = b"%d" % chance.randrange(keys), chance.choice((1, 2, 256, chance.randrange(300)))
+        bounds, cursor = (chance.choice((b"", key)), chance.choice((b"", bound))), chance.randrange(1 + count // 16)
         other = chance.choice((get(tag, key, version), get(tag, key, version), info(tag, version), stat(tag),
-                               scan(tag, chance.choice((b"", key)), chance.choice((b"", bound)), limit, version)))
+                               scan(tag, *bounds, limit, version), open_cursor(tag, *bounds, version), next_pairs(tag, cursor, limit),
+                               close_cursor(tag, cursor)))
         if chance.random() < 0.1:
             body = bytearray(chance.choice((other, first))[4:])
             body[chance.randrange(4, len(body))] = chance.randrange(256)
@@ -1412,6 +1415,24 @@ def damaged_arrays_are_named(folder):
     for version in (2, 3):
         expect_damaged(f"version {version}", store, [*fine, get(1, b"a", version)], block)
         expect_damaged(f"a scan of version {version}", store, [*fine, scan(1, version=version)], block)
+
+
+def a_damaged_array_that_only_a_cursor_reads_is_named(folder):
+    store, contents = store_after(folder, *DISTINCT[:2], 1000, 10)
+    old, = formats.arrays_of(contents.manifest)
+    with Talk("a cursor", store) as talk:
+        cursor, change = talk.open(), 0
+        while old.id in (array.id for array in formats.arrays_of(formats.read(bytes_of(store.path)).manifest)):
+            talk.ask(put(change, b"k%02d" % (change % 12), b"new"))
+            change += 1
+        altered(store.path, old.extents[0][0] * BLOCK, b"\0\0")
+        for sent in (get(1, b"k03"), scan(2), next_pairs(3, talk.open(), 5), stat(4)):
+            talk.ask(sent)
+        talk.child.stdin.write(next_pairs(5, cursor, 1))
+        want = reply(5, model.DAMAGED_BLOCK, struct.pack(">I", old.extents[0][0]))
+        expect("a page", read_exactly(talk.child.stdout, len(want)), want)
+        talk.status = model.DAMAGED
+    store.expect_answers("the next run", [scan(1), get(2, b"k03"), stat(3)])
 
 
 # A file with two levels for the refusals of its manifest, written by the model
@@ -2114,6 +2135,7 @@ CHECKS = [
     kills_with_open_cursors_lose_nothing,
     kills_amid_promotions_lose_nothing,
     damaged_arrays_are_named,
+    a_damaged_array_that_only_a_cursor_reads_is_named,
     each_refusal_of_a_manifest_has_a_file,
     the_rules_of_a_sound_file_are_checked,
     chains_of_a_manifest_are_followed,
