@@ -6,13 +6,13 @@ with it. The bytes of a store's file are in `tests/formats.py`.
 
 import struct
 
-PUT, DELETE, GET, CLONE, SCAN, INFO, STAT = 1, 2, 3, 4, 5, 6, 10
-DONE, FOUND, ABSENT, PAIRS, MADE, PLACE, COUNTS = 0, 1, 2, 3, 4, 5, 7
-UNKNOWN_VERSION, FROZEN, VERSION_LIMIT, CHANGE_LIMIT = 16, 17, 19, 20
+PUT, DELETE, GET, CLONE, SCAN, INFO, OPEN_CURSOR, NEXT_PAIRS, CLOSE_CURSOR, STAT = 1, 2, 3, 4, 5, 6, 7, 8, 9, 10
+DONE, FOUND, ABSENT, PAIRS, MADE, PLACE, OPENED, COUNTS = 0, 1, 2, 3, 4, 5, 6, 7
+UNKNOWN_VERSION, FROZEN, UNKNOWN_CURSOR, VERSION_LIMIT, CHANGE_LIMIT, CURSOR_LIMIT = 16, 17, 18, 19, 20, 21
 MALFORMED, KEY_SIZE, VALUE_SIZE, SCAN_SIZE = 22, 23, 24, 25
 FRAME_TOO_LONG, DEVICE_FAULT, DAMAGED_BLOCK = 26, 33, 34
 NO_PARENT = 2 ** 32 - 1
-BODY_MAX, KEY_MAX, VALUE_MAX, PAIRS_MAX = 2048, 255, 1024, 256
+BODY_MAX, KEY_MAX, VALUE_MAX, PAIRS_MAX, CURSORS_MAX = 2048, 255, 1024, 256, 64
 
 # How a run ends
 ENDED, NOT_A_STORE, TOO_LONG, TRUNCATED, DEVICE, SOURCE, SINK, DAMAGED = 0, 2, 3, 4, 5, 6, 7, 9
@@ -52,6 +52,18 @@ def scan(tag, lo=b"", hi=b"", limit=PAIRS_MAX, version=0):
 
 def info(tag, version=0):
     return frame(struct.pack(">IBI", tag, INFO, version))
+
+
+def open_cursor(tag, lo=b"", hi=b"", version=0):
+    return frame(struct.pack(">IBI", tag, OPEN_CURSOR, version) + sized(lo) + sized(hi))
+
+
+def next_pairs(tag, cursor, limit=PAIRS_MAX):
+    return frame(struct.pack(">IBQH", tag, NEXT_PAIRS, cursor, limit))
+
+
+def close_cursor(tag, cursor):
+    return frame(struct.pack(">IBQ", tag, CLOSE_CURSOR, cursor))
 
 
 def stat(tag):
@@ -103,6 +115,7 @@ class Store:
     """A store: its limits, its versions with their parents and pairs, and its changes in their order.
 
     Of a store that was read from a file, `emptied` says how many changes, and updates among them, came before those.
+    Of the run that serves it, `cursors` has the pairs that each open cursor has left, by its number.
     """
 
     def __init__(self, mem, changes_max, versions_max):
@@ -113,6 +126,12 @@ class Store:
         self.parents = [None]
         self.pairs = [{}]
         self.frozen = set()
+        self.start_run()
+
+    def start_run(self):
+        """Has no cursor open, as at the beginning of each run."""
+        self.cursors = {}
+        self.next_cursor = 1
 
     def refusal(self, kind, version):
         """The status by which a change of a version is refused, or None."""
@@ -162,14 +181,20 @@ class Store:
         tag = tag_of(body)
         opcode = body[4] if len(body) > 4 else 0
         if opcode == STAT and len(body) == 5:
-            return reply(tag, COUNTS, struct.pack(">IIII", *self.counts(), 0))
-        parts_of = {PUT: (2,), DELETE: (1,), GET: (1,), CLONE: (0,), SCAN: (2, 2), INFO: (0,)}
+            return reply(tag, COUNTS, struct.pack(">IIII", *self.counts(), len(self.cursors)))
+        if opcode == NEXT_PAIRS and len(body) == 15:
+            return self.go_on(tag, *struct.unpack_from(">QH", body, 5))
+        if opcode == CLOSE_CURSOR and len(body) == 13:
+            return self.close(tag, *struct.unpack_from(">Q", body, 5))
+        parts_of = {PUT: (2,), DELETE: (1,), GET: (1,), CLONE: (0,), SCAN: (2, 2), INFO: (0,), OPEN_CURSOR: (2,)}
         fields = fields_of(body, *parts_of[opcode]) if opcode in parts_of else None
         if fields is None:
             return reply(tag, MALFORMED)
         version, parts, last = fields
         if opcode == SCAN:
             return self.scan(tag, version, *parts, *struct.unpack(">H", last))
+        if opcode == OPEN_CURSOR:
+            return self.open(tag, version, *parts)
         if parts and not 1 <= len(parts[0]) <= KEY_MAX:
             return reply(tag, KEY_SIZE)
         if any(len(value) > VALUE_MAX for value in parts[1:]):
@@ -199,11 +224,42 @@ class Store:
             return reply(tag, SCAN_SIZE)
         if version >= len(self.parents):
             return reply(tag, UNKNOWN_VERSION)
-        pairs = [pair for pair in sorted(self.pairs[version].items()) if lo <= pair[0] and (not hi or pair[0] < hi)]
+        pairs = self.range(version, lo, hi)
         return page(tag, pairs[:limit], len(pairs) > limit)
+
+    def range(self, version, lo, hi):
+        """The pairs of a range of a version."""
+        return [pair for pair in sorted(self.pairs[version].items()) if lo <= pair[0] and (not hi or pair[0] < hi)]
+
+    def open(self, tag, version, lo, hi):
+        """The reply to an opening of a cursor, which has the range as it is now."""
+        if max(len(lo), len(hi)) > KEY_MAX:
+            return reply(tag, KEY_SIZE)
+        if version >= len(self.parents):
+            return reply(tag, UNKNOWN_VERSION)
+        if len(self.cursors) == CURSORS_MAX:
+            return reply(tag, CURSOR_LIMIT)
+        number, self.next_cursor = self.next_cursor, self.next_cursor + 1
+        self.cursors[number] = self.range(version, lo, hi)
+        return reply(tag, OPENED, struct.pack(">Q", number))
+
+    def go_on(self, tag, number, limit):
+        """The reply that takes the next pairs of a cursor."""
+        if not 1 <= limit <= PAIRS_MAX:
+            return reply(tag, SCAN_SIZE)
+        if number not in self.cursors:
+            return reply(tag, UNKNOWN_CURSOR)
+        pairs = self.cursors[number]
+        self.cursors[number] = pairs[limit:]
+        return page(tag, pairs[:limit], len(pairs) > limit)
+
+    def close(self, tag, number):
+        """The reply to the closing of a cursor."""
+        return reply(tag, UNKNOWN_CURSOR if self.cursors.pop(number, None) is None else DONE)
 
     def serve(self, data):
         """What a run writes for these bytes, and its status."""
+        self.start_run()
         out, at = [], 0
         while len(data) - at >= 4:
             length = struct.unpack_from(">I", data, at)[0]

@@ -30,7 +30,9 @@ import formats
 import model
 import promotions
 import workloads
-from model import BLOCK, Store, bodies_of, clone, delete, frame, get, info, page, put, reply, scan, sized, stat, tag_of
+from model import (
+    BLOCK, Store, bodies_of, clone, close_cursor, delete, frame, get, info, next_pairs, open_cursor, page, put, reply, scan, sized, stat,
+    tag_of)
 
 TOP = pathlib.Path(__file__).resolve().parent.parent
 LAUNCHER = str(TOP / "castle")
@@ -108,6 +110,45 @@ def start(path, program=PROGRAM):
 def close(child):
     for pipe in (child.stdin, child.stdout, child.stderr):
         pipe.close()
+
+
+class Talk:
+    """A run over a store's file that is asked one command after the other, each answer being compared with the model's."""
+
+    def __init__(self, name, store):
+        self.name, self.store = name, store
+        self.status = 0  # with which it is to end
+
+    def __enter__(self):
+        self.store.model.start_run()
+        self.child = start(self.store.path)
+        self.guard = threading.Timer(6 * DEADLINE, self.child.kill)
+        self.guard.start()
+        return self
+
+    def ask(self, sent):
+        """The body of the answer to a frame."""
+        body = sent[4:]
+        want = self.store.model.answer(body)
+        self.child.stdin.write(sent)
+        expect(f"{self.name}, {body[:40].hex()}", read_exactly(self.child.stdout, len(want)), want)
+        return want[4:]
+
+    def open(self, lo=b"", hi=b"", version=0):
+        """The number of a new cursor."""
+        return int.from_bytes(self.ask(open_cursor(0, lo, hi, version))[5:], "big")
+
+    def __exit__(self, wrong, *_):
+        self.child.stdin.close()
+        try:
+            status = self.child.wait(DEADLINE)
+        finally:
+            self.guard.cancel()
+            self.child.kill()
+            self.child.wait()
+            close(self.child)
+        if wrong is None:
+            expect(f"{self.name}, status", status, self.status)
 
 
 def serve(path, pieces, program=PROGRAM, deadline=DEADLINE):
@@ -225,12 +266,12 @@ def hexed(text):
     return bytes.fromhex(text)
 
 
-def in_every_cutting(folder, name, data, want):
+def in_every_cutting(folder, name, data, want, mem=64):
     """The whole, each cutting into two pieces, and one byte at a time; each over a new store."""
-    StoreFile(folder).expect_served(f"{name}, whole", [data], want)
+    StoreFile(folder, mem).expect_served(f"{name}, whole", [data], want)
     for place in range(1, len(data)):
-        StoreFile(folder).expect_served(f"{name}, cut at {place}", [data[:place], data[place:]], want)
-    StoreFile(folder).expect_served(f"{name}, byte by byte", [data[i:i + 1] for i in range(len(data))], want)
+        StoreFile(folder, mem).expect_served(f"{name}, cut at {place}", [data[:place], data[place:]], want)
+    StoreFile(folder, mem).expect_served(f"{name}, byte by byte", [data[i:i + 1] for i in range(len(data))], want)
 
 
 # Frames
@@ -260,7 +301,8 @@ def a_short_body_is_malformed_and_the_run_goes_on(folder):
 
 
 def a_body_that_is_not_just_its_fields_is_malformed(folder):
-    for whole in (PUT_A, GET_A, delete(1, b"a"), clone(2), info(3), stat(4), scan(5, b"a", b"bc")):
+    for whole in (PUT_A, GET_A, delete(1, b"a"), clone(2), info(3), stat(4), scan(5, b"a", b"bc"), open_cursor(6, b"a", b"bc"),
+                  next_pairs(7, 1), close_cursor(8, 1)):
         whole = whole[4:]
         bodies = [whole[:length] for length in range(len(whole))] + [whole + b"\0", whole + whole]
         data = b"".join(frame(body) for body in bodies)
@@ -366,6 +408,64 @@ def pages_follow_one_another_through_levels(folder):
             # every pair alone, and all together
             looks += [scan(1, key, limit=1, version=version) for key in keys] + [scan(2, version=version)]
             store.expect_served(f"turn {turn}, version {version}", [b"".join(looks)])
+
+
+def a_cursor_shows_its_range_as_it_was(folder):
+    # of M 4, so that the change of c empties the journal
+    opened = hexed("0000000d 00000001 07 00000000 0000 0000")
+    data = (put(1, b"a", b"1") + put(2, b"b", b"2") + opened + put(3, b"a", b"9") + delete(4, b"b") + put(5, b"c", b"3")
+            + hexed("0000000f 00000002 08 0000000000000001 0100  0000000f 00000003 08 0000000000000001 0100")
+            + hexed("0000000d 00000004 09 0000000000000001  0000000d 00000005 09 0000000000000001"))
+    want = (reply(1, model.DONE) + reply(2, model.DONE) + hexed("0000000d 00000001 06 0000000000000001")
+            + b"".join(reply(tag, model.DONE) for tag in (3, 4, 5))
+            + hexed("00000014 00000002 03 00 0002 0001 61 0001 31 0001 62 0001 32  00000008 00000003 03 00 0000")
+            + hexed("00000005 00000004 00  00000005 00000005 12"))
+    in_every_cutting(folder, "a cursor", data, (want, 0), mem=4)
+
+
+def sixty_four_cursors_are_open_at_most(folder):
+    openings = b"".join(open_cursor(tag) for tag in range(1, 65))
+    opened = b"".join(reply(tag, model.OPENED, struct.pack(">Q", tag)) for tag in range(1, 65))
+    data = openings + hexed("0000000d 00000006 07 00000000 0000 0000") + stat(7)
+    want = opened + hexed("00000005 00000006 15") + reply(7, model.COUNTS, struct.pack(">IIII", 1, 0, 0, 64))
+    store = StoreFile(folder)
+    store.expect_served("64 cursors", [data], (want, 0))
+    # another version is unknown first; one that was told to its end is open still; a closed one makes room, and its number is gone
+    data += (open_cursor(8, version=1) + next_pairs(9, 7) + open_cursor(10) + close_cursor(11, 7) + open_cursor(12) + open_cursor(13)
+             + next_pairs(14, 7) + close_cursor(15, 65) + close_cursor(16, 65) + stat(17))
+    want += (reply(8, model.UNKNOWN_VERSION) + page(9, []) + reply(10, model.CURSOR_LIMIT) + reply(11, model.DONE)
+             + reply(12, model.OPENED, struct.pack(">Q", 65)) + reply(13, model.CURSOR_LIMIT) + reply(14, model.UNKNOWN_CURSOR)
+             + reply(15, model.DONE) + reply(16, model.UNKNOWN_CURSOR) + reply(17, model.COUNTS, struct.pack(">IIII", 1, 0, 0, 63)))
+    store.expect_served("64 cursors, again", [data], (want, 0))
+
+
+def cursors_give_the_pairs_of_a_range_in_pages(folder):
+    done = b"".join(reply(tag, model.DONE) for tag in (1, 2, 3))
+    pairs = [(b"a", b"1"), (b"b", b"2"), (b"c", b"3")]
+    ranges = [((b"", b""), pairs), ((b"b", b""), pairs[1:]), ((b"", b"b"), pairs[:1]), ((b"a\0", b"b\0"), pairs[1:2]), ((b"b", b"b"), []),
+              ((b"c", b"a"), []), ((b"d", b""), []), ((b"", b"a"), []), ((b"\xff" * 255, b""), []), ((b"", b"\xff" * 255), pairs)]
+    for limit in (1, 2, 3, 256):
+        data, want = b"", b""
+        for number, (bounds, found) in enumerate(ranges, 1):
+            data += open_cursor(number, *bounds)
+            want += reply(number, model.OPENED, struct.pack(">Q", number))
+            for place in range(0, len(found) + limit + 1, limit):
+                data += next_pairs(place, number, limit)
+                want += page(place, found[place:place + limit], len(found) > place + limit)
+        StoreFile(folder).expect_served(f"pages of {limit}", [ABC, data], (done + want, 0))
+    longest = b"k" * model.KEY_MAX
+    data = (open_cursor(1, longest + b"k", version=5) + open_cursor(2, b"", longest + b"k") + open_cursor(3, longest, version=1)
+            + next_pairs(4, 1, 0) + next_pairs(5, 1, 257) + next_pairs(6, 1, 65535) + open_cursor(7) + next_pairs(8, 1, 0)
+            + next_pairs(9, 2) + next_pairs(10, 0) + close_cursor(11, 2 ** 64 - 1) + next_pairs(12, 1))
+    want = b"".join(reply(tag, status) for tag, status in enumerate(
+        (model.KEY_SIZE, model.KEY_SIZE, model.UNKNOWN_VERSION, model.SCAN_SIZE, model.SCAN_SIZE, model.SCAN_SIZE), 1))
+    want += reply(7, model.OPENED, struct.pack(">Q", 1)) + reply(8, model.SCAN_SIZE)
+    want += b"".join(reply(tag, model.UNKNOWN_CURSOR) for tag in (9, 10, 11)) + page(12, pairs)
+    store = StoreFile(folder)
+    store.expect_served("what is refused", [ABC, data], (done + want, 0))
+    # a cursor ends with its run, and the next run counts from 1 again
+    data, want = next_pairs(1, 1) + open_cursor(2), reply(1, model.UNKNOWN_CURSOR) + reply(2, model.OPENED, struct.pack(">Q", 1))
+    store.expect_served("another run", [data], (want, 0))
 
 
 def the_tree_and_the_counts_are_told(folder):
@@ -720,10 +820,11 @@ def the_examples_of_the_protocol_are_frames(folder):
         data = hexed(digits)
         expect(f"{name}, its length", struct.unpack(">I", data[:4])[0], len(data) - 4)
         expect(f"{name}, its number", data[8], int(number))
-    # a command that is marked as open is malformed, and no other is
-    out, status, _ = serve(StoreFile(folder).path, [hexed(digits) for _, _, digits in commands])
-    malformed = [body[4] == model.MALFORMED for body in bodies_of(out)]
-    expect("what is open", (malformed, status), (["*open*" in name for _, name, _ in commands], 0))
+    data = b"".join(hexed(digits) for _, _, digits in commands)
+    store = StoreFile(folder)
+    malformed = [body.hex() for body in bodies_of(copy.deepcopy(store.model).serve(data)[0]) if body[4] == model.MALFORMED]
+    expect("what is malformed", malformed, [])
+    store.expect_served("the examples", [data])
 
 
 # Files
@@ -1011,17 +1112,14 @@ def a_long_workload_keeps_its_bounds(folder):
 
 
 def a_workload_of_200_000_changes_keeps_its_bounds(folder):
-    # in memory where it can be, since each change is synced twice
-    memory = "/dev/shm" if os.access("/dev/shm", os.W_OK) else folder
-    with tempfile.TemporaryDirectory(dir=memory) as place:
-        store = StoreFile(place)
-        # the launcher shows meanwhile how far it is
-        out, status, shown = at_a_terminal([LAUNCHER, "workload", store.path, "3", "200000"], 1200)
-        expect("200,000", (status, re.sub(rb"\r\x1b\[K(castle: \d+ MB\r)?", b"", shown)), (0, b""))
-        expect_bounded("200,000", store.path, 3, out.decode())
-        store.model = workloads.store_after(workloads.changes(3, 200_000))
-        expect_alike("200,000", formats.opened(bytes_of(store.path))[1], store.model)
-        store.expect_answers("200,000, served", [*every_pair(store.model), stat(1)])
+    store = StoreFile(folder)
+    # the launcher shows meanwhile how far it is
+    out, status, shown = at_a_terminal([LAUNCHER, "workload", store.path, "3", "200000"], 1200)
+    expect("200,000", (status, re.sub(rb"\r\x1b\[K(castle: \d+ MB\r)?", b"", shown)), (0, b""))
+    expect_bounded("200,000", store.path, 3, out.decode())
+    store.model = workloads.store_after(workloads.changes(3, 200_000))
+    expect_alike("200,000", formats.opened(bytes_of(store.path))[1], store.model)
+    store.expect_answers("200,000, served", [*every_pair(store.model), stat(1)])
 
 
 def a_workload_that_fails_prints_nothing(folder):
@@ -1085,8 +1183,10 @@ def drawn_frames(chance, count, versions, keys, clones):
     for tag in range(count):
         version, key = chance.randrange(versions + count // 8), b"%d" % chance.randrange(keys)
         bound, limit = b"%d" % chance.randrange(keys), chance.choice((1, 2, 256, chance.randrange(300)))
+        bounds, cursor = (chance.choice((b"", key)), chance.choice((b"", bound))), chance.randrange(1 + count // 16)
         other = chance.choice((get(tag, key, version), get(tag, key, version), info(tag, version), stat(tag),
-                               scan(tag, chance.choice((b"", key)), chance.choice((b"", bound)), limit, version)))
+                               scan(tag, *bounds, limit, version), open_cursor(tag, *bounds, version), next_pairs(tag, cursor, limit),
+                               close_cursor(tag, cursor)))
         if chance.random() < 0.1:
             body = bytearray(chance.choice((other, first))[4:])
             body[chance.randrange(4, len(body))] = chance.randrange(256)
@@ -1106,6 +1206,143 @@ def random_streams_are_answered_over_several_runs(folder):
             cuts = sorted(chance.sample(range(len(data)), chance.choice((0, 1, 10))))
             pieces = [data[i:j] for i, j in zip([0, *cuts], [*cuts, len(data)])]
             store.expect_served(f"turn {turn}, run {number}", pieces)
+
+
+def drawn_beside_cursors(chance, count, store, keys, clones):
+    """Changes of a store, and cursors at its versions between them: opened, read on and closed, up to the most that may be open."""
+    store, frames = copy.deepcopy(store), []
+    store.start_run()
+    openings = chance.choice((0.05, 0.2, 0.4))
+    for tag in range(count):
+        draw, open_now = chance.random(), list(store.cursors)
+        number = chance.choice([*open_now, 0, store.next_cursor, chance.randrange(store.next_cursor), 2 ** 64 - 1])
+        if draw < openings:
+            version = chance.randrange(len(store.parents) + (chance.random() < 0.1))
+            known = sorted(store.pairs[version]) if version < len(store.parents) else []
+            bounds = [b"", b"", *known, *(key + b"\0" for key in known), *(key[:-1] for key in known), b"\xff"]
+            frames.append(open_cursor(tag, chance.choice(bounds), chance.choice(bounds), version))
+        elif draw < 0.5:
+            frames.append(next_pairs(tag, number, chance.choice((1, 1, 2, 256, 256, chance.randrange(300)))))
+        elif draw < 0.5 + openings / 3:
+            frames.append(close_cursor(tag, number))
+        elif draw < 0.95:
+            frames += drawn_changes(chance, 1, len(store.parents), keys, clones)
+        else:
+            frames.append(stat(tag))
+        store.answer(frames[-1][4:])
+    return frames
+
+
+def random_streams_with_cursors_are_answered_over_several_runs(folder):
+    chance = random.Random(26)
+    seen = set()
+    for turn in range(30):
+        store = StoreFile(folder, chance.choice((4, 5, 8)), 100000, chance.choice((3, 60, 16384)))
+        keys, clones = chance.choice((3, 30, 400)), chance.choice((0, 0.05, 0.3))
+        for number in range(chance.choice((1, 2, 3))):
+            frames = drawn_beside_cursors(chance, chance.choice((40, 400)), store.model, keys, clones)
+            data = b"".join(frames)
+            cuts = sorted(chance.sample(range(len(data)), chance.choice((0, 1, 10))))
+            pieces = [data[i:j] for i, j in zip([0, *cuts], [*cuts, len(data)])]
+            answers = bodies_of(copy.deepcopy(store.model).serve(data)[0])
+            seen |= {(body[4], body[5:6] if body[4] == model.PAIRS else b"") for body in answers}
+            store.expect_served(f"turn {turn}, run {number}", pieces)
+    wanted = {(model.OPENED, b""), (model.PAIRS, b"\0"), (model.PAIRS, b"\1"), (model.UNKNOWN_CURSOR, b""), (model.CURSOR_LIMIT, b"")}
+    expect("what was seen", sorted(wanted - seen), [])
+
+
+def cursors_read_whole_versions_while_all_is_changed(folder):
+    chance = random.Random(27)
+    store = StoreFile(folder, 16, 100000, 100)
+    for version in range(3):
+        keys = [b"%03d" % key for key in chance.sample(range(1000), 400)]
+        frames = [put(tag, key, chance.randbytes(chance.choice((0, 5, 300))), version) for tag, key in enumerate(keys)]
+        store.expect_answers(f"version {version}", [*frames, clone(0, version)])
+    with Talk("whole versions", store) as talk:
+        cursors = [talk.open(version=version) for version in (0, 1, 2, 3, 3)]
+        pages = [next_pairs(tag, cursor, chance.choice((1, 100, 256))) for tag, cursor in enumerate(cursors) for _ in range(20)]
+        chance.shuffle(pages)
+        for tag, sent in enumerate(pages):
+            for key in chance.sample(range(1000), 4):
+                talk.ask(chance.choice((put(tag, b"%03d" % key, b"%d" % tag, 3), delete(tag, b"%03d" % key, 3))))
+            talk.ask(sent)
+        talk.ask(stat(1))
+    store.expect_bytes("whole versions")
+
+
+def blocks_read_at(data, parents, version):
+    """The blocks that a cursor reads which is opened now at a version, with their bytes."""
+    levels = formats.read(data).manifest.levels
+    arrays = [array for level in levels for array in level.arrays if formats.below(version, level.horizon, parents) in array.versions]
+    return {block: formats.block_at(data, block) for array in arrays for block in formats.blocks_of(array)}
+
+
+def blocks_stay_while_a_cursor_reads_them_and_no_longer(folder):
+    chance = random.Random(28)
+    reused = named = 0
+    for turn in range(6):
+        store, held, given_back = StoreFile(folder, 4, 100000, 100), {}, {}
+        keys, clones = chance.choice((8, 60)), chance.choice((0, 0.05, 0.2))
+        with Talk(f"turn {turn}", store) as talk:
+            for number in range(400):
+                if chance.random() < 0.04 and len(held) < 12:
+                    version = chance.randrange(len(store.model.parents))
+                    cursor = talk.open(version=version)
+                    held[cursor] = blocks_read_at(bytes_of(store.path), store.model.parents[1:], version)
+                    named += len(held[cursor])
+                if chance.random() < 0.03 and held:
+                    cursor = chance.choice(list(held))
+                    talk.ask(close_cursor(number, cursor))
+                    given_back.update(held.pop(cursor))
+                if held:
+                    talk.ask(next_pairs(number, chance.choice(list(held)), 1))
+                talk.ask(drawn_changes(chance, 1, len(store.model.parents), keys, clones)[0])
+                data = bytes_of(store.path)
+                for cursor, blocks in held.items():
+                    changed = [block for block, there in blocks.items() if formats.block_at(data, block) != there]
+                    expect(f"turn {turn}, change {number}, blocks of cursor {cursor} that were overwritten", changed, [])
+            reused += sum(formats.block_at(data, block) != there for block, there in given_back.items())
+        store.expect_bytes(f"turn {turn}")
+    expect("blocks that cursors read, and blocks that were used again", (named > 100, reused > 20), (True, True))
+
+
+def a_file_grows_no_more_for_cursors_that_are_closed(folder):
+    # values of which three fill a block: each publication writes several, so that a hundred which kept theirs would show
+    for most in (0, 1, 8):
+        chance, store, sizes, needed = random.Random(29), StoreFile(folder, 4, 100000, 100), [], set()
+        with Talk(f"{most} cursors", store) as talk:
+            for change in range(4 * 160):
+                talk.ask(put(change, b"%d" % chance.randrange(40), chance.randbytes(1024)))
+                if change % 4 == 0:  # the journal was emptied, but for the first
+                    while len(store.model.cursors) >= max(1, most):
+                        talk.ask(close_cursor(change, min(store.model.cursors)))
+                    if most:
+                        talk.ask(next_pairs(change, talk.open(), 7))
+                    contents = formats.read(bytes_of(store.path))
+                    blocks = {block for array in formats.arrays_of(contents.manifest) for block in formats.blocks_of(array)}
+                    needed.add(len(blocks) + len(contents.chain))
+                    sizes.append(os.path.getsize(store.path) // BLOCK - formats.first_free(4))
+        expect(f"{most} cursors, publications", formats.read(bytes_of(store.path)).head.generation, 160)
+        # an old state, a new one, and one for each cursor
+        if max(sizes) > (2 + most) * max(needed):
+            raise Wrong(f"{most} cursors: {max(sizes)} blocks, where one state needs {max(needed)}")
+        expect(f"{most} cursors, the last hundred", max(sizes[60:]) <= max(sizes[:60]) + max(needed), True)
+        store.expect_bytes(f"{most} cursors")
+
+
+def kills_with_open_cursors_lose_nothing(folder):
+    chance = random.Random(30)
+    for turn in range(60):
+        if turn % 6 == 0:
+            store = StoreFile(folder, 4, 100000, 16384)
+            keys, clones = chance.choice((3, 30)), chance.choice((0.1, 0.4))
+        frames = [open_cursor(0, version=len(store.model.parents) - 1), *drawn_beside_cursors(chance, 120, store.model, keys, clones)]
+        want = copy.deepcopy(store.model).serve(b"".join(frames))[0]
+        got = killed(store.path, frames, chance.randrange(len(want) * 2 // 3), chance.random() / 300)
+        expect(f"turn {turn}, replies", got == want[:len(got)], True)
+        store.model = expect_prefix(f"turn {turn}", store.path, store.model, frames, len(bodies_of(got)))
+        if turn % 3 == 2:
+            store.expect_served(f"turn {turn}, again", drawn_beside_cursors(chance, 30, store.model, keys, clones))
 
 
 def expect_prefix(name, path, store, frames, answered):
@@ -1161,6 +1398,8 @@ def damaged_arrays_are_named(folder):
         store.expect_answers("before", fine)
         expect_damaged("a get", store, [*fine, get(1, b"k01")], 7)
         expect_damaged("a scan", store, [*fine, scan(1, b"k01", b"k02")], 7)
+        # a cursor is opened without a look at a block, and its first page has one
+        expect_damaged("a cursor", store, [*fine, open_cursor(1, b"k01", b"k02"), open_cursor(2), close_cursor(3, 2), next_pairs(1, 1)], 7)
         # four more keys are published without a look at level 2, and eight more with one
         store.expect_answers("a publication of others", [put(i, b"n%02d" % i, b"1") for i in range(4)])
         store.expect_answers("what it has", [get(i, b"n%02d" % i) for i in range(4)])
@@ -1177,6 +1416,24 @@ def damaged_arrays_are_named(folder):
     for version in (2, 3):
         expect_damaged(f"version {version}", store, [*fine, get(1, b"a", version)], block)
         expect_damaged(f"a scan of version {version}", store, [*fine, scan(1, version=version)], block)
+
+
+def a_damaged_array_that_only_a_cursor_reads_is_named(folder):
+    store, contents = store_after(folder, *DISTINCT[:2], 1000, 10)
+    old, = formats.arrays_of(contents.manifest)
+    with Talk("a cursor", store) as talk:
+        cursor, change = talk.open(), 0
+        while old.id in (array.id for array in formats.arrays_of(formats.read(bytes_of(store.path)).manifest)):
+            talk.ask(put(change, b"k%02d" % (change % 12), b"new"))
+            change += 1
+        altered(store.path, old.extents[0][0] * BLOCK, b"\0\0")
+        for sent in (get(1, b"k03"), scan(2), next_pairs(3, talk.open(), 5), stat(4)):
+            talk.ask(sent)
+        talk.child.stdin.write(next_pairs(5, cursor, 1))
+        want = reply(5, model.DAMAGED_BLOCK, struct.pack(">I", old.extents[0][0]))
+        expect("a page", read_exactly(talk.child.stdout, len(want)), want)
+        talk.status = model.DAMAGED
+    store.expect_answers("the next run", [scan(1), get(2, b"k03"), stat(3)])
 
 
 # A file with two levels for the refusals of its manifest, written by the model
@@ -1701,7 +1958,7 @@ def a_cut_of_power_loses_nothing_acknowledged(folder):
     seen = set()
     for turn in range(3):
         store, again = StoreFile(folder, 4, 1000, 100), StoreFile(folder, 4, 1000, 100)
-        frames = drawn_changes(chance, 50, 1, 6, 0.2)
+        frames = drawn_beside_cursors(chance, 90, store.model, 6, 0.2) if turn else drawn_changes(chance, 50, 1, 6, 0.2)
         synced = bytearray(bytes_of(store.path))
         out, calls = calls_of(folder, store.path, b"".join(frames))
         expect(f"turn {turn}", out == copy.deepcopy(store.model).serve(b"".join(frames))[0], True)
@@ -1806,7 +2063,7 @@ def the_bench_finds_both_stores_alike(folder):
     expect("its status", (ran.returncode, ran.stderr.count(b"\n")), (0, 8))
     titles = re.findall(rb"^### `(\w+)`", ran.stdout, re.MULTILINE)
     expect("its tables", titles, [b"puts", b"chain", b"sparse", b"star"])
-    expect("its scans", ran.stdout.count("| µs a scan of 100 | µs a pair, whole version |".encode()), 4)
+    expect("its scans", ran.stdout.count("| µs a scan of 100 | µs a pair, whole version | µs a pair, by a cursor |".encode()), 4)
     rows = re.findall(rb"^\| (40|80) \| (castle|SQLite) \|", ran.stdout, re.MULTILINE)
     expect("its rows", rows, [(b"40", b"castle"), (b"40", b"SQLite"), (b"80", b"castle"), (b"80", b"SQLite")] * 4)
 
@@ -1832,6 +2089,9 @@ CHECKS = [
     a_clone_has_its_own_pairs_and_its_parent_is_frozen,
     a_deleted_key_is_absent_where_it_was_deleted,
     a_scan_gives_the_pairs_of_a_range,
+    a_cursor_shows_its_range_as_it_was,
+    sixty_four_cursors_are_open_at_most,
+    cursors_give_the_pairs_of_a_range_in_pages,
     versions_of_settings_are_scanned_apart,
     pages_follow_one_another_through_levels,
     the_tree_and_the_counts_are_told,
@@ -1869,8 +2129,14 @@ CHECKS = [
     a_workload_that_fails_prints_nothing,
     every_array_is_a_third_live,
     random_streams_are_answered_over_several_runs,
+    random_streams_with_cursors_are_answered_over_several_runs,
+    cursors_read_whole_versions_while_all_is_changed,
+    blocks_stay_while_a_cursor_reads_them_and_no_longer,
+    a_file_grows_no_more_for_cursors_that_are_closed,
+    kills_with_open_cursors_lose_nothing,
     kills_amid_promotions_lose_nothing,
     damaged_arrays_are_named,
+    a_damaged_array_that_only_a_cursor_reads_is_named,
     each_refusal_of_a_manifest_has_a_file,
     the_rules_of_a_sound_file_are_checked,
     chains_of_a_manifest_are_followed,
@@ -1892,6 +2158,20 @@ CHECKS = [
     the_bench_finds_both_stores_alike,
     the_wear_is_within_its_bounds,
 ]
+# Those of many changes run in memory, where that can be, since each change is synced twice
+IN_MEMORY = {
+    a_workload_of_200_000_changes_keeps_its_bounds,
+    random_streams_with_cursors_are_answered_over_several_runs,
+    cursors_read_whole_versions_while_all_is_changed,
+    blocks_stay_while_a_cursor_reads_them_and_no_longer,
+    a_file_grows_no_more_for_cursors_that_are_closed,
+}
+
+
+def folder_for(check):
+    """A new folder, which is removed behind the check."""
+    has_memory = check in IN_MEMORY and os.access("/dev/shm", os.W_OK)
+    return tempfile.TemporaryDirectory(dir="/dev/shm" if has_memory else None)
 
 
 def is_built():
@@ -1917,7 +2197,7 @@ def main():
             continue
         name = check.__name__.replace("_", " ")
         try:
-            with tempfile.TemporaryDirectory() as folder:
+            with folder_for(check) as folder:
                 check(folder)
         except Skipped as why:
             print(f"outside: skipped: {name}: {why}")

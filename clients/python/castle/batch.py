@@ -5,7 +5,7 @@ from __future__ import annotations
 from types import TracebackType
 from typing import List, Optional, Type
 
-from . import errors
+from . import errors, frames
 from .commands import Commands, Data, Version
 from .program import Program, Result
 
@@ -19,7 +19,7 @@ class Batch:
         values = batch.results
 
     `results` has what the commands gave, in their order: None for put and delete, the value or None for get, the
-    number for clone, `Info`, `Stat`. They are all there at the end of the `with` block, or after `finish()`; before,
+    number for clone, `Page`, `Info`, `Stat`. They are all there at the end of the `with` block, or after `finish()`; before,
     those that came so far. A command that was refused has its `Refused` there, and those behind it are carried out
     none the less. The first refusal is raised at the end, unless the batch was made with `return_exceptions`. A batch
     is no transaction: where the program ends, `results` has what was acknowledged, and later changes were made or not.
@@ -50,6 +50,12 @@ class Batch:
         """Makes a version with the same pairs."""
         self._program.turn_to(self.results)
         self._program.add(self._commands.clone(version))
+
+    def page(self, version: Version, lower: Data = b"", upper: Data = b"", *, prefix: Data = b"",
+             limit: int = frames.PAGE_MAX) -> None:
+        """Asks for the first pairs of a range, as `Store.page` does."""
+        self._program.turn_to(self.results)
+        self._program.add(self._commands.page(version, lower, upper, prefix, limit))
 
     def info(self, version: Version) -> None:
         """Asks for a version's place in the tree."""

@@ -2,7 +2,7 @@
 
 from __future__ import annotations
 
-from typing import Union
+from typing import Tuple, Union
 
 from . import errors, frames
 from .names import Names
@@ -65,11 +65,33 @@ class Commands:
         """The frame of a clone."""
         return frames.clone(self._program.tag, self.number(version))
 
-    def scan(self, version: int, lower: bytes, upper: bytes, limit: int) -> bytes:
-        """The frame of a scan."""
+    def bounds(self, lower: Data, upper: Data, prefix: Data) -> Tuple[bytes, bytes]:
+        """The bounds of the range between two bounds whose keys begin with a prefix."""
+        low, high, head = data_of(lower), data_of(upper), data_of(prefix)
+        end = frames.prefix_end(head) or b""
+        return max(low, head), min(high, end) if high and end else high or end
+
+    def _check_bounds(self, command: str, lower: bytes, upper: bytes) -> None:
         if len(lower) + len(upper) > frames.BODY_MAX - 15:
-            raise errors.KeySize(file=self._program.file, command=f"scan of version {version}")
-        return frames.scan(self._program.tag, version, lower, upper, limit)
+            raise errors.KeySize(file=self._program.file, command=command)
+
+    def page(self, version: Version, lower: Data, upper: Data, prefix: Data, limit: int) -> bytes:
+        """The frame of a scan, which gives the first pairs of a range."""
+        number, (low, high) = self.number(version), self.bounds(lower, upper, prefix)
+        self._check_bounds(f"page of version {number}", low, high)
+        if not 0 <= limit < 2 ** 16:
+            raise errors.ScanSize(file=self._program.file, command=f"page of version {number}")
+        return frames.scan(self._program.tag, number, low, high, limit)
+
+    def open_cursor(self, version: Version, lower: Data, upper: Data, prefix: Data) -> bytes:
+        """The frame of an opening of a cursor."""
+        number, (low, high) = self.number(version), self.bounds(lower, upper, prefix)
+        self._check_bounds(f"scan of version {number}", low, high)
+        return frames.open_cursor(self._program.tag, number, low, high)
+
+    def next_pairs(self, cursor: int) -> bytes:
+        """The frame that asks for the next pairs of a cursor, as many as a reply takes."""
+        return frames.next_pairs(self._program.tag, cursor, frames.PAGE_MAX)
 
     def info(self, version: Version) -> bytes:
         """The frame of an info."""

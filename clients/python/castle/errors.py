@@ -50,9 +50,11 @@ class Frozen(Refused):
 
 
 class UnknownCursor(Refused):
+    """Scans of this package don't meet it."""
+
     status = 18
     what = "no open cursor has this number"
-    remedy = "Open another."
+    remedy = "Scan again."
 
 
 class VersionLimit(Refused):
@@ -68,9 +70,11 @@ class ChangeLimit(Refused):
 
 
 class CursorLimit(Refused):
+    """Raised where a scan begins, and by `diff`, which takes two cursors."""
+
     status = 21
     what = "64 cursors are open"
-    remedy = "Close one."
+    remedy = "Read a scan to its end first, or end it by its close()."
 
 
 class Malformed(Refused):
@@ -107,7 +111,7 @@ class FrameTooLong(Refused):
 
 class NoMemory(Refused):
     status = 32
-    what = "memory ran out, or the file has no free block left; the change was not made"
+    what = "memory ran out, or the file has no free block left; the store is as it was"
     remedy = "Make room and send it again. Look-ups go on meanwhile."
 
 

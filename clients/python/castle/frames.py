@@ -7,8 +7,8 @@ from typing import List, NamedTuple, Optional, Tuple, Union
 
 from . import text
 
-PUT, DELETE, GET, CLONE, SCAN, INFO, STAT = 1, 2, 3, 4, 5, 6, 10
-DONE, FOUND, ABSENT, PAIRS, MADE, PLACE, COUNTS = 0, 1, 2, 3, 4, 5, 7
+PUT, DELETE, GET, CLONE, SCAN, INFO, OPEN_CURSOR, NEXT_PAIRS, CLOSE_CURSOR, STAT = 1, 2, 3, 4, 5, 6, 7, 8, 9, 10
+DONE, FOUND, ABSENT, PAIRS, MADE, PLACE, OPENED, COUNTS = 0, 1, 2, 3, 4, 5, 6, 7
 DAMAGED = 34
 LEAST_REFUSAL = 16
 
@@ -16,6 +16,7 @@ BODY_MAX = 2048
 KEY_MAX = 255
 VALUE_MAX = 1024
 PAGE_MAX = 256  # pairs in one reply
+CURSORS_MAX = 64  # that are open at a time
 NUMBER_MAX = 2 ** 32 - 1
 NO_PARENT = NUMBER_MAX
 
@@ -27,6 +28,8 @@ VERSION_HEAD = struct.Struct(">IIBI")
 KEY_HEAD = struct.Struct(">IIBIH")
 SIZE = struct.Struct(">H")
 NUMBER = struct.Struct(">I")
+CURSOR = struct.Struct(">Q")
+CURSOR_HEAD = struct.Struct(">IIBQ")
 PLACE_FIELDS = struct.Struct(">IIB")
 COUNT_FIELDS = struct.Struct(">IIII")
 PAGE_FIELDS = struct.Struct(">BH")
@@ -55,7 +58,7 @@ class Stat(NamedTuple):
 
 
 class Page(NamedTuple):
-    """The first pairs of a range, in the order of their keys."""
+    """The first pairs of a range, or the next ones of a cursor, in the order of their keys."""
 
     pairs: List[Pair]
     more: bool
@@ -99,27 +102,42 @@ def info(tag: int, version: int) -> bytes:
     return VERSION_HEAD.pack(9, tag, INFO, version)
 
 
+def open_cursor(tag: int, version: int, lower: bytes, upper: bytes) -> bytes:
+    """Opens a cursor over the pairs from the lower bound on and before the upper one, as they are now."""
+    bounds = SIZE.pack(len(lower)) + lower + SIZE.pack(len(upper)) + upper
+    return VERSION_HEAD.pack(9 + len(bounds), tag, OPEN_CURSOR, version) + bounds
+
+
+def next_pairs(tag: int, cursor: int, limit: int) -> bytes:
+    """Asks for the next pairs of a cursor."""
+    return CURSOR_HEAD.pack(15, tag, NEXT_PAIRS, cursor) + SIZE.pack(limit)
+
+
+def close_cursor(tag: int, cursor: int) -> bytes:
+    """Closes a cursor."""
+    return CURSOR_HEAD.pack(13, tag, CLOSE_CURSOR, cursor)
+
+
 def stat(tag: int) -> bytes:
     """Asks for what the store has."""
     return HEAD.pack(5, tag, STAT)
 
 
-NAMES = {PUT: "put", DELETE: "delete", GET: "get", CLONE: "clone", SCAN: "scan", INFO: "info", STAT: "stat"}
+NAMES = {PUT: "put", DELETE: "delete", GET: "get", CLONE: "clone version", SCAN: "page of version", INFO: "info version",
+         OPEN_CURSOR: "scan of version", NEXT_PAIRS: "next pairs of cursor", CLOSE_CURSOR: "close cursor", STAT: "stat"}
 
 
 def describe(frame: bytes) -> str:
     """A command in words, as `put user/1 at version 0`."""
     opcode = frame[8] if len(frame) > 8 else 0
-    name = NAMES.get(opcode)
-    if name is None or (opcode != STAT and len(frame) < VERSION_HEAD.size):
+    name, number = NAMES.get(opcode), CURSOR if opcode in (NEXT_PAIRS, CLOSE_CURSOR) else NUMBER
+    if name is None or (opcode != STAT and len(frame) < HEAD.size + number.size):
         return "a frame that is no command"
     if opcode == STAT:
         return name
-    version = NUMBER.unpack_from(frame, HEAD.size)[0]
-    if opcode in (CLONE, INFO):
-        return f"{name} version {version}"
-    if opcode == SCAN:
-        return f"{name} of version {version}"
+    version = number.unpack_from(frame, HEAD.size)[0]  # or the number of a cursor
+    if opcode not in (PUT, DELETE, GET):
+        return f"{name} {version}"
     size = SIZE.unpack_from(frame, VERSION_HEAD.size)[0]
     key = frame[KEY_HEAD.size:KEY_HEAD.size + size]
     return f"{name} {text.shown(key)} at version {version}"
@@ -133,8 +151,8 @@ def answer(status: int, fields: bytes) -> Answer:
         return fields[2:]
     if status in (DONE, ABSENT):
         return None
-    if status == MADE:
-        made: int = NUMBER.unpack(fields)[0]
+    if status in (MADE, OPENED):
+        made: int = (NUMBER if status == MADE else CURSOR).unpack(fields)[0]
         return made
     if status == PLACE:
         parent, depth, frozen = PLACE_FIELDS.unpack(fields)
@@ -159,11 +177,6 @@ def page(fields: bytes) -> Page:
 
 
 # Bounds of ranges
-
-def after(key: bytes) -> Optional[bytes]:
-    """The least key behind this one; None where there is none."""
-    return key + b"\0" if len(key) < KEY_MAX else prefix_end(key)
-
 
 def prefix_end(prefix: bytes) -> Optional[bytes]:
     """The least key behind all that begin so; None where there is none."""

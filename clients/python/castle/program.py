@@ -9,7 +9,7 @@ import struct
 import subprocess
 import sys
 from collections import deque
-from typing import Deque, Iterable, List, NoReturn, Optional, Sequence, Tuple, Union
+from typing import Callable, Deque, Iterable, List, NoReturn, Optional, Sequence, Tuple, Union
 
 from . import errors, frames
 
@@ -47,6 +47,10 @@ def printed(program: str, words: Sequence[str], file: str) -> Tuple[str, int]:
     return ran.stdout.decode("utf-8", "replace"), ran.returncode
 
 
+class Unheard(bytes):
+    """A frame whose answer nobody wants."""
+
+
 class Program:
     """One run of the program.
 
@@ -63,6 +67,7 @@ class Program:
         self._said = b""  # the beginning of a line on standard error
         self._has_errors = True  # whether standard error was not read to its end
         self._sink: List[Result] = []
+        self._dropped: Deque[int] = deque()  # cursors that are to be closed
         self.tag = 0  # of the next command
         self._answered = 0  # the tag of the next reply
         self._end: Optional[errors.CastleError] = None
@@ -105,17 +110,37 @@ class Program:
         self._exchange(0, 0)
 
     def turn_to(self, sink: List[Result]) -> None:
-        """Has the answers to the commands that follow go into this list."""
+        """Has the answers to the commands that follow go into this list. It comes before their frames are made."""
         if sink is not self._sink:
             self.settle()
             self._sink = sink
+        if self._dropped:
+            self._close_dropped()
 
     def ask(self, frame: bytes) -> Result:
         """The answer to one command."""
-        self.turn_to([])
+        self.settle()
+        self._sink = []
         self.add(frame)
         self.settle()
         return self._sink.pop()
+
+    def call(self, make: Callable[..., bytes], *words: object) -> frames.Answer:
+        """The answer to the command that is made of these words. A refusal is raised."""
+        self._close_dropped()
+        answer = self.ask(make(*words))
+        if isinstance(answer, errors.Refused):
+            raise answer
+        return answer
+
+    def drop(self, cursor: int) -> None:
+        """Has a cursor closed before the next command. It may be called amid another, and from any thread."""
+        self._dropped.append(cursor)
+
+    def _close_dropped(self) -> None:
+        while self._dropped:
+            self.add(Unheard(frames.close_cursor(self.tag, self._dropped[0])))
+            self._dropped.popleft()
 
     def _exchange(self, most_unsent: int, most_open: Optional[int]) -> None:
         """Writes and reads until no more bytes are unsent, and no more commands unanswered, than these."""
@@ -176,6 +201,8 @@ class Program:
             answered = (answered + 1) & frames.NUMBER_MAX
             if status == found:
                 sink.append(data[at + 11:stop])
+            elif type(frame) is Unheard:
+                pass
             elif status < frames.LEAST_REFUSAL:
                 try:
                     sink.append(frames.answer(status, data[at + 9:stop]))

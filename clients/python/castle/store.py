@@ -4,27 +4,19 @@ from __future__ import annotations
 
 import os
 from types import TracebackType
-from typing import Iterator, List, NamedTuple, Optional, Type, Union, cast
+from typing import Generator, List, Optional, Type, Union, cast
+from weakref import WeakSet
 
 from . import errors, frames
 from .batch import Batch
-from .commands import Commands, Data, Version, data_of
-from .frames import Info, Pair, Stat
+from .commands import Commands, Data, Version
+from .cursor import Cursor, Difference, differences
+from .frames import Info, Page, Pair, Stat
 from .levels import Levels, read
 from .lock import Lock
 from .names import Names, remove_names
 from .program import Program, find_program, printed
 from .view import VersionView
-
-
-class Difference(NamedTuple):
-    """A key whose values in two versions differ."""
-
-    key: bytes
-    before: Optional[bytes]
-    """Its value in the first version; None where it has none."""
-    after: Optional[bytes]
-    """Its value in the second version; None where it has none."""
 
 
 class Store:
@@ -52,6 +44,7 @@ class Store:
         self._lock = Lock(real, self.path)
         self._real = real
         self._closed = False
+        self._cursors: WeakSet[Cursor] = WeakSet()  # that may be open
         self._found = find_program(program)
         try:
             self._program = Program(self._found, ["serve", real], self.path, [self._lock.descriptor])
@@ -117,13 +110,19 @@ class Store:
                 raise
 
     def close(self) -> None:
-        """Ends the program, once it has answered all, and frees the store. To close it again does nothing."""
+        """Ends the program, once it has answered all, and frees the store. To close it again does nothing.
+
+        Its cursors are closed: a scan that is not at its end raises `StoreClosed` where it needs its next piece.
+        """
         if self._closed:
             return
         self._closed = True
         try:
+            for cursor in self._cursors:
+                cursor.close()
             told = self._program.end
             if told is None:
+                self._program.turn_to([])
                 self._program.settle()
             status = self._program.finish()
             if status != 0 and told is None:
@@ -141,47 +140,57 @@ class Store:
 
     def put(self, version: Version, key: Data, value: Data) -> None:
         """Gives a key this value at a version."""
-        self._ask(self._commands.put(version, key, value))
+        self._program.call(self._commands.put, version, key, value)
 
     def delete(self, version: Version, key: Data) -> None:
         """Takes a key's value away at a version; one that has none stays so."""
-        self._ask(self._commands.delete(version, key))
+        self._program.call(self._commands.delete, version, key)
 
     def get(self, version: Version, key: Data) -> Optional[bytes]:
         """The value of a key at a version; None where it has none."""
-        return cast(Optional[bytes], self._ask(self._commands.get(version, key)))
+        return cast(Optional[bytes], self._program.call(self._commands.get, version, key))
 
     def clone(self, version: Version) -> int:
         """Makes a version with the same pairs, and tells its number. The version that it was made of is frozen then."""
-        return cast(int, self._ask(self._commands.clone(version)))
+        return cast(int, self._program.call(self._commands.clone, version))
 
     def info(self, version: Version) -> Info:
         """A version's place in the tree."""
-        return cast(Info, self._ask(self._commands.info(version)))
+        return cast(Info, self._program.call(self._commands.info, version))
 
     def stat(self) -> Stat:
-        """How many versions, updates and changes the store has."""
-        return cast(Stat, self._ask(self._commands.stat()))
+        """How many versions, updates and changes the store has, and how many cursors are open."""
+        return cast(Stat, self._program.call(self._commands.stat))
 
-    def scan(self, version: Version, lower: Data = b"", upper: Data = b"", *, prefix: Data = b"") -> Iterator[Pair]:
-        """The pairs of a version, in the order of their keys' bytes, read piece by piece as they are asked for.
+    def scan(self, version: Version, lower: Data = b"", upper: Data = b"", *,
+             prefix: Data = b"") -> Generator[Pair, None, None]:
+        """The pairs of a version as they are at this call, in the order of their keys' bytes, whatever is changed meanwhile.
 
-        Keys are at or behind `lower`, before `upper` unless that is empty, and begin with `prefix`. Where the version
-        changes meanwhile, each piece shows it as it is then; a frozen version doesn't change.
+        Keys are at or behind `lower`, before `upper` unless that is empty, and begin with `prefix`. The call opens a
+        cursor, and the iterator that it gives reads pieces of 256 pairs as they are asked for: an exchange for the
+        opening and for each piece, and memory for one piece. The cursor is closed with the last piece, by the
+        iterator's `close()`, after an error, with the store, and where nobody has the iterator any more.
+
+        The call raises `UnknownVersion`, `KeySize`, `CursorLimit` (64 scans are open) and `NoMemory`; a piece raises
+        `DeviceFault` and `Damaged`, which end the program.
         """
-        number, low, high, head = self.number(version), data_of(lower), data_of(upper), data_of(prefix)
-        end = frames.prefix_end(head) or b""
-        low = max(low, head)
-        high = min(high, end) if high and end else high or end
-        return self._pairs(number, low, high)
+        return self._cursor(version, lower, upper, prefix).pairs()
 
-    def _pairs(self, version: int, lower: bytes, upper: bytes) -> Iterator[Pair]:
-        """The pairs of a range, page by page. A cursor will take the place of the pages."""
-        start: Optional[bytes] = lower
-        while start is not None:
-            page = cast(frames.Page, self._ask(self._commands.scan(version, start, upper, frames.PAGE_MAX)))
-            yield from page.pairs
-            start = frames.after(page.pairs[-1][0]) if page.more else None
+    def page(self, version: Version, lower: Data = b"", upper: Data = b"", *, prefix: Data = b"",
+             limit: int = frames.PAGE_MAX) -> Page:
+        """The first pairs that `scan` would give, at most `limit` (1 to 256), and whether others follow.
+
+        For a range of few pairs, or for the first ones of it, this is better than `scan`: it is one exchange, takes no
+        cursor and no memory of the program, and a batch sends many of them at once. To read on, use `scan`: another page
+        shows the version as it is by then. It raises what `scan` does but `CursorLimit` and `NoMemory`, and `ScanSize`.
+        """
+        return cast(Page, self._program.call(self._commands.page, version, lower, upper, prefix, limit))
+
+    def _cursor(self, version: Version, lower: Data = b"", upper: Data = b"", prefix: Data = b"") -> Cursor:
+        """A new cursor, which is closed with the store at the latest."""
+        cursor = Cursor(self._program, self._commands, version, lower, upper, prefix)
+        self._cursors.add(cursor)
+        return cursor
 
     def levels(self) -> Levels:
         """What is in the store's levels and in its journal.
@@ -207,22 +216,19 @@ class Store:
             batch.info(number)
         return cast(List[Info], batch.finish())
 
-    def diff(self, before: Version, after: Version) -> Iterator[Difference]:
-        """The keys whose values differ between two versions, in order."""
-        left, right = self.scan(before), self.scan(after)
-        old, new = next(left, None), next(right, None)
-        while old is not None or new is not None:
-            if new is None or (old is not None and old[0] < new[0]):
-                assert old is not None
-                yield Difference(old[0], old[1], None)
-                old = next(left, None)
-            elif old is None or new[0] < old[0]:
-                yield Difference(new[0], None, new[1])
-                new = next(right, None)
-            else:
-                if old[1] != new[1]:
-                    yield Difference(old[0], old[1], new[1])
-                old, new = next(left, None), next(right, None)
+    def diff(self, before: Version, after: Version) -> Generator[Difference, None, None]:
+        """The keys whose values differ between two versions as they are at this call, in order.
+
+        It reads all of both side by side through a cursor each, in memory of one piece each; these are closed as that of a
+        `scan` is. It raises what `scan` does.
+        """
+        left = self._cursor(before)
+        try:
+            right = self._cursor(after)
+        except BaseException:
+            left.close()
+            raise
+        return differences(left.pairs(), right.pairs())
 
     def at(self, version: Version) -> VersionView:
         """A version as a mapping: `store.at(3)["k"] = b"v"`."""
@@ -235,9 +241,3 @@ class Store:
     def number(self, version: Version) -> int:
         """The number of a version, which may be given by its name."""
         return self._commands.number(version)
-
-    def _ask(self, frame: bytes) -> frames.Answer:
-        answer = self._program.ask(frame)
-        if isinstance(answer, errors.Refused):
-            raise answer
-        return answer

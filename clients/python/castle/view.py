@@ -13,8 +13,9 @@ if TYPE_CHECKING:
 class VersionView(MutableMapping[Data, bytes]):
     """The pairs of a version: `view["k"]`, `view["k"] = b"v"`, `del view["k"]`, `"k" in view`, `view.items(b"user/")`.
 
-    Keys are bytes or text; what comes back is bytes, in the order of the keys' bytes. `len` counts by a scan. A change
-    of a frozen version raises `Frozen`.
+    Keys are bytes or text; what comes back is bytes, in the order of the keys' bytes. Iteration, `keys`, `items` and
+    `values` are scans (`Store.scan`): each shows the version as it is when it begins, so the version may be changed
+    meanwhile, and each raises what a scan does. `len` counts by a whole scan. A change of a frozen version raises `Frozen`.
     """
 
     def __init__(self, store: "Store", version: int, prefix: Data = b"") -> None:
@@ -23,7 +24,7 @@ class VersionView(MutableMapping[Data, bytes]):
         self.prefix = prefix
 
     def pairs(self) -> Iterator[Tuple[bytes, bytes]]:
-        """The pairs whose keys begin with the prefix."""
+        """The pairs whose keys begin with the prefix, as they are at this call."""
         return self.store.scan(self.version, prefix=self.prefix)
 
     def __getitem__(self, key: Data) -> bytes:
@@ -53,7 +54,7 @@ class VersionView(MutableMapping[Data, bytes]):
 
     def keys(self, prefix: Data = b"") -> KeysView[Data]:
         """The keys that begin with the prefix."""
-        return KeysView(VersionView(self.store, self.version, prefix))
+        return Keys(VersionView(self.store, self.version, prefix))
 
     def items(self, prefix: Data = b"") -> ItemsView[Data, bytes]:
         """The pairs whose keys begin with the prefix."""
@@ -64,10 +65,21 @@ class VersionView(MutableMapping[Data, bytes]):
         return Values(VersionView(self.store, self.version, prefix))
 
     def clear(self) -> None:
-        """Deletes every key."""
+        """Deletes every key that there is at this call, in memory of one piece of a scan."""
         with self.store.batch() as batch:
-            for key in list(self):
+            for key in self:
                 batch.delete(self.version, key)
+
+
+class Keys(KeysView[Data]):
+    """Keys whose scan begins where their iteration does."""
+
+    def __init__(self, view: VersionView) -> None:
+        super().__init__(view)
+        self._view = view
+
+    def __iter__(self) -> Iterator[Data]:
+        return iter(self._view)
 
 
 class Items(ItemsView[Data, bytes]):

@@ -23,8 +23,12 @@ from castle import Store  # noqa: E402
 class StoreCase(unittest.TestCase):
     """A test with a folder of its own and the path of a store in it."""
 
+    in_memory = False
+    """Whether the folder is in memory, where it can be: for many changes, each of which is synced twice."""
+
     def setUp(self) -> None:
-        folder = tempfile.TemporaryDirectory()
+        has_memory = self.in_memory and os.access("/dev/shm", os.W_OK)
+        folder = tempfile.TemporaryDirectory(dir="/dev/shm" if has_memory else None)
         self.addCleanup(folder.cleanup)
         self.folder = folder.name
         self.path = os.path.join(self.folder, "a.store")

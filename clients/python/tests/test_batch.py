@@ -1,15 +1,18 @@
-"""Many commands under way. Nothing here scans."""
+"""Many commands under way, and scans amid them."""
 
 import itertools
 import os
 import random
 import threading
-from typing import Dict, List, Optional, Tuple
+from typing import Dict, Generator, List, Optional, Set, Tuple, Type
 
 from support import StoreCase
 
-from castle import Info, Stat, errors
+from castle import Info, Page, Stat, errors
 from castle.errors import Refused
+from castle.frames import Pair
+
+PIECE = 256  # pairs that a scan reads at a time
 
 
 class Versions:
@@ -20,6 +23,7 @@ class Versions:
         self.pairs: List[Dict[bytes, bytes]] = [{}]
         self.parents: List[Optional[int]] = [None]
         self.updates = self.changes = 0
+        self.cursors = 0
 
     def info(self, version: int) -> Info:
         depth, at = 0, self.parents[version]
@@ -27,12 +31,19 @@ class Versions:
             depth, at = depth + 1, self.parents[at]
         return Info(self.parents[version], depth, version in self.parents)
 
+    def range(self, version: int, lower: bytes, upper: bytes) -> List[Pair]:
+        """The pairs of a range."""
+        return [pair for pair in sorted(self.pairs[version].items()) if lower <= pair[0] and (not upper or pair[0] < upper)]
+
     def answer(self, command: str, version: int, *words: bytes) -> object:
         """What a command gives; a refusal by its class."""
         if command == "stat":
-            return Stat(len(self.pairs), self.updates, self.changes, 0)
+            return Stat(len(self.pairs), self.updates, self.changes, self.cursors)
         if version >= len(self.pairs):
             return errors.UnknownVersion
+        if command == "page":
+            found = self.range(version, *words)
+            return Page(found[:PIECE], len(found) > PIECE)
         if command == "get":
             return self.pairs[version].get(*words)
         if command == "info":
@@ -62,6 +73,34 @@ def drawn(chance: random.Random, versions: int) -> Tuple[str, int, Tuple[bytes, 
     key = b"key/%d" % chance.randrange(60)
     words = {"put": (key, chance.randbytes(chance.choice((0, 3, 60, 1024)))), "delete": (key,), "get": (key,)}
     return command, version, words.get(command, ())
+
+
+class Reading:
+    """A scan that is being read, with the pairs that it should give, and when its cursor is open."""
+
+    def __init__(self, scan: Generator[Pair, None, None], plain: Versions, pairs: List[Pair]) -> None:
+        self.scan = scan
+        self.plain = plain
+        self.pairs = pairs
+        self.given = self.read = 0  # of the pairs
+        self.is_open = True
+        plain.cursors += 1
+
+    def take(self, count: int) -> Tuple[List[Pair], List[Pair]]:
+        """The next pairs of the scan, and those that they should be."""
+        got = list(itertools.islice(self.scan, count))
+        want = self.pairs[self.given:self.given + count]
+        self.given += len(want)
+        while self.is_open and (self.read < self.given or len(want) < count):
+            self.read += PIECE
+            if self.read >= len(self.pairs):
+                self.end()
+        return got, want
+
+    def end(self) -> None:
+        """Its cursor is closed."""
+        self.plain.cursors -= self.is_open
+        self.is_open = False
 
 
 def kinds(results: List[object]) -> List[object]:
@@ -166,3 +205,54 @@ class BatchTest(StoreCase):
                 self.assertEqual(gets.finish(), [last.get(number) for number in range(1000)])
             amid += done > 0
         self.assertGreater(amid, 0)
+
+
+class ReadingTest(StoreCase):
+    in_memory = True
+
+    def test_scans_amid_commands_give_what_a_dictionary_of_versions_does(self) -> None:
+        chance, plain, store = random.Random(29), Versions(40), self.made(8, 100000, 40)
+        keys = [b"key/%03d" % number for number in range(700)]
+        readings: List[Reading] = []
+        want: List[object] = []
+        seen: Set[Optional[Type[Refused]]] = set()
+        with store.batch() as filling:
+            for key in keys[::2]:
+                filling.put(0, key, b"")
+                plain.answer("put", 0, key, b"")
+        batch = store.batch(return_exceptions=True)
+        for number in range(3000):
+            version, key = chance.randrange(max(0, len(plain.pairs) - 4), len(plain.pairs) + (chance.random() < 0.02)), chance.choice(keys)
+            draw = chance.choices(("change", "clone", "page", "stat", "open", "read", "end"), (45, 1, 3, 5, 16, 22, 6))[0]
+            if draw == "open":
+                lower, upper = chance.choice((b"", b"", key, key + b"\0")), chance.choice((b"", b"", b"", chance.choice(keys)))
+                fails = errors.UnknownVersion if version >= len(plain.pairs) else errors.CursorLimit if plain.cursors == 64 else None
+                try:
+                    readings.append(Reading(store.scan(version, lower, upper), plain, plain.range(version, lower, upper)))
+                    self.assertIsNone(fails)
+                except (errors.UnknownVersion, errors.CursorLimit) as refusal:
+                    self.assertIs(type(refusal), fails)
+                seen.add(fails)
+            elif draw in ("read", "end") and readings:
+                reading = readings[chance.randrange(len(readings))]
+                if draw == "read":
+                    got, wanted = reading.take(chance.choice((1, 10, 256, 1000)))
+                    self.assertEqual(got, wanted, f"scan at command {number}")
+                else:
+                    readings.remove(reading)
+                    reading.end()
+                    if chance.random() < 0.5:
+                        reading.scan.close()
+                    del reading
+            elif draw not in ("read", "end"):
+                words = {"change": (key, b"%d" % number), "page": (key, b"")}.get(draw, ())
+                command = chance.choice(("put", "put", "delete")) if draw == "change" else draw
+                words = words[:1] if command == "delete" else words
+                getattr(batch, command)(*(() if command == "stat" else (version, *words)))
+                want.append(plain.answer(command, version, *words))
+        for number, (one, other) in enumerate(zip(kinds(batch.finish()), want)):
+            self.assertEqual(one, other, f"command {number}")
+        self.assertEqual((len(batch.results), seen), (len(want), {None, errors.UnknownVersion, errors.CursorLimit}))
+        for reading in readings:
+            self.assertEqual(*reading.take(1000))
+        self.assertEqual((store.stat().cursors, plain.cursors), (0, 0))

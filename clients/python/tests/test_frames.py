@@ -22,7 +22,8 @@ class FramesTest(unittest.TestCase):
     def test_commands_have_the_bytes_of_the_protocol(self) -> None:
         made = {"Put": frames.put(7, 0, b"a", b"1"), "Delete": frames.delete(1, 0, b"a"), "Get": frames.get(8, 0, b"a"),
                 "Clone": frames.clone(2, 0), "Scan": frames.scan(3, 0, b"a", b"", 10), "Info": frames.info(4, 0),
-                "Stat": frames.stat(8)}
+                "OpenCursor": frames.open_cursor(5, 0, b"", b""), "NextPairs": frames.next_pairs(6, 1, 256),
+                "CloseCursor": frames.close_cursor(7, 1), "Stat": frames.stat(8)}
         for name, frame in made.items():
             found = re.search(rf"^\| \d+ \| {name} \| [^|]*\| `([0-9a-f ]+)` \| tag", PROTOCOL, re.M)
             assert found, name
@@ -33,7 +34,7 @@ class FramesTest(unittest.TestCase):
                           PROTOCOL.split("## Replies")[1], re.M)
         told = {name: bytes.fromhex(data) for name, data in rows}
         want = {"Done": None, "Found": b"1", "Pairs": Page([(b"a", b"1")], False), "Made": 1,
-                "Info": Info(None, 0, True), "Stat": Stat(2, 1, 2, 0)}
+                "Info": Info(None, 0, True), "Opened": 1, "Stat": Stat(2, 1, 2, 0)}
         for name, answer in want.items():
             self.assertEqual(frames.answer(told[name][8], told[name][9:]), answer, name)
 
@@ -41,17 +42,16 @@ class FramesTest(unittest.TestCase):
         self.assertEqual(frames.describe(frames.put(1, 3, b"a b", b"v")), 'put "a b" at version 3')
         self.assertEqual(frames.describe(frames.get(1, 3, b"\xff")), r"get \xff at version 3")
         self.assertEqual(frames.describe(frames.clone(1, 3)), "clone version 3")
-        self.assertEqual(frames.describe(frames.scan(1, 3, b"", b"", 1)), "scan of version 3")
+        self.assertEqual(frames.describe(frames.info(1, 3)), "info version 3")
+        self.assertEqual(frames.describe(frames.scan(1, 3, b"", b"", 1)), "page of version 3")
+        self.assertEqual(frames.describe(frames.open_cursor(1, 3, b"a", b"")), "scan of version 3")
+        self.assertEqual(frames.describe(frames.next_pairs(1, 2 ** 63, 1)), f"next pairs of cursor {2 ** 63}")
+        self.assertEqual(frames.describe(frames.close_cursor(1, 3)), "close cursor 3")
         self.assertEqual(frames.describe(frames.stat(1)), "stat")
-        for body in (b"", b"\0\0\0\0\x01", b"\0\0\0\0\x0b"):
+        for body in (b"", b"\0\0\0\0\x01", b"\0\0\0\0\x08\0\0\0\0", b"\0\0\0\0\x0b"):
             self.assertEqual(frames.describe(len(body).to_bytes(4, "big") + body), "a frame that is no command")
 
-    def test_the_next_bound_leaves_out_no_key(self) -> None:
-        self.assertEqual(frames.after(b"a"), b"a\0")
-        self.assertEqual(frames.after(b"\xff" * 254), b"\xff" * 254 + b"\0")
-        self.assertEqual(frames.after(b"a" * 255), b"a" * 254 + b"b")
-        self.assertEqual(frames.after(b"a" + b"\xff" * 254), b"b")
-        self.assertIsNone(frames.after(b"\xff" * 255))
+    def test_the_end_of_a_prefix_leaves_out_no_key(self) -> None:
         self.assertEqual(frames.prefix_end(b"a/"), b"a0")
         self.assertIsNone(frames.prefix_end(b"\xff"))
         self.assertIsNone(frames.prefix_end(b""))
