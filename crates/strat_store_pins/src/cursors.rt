@@ -31,7 +31,8 @@ pub fn one_cursor_moves()
 
 /// A cursor is known by its number, and closing it leaves the others.
 pub fn one_cursor_is_closed()
-    ensures ok { without_cursor 1 (cursor 1 None [] ∷ cursor 2 None [] ∷ []) ≡ cursor 2 None [] ∷ [] }
+    ensures ok { without_cursor 1 (cursor 1 None [] ∷ cursor 2 None [] ∷ [])
+        ≡ cursor 2 None [] ∷ [] }
     ensures found { (is_opened 2 (cursor 1 None [] ∷ cursor 2 None [] ∷ []) ≡ true)
         × (is_opened 3 (cursor 1 None [] ∷ cursor 2 None [] ∷ []) ≡ false) }
     ensures none { is_opened 1 (without_cursor 1 (cursor 1 None [] ∷ cursor 2 None [] ∷ []))
