@@ -10,11 +10,13 @@ use Rattle.strat_base.specs.Change as change
 use Rattle.strat_base.specs.Tree.{is_known}
 use Rattle.strat_array.specs.Kept.{Blocks}
 use Rattle.strat_crash.specs.Image.{Image}
-use Rattle.strat_crash.specs.Moments.{DiskView, Since, OnlyReads}
+use Rattle.strat_crash.specs.Moments.{DiskView, Exposes, Since, OnlyReads}
 use Rattle.strat_crash.specs.Trail.{Trail}
 use Rattle.strat_crash.proofs.MomentLemmas.{now_since_start}
 use Rattle.strat_crash.proofs.TrailLemmas.{trail_of_one, trail_of_two}
 use Rattle.strat_cursor.proofs.TableRows.{rows_length}
+use Rattle.strat_cursor.specs.Cursors.{is_opened}
+use Rattle.strat_format.specs.Arrays.{block_on}
 use Rattle.strat_cursor.specs.Looking.{AreOfOldArrays, LooksThrough, arrays_there}
 use Rattle.strat_format.specs.Damage.{Read}
 use Rattle.strat_model.specs.declared.replies.Reply.{Reply}
@@ -28,7 +30,7 @@ use Rattle.strat_array.specs.Told.{TheirPairs}
 use Rattle.strat_model.specs.Answer.{Answer, plain, accepts, as_told, refusal}
 use Rattle.strat_model.specs.Pairs.{range, value_of}
 use Rattle.strat_model.specs.Request.{Request, Put, Delete, Get, Clone, Scan, Info, OpenCursor, NextPairs, CloseCursor, Stat}
-use Rattle.strat_model.specs.Run.{Position, is_change, reaches_disk, position_after, fill_after}
+use Rattle.strat_model.specs.Run.{Position, is_change, reaches_disk, takes_memory, position_after, fill_after}
 use Rattle.strat_model.specs.Spelling.{is_bound, is_limit, has_lawful_sizes}
 use Rattle.strat_model.specs.Step.{Outcome, advanced, step, replies_with, refuses, has_row, pairs_at, found, page}
 use Rattle.strat_model.specs.Table.{Cursor, Table, bare}
@@ -42,9 +44,10 @@ use Rattle.strat_standing.specs.Standing.{LeavesContent, ShowsTable}
 use Rattle.strat_store.proofs.MemoryLawLemmas.{version_told, store_told_with, version_unknown}
 use Rattle.strat_store.proofs.AppliedLemmas.{next_later}
 use Rattle.strat_store.proofs.CursoringLemmas.{looks_wider, stands_now, stands_still, still_going}
-use Rattle.strat_store.specs.Applying.{IsLookedUp, IsUntouched, FollowsStep, TellsFaultOf, change_wanted, is_fault, ran_short, table_left}
+use Rattle.strat_store.specs.Applying.{IsLookedUp, IsUntouched, FailsAsTold, FollowsStep, TellsTroubleOf, change_wanted, refusal_of_look, is_fault, ran_short, table_left}
 use Rattle.strat_store.specs.Cursoring.{IsAppliedAt, is_of_cursor}
-use Rattle.strat_store.specs.Ranging.{TellsFrom, TellsOfVersion}
+use Rattle.strat_store.specs.Getting.{MayTellOfKey}
+use Rattle.strat_store.specs.Ranging.{MayTellOfRange, TellsFrom, TellsOfVersion}
 use Rattle.strat_store.specs.Held.{Held, arrays_held, position_at, table_at, IsConsistent, StandsAt, StandsWith}
 use Rattle.strat_store.specs.Memory.{Memory, info_told, stat_told, IsMemoryOf}
 use Rattle.strat_store.specs.Settling.{LeavesPublished}
@@ -96,18 +99,90 @@ reaches_wanted (Delete v key) c wanted = refl
 reaches_wanted (Clone v) c wanted = refl
 reaches_wanted _ c wanted = absurd (cc)
 
-pub tells_of_change : (before : DiskView) (r : Request) (c : Change) (told : Reply) → change_wanted r ≡ Some c → TellsFaultOf before r told
-tells_of_change before r c told wanted = record {
-  reached = λ failed. reaches_wanted r c wanted;
-  none = λ none. absurd (let x : Some c ≡ None = sym wanted ∙ none in cc);
+-- where no fault is told of no count rises
+pub fails_none : (faults : ℕ) (told : Reply) → is_fault told ≡ false → FailsAsTold faults faults told
+fails_none faults told calm = record {
+  later = omega arith;
+  rose = λ failed. absurd (true≢false (sym (ap is_fault failed) ∙ calm));
+  same = λ other. refl;
 }
 
--- a reply that tells no fault
-pub tells_calm : (before : DiskView) (r : Request) (told : Reply) → is_fault told ≡ false → TellsFaultOf before r told
-tells_calm before r told calm = record {
-  reached = λ failed. absurd (true≢false (sym (ap is_fault failed) ∙ calm));
-  none = λ none b torn. absurd (true≢false (sym (ap is_fault torn) ∙ calm));
+-- and nothing in memory but what it would be refused for keeps it from that
+unrefused : (m : Memory) (r : Request) (c : Change) → change_wanted r ≡ Some c → refusal_of_look m r ≡ None
+unrefused m (Put v key value) c wanted = refl
+unrefused m (Delete v key) c wanted = refl
+unrefused m (Clone v) c wanted = refl
+unrefused m _ c wanted = absurd (cc)
+
+takes_wanted : (r : Request) (c : Change) → change_wanted r ≡ Some c → takes_memory r ≡ true
+takes_wanted (Put v key value) c wanted = refl
+takes_wanted (Delete v key) c wanted = refl
+takes_wanted (Clone v) c wanted = refl
+takes_wanted _ c wanted = absurd (cc)
+
+pub tells_of_change : (before : DiskView) (old : Held) (r : Request) (c : Change) (told : Reply) → change_wanted r ≡ Some c → ((b : ℕ) → told ≡ reply.Refused (why.Damaged b) → old.log.mem ≤ length old.log.list)
+    → (told ≡ reply.Refused why.NoMemory → old.log.mem ≤ length old.log.list) → TellsTroubleOf before old r told
+tells_of_change before old r c told wanted damaged short = record {
+  reached = λ fault. reaches_wanted r c wanted;
+  unrefused = λ fault. unrefused old.memory r c wanted;
+  none = λ none. absurd (let x : Some c ≡ None = sym wanted ∙ none in cc);
+  full = λ change b bad. damaged b bad;
+  short = λ none. (takes_wanted r c wanted, λ change. short none);
 }
+
+-- a reply that tells no fault, and want of memory only of a command that takes some and is no change
+pub tells_calm : (before : DiskView) (old : Held) (r : Request) (told : Reply) → is_fault told ≡ false → (told ≡ reply.Refused why.NoMemory → (takes_memory r ≡ true) × (is_change r ≡ false)) → TellsTroubleOf before old r told
+tells_calm before old r told calm short = record {
+  reached = λ fault. absurd (true≢false (sym fault ∙ calm));
+  unrefused = λ fault. absurd (true≢false (sym fault ∙ calm));
+  none = λ none b torn. absurd (true≢false (sym (ap is_fault torn) ∙ calm));
+  full = λ change b torn. absurd (true≢false (sym (ap is_fault torn) ∙ calm));
+  short = λ none. let one = short none in (one.0, λ change. absurd (true≢false (sym change ∙ one.1)));
+}
+
+-- a look-up that reaches the disk tells of a fault where memory does not refuse it, and never of want of memory
+pub tells_look : (before : DiskView) (old : Held) (r : Request) (told other : Reply) → reaches_disk r ≡ true → is_change r ≡ false → is_fault other ≡ false → (told ≡ reply.Refused why.NoMemory → ⊥)
+    → ((q : Refusal) → refusal_of_look old.memory r ≡ Some q → told ≡ other) → ((b : ℕ) → told ≡ reply.Refused (why.Damaged b) → (f : Image) → Exposes before f → block_on f b ≡ None) → TellsTroubleOf before old r told
+tells_look before old r told other reaches look calm short refused none = record {
+  reached = λ fault. reaches;
+  unrefused = λ fault. by (refusal_of_look old.memory r) refl fault;
+  none = λ _. none;
+  full = λ change b bad. absurd (true≢false (sym change ∙ look));
+  short = λ e. absurd (short e);
+}
+  where
+    by : (o : Option Refusal) → refusal_of_look old.memory r ≡ o → is_fault told ≡ true → refusal_of_look old.memory r ≡ None
+    by None is fault = is
+    by (Some q) is fault = absurd (true≢false (sym fault ∙ ap is_fault (refused q is) ∙ calm))
+
+-- what is told of a key, and of a range, is never want of memory
+pub key_short : (told : Reply) → MayTellOfKey told → told ≡ reply.Refused why.NoMemory → ⊥
+key_short told (inl is) short = let e : reply.Refused why.UnknownVersion ≡ reply.Refused why.NoMemory = sym is ∙ short in cc
+key_short told (inr (inl is)) short = let e : reply.Found ≡ reply.Refused why.NoMemory = sym is ∙ short in cc
+key_short told (inr (inr (inl is))) short = let e : reply.Absent ≡ reply.Refused why.NoMemory = sym is ∙ short in cc
+key_short told (inr (inr (inr (inl is)))) short = let e : reply.Refused why.DeviceFault ≡ reply.Refused why.NoMemory = sym is ∙ short in cc
+key_short told (inr (inr (inr (inr is)))) short = let e : reply.Refused (why.Damaged is.0) ≡ reply.Refused why.NoMemory = sym is.1 ∙ short in cc
+
+pub range_short : (told : Reply) → MayTellOfRange told → told ≡ reply.Refused why.NoMemory → ⊥
+range_short told (inl is) short = let e : reply.Refused why.UnknownVersion ≡ reply.Refused why.NoMemory = sym is ∙ short in cc
+range_short told (inr (inl is)) short = let e : reply.Pairs is.0 ≡ reply.Refused why.NoMemory = sym is.1 ∙ short in cc
+range_short told (inr (inr (inl is))) short = let e : reply.Refused why.DeviceFault ≡ reply.Refused why.NoMemory = sym is ∙ short in cc
+range_short told (inr (inr (inr is))) short = let e : reply.Refused (why.Damaged is.0) ≡ reply.Refused why.NoMemory = sym is.1 ∙ short in cc
+
+-- a version that is refused is not there, and a cursor that is refused is not open
+pub version_refused : (m : Memory) (v : ℕ) (q : Refusal) → (if is_known m.parents v then None else Some why.UnknownVersion) ≡ Some q → is_known m.parents v ≡ false
+version_refused m v q e = by (is_known m.parents v) refl e
+  where
+    by : (b : Bool) → is_known m.parents v ≡ b → (if b then None else Some why.UnknownVersion) ≡ Some q → is_known m.parents v ≡ false
+    by true on e = absurd (cc)
+    by false off e = off
+
+pub cursor_refused : (m : Memory) (n : ℕ) (q : Refusal) → (if is_opened n m.cursors.opened then None else Some why.UnknownCursor) ≡ Some q → is_opened n m.cursors.opened ≡ false
+cursor_refused m n q e = by (is_opened n m.cursors.opened) refl e
+  where
+    by : (b : Bool) → is_opened n m.cursors.opened ≡ b → (if b then None else Some why.UnknownCursor) ≡ Some q → is_opened n m.cursors.opened ≡ false
+    by true on e = absurd (cc)
+    by false off e = off
 
 -- as what is told of a version
 pub info_calm : (m : Memory) (version : ℕ) (told : Reply) → (is_known m.parents version ≡ true → told ≡ info_told m version) → (is_known m.parents version ≡ false → told ≡ reply.Refused why.UnknownVersion)
@@ -117,6 +192,18 @@ info_calm m version told known unknown = by_test (is_known m.parents version) re
     by_test : (b : Bool) → is_known m.parents version ≡ b → is_fault told ≡ false
     by_test true is = ap is_fault (known is)
     by_test false is = ap is_fault (unknown is)
+
+-- nor is want of memory told of a version, or of the store
+pub info_short : (m : Memory) (version : ℕ) (told : Reply) → (is_known m.parents version ≡ true → told ≡ info_told m version) → (is_known m.parents version ≡ false → told ≡ reply.Refused why.UnknownVersion)
+    → told ≡ reply.Refused why.NoMemory → ⊥
+info_short m version told known unknown short = by_test (is_known m.parents version) refl
+  where
+    by_test : (b : Bool) → is_known m.parents version ≡ b → ⊥
+    by_test true is = let e : info_told m version ≡ reply.Refused why.NoMemory = sym (known is) ∙ short in cc
+    by_test false is = let e : reply.Refused why.UnknownVersion ≡ reply.Refused why.NoMemory = sym (unknown is) ∙ short in cc
+
+pub stat_short : (m : Memory) → stat_told m ≡ reply.Refused why.NoMemory → ⊥
+stat_short m short = cc
 
 -- so it is told
 pub info_says : (m : Memory) (version : ℕ) (told : Reply) → (is_known m.parents version ≡ true → told ≡ info_told m version) → (is_known m.parents version ≡ false → told ≡ reply.Refused why.UnknownVersion)
@@ -374,3 +461,16 @@ old_after before now request told {s = s} {new = new} whole old same leaves = by
     by (Some c) wanted k x there =
         let here = subst (λ (d : Blocks). Contains d.entries (k, x)) (same.cached c wanted) there in
         omega (arith, old k x here, later)
+
+-- what is told is the same whether a store is spent or not
+pub spent_tells : (f : Image) (s : Held) (b : Bool) (r : Request) (answer : Answer) → TellsFrom f s r answer → TellsFrom f (record s { spent = b }) r answer
+spent_tells f s b (Get v key) answer tells = (tells.0, λ is. let told = tells.1 is in (told.0, λ reads. told.1 (record { ordered = reads.ordered; cached = reads.cached })))
+spent_tells f s b (Scan v lo hi limit) answer tells = (tells.0, λ is. let told = tells.1 is in (told.0, λ reads. told.1 (record { ordered = reads.ordered; cached = reads.cached })))
+spent_tells f s b (Info v) answer tells = tells
+spent_tells f s b (OpenCursor v lo hi) answer tells = tells
+spent_tells f s b (NextPairs n limit) answer tells = tells
+spent_tells f s b (CloseCursor n) answer tells = tells
+spent_tells f s b Stat answer tells = tells
+spent_tells f s b (Put v key value) answer tells = tt
+spent_tells f s b (Delete v key) answer tells = tt
+spent_tells f s b (Clone v) answer tells = tt

@@ -97,7 +97,7 @@ cursors_stay m (change.Clone v) = refl
 
 kept_still : (sb : Super) (next : ℕ) (levels : List (Option LevelDesc)) (m k : Memory) → k.cursors ≡ m.cursors → AreKept sb next levels m → AreKept sb next levels k
 kept_still sb next levels m k same kept =
-    let here : AreKept sb next levels (record k { cursors = m.cursors }) = record { named = kept.named; ids = kept.ids; below = kept.below; behind = kept.behind } in
+    let here : AreKept sb next levels (record k { cursors = m.cursors }) = record { named = kept.named; needed = kept.needed; ids = kept.ids; below = kept.below; behind = kept.behind } in
     subst (λ (cs : HeldCursors). AreKept sb next levels (record k { cursors = cs })) (sym same) here
 
 -- the cursors of a table stay while the versions do

@@ -474,10 +474,12 @@ pub cursor_told : (f : Image) (v : DiskView) (s : Held) (n limit : ℕ) (out : T
     → (IsErrOf r next_fault.UnknownCursor ↔ (is_opened n s.memory.cursors.opened ≡ false)) → OnErr r (out ≡ []) → TellsOfCursor f s n limit (as_told (reply_of_next r) out)
 cursor_told f v s n limit out (Ok more) exposed calm tells unknown none = (
   λ off. absurd (let e : ◌≡◌ {A = Result Bool NextFault} (Ok more) (Err next_fault.UnknownCursor) = unknown.1 off in cc),
+  λ on. (more, refl),
   λ c pairs of num may reads. page_told (pairs_left pairs c) limit out more (tells c of num f s.chained.manifest.next_array pairs exposed may reads).page,
 )
 cursor_told f v s n limit out (Err next_fault.UnknownCursor) exposed calm tells unknown none = (
   λ off. ap (as_told (reply.Refused why.UnknownCursor)) none,
+  λ on. absurd (true≢false (sym on ∙ unknown.0 refl)),
   λ c pairs of num may reads.
       let there : is_opened n s.memory.cursors.opened ≡ true =
       any_from (λ (k : HeldCursor). eqb k.number n) c s.memory.cursors.opened (contained_among s.memory.cursors.opened c of) (eq-eqb c.number n num) in
@@ -534,6 +536,16 @@ close_calm true = refl
 close_calm false = refl
 
 -- nor that a value was found
+pub close_short : (there : Bool) → reply_of_close there ≢ reply.Refused why.NoMemory
+close_short true = λ e. cc
+close_short false = λ e. cc
+
+pub page_short : (r : Result Bool NextFault) → reply_of_next r ≢ reply.Refused why.NoMemory
+page_short (Ok more) = λ e. cc
+page_short (Err next_fault.UnknownCursor) = λ e. cc
+page_short (Err next_fault.Device) = λ e. cc
+page_short (Err (next_fault.Damaged b)) = λ e. cc
+
 pub start_found : (r : Result ℕ CursorFault) → reply_of_start r ≢ reply.Found
 start_found (Ok k) = λ e. cc
 start_found (Err start_fault.CursorLimit) = λ e. cc

@@ -12,7 +12,7 @@ use Rattle.strat_base.specs.declared.descriptors.LevelDesc.{LevelDesc}
 use Rattle.strat_cursor.proofs.HoldingLemmas.{names_moved, names_without}
 use Rattle.strat_cursor.proofs.PinLemmas.{asked_there}
 use Rattle.strat_cursor.proofs.RetiredLemmas.{closed_from, closed_ids, closed_keeps_named}
-use Rattle.strat_cursor.specs.Cursors.{arrays_named, closed_at, moved_at}
+use Rattle.strat_cursor.specs.Cursors.{are_named, arrays_named, closed_at, moved_at, without_cursor}
 use Rattle.strat_cursor.specs.Held.{HeldCursor, HeldCursors, no_cursors}
 use Rattle.strat_cursor.specs.Looking.{HaveOwnIds, arrays_there}
 use Rattle.strat_cursor.specs.Pins.{arrays_asked}
@@ -31,6 +31,7 @@ use Rattle.strat_model.specs.Request.{Request, OpenCursor, NextPairs, CloseCurso
 use Rattle.strat_model.specs.declared.replies.Reply.{Reply}
 use Rattle.strat_model.specs.declared.replies.Reply.TheVariants as reply
 use Rattle.strat_standing.proofs.ListLemmas.{among_contained, contained_among}
+use Rattle.strat_store.proofs.NeededLemmas.{needed_still, needed_those}
 use Rattle.strat_store.proofs.WholeLemmas.{array_lawful}
 use Rattle.strat_store.specs.Cursoring.{cursors_after, paged_at}
 use Rattle.strat_store.specs.Held.{AreKept, ArePlaced, IsConsistent, arrays_held}
@@ -59,6 +60,7 @@ module _ (sb : Super) (chained : Chained) (levels : List (Option LevelDesc)) (pl
       let all : arrays_held m levels ≡ arrays_there levels = ap (λ (c : HeldCursors). arrays_there levels ++ c.retired) none ∙ append-nil (arrays_there levels) in
       record {
         named = λ a of. absurd (contained_among [] a (subst (λ (c : HeldCursors). Contains (arrays_named c.opened) a) none of));
+        needed = ap (λ (c : HeldCursors). are_named c.opened c.retired) none;
         ids = subst HaveOwnIds (sym all) own_numbers;
         below = λ a of. low_numbers a (subst (λ (rs : List ArrayDesc). Contains rs a) all of);
         behind = λ a b of. absurd (contained_among [] a (subst (λ (c : HeldCursors). Contains c.retired a) none of));
@@ -79,6 +81,10 @@ module _ (sb : Super) (next : ℕ) (levels : List (Option LevelDesc)) (m : Memor
               Contains-append_left (arrays_there levels) m.cursors.retired a
               (among_contained (arrays_there levels) a (asked_there m.parents v levels a (subst (Among a) (append-nil asked) new)))
         ];
+    needed = needed_still m.cursors.opened (m.cursors.opened ++ cursor_from m levels v lo hi ∷ []) m.cursors.retired
+        (λ a of.
+        subst (λ (rs : List ArrayDesc). Contains rs a) (sym (flat_map-append (λ (c : HeldCursor). c.arrays) m.cursors.opened (cursor_from m levels v lo hi ∷ [])))
+        (Contains-append_left (arrays_named m.cursors.opened) (arrays_asked m.parents levels v ++ []) a of)) kept.needed;
     ids = kept.ids;
     below = kept.below;
     behind = kept.behind;
@@ -87,6 +93,8 @@ module _ (sb : Super) (next : ℕ) (levels : List (Option LevelDesc)) (m : Memor
   pub kept_paged : (n : ℕ) (more : Bool) (told : Pairs) → AreKept sb next levels (record m { cursors = record m.cursors { opened = moved_at n more told m.cursors.opened } })
   kept_paged n more told = record {
     named = λ a of. kept.named a (subst (λ (rs : List ArrayDesc). Contains rs a) (names_moved n more told m.cursors.opened) of);
+    needed = needed_still m.cursors.opened (moved_at n more told m.cursors.opened) m.cursors.retired
+        (λ a of. subst (λ (rs : List ArrayDesc). Contains rs a) (sym (names_moved n more told m.cursors.opened)) of) kept.needed;
     ids = kept.ids;
     below = kept.below;
     behind = kept.behind;
@@ -102,6 +110,7 @@ module _ (sb : Super) (next : ℕ) (levels : List (Option LevelDesc)) (m : Memor
               among_contained (arrays_there levels ++ left) a
               (among_right (arrays_there levels) left a (contained_among left a (closed_keeps_named m.cursors n a of (among_contained m.cursors.retired a retired))))
         ];
+    needed = needed_those (without_cursor n m.cursors.opened) m.cursors.retired;
     ids = closed_ids m.cursors n (arrays_there levels) kept.ids;
     below = λ a of. kept.below a (still a of);
     behind = λ a b of. kept.behind a b (closed_from m.cursors n a of);

@@ -11,7 +11,7 @@ use Rattle.strat_base.specs.declared.descriptors.LevelDesc.{LevelDesc}
 use Rattle.strat_crash.specs.Blocks.{AgreeOn, KeepsTaken}
 use Rattle.strat_crash.specs.Image.{Image}
 use Rattle.strat_cursor.proofs.RetiredLemmas.{named_id, retired_from, retired_ids, retired_kept, retired_rest, retired_there}
-use Rattle.strat_cursor.specs.Cursors.{arrays_named, is_array_named, retired_all}
+use Rattle.strat_cursor.specs.Cursors.{are_named, arrays_named, is_array_named, retired_all}
 use Rattle.strat_cursor.specs.Held.{HeldCursor, HeldCursors}
 use Rattle.strat_cursor.specs.Looking.{arrays_there}
 use Rattle.strat_format.proofs.ManifestLemmas.{pass_at}
@@ -35,6 +35,7 @@ use Rattle.strat_store.proofs.IdLemmas.{ids}
 use Rattle.strat_store.proofs.NextContentsLemmas.{numbers_rise, parted}
 use Rattle.strat_store.proofs.RetiringLemmas.{distinct_parts}
 use Rattle.strat_store.proofs.SettlingLemmas.{listed_arrays, named_there}
+use Rattle.strat_store.proofs.NeededLemmas.{needed_retired}
 use Rattle.strat_store.proofs.WholeLemmas.{array_lawful}
 use Rattle.strat_store.specs.Held.{Held, AreKept, ArePlaced, IsConsistent, arrays_held, contents_held}
 use Rattle.strat_store.specs.Memory.{renewed}
@@ -226,6 +227,7 @@ module _ (s : Held) (target : ℕ) (sb : Super) (chained : Chained) (levels : Li
           ]
           | inr before ↦ among_right (arrays_there levels) left a (contained_among left a (retired_kept c taken a (among_contained c.retired a before)))
         ]);
+    needed = subst (λ (cs : List HeldCursor). are_named cs (retired_all taken c).retired ≡ true) (sym (retired_rest c taken).0) (needed_retired taken c whole.kept.needed);
     ids = ap is_distinct (map-append (λ (a : ArrayDesc). a.id) (arrays_there levels) left)
         ∙ distinct_append (ids (arrays_there levels)) (ids left) next_own own_left (λ v one two.
         let x = map_among (λ (a : ArrayDesc). a.id) (arrays_there levels) v one in

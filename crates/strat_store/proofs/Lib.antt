@@ -8,6 +8,7 @@ pub mod IdLemmas
 pub mod LookLawLemmas
 pub mod GettingLemmas
 pub mod KeepingLemmas
+pub mod NeededLemmas
 pub mod CursoringLemmas
 pub mod QueryLemmas
 pub mod AppliedLemmas

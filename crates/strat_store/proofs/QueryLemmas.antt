@@ -43,7 +43,7 @@ pub query_leaves : (r new : Recovered) (cached later : Blocks) (request : Reques
     → new ≡ record r { memory = record r.memory { cursors = cursors_after r.memory r.published.levels request answer } }
     → LeavesCursors (held_of r cached) request answer (record (held_of new later) { spent = b })
 query_leaves r new cached later request answer b none is = record {
-  looked = λ _. ap (λ (z : Recovered). z.memory) is;
+  looked = λ _. ap (λ (z : Recovered). record (held_of z later) { spent = b }) is;
   changed = λ c wanted. absurd (let x : ◌≡◌ {A = Option Change} None (Some c) = sym none ∙ wanted in cc);
   retired = λ a of.
       Contains-append_right (arrays_there r.published.levels) r.memory.cursors.retired a

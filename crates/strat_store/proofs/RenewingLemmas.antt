@@ -31,21 +31,25 @@ use Rattle.strat_store.specs.declared.recovering.Recovered.{Recovered}
 use Rattle.strat_store.proofs.ChangingLemmas.{changes_it, state_held, acceptable, breaks}
 use Rattle.strat_store.proofs.MemoryLawLemmas.{change_refused}
 
--- a change that is refused tells of no fault
-calm_three : (k f l : Bool) (a b c r : Refusal) → tells_fault a ≡ false → tells_fault b ≡ false → tells_fault c ≡ false
-    → (if not k then Some a else if f then Some b else if l then Some c else None) ≡ Some r → tells_fault r ≡ false
-calm_three false f l a b c r x y z e = let same : a ≡ r = cc in ap tells_fault (sym same) ∙ x
-calm_three true true l a b c r x y z e = let same : b ≡ r = cc in ap tells_fault (sym same) ∙ y
-calm_three true false true a b c r x y z e = let same : c ≡ r = cc in ap tells_fault (sym same) ∙ z
-calm_three true false false a b c r x y z e = absurd (cc)
+-- one of three refusals, of which each has this
+of_three : (P : Refusal → Type 0) (k f l : Bool) (a b c r : Refusal) → P a → P b → P c → (if not k then Some a else if f then Some b else if l then Some c else None) ≡ Some r → P r
+of_three P false f l a b c r x y z e = let same : a ≡ r = cc in subst P same x
+of_three P true true l a b c r x y z e = let same : b ≡ r = cc in subst P same y
+of_three P true false true a b c r x y z e = let same : c ≡ r = cc in subst P same z
+of_three P true false false a b c r x y z e = absurd (cc)
 
+of_change : (P : Refusal → Type 0) (m : Memory) (c : Change) (q : Refusal) → P why.UnknownVersion → P why.Frozen → P why.VersionLimit → P why.ChangeLimit → refusal_of_change m c ≡ Some q → P q
+of_change P m (change.Put v key value) q u f vl cl e = of_three P (is_known m.parents v) (has_child m.parents v) (eqb m.changes m.changes_max) why.UnknownVersion why.Frozen why.ChangeLimit q u f cl e
+of_change P m (change.Delete v key) q u f vl cl e = of_three P (is_known m.parents v) (has_child m.parents v) (eqb m.changes m.changes_max) why.UnknownVersion why.Frozen why.ChangeLimit q u f cl e
+of_change P m (change.Clone v) q u f vl cl e = of_three P (is_known m.parents v) (eqb (length m.parents) m.versions_max) (eqb m.changes m.changes_max) why.UnknownVersion why.VersionLimit why.ChangeLimit q u vl cl e
+
+-- a change that is refused tells of no fault
 refused_calm : (m : Memory) (c : Change) (q : Refusal) → refusal_of_change m c ≡ Some q → tells_fault q ≡ false
-refused_calm m (change.Put v key value) q e =
-    calm_three (is_known m.parents v) (has_child m.parents v) (eqb m.changes m.changes_max) why.UnknownVersion why.Frozen why.ChangeLimit q refl refl refl e
-refused_calm m (change.Delete v key) q e =
-    calm_three (is_known m.parents v) (has_child m.parents v) (eqb m.changes m.changes_max) why.UnknownVersion why.Frozen why.ChangeLimit q refl refl refl e
-refused_calm m (change.Clone v) q e =
-    calm_three (is_known m.parents v) (eqb (length m.parents) m.versions_max) (eqb m.changes m.changes_max) why.UnknownVersion why.VersionLimit why.ChangeLimit q refl refl refl e
+refused_calm m c q e = of_change (λ (r : Refusal). tells_fault r ≡ false) m c q refl refl refl refl e
+
+-- nor of want of memory
+pub refused_not_short : (m : Memory) (c : Change) (q : Refusal) → refusal_of_change m c ≡ Some q → reply.Refused q ≡ reply.Refused why.NoMemory → ⊥
+refused_not_short m c q e = of_change (λ (r : Refusal). reply.Refused r ≡ reply.Refused why.NoMemory → ⊥) m c q (λ short. cc) (λ short. cc) (λ short. cc) (λ short. cc) e
 
 -- and changes nothing
 module _ (r : Recovered) (cached : Blocks) (kept : IsConsistent (held_of r cached)) (v : DiskView) (x : Contents) (stands : StandsWith v (held_of r cached) x)

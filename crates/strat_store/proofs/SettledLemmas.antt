@@ -76,6 +76,7 @@ consistent_ready s o n m is whole =
     } in
     let kept : AreKept s.sb s.chained.manifest.next_array s.levels (prepared s.memory o n) = record {
       named = whole.kept.named;
+      needed = whole.kept.needed;
       ids = whole.kept.ids;
       below = whole.kept.below;
       behind = whole.kept.behind;

@@ -6,6 +6,7 @@ use Rattle.strat_crash.specs.Moments.{DiskView, Exposes, OnlyReads}
 use Rattle.strat_crash.specs.Trail.{Trail}
 use Rattle.strat_base.specs.Change.{Change}
 use Rattle.strat_base.specs.Change as change
+use Rattle.strat_base.specs.Tree.{is_known}
 use Rattle.strat_base.specs.declared.descriptors.LevelDesc.{LevelDesc}
 use Rattle.strat_base.specs.declared.failures.Trouble.{Trouble}
 use Rattle.strat_base.specs.declared.failures.Trouble.TheVariants as trouble
@@ -15,8 +16,8 @@ use Rattle.strat_model.specs.declared.replies.Refusal.TheVariants as why
 use Rattle.strat_model.specs.declared.replies.Reply.{Reply}
 use Rattle.strat_model.specs.declared.replies.Reply.TheVariants as reply
 use Rattle.strat_model.specs.Answer.{Answer, refusal, accepts}
-use Rattle.strat_model.specs.Request.{Request, Put, Delete, Clone}
-use Rattle.strat_model.specs.Run.{position_after, reaches_disk, is_change}
+use Rattle.strat_model.specs.Request.{Request, Put, Delete, Get, Clone, Scan, NextPairs}
+use Rattle.strat_model.specs.Run.{position_after, reaches_disk, is_change, takes_memory}
 use Rattle.strat_model.specs.Step.{step}
 use Rattle.strat_model.specs.Table.{Table, bare}
 use Rattle.strat_promote.specs.Job.{IsBadInput, blocks_listed}
@@ -24,6 +25,7 @@ use Rattle.strat_recovery.specs.StateTable.{table_of}
 use Rattle.strat_standing.specs.Contents.{Contents, contents_state}
 use Rattle.strat_standing.specs.Standing.{ShowsTable}
 use Rattle.strat_store.specs.Held.{Held, StandsWith, arrays_held, position_with}
+use Rattle.strat_cursor.specs.Cursors.{is_opened}
 use Rattle.strat_cursor.specs.Looking.{LooksThrough, arrays_there}
 use Rattle.strat_store.specs.Memory.{Memory, refusal_of_change}
 use Rattle.strat_store.specs.Promoting.{HaveFewLeads}
@@ -116,12 +118,30 @@ pub record FailsAsTold (before now : ℕ) (told : Reply) : Type 0 where
   pub rose : told ≡ reply.Refused why.DeviceFault → Rose before now
   pub same : told ≢ reply.Refused why.DeviceFault → now ≡ before
 
--- a fault is told of a command alone that reaches the disk, and where it asks for no change a damaged block has no entries
--- in what is exposed
-pub record TellsFaultOf (before : DiskView) (request : Request) (told : Reply) : Type 0 where
-  pub reached : told ≡ reply.Refused why.DeviceFault → reaches_disk request ≡ true
+-- why a command that asks for no change is refused for what is in memory, if it is: there is no such version, or no cursor
+-- of the number
+abbrev pub refusal_of_look : Memory → Request → Option Refusal
+refusal_of_look m (Get version key) =
+    if is_known m.parents version then None else Some why.UnknownVersion
+refusal_of_look m (Scan version lo hi limit) =
+    if is_known m.parents version then None else Some why.UnknownVersion
+refusal_of_look m (NextPairs number limit) =
+    if is_opened number m.cursors.opened then None else Some why.UnknownCursor
+refusal_of_look m _ = None
+
+-- a fault is told of a command alone that reaches the disk and is not refused for what is in memory; where that asks for no
+-- change a damaged block has no entries in what is exposed, and where it is a change the journal was full. Want of memory is
+-- told of an opening of a cursor, or of a change at a full journal
+pub record TellsTroubleOf (before : DiskView) (old : Held) (request : Request) (told : Reply)
+    : Type 0 where
+  pub reached : is_fault told ≡ true → reaches_disk request ≡ true
+  pub unrefused : is_fault told ≡ true → refusal_of_look old.memory request ≡ None
   pub none : change_wanted request ≡ None → (b : ℕ) → told ≡ reply.Refused (why.Damaged b)
       → (f : Image) → Exposes before f → block_on f b ≡ None
+  pub full : is_change request ≡ true → (b : ℕ) → told ≡ reply.Refused (why.Damaged b)
+      → old.log.mem ≤ length old.log.list
+  pub short : told ≡ reply.Refused why.NoMemory → (takes_memory request ≡ true)
+      × (is_change request ≡ true → old.log.mem ≤ length old.log.list)
 
 -- a block is one of these levels' arrays, or of one that is kept for a cursor, and where a content is exposed it is bad:
 -- it holds no entries, or in a level none that come after those before it
@@ -138,7 +158,7 @@ IsLookedUp now new x request answer =
     ⊎ ((answer ≡ refusal why.DeviceFault) × (reaches_disk request ≡ true)
     × (accepts (step (table_of (contents_state x)) request).answer.reply ≡ true))
 
--- a command that asks for no change leaves the disk as it was, and a store but for blocks that it cached as they
+-- a command that asks for no change leaves the disk as it was, and the cache but for blocks that it adds as they
 -- stand there; a change that is refused leaves both as they were, no change caches a block or lets go of one, and one with any
 -- reply but those after which a store may have written leaves the disk as it was
 pub record IsUntouched (before now : DiskView) (request : Request) (old : Held) (told : Reply)

@@ -64,12 +64,16 @@ cursors_after m levels (CloseCursor number) answer =
     if accepts answer.reply then closed_at number m.cursors else m.cursors
 cursors_after m levels _ answer = m.cursors
 
--- what a command leaves of a store's cursors: one that asks for no change leaves memory as it was but for them, and a change
--- leaves them, or they are those that a publication left. No array is kept for them that was not held before
+-- what a command leaves of a store's cursors: one that asks for no change leaves all as it was but for them and for blocks that
+-- are cached, and a change leaves them, or they are those that a publication left. No array is kept for them that was not held
+-- before
 pub record LeavesCursors (old : Held) (request : Request) (answer : Answer) (new : Held)
     : Type 0 where
-  pub looked : change_wanted request ≡ None → new.memory
-      ≡ record old.memory { cursors = cursors_after old.memory old.levels request answer }
+  pub looked : change_wanted request ≡ None → new ≡ record old {
+    memory = record old.memory { cursors = cursors_after old.memory old.levels request answer };
+    cached = new.cached;
+    spent = new.spent;
+  }
   pub changed : (c : Change) → change_wanted request ≡ Some c
       → KeepsCursors old new ⊎ HasPublished old new
   pub retired : (a : ArrayDesc) → Contains new.memory.cursors.retired a

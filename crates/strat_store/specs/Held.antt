@@ -24,7 +24,7 @@ use Rattle.strat_standing.specs.Contents.{Contents, contents_state}
 use Rattle.strat_standing.specs.Standing.{ContentsStand}
 use Rattle.strat_state.specs.Level.{Level}
 use Rattle.strat_state.specs.Sound.{are_accepted}
-use Rattle.strat_cursor.specs.Cursors.{MayGoOn, arrays_named}
+use Rattle.strat_cursor.specs.Cursors.{MayGoOn, are_named, arrays_named}
 use Rattle.strat_cursor.specs.Held.{HeldCursor, AreRowsOf}
 use Rattle.strat_cursor.specs.Looking.{AreCachedFrom, HaveOwnIds, levels_there, arrays_there}
 use Rattle.strat_store.specs.Memory.{Memory, IsMemoryOf, table_with}
@@ -76,12 +76,14 @@ pub record IsLogBehind (sb : Super) (log : Log) : Type 0 where
 abbrev pub arrays_held : Memory → List (Option LevelDesc) → List ArrayDesc
 arrays_held m levels = arrays_there levels ++ m.cursors.retired
 
--- what cursors name is there: each of their arrays is one of a level or is retired, no two of all these
--- have one number, each has one below the next, and retired ones lie behind the journal
+-- what cursors name is there: each of their arrays is one of a level or is retired, and each retired one is
+-- named by one of them; no two of all these have one number, each has one below the next, and retired ones
+-- lie behind the journal
 pub record AreKept (sb : Super) (next_array : ℕ) (levels : List (Option LevelDesc)) (m : Memory)
     : Type 0 where
   pub named : (a : ArrayDesc) → Contains (arrays_named m.cursors.opened) a
       → Contains (arrays_held m levels) a
+  pub needed : IsTrue (are_named m.cursors.opened m.cursors.retired)
   pub ids : HaveOwnIds (arrays_held m levels)
   pub below : (a : ArrayDesc) → Contains (arrays_held m levels) a → a.id < next_array
   pub behind : (a : ArrayDesc) (b : ℕ) → Contains m.cursors.retired a

@@ -9,7 +9,7 @@ use Rattle.strat_base.specs.declared.failures.Fault.TheVariants as fault
 use Rattle.strat_crash.specs.Image.{Image}
 use Rattle.strat_cursor.specs.Cursors.{MayGoOn, is_opened, pairs_left}
 use Rattle.strat_cursor.specs.Held.{HeldCursor, HeldCursors, IsMapHeld}
-use Rattle.strat_cursor.specs.Looking.{levels_there}
+use Rattle.strat_cursor.specs.Looking.{AreCachedAs, AreInOrder, arrays_there, levels_there}
 use Rattle.strat_model.specs.Answer.{Answer, plain, refusal}
 use Rattle.strat_model.specs.Kept.{IsMap}
 use Rattle.strat_model.specs.Pairs.{Pairs, value_of, range}
@@ -19,6 +19,7 @@ use Rattle.strat_model.specs.declared.replies.Refusal.TheVariants as why
 use Rattle.strat_model.specs.declared.replies.Reply.{Reply}
 use Rattle.strat_model.specs.declared.replies.Reply.TheVariants as reply
 use Rattle.strat_recovery.specs.Asked.{asked}
+use Rattle.strat_store.specs.Getting.{MayTellOfKey}
 use Rattle.strat_store.specs.Held.{Held}
 use Rattle.strat_store.specs.Memory.{Memory, info_told, stat_told}
 
@@ -55,23 +56,32 @@ TellsOfOpening c answer =
     × (length c.opened ≢ CURSORS_MAX
     → (answer ≡ plain (reply.Opened c.next)) ⊎ (answer ≡ refusal why.NoMemory))
 
--- the next pairs of an open cursor were told, as its lists and its arrays in an image have them
+-- a page of an open cursor was told: its next pairs, as its lists and its arrays in an image have them
 abbrev pub TellsOfCursor : Image → Held → ℕ → ℕ → Answer → Type 0
 TellsOfCursor f s number limit answer =
     (is_opened number s.memory.cursors.opened ≡ false → answer ≡ refusal why.UnknownCursor)
+    × (is_opened number s.memory.cursors.opened ≡ true
+    → (more : Bool) × (answer.reply ≡ reply.Pairs more))
     × ((c : HeldCursor) (pairs : Pairs) → Contains s.memory.cursors.opened c → c.number ≡ number
     → MayGoOn f s.chained.manifest.next_array c s.cached
     → IsMapHeld f s.memory.parents c pairs → answer ≡ page (pairs_left pairs c) limit)
 
--- a command that asks for no change was answered as what is in memory says, and the arrays as an image has them
+-- in an image the arrays of a store's levels have entries in order, and their cached blocks are as they stand there
+pub record AreReadAs (f : Image) (s : Held) : Type 0 where
+  pub ordered : AreInOrder f (arrays_there s.levels)
+  pub cached : AreCachedAs f (arrays_there s.levels) s.cached
+
+-- a command that asks for no change was answered as what is in memory says, and the arrays where they are read as an image
+-- has them
 abbrev pub TellsFrom : Image → Held → Request → Answer → Type 0
 TellsFrom f s (Get version key) answer = TellsOfVersion s.memory version answer
-    (answer ≡ found key (asked f s.memory.parents (s.memory.entries ∷ [])
-    (levels_there s.levels) version key))
+    (MayTellOfKey answer.reply × (AreReadAs f s
+    → answer ≡ found key (asked f s.memory.parents (s.memory.entries ∷ [])
+    (levels_there s.levels) version key)))
 TellsFrom f s (Scan version lo hi limit) answer = TellsOfVersion s.memory version answer
-    ((pairs : Pairs)
+    (MayTellOfRange answer.reply × (AreReadAs f s → (pairs : Pairs)
     → IsMapAsked f s.memory.parents s.memory.entries s.levels version pairs
-    → answer ≡ page (range pairs lo hi) limit)
+    → answer ≡ page (range pairs lo hi) limit))
 TellsFrom f s (Info version) answer =
     TellsOfVersion s.memory version answer (answer ≡ plain (info_told s.memory version))
 TellsFrom f s (OpenCursor version lo hi) answer =

@@ -191,10 +191,12 @@ pub(crate) fn change<D: Disk>(
     ensures err { (r : Refusal)
         → refusal_of_change held.old.memory (change_of change.now) ≡ Some r
         → (result ≡ reply.Refused r) × (held.new ≡ held.old) × (disk.new ≡ disk.old) }
-    ensures none { refusal_of_change held.old.memory (change_of change.now) ≡ None
-        → may_write result ≡ true }
+    ensures none { (refusal_of_change held.old.memory (change_of change.now) ≡ None
+        → may_write result ≡ true) × (result ≡ reply.Refused why.NoMemory
+        → held.old.journal.mem ≤ length held.old.journal.list) }
     ensures damaged { (b : ℕ) → result ≡ reply.Refused (why.Damaged b)
-        → IsDamagedIn (D.view disk.old).content held.old.memory held.old.published.levels b }
+        → IsDamagedIn (D.view disk.old).content held.old.memory held.old.published.levels b
+        × (held.old.journal.mem ≤ length held.old.journal.list) }
     ensures same { (held.new.sb.mem ≡ held.old.sb.mem) × (result ≢ reply.Found)
         × KeepsRows held.old.memory held.new.memory }
     ensures time { Passes (D.view disk.old) (D.view disk.new) }

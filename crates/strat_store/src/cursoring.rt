@@ -89,7 +89,7 @@ pub(crate) fn open_cursor(held: &mut Recovered, version: Version, lo: &[u8], hi:
 
 /// The next pairs of a cursor, at most `limit`, which are put into `out`, and whether others follow. Costs what
 /// `strat_cursor::scan` does, over the lists and arrays that the cursor holds on to, and takes no memory but for blocks that
-/// are cached. UnknownCursor: no cursor has the number, and nothing was read. DeviceFault: the disk counted a fault.
+/// are cached. UnknownCursor: no cursor has the number. DeviceFault: the disk counted a fault.
 /// Damaged: this block of one of these arrays is no block of entries.
 pub(crate) fn next_pairs<D: Disk>(
     held: &mut Recovered,
@@ -123,7 +123,9 @@ pub(crate) fn next_pairs<D: Disk>(
     ensures damaged { (b : ℕ) → result ≡ reply.Refused (why.Damaged b)
         → IsDamagedIn (D.view disk.old).content held.old.memory held.old.published.levels b
         × ((f : Image) → Exposes (D.view disk.old) f → block_on f b ≡ None) }
-    ensures len { result ≢ reply.Found }
+    ensures none { is_opened number held.old.memory.cursors.opened ≡ false
+        → result ≡ reply.Refused why.UnknownCursor }
+    ensures len { (result ≢ reply.Found) × (result ≢ reply.Refused why.NoMemory) }
 {
     let told = held
         .memory
@@ -144,7 +146,8 @@ pub(crate) fn close_cursor(held: &mut Recovered, number: u64) -> Reply
             (plain result);
       };
     } }
-    ensures same { (is_fault result ≡ false) × (result ≢ reply.Found) }
+    ensures same { (is_fault result ≡ false) × (result ≢ reply.Found)
+        × (result ≢ reply.Refused why.NoMemory) }
 {
     let there = held.memory.close_cursor(number);
     reply_of_close(there)

@@ -18,12 +18,12 @@ ghost use Rattle.strat_model.specs.declared.replies.Refusal.TheVariants as why;
 ghost use Rattle.strat_model.specs.declared.replies.Reply.TheVariants as reply;
 ghost use Rattle.strat_recovery.specs.Opening.{recover};
 ghost use Rattle.strat_standing.specs.Contents.{Contents};
-ghost use Rattle.strat_store.specs.Applying.{FollowsStep, FailsAsTold, IsDamagedIn, IsUntouched, TellsFaultOf, change_wanted, is_fault};
+ghost use Rattle.strat_store.specs.Applying.{FollowsStep, FailsAsTold, IsDamagedIn, IsUntouched, TellsTroubleOf, change_wanted, is_fault};
 ghost use Rattle.strat_store.specs.Cursoring.{IsAppliedAt, LeavesCursors, cursors_after, is_of_cursor};
 ghost use Rattle.strat_store.specs.Following.{IsOpenedAs, IsUnchanged, LeavesOpening};
 ghost use Rattle.strat_store.specs.Held.{IsConsistent, StandsAt, StandsWith, arrays_held};
 ghost use Rattle.strat_store.specs.Memory.{info_told};
-ghost use Rattle.strat_cursor.specs.Looking.{AreCachedAs, AreCachedFrom, AreInOrder, AreOfOldArrays, LooksThrough, arrays_there};
+ghost use Rattle.strat_cursor.specs.Looking.{AreOfOldArrays, LooksThrough, arrays_there};
 ghost use Rattle.strat_store.specs.Paying.{StoreTwoSince};
 ghost use Rattle.strat_store.specs.Ranging.{TellsFrom};
 ghost use Rattle.strat_store.specs.Recovering.{held_of, held_after, empty_cache};
@@ -135,17 +135,16 @@ fn look<D: Disk>(
         → StandsAt (D.view disk.old) (held_of held.now cache.old) x rows
         → IsAppliedAt (D.view disk.new) (held_of held.now cache.old) x rows
         (request_of command.now) (as_told result out.new) (held_after held.now cache.new result) }
-    ensures found { (f : Image) → Exposes (D.view disk.old) f
-        → AreInOrder f (arrays_there held.now.published.levels)
-        → AreCachedFrom f held.now.published.manifest.next_array
-        (arrays_there held.now.published.levels) cache.old → is_fault result ≡ false
+    ensures found { AreOfOldArrays held.now.published.manifest.next_array cache.old
+        → (f : Image) → Exposes (D.view disk.old) f → is_fault result ≡ false
         → TellsFrom f (held_of held.now cache.old)
         (request_of command.now) (as_told result out.new) }
     ensures len { result ≡ reply.Found → length out.new ≡ 1 }
     ensures same { LooksThrough (D.view disk.old) (D.view disk.new)
         (arrays_there held.now.published.levels) cache.old cache.new }
     ensures cause { FailsAsTold (D.faults disk.old) (D.faults disk.new) result }
-    ensures err { TellsFaultOf (D.view disk.old) (request_of command.now) result }
+    ensures err { TellsTroubleOf (D.view disk.old) (held_of held.now cache.old)
+        (request_of command.now) result }
     ensures damaged { (b : ℕ) → result ≡ reply.Refused (why.Damaged b)
         → IsDamagedIn (D.view disk.old).content held.now.memory held.now.published.levels b }
 {
@@ -182,10 +181,8 @@ fn query<D: Disk>(
         → StandsAt (D.view disk.old) (held_of held.old cache.old) x rows
         → IsAppliedAt (D.view disk.new) (held_of held.old cache.old) x rows
         (request_of command.now) (as_told result out.new) (held_after held.new cache.new result) }
-    ensures found { (f : Image) → Exposes (D.view disk.old) f
-        → AreInOrder f (arrays_there held.old.published.levels)
-        → AreCachedFrom f held.old.published.manifest.next_array
-        (arrays_there held.old.published.levels) cache.old → is_fault result ≡ false
+    ensures found { AreOfOldArrays held.old.published.manifest.next_array cache.old
+        → (f : Image) → Exposes (D.view disk.old) f → is_fault result ≡ false
         → TellsFrom f (held_of held.old cache.old)
         (request_of command.now) (as_told result out.new) }
     ensures kept { (cached : Blocks) → IsConsistent (held_of held.new cached) }
@@ -199,7 +196,8 @@ fn query<D: Disk>(
     ensures same { LooksThrough (D.view disk.old) (D.view disk.new)
         (arrays_held held.old.memory held.old.published.levels) cache.old cache.new }
     ensures cause { FailsAsTold (D.faults disk.old) (D.faults disk.new) result
-        × TellsFaultOf (D.view disk.old) (request_of command.now) result }
+        × TellsTroubleOf (D.view disk.old) (held_of held.old cache.old)
+        (request_of command.now) result }
     ensures damaged { (b : ℕ) → result ≡ reply.Refused (why.Damaged b)
         → IsDamagedIn (D.view disk.old).content held.old.memory held.old.published.levels b }
 {
@@ -234,10 +232,8 @@ fn answer<D: Disk>(
     ensures trail { (x : Contents) → StandsWith (D.view disk.old) (held_of held.old cache.old) x
         → FollowsStep (D.view disk.old) (D.view disk.new) x (request_of command.now)
         (as_told result out.new) }
-    ensures found { (f : Image) → Exposes (D.view disk.old) f
-        → AreInOrder f (arrays_there held.old.published.levels)
-        → AreCachedFrom f held.old.published.manifest.next_array
-        (arrays_there held.old.published.levels) cache.old → is_fault result ≡ false
+    ensures found { AreOfOldArrays held.old.published.manifest.next_array cache.old
+        → (f : Image) → Exposes (D.view disk.old) f → is_fault result ≡ false
         → TellsFrom f (held_of held.old cache.old)
         (request_of command.now) (as_told result out.new) }
     ensures kept { is_fault result ≡ false → (cached : Blocks)
@@ -253,7 +249,8 @@ fn answer<D: Disk>(
         (as_told result out.new) (held_after held.new cache.new result) }
     ensures time { Passes (D.view disk.old) (D.view disk.new) }
     ensures cause { FailsAsTold (D.faults disk.old) (D.faults disk.new) result
-        × TellsFaultOf (D.view disk.old) (request_of command.now) result }
+        × TellsTroubleOf (D.view disk.old) (held_of held.old cache.old)
+        (request_of command.now) result }
     ensures damaged { (b : ℕ) → result ≡ reply.Refused (why.Damaged b)
         → IsDamagedIn (D.view disk.old).content held.old.memory held.old.published.levels b }
 {
@@ -309,11 +306,8 @@ impl Store {
             → FollowsStep (D.view disk.old) (D.view disk.new) x (request_of command.now)
             (as_told result out.new)
             × StoreTwoSince (D.view disk.new) (D.view disk.old).moment }
-        ensures found { (f : Image) → Exposes (D.view disk.old) f
-            → AreInOrder f (arrays_there self.old.levels)
-            → AreCachedAs f (arrays_there self.old.levels) self.old.cached
-            → is_fault result ≡ false → TellsFrom f self.old
-            (request_of command.now) (as_told result out.new) }
+        ensures found { (f : Image) → Exposes (D.view disk.old) f → is_fault result ≡ false
+            → TellsFrom f self.old (request_of command.now) (as_told result out.new) }
         ensures kept { (self.new.spent ≡ is_fault result)
             × (self.new.spent ≡ false → IsConsistent self.new
             × AreOfOldArrays self.new.chained.manifest.next_array self.new.cached) }
@@ -328,7 +322,7 @@ impl Store {
             self.new }
         ensures time { Passes (D.view disk.old) (D.view disk.new) }
         ensures cause { FailsAsTold (D.faults disk.old) (D.faults disk.new) result }
-        ensures err { TellsFaultOf (D.view disk.old) (request_of command.now) result }
+        ensures err { TellsTroubleOf (D.view disk.old) self.old (request_of command.now) result }
         ensures damaged { (b : ℕ) → result ≡ reply.Refused (why.Damaged b)
             → IsDamagedIn (D.view disk.old).content self.old.memory self.old.levels b }
     {

@@ -1,9 +1,11 @@
-use Rattle.std.proofs.Common.{refl, sym, arith}
+use Rattle.std.proofs.Common.{◌≡◌, Some, None, refl, sym, ap, ◌∙◌, arith}
+use Rattle.strat_model.specs.Answer.{accepts}
+use Rattle.strat_model.specs.declared.replies.Refusal.TheVariants as why
 use Rattle.strat_crash.proofs.MomentLemmas.{reads_refl}
 use Rattle.strat_model.specs.declared.replies.Reply.TheVariants as reply
 use Rattle.strat_store.specs.Recovering.{held_after, held_of, empty_cache}
 use Rattle.strat_store.proofs.LeavingLemmas.{cursors_left, cursors_same, front_keeps, left_alone, leaves_room}
-use Rattle.strat_store.proofs.RenewingLemmas.{refused_well, refused_trail}
+use Rattle.strat_store.proofs.RenewingLemmas.{refused_not_short, refused_trail, refused_well}
 use Rattle.strat_store.proofs.changing.change.Goals as goal
 
 pub returns-in-Some-clause-ok : goal.returns-in-Some-clause-ok
@@ -49,3 +51,25 @@ returns-clause-damaged g c b bad = absurd (c.carry_out.ensures.same.4 b bad)
 
 pub returns-clause-trail : goal.returns-clause-trail
 returns-clause-trail g c x cached stands = (c.carry_out.ensures.trail x cached stands).0
+
+pub returns-then-room-eq0-clause-damaged : goal.returns-then-room-eq0-clause-damaged
+returns-then-room-eq0-clause-damaged g c b bad =
+    (c.carry_out_anew.ensures.damaged b bad, omega (arith, c.if-room-eq0.true, c.room.ensures, (c.requires.kept (empty_cache 0)).log.mem, (c.requires.kept (empty_cache 0)).log.few))
+
+pub returns-then-room-eq0-clause-none : goal.returns-then-room-eq0-clause-none
+returns-then-room-eq0-clause-none g c = (
+  λ none. c.carry_out_anew.ensures.same.2,
+  λ short. omega (arith, c.if-room-eq0.true, c.room.ensures, (c.requires.kept (empty_cache 0)).log.mem, (c.requires.kept (empty_cache 0)).log.few),
+)
+
+pub returns-clause-none : goal.returns-clause-none
+returns-clause-none g c = (
+  λ none. c.carry_out.ensures.same.3,
+  λ short. absurd (let e : reply.Refused why.NoMemory ≡ reply.Refused why.DeviceFault = sym short ∙ c.carry_out.ensures.same.2 (ap accepts short) in cc),
+)
+
+pub returns-in-Some-clause-none : goal.returns-in-Some-clause-none
+returns-in-Some-clause-none g c = (
+  λ none. absurd (let e : Some c.in-Some.refusal ≡ None = c.in-Some.ensures.ok ∙ none in cc),
+  λ short. absurd (refused_not_short c.args.held.now.memory _ c.in-Some.refusal (sym c.in-Some.ensures.ok) short),
+)

@@ -5,7 +5,7 @@ use Rattle.strat_model.specs.declared.replies.Reply.{Reply}
 use Rattle.strat_store.specs.Applying.{is_fault}
 use Rattle.strat_store.specs.Cursoring.{cursors_after, reply_of_close}
 use Rattle.strat_store.specs.Memory.{Memory}
-use Rattle.strat_store.proofs.CursoringLemmas.{close_calm, close_found, close_leaves, close_told}
+use Rattle.strat_store.proofs.CursoringLemmas.{close_calm, close_found, close_leaves, close_short, close_told}
 use Rattle.strat_store.proofs.KeepingLemmas.{consistent_after}
 use Rattle.strat_store.proofs.cursoring.close_cursor.Goals as goal
 
@@ -24,4 +24,4 @@ returns-clause-kept c =
     (close_leaves c.args.held.now.memory c.close_cursor-there.new.self c.args.held.now.published.levels c.args.number c.close_cursor-there.result c.close_cursor-there.ensures.end c.close_cursor-there.ensures.none)
 
 pub returns-clause-same : goal.returns-clause-same
-returns-clause-same c = (ap is_fault c.reply_of_close.ensures.ok ∙ close_calm c.close_cursor-there.result, λ found. close_found c.close_cursor-there.result (sym c.reply_of_close.ensures.ok ∙ found))
+returns-clause-same c = (ap is_fault c.reply_of_close.ensures.ok ∙ close_calm c.close_cursor-there.result, λ found. close_found c.close_cursor-there.result (sym c.reply_of_close.ensures.ok ∙ found), λ short. close_short c.close_cursor-there.result (sym c.reply_of_close.ensures.ok ∙ short))

@@ -7,7 +7,7 @@ use Rattle.strat_store.specs.Cursoring.{IsAppliedAt, cursors_after, reply_of_nex
 use Rattle.strat_store.specs.Memory.{Memory}
 use Rattle.strat_store.specs.Ranging.{TellsOfCursor}
 use Rattle.strat_store.specs.Recovering.{held_of, held_after}
-use Rattle.strat_store.proofs.CursoringLemmas.{cursor_told, nothing_told, page_applied, page_blames, page_fails, page_found, page_leaves}
+use Rattle.strat_store.proofs.CursoringLemmas.{cursor_told, nothing_told, page_applied, page_blames, page_fails, page_found, page_leaves, page_short}
 use Rattle.strat_store.proofs.KeepingLemmas.{consistent_after}
 use Rattle.strat_store.proofs.cursoring.next_pairs.Goals as goal
 
@@ -50,4 +50,7 @@ returns-clause-cause g c =
     (page_fails (g.D.Disk.faults c.args.disk.now) (g.D.Disk.faults c.next_pairs-told.new.disk) c.next_pairs-told.result c.next_pairs-told.ensures.cause)
 
 pub returns-clause-len : goal.returns-clause-len
-returns-clause-len g c = λ found. page_found c.next_pairs-told.result (sym c.reply_of_next.ensures.ok ∙ found)
+returns-clause-len g c = (λ found. page_found c.next_pairs-told.result (sym c.reply_of_next.ensures.ok ∙ found), λ short. page_short c.next_pairs-told.result (sym c.reply_of_next.ensures.ok ∙ short))
+
+pub returns-clause-none : goal.returns-clause-none
+returns-clause-none g c = λ off. c.reply_of_next.ensures.ok ∙ ap reply_of_next (c.next_pairs-told.ensures.found.1 off)

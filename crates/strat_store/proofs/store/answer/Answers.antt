@@ -40,7 +40,13 @@ returns-in-None-clause-trail g c = λ x w.
     look_follows (g.D.Disk.view c.args.disk.now) (g.D.Disk.view c.query.new.disk) (held_of c.args.held.now c.args.cache.now) x _ (as_told c.query.result c.query.new.out) c.in-None.ensures c.query.ensures.same.disk w
 
 pub returns-in-Some-clause-cause : goal.returns-in-Some-clause-cause
-returns-in-Some-clause-cause g c = (c.change.ensures.cause, tells_of_change (g.D.Disk.view c.args.disk.now) _ _ c.change.result c.in-Some.ensures)
+returns-in-Some-clause-cause g c = (
+  c.change.ensures.cause,
+  tells_of_change (g.D.Disk.view c.args.disk.now) (held_of c.args.held.now c.args.cache.now) _ _ c.change.result c.in-Some.ensures (λ b bad. (c.change.ensures.damaged b bad).1) c.change.ensures.none.1,
+)
+
+pub returns-in-Some-clause-damaged : goal.returns-in-Some-clause-damaged
+returns-in-Some-clause-damaged g c = λ b bad. (c.change.ensures.damaged b bad).0
 
 pub returns-in-Some-clause-same : goal.returns-in-Some-clause-same
 returns-in-Some-clause-same g c =
@@ -50,7 +56,7 @@ returns-in-Some-clause-same g c =
     let leaves = c.change.ensures.end c.args.cache.now in (
       untouched_by before (g.D.Disk.view c.change.new.disk) (request_of c.args.command.now) _ c.args.held.now c.change.new.held c.args.cache.now c.change.result c.in-Some.ensures
           (λ q e. let one = c.change.ensures.err q e in (one.0, subst (λ (d : _). OnlyReads before (g.D.Disk.view d)) (sym one.2) (reads_refl before)))
-          c.change.ensures.none,
+          c.change.ensures.none.0,
       leaves_wanted before (g.D.Disk.view c.change.new.disk) old new (request_of c.args.command.now) _ c.change.result c.in-Some.ensures leaves.0,
       subst (λ (pairs : Pairs). LeavesCursors old (request_of c.args.command.now) (as_told c.change.result pairs) new) (sym c.requires.room)
           (subst (λ (r : Request). LeavesCursors old r (plain c.change.result) new) (wanted_for (request_of c.args.command.now) _ c.in-Some.ensures) leaves.1),
@@ -72,4 +78,4 @@ returns-in-None-clause-same g c =
     )
 
 pub returns-in-Some-clause-found : goal.returns-in-Some-clause-found
-returns-in-Some-clause-found g c = λ f exposed ordered cached calm. tells_from_wanted f (held_of c.args.held.now c.args.cache.now) (request_of c.args.command.now) _ _ c.in-Some.ensures
+returns-in-Some-clause-found g c = λ old f exposed calm. tells_from_wanted f (held_of c.args.held.now c.args.cache.now) (request_of c.args.command.now) _ _ c.in-Some.ensures

@@ -4,11 +4,13 @@ use Rattle.strat_model.specs.Command.{request_of}
 use Rattle.strat_model.specs.Request.{Get, Info, Scan, Stat}
 use Rattle.strat_model.specs.Spelling.{has_lawful_sizes}
 use Rattle.strat_model.specs.declared.commands.Command.{Command}
+use Rattle.strat_model.specs.declared.replies.Refusal.TheVariants as why
+use Rattle.strat_model.specs.declared.replies.Reply.TheVariants as reply
 use Rattle.strat_recovery.specs.StateTable.{table_of}
 use Rattle.strat_standing.specs.Contents.{contents_state}
 use Rattle.strat_store.specs.Applying.{is_fault}
 use Rattle.strat_store.specs.Recovering.{held_of}
-use Rattle.strat_store.proofs.ApplyLemmas.{get_same, info_calm, info_here, info_says, look_applied, memory_applied, none_left, scan_fits, scan_same, stat_here, tells_calm, other_than, unknown_answer}
+use Rattle.strat_store.proofs.ApplyLemmas.{get_same, info_calm, info_here, info_says, info_short, key_short, range_short, stat_short, tells_look, version_refused, look_applied, memory_applied, none_left, scan_fits, scan_same, stat_here, tells_calm, other_than, unknown_answer}
 use Rattle.strat_store.proofs.store.look.Goals as goal
 
 pub returns-in-Get-clause-ok : goal.returns-in-Get-clause-ok
@@ -41,39 +43,49 @@ returns-in-Stat-clause-ok g c = λ x rows at.
     rw (c.in-Stat.is, c.requires.room) (memory_applied (g.D.Disk.view c.args.disk.now) s x rows whole at Stat (plain c.stat.result) refl refl (ap plain c.stat.ensures.ok ∙ told))
 
 pub returns-in-Get-clause-err : goal.returns-in-Get-clause-err
-returns-in-Get-clause-err g c = rw (c.in-Get.is) (record { reached = λ failed. refl; none = λ none. c.get.ensures.err })
+returns-in-Get-clause-err g c =
+    let s = held_of c.args.held.now c.args.cache.now in
+    rw (c.in-Get.is)
+    (tells_look (g.D.Disk.view c.args.disk.now) s (Get c.in-Get.version c.in-Get.key.now) c.get.result (reply.Refused why.UnknownVersion) refl refl refl (key_short c.get.result c.get.ensures.end)
+    (λ q refused. (c.get.ensures.none (version_refused s.memory c.in-Get.version q refused)).0) c.get.ensures.err)
 
 pub returns-in-Info-clause-err : goal.returns-in-Info-clause-err
 returns-in-Info-clause-err g c =
-    tells_calm (g.D.Disk.view c.args.disk.now) _ c.info.result (info_calm c.args.held.now.memory c.in-Info.version c.info.result c.info.ensures.found c.info.ensures.none)
+    tells_calm (g.D.Disk.view c.args.disk.now) (held_of c.args.held.now c.args.cache.now) _ c.info.result (info_calm c.args.held.now.memory c.in-Info.version c.info.result c.info.ensures.found c.info.ensures.none)
+    (λ short. absurd (info_short c.args.held.now.memory c.in-Info.version c.info.result c.info.ensures.found c.info.ensures.none short))
 
 pub returns-in-Stat-clause-err : goal.returns-in-Stat-clause-err
-returns-in-Stat-clause-err g c = tells_calm (g.D.Disk.view c.args.disk.now) _ c.stat.result (ap is_fault c.stat.ensures.ok)
+returns-in-Stat-clause-err g c =
+    tells_calm (g.D.Disk.view c.args.disk.now) (held_of c.args.held.now c.args.cache.now) _ c.stat.result (ap is_fault c.stat.ensures.ok) (λ short. absurd (stat_short c.args.held.now.memory (sym c.stat.ensures.ok ∙ short)))
 
 pub scan_range-requires-clause-fits : goal.scan_range-requires-clause-fits
 scan_range-requires-clause-fits g c =
     scan_fits c.in-Scan.version c.in-Scan.lo.now c.in-Scan.hi.now c.in-Scan.limit (ap (λ (asked : Command). has_lawful_sizes (request_of asked)) (sym c.in-Scan.is) ∙ c.requires.fits)
 
 pub returns-in-Scan-clause-err : goal.returns-in-Scan-clause-err
-returns-in-Scan-clause-err g c = rw (c.in-Scan.is) (record { reached = λ failed. refl; none = λ none. c.scan_range.ensures.err })
+returns-in-Scan-clause-err g c =
+    let s = held_of c.args.held.now c.args.cache.now in
+    rw (c.in-Scan.is)
+    (tells_look (g.D.Disk.view c.args.disk.now) s (Scan c.in-Scan.version c.in-Scan.lo.now c.in-Scan.hi.now c.in-Scan.limit) c.scan_range.result (reply.Refused why.UnknownVersion) refl refl refl
+    (range_short c.scan_range.result c.scan_range.ensures.end) (λ q refused. (c.scan_range.ensures.none (version_refused s.memory c.in-Scan.version q refused)).0) c.scan_range.ensures.err)
 
 pub returns-in-Get-clause-found : goal.returns-in-Get-clause-found
-returns-in-Get-clause-found g c = λ f exposed ordered cached calm. rw (c.in-Get.is) (
+returns-in-Get-clause-found g c = λ old f exposed calm. rw (c.in-Get.is) (
   λ off. unknown_answer c.get.result c.get.new.out (c.get.ensures.none off).0 (c.get.ensures.len.1 (λ found. other_than (sym (c.get.ensures.none off).0 ∙ found))),
-  λ known. c.get.ensures.found f exposed ordered cached calm known,
+  λ known. (c.get.ensures.end, λ reads. c.get.ensures.found f exposed reads.ordered (record { old = old; same = reads.cached }) calm known),
 )
 
 pub returns-in-Scan-clause-found : goal.returns-in-Scan-clause-found
-returns-in-Scan-clause-found g c = λ f exposed ordered cached calm. rw (c.in-Scan.is) (
+returns-in-Scan-clause-found g c = λ old f exposed calm. rw (c.in-Scan.is) (
   λ off. unknown_answer c.scan_range.result c.scan_range.new.out (c.scan_range.ensures.none off).0 (c.scan_range.ensures.none off).2,
-  λ known pairs asked. c.scan_range.ensures.found f pairs exposed ordered cached calm known asked,
+  λ known. (c.scan_range.ensures.end, λ reads pairs asked. c.scan_range.ensures.found f pairs exposed reads.ordered (record { old = old; same = reads.cached }) calm known asked),
 )
 
 pub returns-in-Info-clause-found : goal.returns-in-Info-clause-found
-returns-in-Info-clause-found g c = λ f exposed ordered cached calm. rw (c.in-Info.is, c.requires.room) (info_says c.args.held.now.memory c.in-Info.version c.info.result c.info.ensures.found c.info.ensures.none)
+returns-in-Info-clause-found g c = λ old f exposed calm. rw (c.in-Info.is, c.requires.room) (info_says c.args.held.now.memory c.in-Info.version c.info.result c.info.ensures.found c.info.ensures.none)
 
 pub returns-in-Stat-clause-found : goal.returns-in-Stat-clause-found
-returns-in-Stat-clause-found g c = λ f exposed ordered cached calm. rw (c.in-Stat.is, c.requires.room) (ap plain c.stat.ensures.ok)
+returns-in-Stat-clause-found g c = λ old f exposed calm. rw (c.in-Stat.is, c.requires.room) (ap plain c.stat.ensures.ok)
 
 pub returns-in_default-clause-ok : goal.returns-in_default-clause-ok
 returns-in_default-clause-ok g c = absurd (none_left c.args.command.now c.requires.none.0 c.requires.none.1 c.in_default.not-Get c.in_default.not-Scan c.in_default.not-Info c.in_default.not-Stat)

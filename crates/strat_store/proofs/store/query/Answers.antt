@@ -2,10 +2,13 @@ use Rattle.std.proofs.Common.{refl, sym, ap, ◌∙◌}
 use Rattle.std.proofs.lemmas.List.Elements.{Contains-append_left}
 use Rattle.strat_cursor.specs.Looking.{arrays_there}
 use Rattle.strat_model.specs.Command.{request_of}
+use Rattle.strat_model.specs.Request.{NextPairs}
 use Rattle.strat_model.specs.Spelling.{has_lawful_sizes}
 use Rattle.strat_model.specs.declared.commands.Command.{Command}
+use Rattle.strat_model.specs.declared.replies.Refusal.TheVariants as why
+use Rattle.strat_model.specs.declared.replies.Reply.TheVariants as reply
 use Rattle.strat_store.specs.Recovering.{held_of}
-use Rattle.strat_store.proofs.ApplyLemmas.{next_fits, of_cursor_not}
+use Rattle.strat_store.proofs.ApplyLemmas.{cursor_refused, fails_none, next_fits, of_cursor_not, tells_calm, tells_look}
 use Rattle.strat_store.proofs.CursoringLemmas.{closing_applied, looks_wider, opened_applied}
 use Rattle.strat_store.proofs.store.query.Goals as goal
 
@@ -39,13 +42,37 @@ pub look-requires-clause-none : goal.look-requires-clause-none
 look-requires-clause-none g c = (c.requires.none, of_cursor_not c.args.command.now c.in_default.not-OpenCursor c.in_default.not-NextPairs c.in_default.not-CloseCursor)
 
 pub returns-in-OpenCursor-clause-found : goal.returns-in-OpenCursor-clause-found
-returns-in-OpenCursor-clause-found g c = λ f exposed ordered cached calm. rw (c.in-OpenCursor.is, c.requires.room) (c.open_cursor.ensures.found f c.args.cache.now)
+returns-in-OpenCursor-clause-found g c = λ old f exposed calm. rw (c.in-OpenCursor.is, c.requires.room) (c.open_cursor.ensures.found f c.args.cache.now)
 
 pub returns-in-OpenCursor-clause-len : goal.returns-in-OpenCursor-clause-len
 returns-in-OpenCursor-clause-len g c = λ found. absurd (c.open_cursor.ensures.same.1 found)
 
 pub returns-in-CloseCursor-clause-found : goal.returns-in-CloseCursor-clause-found
-returns-in-CloseCursor-clause-found g c = λ f exposed ordered cached calm. rw (c.in-CloseCursor.is, c.requires.room) (c.close_cursor.ensures.found f c.args.cache.now)
+returns-in-CloseCursor-clause-found g c = λ old f exposed calm. rw (c.in-CloseCursor.is, c.requires.room) (c.close_cursor.ensures.found f c.args.cache.now)
 
 pub returns-in-CloseCursor-clause-len : goal.returns-in-CloseCursor-clause-len
 returns-in-CloseCursor-clause-len g c = λ found. absurd (c.close_cursor.ensures.same.1 found)
+
+pub returns-in-OpenCursor-clause-cause : goal.returns-in-OpenCursor-clause-cause
+returns-in-OpenCursor-clause-cause g c = rw (c.in-OpenCursor.is) (
+  fails_none (g.D.Disk.faults c.args.disk.now) c.open_cursor.result c.open_cursor.ensures.same.0,
+  tells_calm (g.D.Disk.view c.args.disk.now) (held_of c.args.held.now c.args.cache.now) _ c.open_cursor.result c.open_cursor.ensures.same.0 (λ short. (refl, refl)),
+)
+
+pub returns-in-CloseCursor-clause-cause : goal.returns-in-CloseCursor-clause-cause
+returns-in-CloseCursor-clause-cause g c = rw (c.in-CloseCursor.is) (
+  fails_none (g.D.Disk.faults c.args.disk.now) c.close_cursor.result c.close_cursor.ensures.same.0,
+  tells_calm (g.D.Disk.view c.args.disk.now) (held_of c.args.held.now c.args.cache.now) _ c.close_cursor.result c.close_cursor.ensures.same.0 (λ short. absurd (c.close_cursor.ensures.same.2 short)),
+)
+
+pub returns-in-NextPairs-clause-cause : goal.returns-in-NextPairs-clause-cause
+returns-in-NextPairs-clause-cause g c =
+    let s = held_of c.args.held.now c.args.cache.now in
+    rw (c.in-NextPairs.is) (
+      c.next_pairs.ensures.cause,
+      tells_look (g.D.Disk.view c.args.disk.now) s (NextPairs c.in-NextPairs.cursor c.in-NextPairs.limit) c.next_pairs.result (reply.Refused why.UnknownCursor) refl refl refl c.next_pairs.ensures.len.1
+          (λ q refused. c.next_pairs.ensures.none (cursor_refused s.memory c.in-NextPairs.cursor q refused)) (λ b bad. (c.next_pairs.ensures.damaged b bad).1),
+    )
+
+pub returns-in-NextPairs-clause-found : goal.returns-in-NextPairs-clause-found
+returns-in-NextPairs-clause-found g c = λ old f exposed calm. rw (c.in-NextPairs.is) (c.next_pairs.ensures.found f exposed calm)

@@ -3,7 +3,7 @@ use Rattle.strat_model.specs.Answer.{as_told}
 use Rattle.strat_model.specs.Command.{request_of}
 use Rattle.strat_store.specs.Cursoring.{IsAppliedAt}
 use Rattle.strat_store.specs.Recovering.{held_of}
-use Rattle.strat_store.proofs.ApplyLemmas.{old_after, spent_at, spent_consistent}
+use Rattle.strat_store.proofs.ApplyLemmas.{old_after, spent_at, spent_consistent, spent_tells}
 use Rattle.strat_store.proofs.PayingLemmas.{stored_since}
 use Rattle.strat_store.proofs.store.Store.apply.Goals as goal
 
@@ -51,7 +51,7 @@ pub returns-clause-found : goal.returns-clause-found
 returns-clause-found g c =
     let going = rw (← c.self.view_is) at c.requires.kept in
     let whole = c.self.invariant going in
-    rw (← c.self.view_is) (λ f exposed ordered same calm. c.answer-told.ensures.found f exposed ordered (record { old = whole.1; same = same }) calm)
+    rw (← c.self.view_is) (λ f exposed calm. spent_tells _ _ _ _ _ (c.answer-told.ensures.found whole.1 f exposed calm))
 
 pub returns-clause-trail : goal.returns-clause-trail
 returns-clause-trail g c =
