@@ -24,20 +24,19 @@ use Rattle.strat_model.specs.Request.{Request}
 use Rattle.strat_model.specs.Spelling.{Spells, IsRefusedAs, reply_body}
 use Rattle.strat_model.specs.Stream.{frame, Splits, Whole, Rest, Long, ending_of, is_too_long}
 use Rattle.strat_model.specs.Table.{Cursor, Table, bare}
-use Rattle.strat_model.specs.Run.{is_change, reaches_disk, Position, Response, response_bytes, Answers, AnswersFault, Transcript, IsTranscript, bodies_of, tables_of, sent_bytes}
+use Rattle.strat_model.specs.Run.{is_change, reaches_disk, takes_memory, Position, Response, response_bytes, Answers, AnswersFault, Transcript, IsTranscript, bodies_of, tables_of, sent_bytes}
 use Rattle.strat_promote.specs.Job.{blocks_listed}
 use Rattle.strat_recovery.specs.Head.{Head, descriptors}
 use Rattle.strat_recovery.specs.Opening.{recover}
 use Rattle.strat_recovery.specs.StateTable.{table_of}
 use Rattle.strat_standing.specs.Contents.{Contents, contents_state}
 use Rattle.strat_standing.specs.Standing.{ShowsTable}
-use Rattle.strat_store.specs.Applying.{IsDamagedIn, IsUntouched, TellsFaultOf, is_fault, may_write}
+use Rattle.strat_store.specs.Applying.{IsDamagedIn, IsUntouched, TellsTroubleOf, is_fault, may_write}
 use Rattle.strat_store.specs.Cursoring.{LeavesCursors}
 use Rattle.strat_store.specs.Following.{ChangesGateAlone, FollowsFrom, IsOpenedAs, IsUnchanged, LeavesOpening}
 use Rattle.strat_store.specs.Held.{Held, IsConsistent, IsOnDisk, StandsAt, arrays_held, position_at}
 use Rattle.strat_store.specs.Ranging.{TellsFrom}
 use Rattle.strat_store.specs.Settling.{LeavesPublished, carries_out}
-use Rattle.strat_cursor.specs.Looking.{AreCachedAs, AreInOrder, arrays_there}
 use Rattle.strat_serve.specs.World.{World}
 
 -- these bytes were taken from the front of a source
@@ -68,13 +67,14 @@ pub record IsRefusedFor (body : List ℕ) (response : Response) : Type 0 where
   pub refused : IsRefusedAs body response.tag cause
   pub answer : response.answer ≡ refusal cause
 
--- a body is a command, and the response has its tag; where that tells that the device failed, it is
--- one that reaches the disk
+-- a body is a command, and the response has its tag; where that tells that the device failed or that
+-- a block is damaged, it is one that reaches the disk, and where it tells of want of memory, one that
+-- takes some
 pub record IsTaggedFor (body : List ℕ) (response : Response) : Type 0 where
   pub request : Request
   pub spelled : Spells body response.tag request
-  pub reached : response.answer.reply ≡ reply.Refused why.DeviceFault
-      → reaches_disk request ≡ true
+  pub reached : is_fault response.answer.reply ≡ true → reaches_disk request ≡ true
+  pub short : response.answer.reply ≡ reply.Refused why.NoMemory → takes_memory request ≡ true
 
 -- a response may be that to a body, whatever a store says
 abbrev pub RespondsTo : List ℕ → Response → Type 0
@@ -143,13 +143,11 @@ pub record IsToldBy (before now : DiskView) (old : Held) (body : List ℕ) (resp
   pub request : Request
   pub spelled : Spells body response.tag request
   -- where it asks for no change and met no fault it says what memory and the arrays say
-  pub found : (f : Image) → Exposes before f → AreInOrder f (arrays_there old.levels)
-      → AreCachedAs f (arrays_there old.levels) old.cached
-      → is_fault response.answer.reply ≡ false
+  pub found : (f : Image) → Exposes before f → is_fault response.answer.reply ≡ false
       → TellsFrom f old request response.answer
   -- it left the disk as it was, or wrote: what it asked for, and what it was told, says which
   pub same : IsUntouched before now request old response.answer.reply new
-  pub err : TellsFaultOf before request response.answer.reply
+  pub err : TellsTroubleOf before old request response.answer.reply
   pub leaves : LeavesPublished before now old (carries_out request response.answer.reply)
       response.answer.reply new
   -- and of the cursors it left what it asked for

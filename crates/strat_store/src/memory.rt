@@ -78,7 +78,8 @@ fn grow(tree: &mut Tree, parents: &[u32])
 
 impl Memory {
     /// Memory of a new store. It takes 1.3 KB for each of `mem` updates and 70 bytes for each version
-    /// that there may be; the only error is want of memory. Of the other calls `prepare` alone takes any.
+    /// that there may be; the only error is want of memory. Of the other calls `prepare`, `open_cursor` and
+    /// `reserve_retired` alone take any.
     pub fn new(
         alloc: Global,
         mem: u32,
