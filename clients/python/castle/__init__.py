@@ -12,14 +12,14 @@ docs/CLIENT.md goes through all of it.
 """
 
 from .batch import Batch
-from .cursor import Difference
 from .errors import CastleError, Ended, Refused
 from .frames import Info, Page, Stat
 from .levels import Array, Level, Levels
 from .names import Names
+from .scan import Difference, Differences, Scan
 from .store import Store
 from .view import VersionView
 
-__all__ = ["Array", "Batch", "CastleError", "Difference", "Ended", "Info", "Level", "Levels", "Names", "Page", "Refused",
-           "Stat", "Store", "VersionView"]
+__all__ = ["Array", "Batch", "CastleError", "Difference", "Differences", "Ended", "Info", "Level", "Levels", "Names", "Page",
+           "Refused", "Scan", "Stat", "Store", "VersionView"]
 __version__ = "0.1.0"

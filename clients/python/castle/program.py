@@ -134,7 +134,7 @@ class Program:
         return answer
 
     def drop(self, cursor: int) -> None:
-        """Has a cursor closed before the next command. It may be called amid another, and from any thread."""
+        """Has a cursor closed before the next command. It may be called amid a command, and from any thread."""
         self._dropped.append(cursor)
 
     def _close_dropped(self) -> None:

@@ -4,18 +4,18 @@ from __future__ import annotations
 
 import os
 from types import TracebackType
-from typing import Generator, List, Optional, Type, Union, cast
+from typing import List, Optional, Type, Union, cast
 from weakref import WeakSet
 
 from . import errors, frames
 from .batch import Batch
 from .commands import Commands, Data, Version
-from .cursor import Cursor, Difference, differences
-from .frames import Info, Page, Pair, Stat
+from .frames import Info, Page, Stat
 from .levels import Levels, read
 from .lock import Lock
 from .names import Names, remove_names
 from .program import Program, find_program, printed
+from .scan import Differences, Scan
 from .view import VersionView
 
 
@@ -44,7 +44,7 @@ class Store:
         self._lock = Lock(real, self.path)
         self._real = real
         self._closed = False
-        self._cursors: WeakSet[Cursor] = WeakSet()  # that may be open
+        self._scans: WeakSet[Scan] = WeakSet()  # whose cursors may be open
         self._found = find_program(program)
         try:
             self._program = Program(self._found, ["serve", real], self.path, [self._lock.descriptor])
@@ -112,14 +112,14 @@ class Store:
     def close(self) -> None:
         """Ends the program, once it has answered all, and frees the store. To close it again does nothing.
 
-        Its cursors are closed: a scan that is not at its end raises `StoreClosed` where it needs its next piece.
+        Open cursors are closed: a scan that was not read to its end gives what it has read, and raises `StoreClosed` then.
         """
         if self._closed:
             return
         self._closed = True
         try:
-            for cursor in self._cursors:
-                cursor.close()
+            for scan in self._scans:
+                scan.give_back()
             told = self._program.end
             if told is None:
                 self._program.turn_to([])
@@ -162,19 +162,21 @@ class Store:
         """How many versions, updates and changes the store has, and how many cursors are open."""
         return cast(Stat, self._program.call(self._commands.stat))
 
-    def scan(self, version: Version, lower: Data = b"", upper: Data = b"", *,
-             prefix: Data = b"") -> Generator[Pair, None, None]:
+    def scan(self, version: Version, lower: Data = b"", upper: Data = b"", *, prefix: Data = b"") -> Scan:
         """The pairs of a version as they are at this call, in the order of their keys' bytes, whatever is changed meanwhile.
 
         Keys are at or behind `lower`, before `upper` unless that is empty, and begin with `prefix`. The call opens a
         cursor, and the iterator that it gives reads pieces of 256 pairs as they are asked for: an exchange for the
         opening and for each piece, and memory for one piece. The cursor is closed with the last piece, by the
-        iterator's `close()`, after an error, with the store, and where nobody has the iterator any more.
+        iterator's `close()` or its `with` block, after an error, with the store, and where nobody has the iterator any
+        more.
 
         The call raises `UnknownVersion`, `KeySize`, `CursorLimit` (64 scans are open) and `NoMemory`; a piece raises
         `DeviceFault` and `Damaged`, which end the program.
         """
-        return self._cursor(version, lower, upper, prefix).pairs()
+        scan = Scan(self._program, self._commands, version, lower, upper, prefix)
+        self._scans.add(scan)
+        return scan
 
     def page(self, version: Version, lower: Data = b"", upper: Data = b"", *, prefix: Data = b"",
              limit: int = frames.PAGE_MAX) -> Page:
@@ -185,12 +187,6 @@ class Store:
         shows the version as it is by then. It raises what `scan` does but `CursorLimit` and `NoMemory`, and `ScanSize`.
         """
         return cast(Page, self._program.call(self._commands.page, version, lower, upper, prefix, limit))
-
-    def _cursor(self, version: Version, lower: Data = b"", upper: Data = b"", prefix: Data = b"") -> Cursor:
-        """A new cursor, which is closed with the store at the latest."""
-        cursor = Cursor(self._program, self._commands, version, lower, upper, prefix)
-        self._cursors.add(cursor)
-        return cursor
 
     def levels(self) -> Levels:
         """What is in the store's levels and in its journal.
@@ -216,19 +212,18 @@ class Store:
             batch.info(number)
         return cast(List[Info], batch.finish())
 
-    def diff(self, before: Version, after: Version) -> Generator[Difference, None, None]:
+    def diff(self, before: Version, after: Version) -> Differences:
         """The keys whose values differ between two versions as they are at this call, in order.
 
-        It reads all of both side by side through a cursor each, in memory of one piece each; these are closed as that of a
-        `scan` is. It raises what `scan` does.
+        It scans all of both side by side, in memory of one piece each. It raises what `scan` does, and ends as a scan
+        does.
         """
-        left = self._cursor(before)
+        first = self.scan(before)
         try:
-            right = self._cursor(after)
+            return Differences(first, self.scan(after))
         except BaseException:
-            left.close()
+            first.close()
             raise
-        return differences(left.pairs(), right.pairs())
 
     def at(self, version: Version) -> VersionView:
         """A version as a mapping: `store.at(3)["k"] = b"v"`."""

@@ -5,6 +5,7 @@ from __future__ import annotations
 from typing import TYPE_CHECKING, ItemsView, Iterator, KeysView, MutableMapping, Tuple, ValuesView
 
 from .commands import Data
+from .scan import Scan
 
 if TYPE_CHECKING:
     from .store import Store
@@ -23,7 +24,7 @@ class VersionView(MutableMapping[Data, bytes]):
         self.version = version
         self.prefix = prefix
 
-    def pairs(self) -> Iterator[Tuple[bytes, bytes]]:
+    def pairs(self) -> Scan:
         """The pairs whose keys begin with the prefix, as they are at this call."""
         return self.store.scan(self.version, prefix=self.prefix)
 

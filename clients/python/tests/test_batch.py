@@ -4,11 +4,11 @@ import itertools
 import os
 import random
 import threading
-from typing import Dict, Generator, List, Optional, Set, Tuple, Type
+from typing import Dict, List, Optional, Set, Tuple, Type
 
 from support import StoreCase
 
-from castle import Info, Page, Stat, errors
+from castle import Info, Page, Scan, Stat, errors
 from castle.errors import Refused
 from castle.frames import Pair
 
@@ -78,7 +78,7 @@ def drawn(chance: random.Random, versions: int) -> Tuple[str, int, Tuple[bytes, 
 class Reading:
     """A scan that is being read, with the pairs that it should give, and when its cursor is open."""
 
-    def __init__(self, scan: Generator[Pair, None, None], plain: Versions, pairs: List[Pair]) -> None:
+    def __init__(self, scan: Scan, plain: Versions, pairs: List[Pair]) -> None:
         self.scan = scan
         self.plain = plain
         self.pairs = pairs

@@ -239,13 +239,20 @@ class CursorTest(Filled):
             list(itertools.islice(scan, taken))
             scan.close()
             self.assertEqual((self.cursors(store), list(scan)), (0, []))
+            with store.scan(0) as scan:
+                self.assertEqual((len(list(itertools.islice(scan, taken))), self.cursors(store)), (taken, 1))
+            self.assertEqual((self.cursors(store), list(scan)), (0, []))
         with self.assertRaises(ZeroDivisionError):
             for pair in store.scan(0):
                 raise ZeroDivisionError
         self.assertEqual(self.cursors(store), 0)
-        circle = [store.scan(0)]
-        circle.append(circle)  # type: ignore[arg-type]
-        next(circle[0])
+        for other in (store.at(0), store.at(0).items(), store.at(0).keys("00"), store.at(0).values()):
+            iterator = iter(other)
+            self.assertEqual(self.cursors(store), 1)
+            del iterator
+            self.assertEqual(self.cursors(store), 0)
+        circle: List[object] = [store.scan(0)]
+        circle.append(circle)
         del circle
         gc.collect()
         self.assertEqual(self.cursors(store), 0)
@@ -291,7 +298,10 @@ class CursorTest(Filled):
         found = store.diff(0, "next")
         self.assertEqual((self.cursors(store), next(found).key, self.cursors(store)), (2, b"0000", 2))
         found.close()
-        self.assertEqual(self.cursors(store), 0)
+        self.assertEqual((self.cursors(store), list(found)), (0, []))
+        with store.diff(0, "next") as found:
+            self.assertEqual(self.cursors(store), 2)
+        self.assertEqual((self.cursors(store), list(found)), (0, []))
         unread = store.diff("next", 0)
         self.assertEqual(self.cursors(store), 2)
         del unread
