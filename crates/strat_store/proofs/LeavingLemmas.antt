@@ -78,7 +78,7 @@ wanted_change _ c wanted = absurd (cc)
 
 -- a change that is refused leaves the disk as it was
 pub untouched_by : (v w : DiskView) (request : Request) (c : Change) (r new : Recovered) (cached : Blocks) (told : Reply) → change_wanted request ≡ Some c
-    → ((q : Refusal) → refusal_of_change r.memory c ≡ Some q → (told ≡ reply.Refused q) × OnlyReads v w) → (refusal_of_change r.memory c ≡ None → may_write told ≡ true)
+    → ((q : Refusal) → refusal_of_change r.memory c ≡ Some q → (told ≡ reply.Refused q) × (new ≡ r) × OnlyReads v w) → (refusal_of_change r.memory c ≡ None → may_write told ≡ true)
     → IsUntouched v w request (held_of r cached) told (held_after new cached told)
 untouched_by v w request c r new cached told wanted refuses writes = record {
   looks = λ none. absurd (let x : Some c ≡ None = sym wanted ∙ none in cc);
@@ -86,14 +86,18 @@ untouched_by v w request c r new cached told wanted refuses writes = record {
       let both : Some c ≡ Some d = sym wanted ∙ asks in
       let same : c ≡ d = cc in
       let one = refuses q (subst (λ (x : Change). refusal_of_change r.memory x ≡ Some q) (sym same) e) in
-      (one.0, refl, one.1);
+      (one.0, ap (λ (s : Recovered). held_after s cached told) one.1, one.2);
+  taken = λ d asks e.
+      let both : Some c ≡ Some d = sym wanted ∙ asks in
+      let same : c ≡ d = cc in
+      writes (subst (λ (x : Change). refusal_of_change r.memory x ≡ None) (sym same) e);
   cached = λ d asks. refl;
   calm = λ may. by_refusal (refusal_of_change r.memory c) refl (may (wanted_change request c wanted));
 }
   where
     by_refusal : (o : Option Refusal) → refusal_of_change r.memory c ≡ o → may_write told ≡ false → OnlyReads v w
     by_refusal None is still = absurd (true≢false (sym (writes is) ∙ still))
-    by_refusal (Some q) is still = (refuses q is).1
+    by_refusal (Some q) is still = (refuses q is).2
 
 -- the blocks of the arrays that a store holds are as they were
 abbrev pub KeepsArrays : DiskView → DiskView → Held → Type 0

@@ -118,7 +118,7 @@ pub record FailsAsTold (before now : ℕ) (told : Reply) : Type 0 where
   pub rose : told ≡ reply.Refused why.DeviceFault → Rose before now
   pub same : told ≢ reply.Refused why.DeviceFault → now ≡ before
 
--- why a command that asks for no change is refused for what is in memory, if it is: there is no such version, or no cursor
+-- why a get, a scan or a page of a cursor is refused for what is in memory, if it is: there is no such version, or no cursor
 -- of the number
 abbrev pub refusal_of_look : Memory → Request → Option Refusal
 refusal_of_look m (Get version key) =
@@ -129,8 +129,8 @@ refusal_of_look m (NextPairs number limit) =
     if is_opened number m.cursors.opened then None else Some why.UnknownCursor
 refusal_of_look m _ = None
 
--- a fault is told of a command alone that reaches the disk and is not refused for what is in memory; where that asks for no
--- change a damaged block has no entries in what is exposed, and where it is a change the journal was full. Want of memory is
+-- a fault is told of a command alone that reaches the disk, and of no get, scan or page that memory refuses; where it asks for
+-- no change a damaged block has no entries in what is exposed, and where it is a change the journal was full. Want of memory is
 -- told of an opening of a cursor, or of a change at a full journal
 pub record TellsTroubleOf (before : DiskView) (old : Held) (request : Request) (told : Reply)
     : Type 0 where
@@ -159,16 +159,19 @@ IsLookedUp now new x request answer =
     × (accepts (step (table_of (contents_state x)) request).answer.reply ≡ true))
 
 -- a command that asks for no change leaves the disk as it was, and the cache but for blocks that it adds as they
--- stand there; a change that is refused leaves both as they were, no change caches a block or lets go of one, and one with any
--- reply but those after which a store may have written leaves the disk as it was
+-- stand there; a change that memory refuses leaves all as it was, and one that it takes is told that it is done, or of want of
+-- memory or a fault; no change caches a block or lets go of one, and one with any reply but those after which a store may have
+-- written leaves the disk as it was
 pub record IsUntouched (before now : DiskView) (request : Request) (old : Held) (told : Reply)
     (new : Held) : Type 0 where
   pub looks : change_wanted request ≡ None
       → LooksThrough before now (arrays_held old.memory old.levels) old.cached new.cached
   pub refused : (c : Change) (r : Refusal) → change_wanted request ≡ Some c
       → refusal_of_change old.memory c ≡ Some r
-      → (told ≡ reply.Refused r) × (new.cached ≡ old.cached)
+      → (told ≡ reply.Refused r) × (new ≡ record old { spent = new.spent })
       × OnlyReads before now
+  pub taken : (c : Change) → change_wanted request ≡ Some c
+      → refusal_of_change old.memory c ≡ None → may_write told ≡ true
   pub cached : (c : Change) → change_wanted request ≡ Some c → new.cached ≡ old.cached
   pub calm : (is_change request ≡ true → may_write told ≡ false) → OnlyReads before now
 

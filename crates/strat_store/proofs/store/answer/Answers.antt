@@ -55,7 +55,7 @@ returns-in-Some-clause-same g c =
     let new = held_after c.change.new.held c.args.cache.now c.change.result in
     let leaves = c.change.ensures.end c.args.cache.now in (
       untouched_by before (g.D.Disk.view c.change.new.disk) (request_of c.args.command.now) _ c.args.held.now c.change.new.held c.args.cache.now c.change.result c.in-Some.ensures
-          (λ q e. let one = c.change.ensures.err q e in (one.0, subst (λ (d : _). OnlyReads before (g.D.Disk.view d)) (sym one.2) (reads_refl before)))
+          (λ q e. let one = c.change.ensures.err q e in (one.0, one.1, subst (λ (d : _). OnlyReads before (g.D.Disk.view d)) (sym one.2) (reads_refl before)))
           c.change.ensures.none.0,
       leaves_wanted before (g.D.Disk.view c.change.new.disk) old new (request_of c.args.command.now) _ c.change.result c.in-Some.ensures leaves.0,
       subst (λ (pairs : Pairs). LeavesCursors old (request_of c.args.command.now) (as_told c.change.result pairs) new) (sym c.requires.room)
@@ -69,6 +69,7 @@ returns-in-None-clause-same g c =
       record {
         looks = λ none. c.query.ensures.same;
         refused = λ d q asks e. absurd (let x : ◌≡◌ {A = Option Change} None (Some d) = sym c.in-None.ensures ∙ asks in cc);
+        taken = λ d asks e. absurd (let x : ◌≡◌ {A = Option Change} None (Some d) = sym c.in-None.ensures ∙ asks in cc);
         cached = λ d asks. absurd (let x : ◌≡◌ {A = Option Change} None (Some d) = sym c.in-None.ensures ∙ asks in cc);
         calm = λ calm. c.query.ensures.same.disk;
       },
