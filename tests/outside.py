@@ -141,6 +141,7 @@ class Talk:
     def __exit__(self, wrong, *_):
         self.child.stdin.close()
         try:
+            rest, said = self.child.stdout.read(), self.child.stderr.read()
             status = self.child.wait(DEADLINE)
         finally:
             self.guard.cancel()
@@ -148,7 +149,7 @@ class Talk:
             self.child.wait()
             close(self.child)
         if wrong is None:
-            expect(f"{self.name}, status", status, self.status)
+            expect(f"{self.name}, end", (rest, status, said), (b"", self.status, complaint(self.status)))
 
 
 def serve(path, pieces, program=PROGRAM, deadline=DEADLINE):
@@ -1306,6 +1307,49 @@ def blocks_stay_while_a_cursor_reads_them_and_no_longer(folder):
     expect("blocks that cursors read, and blocks that were used again", (named > 100, reused > 20), (True, True))
 
 
+def blocks_named(data):
+    """The blocks that the manifest names, those of its own chain among them."""
+    contents = formats.read(data)
+    return {block for array in formats.arrays_of(contents.manifest) for block in formats.blocks_of(array)} | set(contents.chain)
+
+
+def sixty_four_cursors_are_read_to_their_end_over_publications(folder):
+    chance, store = random.Random(31), StoreFile(folder, 4, 100000, 100)
+    for version in range(4):
+        frames = [put(tag, b"%03d" % key, chance.randbytes(300), version) for tag, key in enumerate(chance.sample(range(200), 40))]
+        store.expect_answers(f"version {version}", [*frames, clone(0, version)])
+    ended = closed = published = 0
+    with Talk("64 cursors", store) as talk:
+        held = {}  # the blocks of each open cursor
+        for number in range(64):
+            cursor = talk.open(version=number % 5)
+            held[cursor] = blocks_read_at(bytes_of(store.path), store.model.parents[1:], number % 5)
+            talk.ask(put(number, b"%03d" % chance.randrange(200), chance.randbytes(300), 4))
+        before = bytes_of(store.path)
+        while held:
+            cursor = chance.choice(list(held))
+            told = talk.ask(next_pairs(1, cursor, chance.choice((1, 7, 256))))
+            at_end = told[5:6] == b"\0"
+            if at_end or cursor % 4 == 0:  # every fourth is closed behind its first page
+                ended, closed = ended + at_end, closed + (not at_end)
+                talk.ask(close_cursor(2, cursor))
+                del held[cursor]
+            talk.ask(put(3, b"%03d" % chance.randrange(200), chance.randbytes(300), 4))
+            data = bytes_of(store.path)
+            old, new, kept = blocks_named(before), blocks_named(data), {block for blocks in held.values() for block in blocks}
+            written = {block for block in new if formats.block_at(data, block) != formats.block_at(before, block)}
+            published += bool(written)
+            # what is written was free: neither the manifest nor a cursor named it, and so it lies as low as these let it
+            expect("blocks written over that were named", sorted(written & (old | kept)), [])
+            for blocks in held.values():
+                expect("blocks of a cursor that changed", [b for b, there in blocks.items() if formats.block_at(data, b) != there], [])
+            free_below = formats.first_free(4) + len(old | kept) + len(written)
+            expect("blocks beyond what is named", [block for block in written if block >= free_below], [])
+            before = data
+    store.expect_bytes("64 cursors")
+    expect("ended, closed midway, published", (ended >= 48, closed > 5, published > 20), (True, True, True))
+
+
 def a_file_grows_no_more_for_cursors_that_are_closed(folder):
     # values of which three fill a block: each publication writes several, so that a hundred which kept theirs would show
     for most in (0, 1, 8):
@@ -2132,6 +2176,7 @@ CHECKS = [
     random_streams_with_cursors_are_answered_over_several_runs,
     cursors_read_whole_versions_while_all_is_changed,
     blocks_stay_while_a_cursor_reads_them_and_no_longer,
+    sixty_four_cursors_are_read_to_their_end_over_publications,
     a_file_grows_no_more_for_cursors_that_are_closed,
     kills_with_open_cursors_lose_nothing,
     kills_amid_promotions_lose_nothing,

@@ -65,7 +65,7 @@ class Commands:
         """The frame of a clone."""
         return frames.clone(self._program.tag, self.number(version))
 
-    def bounds(self, lower: Data, upper: Data, prefix: Data) -> Tuple[bytes, bytes]:
+    def _bounds(self, lower: Data, upper: Data, prefix: Data) -> Tuple[bytes, bytes]:
         """The bounds of the range between two bounds whose keys begin with a prefix."""
         low, high, head = data_of(lower), data_of(upper), data_of(prefix)
         end = frames.prefix_end(head) or b""
@@ -77,7 +77,7 @@ class Commands:
 
     def page(self, version: Version, lower: Data, upper: Data, prefix: Data, limit: int) -> bytes:
         """The frame of a scan, which gives the first pairs of a range."""
-        number, (low, high) = self.number(version), self.bounds(lower, upper, prefix)
+        number, (low, high) = self.number(version), self._bounds(lower, upper, prefix)
         self._check_bounds(f"page of version {number}", low, high)
         if not 0 <= limit < 2 ** 16:
             raise errors.ScanSize(file=self._program.file, command=f"page of version {number}")
@@ -85,7 +85,7 @@ class Commands:
 
     def open_cursor(self, version: Version, lower: Data, upper: Data, prefix: Data) -> bytes:
         """The frame of an opening of a cursor."""
-        number, (low, high) = self.number(version), self.bounds(lower, upper, prefix)
+        number, (low, high) = self.number(version), self._bounds(lower, upper, prefix)
         self._check_bounds(f"scan of version {number}", low, high)
         return frames.open_cursor(self._program.tag, number, low, high)
 

@@ -16,7 +16,6 @@ BODY_MAX = 2048
 KEY_MAX = 255
 VALUE_MAX = 1024
 PAGE_MAX = 256  # pairs in one reply
-CURSORS_MAX = 64  # that are open at a time
 NUMBER_MAX = 2 ** 32 - 1
 NO_PARENT = NUMBER_MAX
 

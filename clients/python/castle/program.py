@@ -127,8 +127,12 @@ class Program:
 
     def call(self, make: Callable[..., bytes], *words: object) -> frames.Answer:
         """The answer to the command that is made of these words. A refusal is raised."""
-        self._close_dropped()
-        answer = self.ask(make(*words))
+        self.settle()
+        self._sink = []
+        self._close_dropped()  # these go out together with the command, and are answered before it
+        self.add(make(*words))
+        self.settle()
+        answer = self._sink.pop()
         if isinstance(answer, errors.Refused):
             raise answer
         return answer
@@ -230,7 +234,8 @@ class Program:
     def _fail(self) -> NoReturn:
         """The program ended before it was asked to."""
         status = self._wait()
-        command = frames.describe(self._open[0]) if self._open else ""
+        asked = next((frame for frame in self._open if type(frame) is not Unheard), b"")
+        command = frames.describe(asked) if asked else ""
         self._end = errors.ended(status, self.file, command)
         raise self._end
 

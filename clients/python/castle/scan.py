@@ -18,7 +18,7 @@ class Reading(Iterator[Item], Generic[Item]):
     """An iterator that holds cursors of the program. `close` ends it, as does the end of a `with` block.
 
     Its cursors are closed behind the last item as well, after an error, with the store, and where nobody has it any more. The
-    program closes them before its next command; nothing waits for that.
+    closing goes out together with the next command, so that nothing waits for it.
     """
 
     def close(self) -> None:

@@ -66,7 +66,7 @@ class VersionView(MutableMapping[Data, bytes]):
         return Values(VersionView(self.store, self.version, prefix))
 
     def clear(self) -> None:
-        """Deletes every key that there is at this call, in memory of one piece of a scan."""
+        """Deletes every key that there is at this call. The answers, one a key, are in memory until its end."""
         with self.store.batch() as batch:
             for key in self:
                 batch.delete(self.version, key)

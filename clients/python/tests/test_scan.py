@@ -390,6 +390,13 @@ class CursorTest(Filled):
             store.close()
         self.assertEqual(len(list(self.opened().scan(0))), 600)
 
+    def test_an_end_names_the_command_and_no_closing_that_went_out_with_it(self) -> None:
+        store = self.three_pieces()
+        store.scan(0)  # dropped at once
+        os.kill(store.pid, 9)
+        with self.assertRaisesRegex(errors.Killed, "put a at version 0"):
+            store.put(0, "a", "b")
+
     def test_a_damaged_block_is_told_where_a_piece_meets_it(self) -> None:
         # docs/FORMATS.md: thirteen puts into a store with M 4 leave one array, in block 7
         store = self.made(4, 100, 10)

@@ -21,7 +21,7 @@ use Rattle.strat_cursor.specs.Ahead.{is_after, range_after}
 use Rattle.strat_cursor.specs.Contest.{head_in, LeadsAll, NoneAhead}
 use Rattle.strat_cursor.specs.Looking.{LooksThrough, HaveOwnIds}
 use Rattle.strat_cursor.specs.Picking.{AreSourcesOf}
-use Rattle.strat_cursor.specs.Ranges.{arrays_in_view, arrays_picked, IsMapSeen, IsPageOf}
+use Rattle.strat_cursor.specs.Ranges.{arrays_in_view, arrays_picked, FillsPage, IsMapSeen, IsPageOf}
 use Rattle.strat_state.specs.LookUp.{first_live}
 use Rattle.strat_cursor.specs.Sources.{IsSpent, content_of}
 use Rattle.strat_cursor.proofs.ThroughLemmas.{through_refl, through_trans}
@@ -65,6 +65,12 @@ handled_later e hi limit last next out new fits handles = elim handles [
   | inl before ↦ λ key is. ap (λ (k : List ℕ). is_after k key) (sym before.1) ∙ is
   | inr told ↦ λ key is. later_after hi hi last e.key (key_some e fits) told.0 key (ap (λ (k : List ℕ). is_after k key) (sym told.2) ∙ is)
 ]
+
+-- a page whose end was met
+pub handled_fills : (e : Entry) (hi : List ℕ) (limit : ℕ) (last next : List ℕ) (old new : Pairs) (more : Bool) → length old ≤ limit → HandlesKey e hi limit last next old new (Some more)
+    → FillsPage limit (length new) more
+handled_fills e hi limit last next old new true few handles = let same = ap length handles.4 in (omega (arith, same, few), λ on. omega (arith, same, few, handles.3))
+handled_fills e hi limit last next old new false few handles = let same = ap length handles.2 in (omega (arith, same, few), λ on. absurd (true≢false (sym on)))
 
 -- no more than the limit is told
 pub handled_len : (e : Entry) (hi : List ℕ) (limit : ℕ) (last next : List ℕ) (out new : Pairs) → length out ≤ limit → HandlesKey e hi limit last next out new None → length new ≤ limit

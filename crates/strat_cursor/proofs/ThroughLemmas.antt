@@ -31,7 +31,7 @@ one_id a arrays b own there same =
     let parts = and_parts _ (is_distinct (map (λ a. a.id) arrays)) own in
     true≢false (sym (among_tagged (map (λ a. a.id) arrays) a.id (subst (λ (n : ℕ). Among n (map (λ a. a.id) arrays)) same (id_among arrays b there))) ∙ not-true (is_tagged (map (λ a. a.id) arrays) a.id) parts.0)
 
-id_names : (arrays : List ArrayDesc) (a b : ArrayDesc) → is_distinct (map (λ a. a.id) arrays) ≡ true → Among a arrays → Among b arrays → a.id ≡ b.id → a ≡ b
+pub id_names : (arrays : List ArrayDesc) (a b : ArrayDesc) → is_distinct (map (λ a. a.id) arrays) ≡ true → Among a arrays → Among b arrays → a.id ≡ b.id → a ≡ b
 id_names [] a b own one other same = absurd one
 id_names (x ∷ arrays) a b own (inl one) (inl other) same = one ∙ sym other
 id_names (x ∷ arrays) a b own (inl one) (inr other) same = absurd (one_id x arrays b own other (sym same ∙ ap (λ (y : ArrayDesc). y.id) one))

@@ -1,5 +1,5 @@
 -- The pairs of a version in a range, as look-ups through level 0 and the levels find them.
-use Rattle.std.specs.Prelude.{◌≡◌, ℕ, Bool, nat_lt, List, [], ◌∷◌, ◌++◌, length, map, filter_map, take, Option, None, Some, option_and_then, unwrap_or}
+use Rattle.std.specs.Prelude.{◌≡◌, ◌≤◌, ℕ, Bool, true, nat_lt, List, [], ◌∷◌, ◌++◌, length, map, filter_map, take, Option, None, Some, option_and_then, unwrap_or}
 use Rattle.strat_arena.specs.declared.pool.PoolEntry.{PoolEntry}
 use Rattle.strat_base.specs.Entries.{Entry}
 use Rattle.strat_base.specs.Tree.{Parents}
@@ -48,6 +48,10 @@ pub record IsMapSeen (f : Image) (parents : Parents) (zeros : List (List Entry))
   pub ordered : IsMap m
   pub each : (key : List ℕ)
       → value_of m key ≡ option_and_then (λ e. e.value) (seen_in f parents zeros arrays v key)
+
+-- a page of so many pairs has at most its limit, and just as many where others are said to follow
+abbrev pub FillsPage : ℕ → ℕ → Bool → Type 0
+FillsPage limit n more = (n ≤ limit) × (more ≡ true → n ≡ limit)
 
 -- the first pairs of a list were told, at most so many, and whether others follow
 pub record IsPageOf (pairs : Pairs) (limit : ℕ) (told : Pairs) (more : Bool) : Type 0 where

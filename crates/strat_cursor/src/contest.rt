@@ -1,11 +1,10 @@
 //! A tournament of the sources of a range, in which the one whose first key is least wins, and of equal keys the first
 //! source. After a source went on only the nodes above its leaf are played again.
 
-ghost use Rattle.std.specs.Prelude.{◌≡◌, ◌≤◌, ◌<◌, ℕ, ◌+◌, ◌*◌, ◌/◌, length, slice_index, slice_set, option_map, IfOk, IfSome, IfNone, Some, None, IsSome, is_some, IsTrue, false};
+ghost use Rattle.std.specs.Prelude.{◌≡◌, ◌≤◌, ◌<◌, ◌+◌, ◌*◌, ◌/◌, length, slice_index, slice_set, option_map, IfOk, IfSome, IfNone, Some, None, IsSome, is_some, IsTrue, false};
 ghost use Rattle.strat_base.specs.EntryBytes.{fits_fields};
 ghost use Rattle.strat_base.specs.EntryView.{entry_of};
 ghost use Rattle.strat_merge.specs.Bracket.{is_ahead, winner_of, IsBracket, IsTournament, PlayedBeside};
-ghost use Rattle.strat_merge.specs.Runs.{head_at};
 ghost use Rattle.strat_cursor.specs.Contest.{contenders, head_in, keyed, LeadsAll, NoneAhead, AreAtHand};
 
 use crate::desks::Desk;

@@ -1,7 +1,7 @@
 //! One cursor: what it pins, and where it goes on.
 
 ghost use Rattle.std.specs.List.{list_any};
-ghost use Rattle.std.specs.Prelude.{◌≡◌, ◌≤◌, ◌==◌, ℕ, [], count_by, Some, IfOk, OnErr, IfSome, IsErrOf, option_map, vec_capacity};
+ghost use Rattle.std.specs.Prelude.{◌≡◌, ◌≤◌, ◌==◌, ℕ, [], length, count_by, Some, IfOk, OnErr, IfSome, IsErrOf, option_map, vec_capacity};
 ghost use Rattle.strat_arena.specs.PoolView.{shares_at, count_shared};
 ghost use Rattle.strat_base.specs.declared.failures.Fault.TheVariants.{Damaged, Device};
 ghost use Rattle.strat_crash.specs.Faults.{HasCause};
@@ -12,7 +12,7 @@ ghost use Rattle.strat_model.specs.Pairs.{Pairs};
 ghost use Rattle.strat_cursor.specs.Cursors.{goes_on, moved_on, pairs_left, IsMapPinned, MayGoOn, TellsNext};
 ghost use Rattle.strat_cursor.specs.Looking.{LooksThrough, NamesNoBlock};
 ghost use Rattle.strat_cursor.specs.Pins.{IsPinned, ListsStand, GivesShares, arenas_of, arena_pinned};
-ghost use Rattle.strat_cursor.specs.Ranges.{IsPageOf};
+ghost use Rattle.strat_cursor.specs.Ranges.{FillsPage, IsPageOf};
 
 use crate::desks::Desks;
 use crate::scanning::scan;
@@ -132,6 +132,7 @@ impl Cursor {
             → Exposes (D.view disk.old) f → MayGoOn f next self.now cache.old
             → IsMapPinned f tree.now.parents pool.now self.now m
             → IsPageOf (pairs_left m self.now) limit out.new more) }
+        ensures len { IfOk result (λ more. FillsPage limit (length out.new) more) }
         ensures err { OnErr result (out.new ≡ []) }
         ensures same { LooksThrough (D.view disk.old) (D.view disk.new) self.now.arrays cache.old
             cache.new }
@@ -173,7 +174,7 @@ impl Cursor {
     }
 
     /// Puts the first pairs of what is left into `out`, at most `limit`, and goes on behind them. Answers whether there
-    /// are others. It takes no memory, and after an error it stands where it stood.
+    /// are others. It takes no memory but for cached blocks, and after an error it stands where it stood.
     pub(crate) fn next<D: Disk>(
         &mut self,
         disk: &mut D,
@@ -192,6 +193,7 @@ impl Cursor {
             → Exposes (D.view disk.old) f → MayGoOn f next self.old cache.old
             → IsMapPinned f tree.now.parents pool.now self.old m
             → TellsNext m self.old limit out.new more) }
+        ensures len { IfOk result (λ more. FillsPage limit (length out.new) more) }
         ensures end { IfOk result (λ more. self.new ≡ moved_on more out.new self.old) }
         ensures err { OnErr result ((out.new ≡ []) × (self.new ≡ self.old)) }
         ensures same { LooksThrough (D.view disk.old) (D.view disk.new) self.old.arrays cache.old

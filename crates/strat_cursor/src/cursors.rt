@@ -13,6 +13,7 @@ ghost use Rattle.strat_model.specs.Pairs.{Pairs};
 ghost use Rattle.strat_cursor.specs.Cursors.{OpenCursor, IsMapPinned, MayGoOn, TellsNext, are_named, arrays_named, closed_at, is_array_named, is_opened, moved_at, retired_by, those_named};
 ghost use Rattle.strat_cursor.specs.CursorFaults.{as_next_fault};
 ghost use Rattle.strat_cursor.specs.Looking.{LooksThrough, NamesNoBlock};
+ghost use Rattle.strat_cursor.specs.Ranges.{FillsPage};
 ghost use Rattle.strat_cursor.specs.Pins.{HoldShares, ArePinned, IsSamePool, IsStarted, MayBePinned, SharesFollow, arrays_asked};
 ghost use Rattle.strat_cursor.specs.declared.cursors.CursorFault.TheVariants as start_fault;
 ghost use Rattle.strat_cursor.specs.declared.cursors.NextFault.TheVariants as next_fault;
@@ -212,7 +213,7 @@ impl Cursors {
     }
 
     /// Puts the first pairs that a cursor has left into `out`, at most `limit`: it then has the others left. Answers
-    /// whether there are any. It takes no memory. After an error all cursors are as before. Device: the disk counted a
+    /// whether there are any. It takes no memory but for cached blocks. After an error all cursors are as before. Device: the disk counted a
     /// fault. Damaged: this block of one of the cursor's arrays is no block of entries.
     pub fn next<D: Disk>(
         &mut self,
@@ -232,6 +233,7 @@ impl Cursors {
             → c.number ≡ number → (f : Image) (next : ℕ) (m : Pairs)
             → Exposes (D.view disk.old) f → MayGoOn f next c cache.old
             → IsMapPinned f tree.now.parents pool.now c m → TellsNext m c limit out.new more) }
+        ensures len { IfOk result (λ more. FillsPage limit (length out.new) more) }
         ensures kept { ArePinned pool.now tree.now.parents self.new.opened }
         ensures end { IfOk result (λ more. self.new
             ≡ record self.old { opened = moved_at number more out.new self.old.opened }) }

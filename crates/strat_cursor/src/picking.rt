@@ -1,8 +1,7 @@
 //! The sources of a view at a version.
 
 ghost use Rattle.std.specs.Option.{option_copied};
-ghost use Rattle.std.specs.Prelude.{◌≡◌, ◌≤◌, ◌<◌, ℕ, ◌+◌, List, length, Contains};
-ghost use Rattle.strat_base.specs.declared.descriptors.ArrayDesc.{ArrayDesc as TheArray};
+ghost use Rattle.std.specs.Prelude.{◌≡◌, ◌<◌, ◌+◌, length};
 ghost use Rattle.strat_crash.specs.Image.{Image};
 ghost use Rattle.strat_cursor.specs.Picking.{array_picked, HaveNumbers, content_at, IsOfView, AreSourcesOf};
 ghost use Rattle.strat_cursor.specs.Sources.{content_of};

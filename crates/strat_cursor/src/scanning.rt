@@ -14,7 +14,7 @@ ghost use Rattle.strat_cursor.specs.Sources.{reads_left, reads_of_source, HaveFe
 ghost use Rattle.strat_cursor.specs.Turning.{AreSettled, AreUpTo, sum_over};
 ghost use Rattle.strat_cursor.specs.DeskFields.{HasScanRoom};
 ghost use Rattle.strat_cursor.specs.Looking.{LooksThrough, NamesNoBlock, HaveOwnIds};
-ghost use Rattle.strat_cursor.specs.Ranges.{arrays_in_view, arrays_picked, IsMapSeen, IsPageOf};
+ghost use Rattle.strat_cursor.specs.Ranges.{arrays_in_view, arrays_picked, FillsPage, IsMapSeen, IsPageOf};
 ghost use Rattle.strat_cursor.specs.Views.{ViewStands, IsReadable, TellsPage, zeros_in};
 
 use crate::contest::{leader, play_all};
@@ -103,7 +103,7 @@ fn tell_all<D: Disk>(
         → IsMapSeen f view.now.tree.now.parents (zeros_in view.now)
         (arrays_picked view.now.tree.now.parents view.now.levels v) v m
         → IsPageOf (out.old ++ range_after m lo hi.now last.old.items) limit out.new more) }
-    ensures len { IfOk result (λ more. length out.new ≤ limit) }
+    ensures len { IfOk result (λ more. FillsPage limit (length out.new) more) }
     ensures room { (255 ≤ vec_capacity last.new) × (length desks.new ≡ length desks.old)
         × IsBracket (length sources.now) winners.new }
     ensures same { LooksThrough (D.view disk.old) (D.view disk.new)
@@ -147,7 +147,7 @@ fn scan_sources<D: Disk>(
     ensures ok { IfOk result (λ more. (f : Image) (next : ℕ) → Exposes (D.view disk.old) f
         → IsReadable f next view.now cache.old
         → TellsPage f view.now v lo.now hi.now limit out.new more) }
-    ensures len { IfOk result (λ more. length out.new ≤ limit) }
+    ensures len { IfOk result (λ more. FillsPage limit (length out.new) more) }
     ensures kept { HasScanRoom desks.new winners.new (vec_capacity last.new) }
     ensures same { LooksThrough (D.view disk.old) (D.view disk.new)
         (arrays_in_view view.now.levels) cache.old cache.new }
@@ -185,7 +185,7 @@ fn scan_with<D: Disk>(
     ensures ok { IfOk result (λ more. (f : Image) (next : ℕ) → Exposes (D.view disk.old) f
         → IsReadable f next view.now cache.old
         → TellsPage f view.now v lo.now hi.now limit out.new more) }
-    ensures len { IfOk result (λ more. length out.new ≤ limit) }
+    ensures len { IfOk result (λ more. FillsPage limit (length out.new) more) }
     ensures same { LooksThrough (D.view disk.old) (D.view disk.new)
         (arrays_in_view view.now.levels) cache.old cache.new }
     ensures damaged { (b : ℕ) → IsErrOf result (Damaged b)
@@ -231,7 +231,7 @@ pub fn scan<D: Disk>(
     ensures ok { IfOk result (λ more. (f : Image) (next : ℕ) → Exposes (D.view disk.old) f
         → IsReadable f next view.now cache.old
         → TellsPage f view.now version lo.now hi.now limit out.new more) }
-    ensures len { IfOk result (λ more. length out.new ≤ limit) }
+    ensures len { IfOk result (λ more. FillsPage limit (length out.new) more) }
     ensures err { OnErr result (out.new ≡ []) }
     ensures same { LooksThrough (D.view disk.old) (D.view disk.new)
         (arrays_in_view view.now.levels) cache.old cache.new }

@@ -1,7 +1,7 @@
 //! A place that a range is read from: a level 0, or an array.
 
 ghost use Rattle.std.specs.List.{slice_get, filter};
-ghost use Rattle.std.specs.Prelude.{◌≡◌, ◌≤◌, ◌<◌, ℕ, ◌+◌, ◌^◌, if◌then◌else◌, List, [], Contains, length, drop, option_map, IsTrue, IfSome, IfOk, OnOk, IsErrOf, None, Some};
+ghost use Rattle.std.specs.Prelude.{◌≡◌, ◌≤◌, ◌<◌, ℕ, ◌+◌, ◌^◌, if◌then◌else◌, List, [], length, drop, option_map, IsTrue, IfSome, IfOk, OnOk, IsErrOf, None, Some};
 ghost use Rattle.strat_base.specs.declared.failures.Fault.TheVariants.{Damaged, Device};
 ghost use Rattle.strat_crash.specs.Faults.{HasCause, ReadsAtMost};
 ghost use Rattle.strat_crash.specs.Image.{Image};

@@ -1,6 +1,6 @@
 //! The public calls: a store is read, what is to be said of it is put together in memory, and then it is written.
 
-ghost use Rattle.std.specs.Prelude.{◌≡◌, ℕ, [], ◌∷◌, IfOk, OnOk, IfErr, string_bytes};
+ghost use Rattle.std.specs.Prelude.{◌≡◌, [], ◌∷◌, IfOk, IfErr, string_bytes};
 ghost use Rattle.strat_crash.specs.Faults.{HasCause, ReadsAtMost, Rose};
 ghost use Rattle.strat_crash.specs.Image.{Image};
 ghost use Rattle.strat_crash.specs.Moments.{Exposes, OnlyReads};

@@ -298,7 +298,7 @@ module _ (v w : DiskView) (old : Held) (body : List ℕ) (met : Option Fault) (n
   pub step_responds : RespondsTo body is.response
   step_responds = elim is.responds [
     | inl away ↦ inl away.refused
-    | inr told ↦ inr (record { request = told.request; spelled = told.spelled; reached = told.err.reached; short = λ e. (told.err.short e).0 })
+    | inr told ↦ inr (record { request = told.request; spelled = told.spelled; reached = told.err.reached; short = λ e. (told.err.short e).0; few = told.few })
   ]
 
   -- the superblock and the manifest are on the disk still, unless the device failed

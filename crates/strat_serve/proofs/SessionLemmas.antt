@@ -68,8 +68,15 @@ whole_taken taken held rest bodies others front back =
     ∙ sym (append_assoc (flat_map frame bodies) (flat_map frame others) rest)
     ∙ ap (λ (x : List ℕ). x ++ rest) (sym (flat_map-append frame bodies others))
 
+-- what is behind the frames of the bodies that were answered
+few_ahead : (taken held : List ℕ) (bodies others : List (List ℕ)) (n : ℕ) → taken ≡ flat_map frame bodies ++ held → length bodies ≡ n → length held ≤ 6148
+    → length taken ≤ length (flat_map frame (take n (bodies ++ others))) + 6148
+few_ahead taken held bodies others n parts many few =
+    subst (λ (xs : List (List ℕ)). length taken ≤ length (flat_map frame xs) + 6148) (sym (take_at bodies others n many))
+    (omega (arith, ap length parts, length-append (flat_map frame bodies) held))
+
 -- a run that was not broken, over the bodies answered and others behind them
-module _ (start current : Held) (count budget : ℕ) (held : List ℕ) (before now : World) (p : Progress start current count held before now) (within : count ≤ budget) where
+module _ (start current : Held) (count budget : ℕ) (held : List ℕ) (before now : World) (p : Progress start current count held before now) (within : (count ≤ budget) × (length held ≤ 6148)) where
   abbrev session : List (List ℕ) → List ℕ → Session
   session others rest = record { taken = p.taken; bodies = p.bodies ++ others; rest = rest; answers = p.answers; broken = None }
 
@@ -86,7 +93,9 @@ module _ (start current : Held) (count budget : ℕ) (held : List ℕ) (before n
     answered = subst (λ (l : List Response). AreAnsweredBy (take (length l) (p.bodies ++ others)) l) (sym tolds_all) (answered_front p.bodies others p.answers p.answered);
     calm = p.quiet;
     fault = tt;
-    within = omega (arith, p.counted);
+    within = omega (arith, p.counted, within.0);
+    ahead = few_ahead p.taken held p.bodies others (length (all_responses (session others rest))) p.parts
+        (sym (as_many p.bodies p.answers p.answered) ∙ ap length (sym (append-nil p.answers))) within.1;
   }
 
   is_whole : AnswersAll (session [] held)
@@ -249,10 +258,13 @@ still_some before mid f passes e = go mid.content refl (passes.exposed (some bef
 
 -- the next body was answered
 module _ (start old new : Held) (count budget : ℕ) (held rest body : List ℕ) (met : Option Fault) (out : List ℕ) (before mid now : World)
-    (p : Progress start old count held before mid) (within : count ≤ budget) (done : Answered old new mid now body met out)
+    (p : Progress start old count held before mid) (within : (count ≤ budget) × (length held ≤ 6148)) (done : Answered old new mid now body met out)
     (front : held ≡ frame body ++ rest) (fits : IsBody body) (bytes : AreBytes rest) where
   abbrev response : Response
   response = done.is.response
+
+  few : length rest ≤ 6148
+  few = omega (arith, ap length front, length-append (frame body) rest, within.1)
 
   -- it met no fault, and its reply was sent
   pub goes_on : met ≡ None → Appends mid.held now.held out → Progress start new count rest before now
@@ -277,7 +289,7 @@ module _ (start old new : Held) (count budget : ℕ) (held rest body : List ℕ)
       } in
       let q = answers start old new count held rest body met out before mid sent p told none front fits (took_all mid.held (response_bytes response)) in
       let earlier = sent_bytes p.answers in
-      ends_cut start new count budget rest before sent q.0 within now.held now.sink_faults bytes (record {
+      ends_cut start new count budget rest before sent q.0 (within.0, few) now.held now.sink_faults bytes (record {
         sent = earlier ++ cut.sent;
         later = cut.later;
         parts = ap sent_bytes q.1
@@ -313,7 +325,11 @@ module _ (start old new : Held) (count budget : ℕ) (held rest body : List ℕ)
           answered = answered_front (p.bodies ++ body ∷ []) s.bodies (p.answers ++ response ∷ []) (answered_more p.bodies p.answers body response p.answered (step_responds mid.disk now.disk old body met new out done.is));
           calm = p.quiet;
           fault = let there : IsSome (Some f) = refl in subst (λ (o : Option Fault). IsSome o) (sym tells) there;
-          within = omega (arith, p.counted);
+          within = omega (arith, p.counted, within.0);
+          ahead = few_ahead p.taken rest (p.bodies ++ body ∷ []) s.bodies (length (p.answers ++ response ∷ []))
+              (whole_taken p.taken held rest p.bodies (body ∷ []) p.parts one)
+              (sym (as_many (p.bodies ++ body ∷ []) (p.answers ++ response ∷ []) (answered_more p.bodies p.answers body response p.answered (step_responds mid.disk now.disk old body met new out done.is))))
+              few;
         }
 
     output_broken : output broken ≡ sent_bytes p.answers ++ response_bytes response

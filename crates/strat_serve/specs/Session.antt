@@ -1,7 +1,7 @@
 -- A serving run: what it took, what it answered, what it sent, what it left on the disk, and why
 -- it ended.
-use Rattle.std.specs.Prelude.{◌≡◌, ◌≢◌, ◌≤◌, ◌<◌, ◌⊎◌, ℕ, ◌==◌, ◌&&◌, Bool, true, false, if◌then◌else◌, List, [], ◌∷◌, ◌++◌, ◌-◌, length, take, map, Contains, Option, Some, None, IfSome, IsSome, option_map, Ok, Err}
-use Rattle.std.specs.List.{AllByRecursion}
+use Rattle.std.specs.Prelude.{◌≡◌, ◌≢◌, ◌≤◌, ◌<◌, ◌⊎◌, ℕ, ◌+◌, ◌==◌, ◌&&◌, Bool, true, false, if◌then◌else◌, List, [], ◌∷◌, ◌++◌, ◌-◌, length, take, map, Contains, Option, Some, None, IfSome, IsSome, option_map, Ok, Err}
+use Rattle.std.specs.List.{AllByRecursion, flat_map}
 use Rattle.strat_base.specs.declared.descriptors.ArrayDesc.{ArrayDesc}
 use Rattle.strat_base.specs.declared.failures.Fault.{Fault}
 use Rattle.strat_base.specs.declared.failures.Fault.TheVariants as fault
@@ -35,7 +35,7 @@ use Rattle.strat_store.specs.Applying.{IsDamagedIn, IsUntouched, TellsTroubleOf,
 use Rattle.strat_store.specs.Cursoring.{LeavesCursors}
 use Rattle.strat_store.specs.Following.{ChangesGateAlone, FollowsFrom, IsOpenedAs, IsUnchanged, LeavesOpening}
 use Rattle.strat_store.specs.Held.{Held, IsConsistent, IsOnDisk, StandsAt, arrays_held, position_at}
-use Rattle.strat_store.specs.Ranging.{TellsFrom}
+use Rattle.strat_store.specs.Ranging.{HasPairsFor, TellsFrom}
 use Rattle.strat_store.specs.Settling.{LeavesPublished, carries_out}
 use Rattle.strat_serve.specs.World.{World}
 
@@ -67,14 +67,15 @@ pub record IsRefusedFor (body : List ℕ) (response : Response) : Type 0 where
   pub refused : IsRefusedAs body response.tag cause
   pub answer : response.answer ≡ refusal cause
 
--- a body is a command, and the response has its tag; where that tells that the device failed or that
--- a block is damaged, it is one that reaches the disk, and where it tells of want of memory, one that
--- takes some
+-- a body is a command, and the response has its tag and no more pairs than were asked for; where that tells
+-- that the device failed or that a block is damaged, it is one that reaches the disk, and where it tells of
+-- want of memory, one that takes some
 pub record IsTaggedFor (body : List ℕ) (response : Response) : Type 0 where
   pub request : Request
   pub spelled : Spells body response.tag request
   pub reached : is_fault response.answer.reply ≡ true → reaches_disk request ≡ true
   pub short : response.answer.reply ≡ reply.Refused why.NoMemory → takes_memory request ≡ true
+  pub few : HasPairsFor request response.answer
 
 -- a response may be that to a body, whatever a store says
 abbrev pub RespondsTo : List ℕ → Response → Type 0
@@ -145,6 +146,8 @@ pub record IsToldBy (before now : DiskView) (old : Held) (body : List ℕ) (resp
   -- where it asks for no change and met no fault it says what memory and the arrays say
   pub found : (f : Image) → Exposes before f → is_fault response.answer.reply ≡ false
       → TellsFrom f old request response.answer
+  -- and no more pairs than were asked for
+  pub few : HasPairsFor request response.answer
   -- it left the disk as it was, or wrote: what it asked for, and what it was told, says which
   pub same : IsUntouched before now request old response.answer.reply new
   pub err : TellsTroubleOf before old request response.answer.reply
@@ -223,13 +226,15 @@ abbrev pub all_responses : Session → List Response
 all_responses s = s.answers ++ listed_response s.broken
 
 -- the first bodies of the bytes taken were answered, one response for each, and a fault is told in
--- the last response alone
+-- the last response alone; at most 6,148 bytes were taken behind the frames of these bodies
 pub record IsSession (budget : ℕ) (s : Session) : Type 0 where
   pub splits : Splits s.taken s.bodies s.rest
   pub answered : AreAnsweredBy (take (length (all_responses s)) s.bodies) (all_responses s)
   pub calm : AllByRecursion (λ r. fault_told r.answer.reply ≡ None) s.answers
   pub fault : IfSome s.broken (λ r. IsSome (fault_told r.answer.reply))
   pub within : length s.taken ≤ budget
+  pub ahead : length s.taken
+      ≤ length (flat_map frame (take (length (all_responses s)) s.bodies)) + 6148
 
 -- every body was answered, and none of them met a fault
 pub record AnswersAll (s : Session) : Type 0 where

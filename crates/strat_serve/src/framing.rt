@@ -1,6 +1,6 @@
 //! Frames of drawn changes, written into a buffer of a fixed size.
 
-ghost use Rattle.std.specs.Prelude.{◌≡◌, ◌+◌, ◌/◌, ◌≤◌, ◌<◌, [], ◌∷◌, ◌++◌, length};
+ghost use Rattle.std.specs.Prelude.{◌≡◌, ◌+◌, ◌/◌, ◌≤◌, ◌<◌, ◌∷◌, ◌++◌, length};
 ghost use Rattle.std.specs.Fmt.{decimal};
 ghost use Rattle.strat_base.specs.Numbers.{be};
 ghost use Rattle.strat_model.specs.Spelling.{command_body, counted};

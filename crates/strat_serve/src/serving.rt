@@ -1,6 +1,6 @@
 //! The serving run.
 
-ghost use Rattle.std.specs.Prelude.{◌≡◌, ◌≢◌, ◌<◌, ◌≤◌, ◌+◌, ℕ, length, take, [], IfOk, IfSome, IfNone, OnOk, OnErr, false};
+ghost use Rattle.std.specs.Prelude.{◌≡◌, ◌≢◌, ◌<◌, ◌≤◌, ◌+◌, length, take, [], IfOk, IfSome, IfNone, OnOk, OnErr, false};
 ghost use Rattle.strat_crash.specs.Faults.{CountsFaults};
 ghost use Rattle.strat_crash.specs.Moments.{Passes};
 ghost use Rattle.strat_io.specs.Streams.{Appends};

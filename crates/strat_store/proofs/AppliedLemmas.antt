@@ -26,11 +26,12 @@ use Rattle.strat_recovery.specs.StateTable.{request_for, table_of}
 use Rattle.strat_standing.specs.Next.{arrays_made}
 use Rattle.strat_standing.specs.Contents.{Contents, contents_state}
 use Rattle.strat_store.proofs.CursoringLemmas.{agree_of, cursor_names}
-use Rattle.strat_store.specs.Applying.{IsAppliedTo, change_wanted, is_fault}
+use Rattle.strat_store.specs.Applying.{IsAppliedTo, is_fault}
 use Rattle.strat_store.specs.Cursoring.{IsAppliedAt, LeavesCursors}
 use Rattle.strat_store.specs.Held.{Held, IsConsistent, StandsAt, StandsWith, arrays_held, position_at, position_with}
 use Rattle.strat_store.specs.Memory.{KeepsRows}
 use Rattle.strat_store.specs.Settling.{HasPublished, KeepsPublished, LeavesPublished, arrays_taken}
+use Rattle.strat_store.proofs.LeavingLemmas.{wanted_of}
 
 -- a table with other cursors
 abbrev beside : Table → List Cursor → ℕ → Table
@@ -97,11 +98,6 @@ takes_for : (c : Change) → takes_memory (request_for c) ≡ true
 takes_for (change.Put v key value) = refl
 takes_for (change.Delete v key) = refl
 takes_for (change.Clone v) = refl
-
-wanted_of : (c : Change) → change_wanted (request_for c) ≡ Some c
-wanted_of (change.Put v key value) = refl
-wanted_of (change.Delete v key) = refl
-wanted_of (change.Clone v) = refl
 
 -- the number of the next array never falls
 pub next_later : (s new : Held) → KeepsPublished s new ⊎ HasPublished s new → s.chained.manifest.next_array ≤ new.chained.manifest.next_array

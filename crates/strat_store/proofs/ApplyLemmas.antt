@@ -47,7 +47,7 @@ use Rattle.strat_store.proofs.CursoringLemmas.{looks_wider, stands_now, stands_s
 use Rattle.strat_store.specs.Applying.{IsLookedUp, IsUntouched, FailsAsTold, FollowsStep, TellsTroubleOf, change_wanted, refusal_of_look, is_fault, ran_short, table_left}
 use Rattle.strat_store.specs.Cursoring.{IsAppliedAt, is_of_cursor}
 use Rattle.strat_store.specs.Getting.{MayTellOfKey}
-use Rattle.strat_store.specs.Ranging.{MayTellOfRange, TellsFrom, TellsOfVersion}
+use Rattle.strat_store.specs.Ranging.{HasPairs, HasPairsFor, MayTellOfRange, TellsFrom, TellsOfVersion}
 use Rattle.strat_store.specs.Held.{Held, arrays_held, position_at, table_at, IsConsistent, StandsAt, StandsWith}
 use Rattle.strat_store.specs.Memory.{Memory, info_told, stat_told, IsMemoryOf}
 use Rattle.strat_store.specs.Settling.{LeavesPublished}
@@ -155,19 +155,71 @@ tells_look before old r told other reaches look calm short refused none = record
     by None is fault = is
     by (Some q) is fault = absurd (true≢false (sym fault ∙ ap is_fault (refused q is) ∙ calm))
 
--- what is told of a key, and of a range, is never want of memory
-pub key_short : (told : Reply) → MayTellOfKey told → told ≡ reply.Refused why.NoMemory → ⊥
-key_short told (inl is) short = let e : reply.Refused why.UnknownVersion ≡ reply.Refused why.NoMemory = sym is ∙ short in cc
-key_short told (inr (inl is)) short = let e : reply.Found ≡ reply.Refused why.NoMemory = sym is ∙ short in cc
-key_short told (inr (inr (inl is))) short = let e : reply.Absent ≡ reply.Refused why.NoMemory = sym is ∙ short in cc
-key_short told (inr (inr (inr (inl is)))) short = let e : reply.Refused why.DeviceFault ≡ reply.Refused why.NoMemory = sym is ∙ short in cc
-key_short told (inr (inr (inr (inr is)))) short = let e : reply.Refused (why.Damaged is.0) ≡ reply.Refused why.NoMemory = sym is.1 ∙ short in cc
+pub other_than : reply.Refused why.UnknownVersion ≡ reply.Found → ⊥
+other_than e = cc
 
-pub range_short : (told : Reply) → MayTellOfRange told → told ≡ reply.Refused why.NoMemory → ⊥
-range_short told (inl is) short = let e : reply.Refused why.UnknownVersion ≡ reply.Refused why.NoMemory = sym is ∙ short in cc
-range_short told (inr (inl is)) short = let e : reply.Pairs is.0 ≡ reply.Refused why.NoMemory = sym is.1 ∙ short in cc
-range_short told (inr (inr (inl is))) short = let e : reply.Refused why.DeviceFault ≡ reply.Refused why.NoMemory = sym is ∙ short in cc
-range_short told (inr (inr (inr is))) short = let e : reply.Refused (why.Damaged is.0) ≡ reply.Refused why.NoMemory = sym is.1 ∙ short in cc
+-- what is told of a key, and of a range, is never want of memory
+of_key : (told : Reply) → MayTellOfKey told → told ≡ reply.Refused why.NoMemory → ⊥
+of_key told (inl is) short = let e : reply.Found ≡ reply.Refused why.NoMemory = sym is ∙ short in cc
+of_key told (inr (inl is)) short = let e : reply.Absent ≡ reply.Refused why.NoMemory = sym is ∙ short in cc
+of_key told (inr (inr (inl is))) short = let e : reply.Refused why.DeviceFault ≡ reply.Refused why.NoMemory = sym is ∙ short in cc
+of_key told (inr (inr (inr is))) short = let e : reply.Refused (why.Damaged is.0) ≡ reply.Refused why.NoMemory = sym is.1 ∙ short in cc
+
+of_range : (told : Reply) → MayTellOfRange told → told ≡ reply.Refused why.NoMemory → ⊥
+of_range told (inl is) short = let e : reply.Pairs is.0 ≡ reply.Refused why.NoMemory = sym is.1 ∙ short in cc
+of_range told (inr (inl is)) short = let e : reply.Refused why.DeviceFault ≡ reply.Refused why.NoMemory = sym is ∙ short in cc
+of_range told (inr (inr is)) short = let e : reply.Refused (why.Damaged is.0) ≡ reply.Refused why.NoMemory = sym is.1 ∙ short in cc
+
+of_no_version : (told : Reply) → told ≡ reply.Refused why.UnknownVersion → told ≡ reply.Refused why.NoMemory → ⊥
+of_no_version told is short = let e : reply.Refused why.UnknownVersion ≡ reply.Refused why.NoMemory = sym is ∙ short in cc
+
+-- whether the version is there or not
+pub key_short : (known : Bool) (told : Reply) → (known ≡ true → MayTellOfKey told) → (known ≡ false → told ≡ reply.Refused why.UnknownVersion) → told ≡ reply.Refused why.NoMemory → ⊥
+key_short true told here none short = of_key told (here refl) short
+key_short false told here none short = of_no_version told (none refl) short
+
+pub range_short : (known : Bool) (told : Reply) → (known ≡ true → MayTellOfRange told) → (known ≡ false → told ≡ reply.Refused why.UnknownVersion) → told ≡ reply.Refused why.NoMemory → ⊥
+range_short true told here none short = of_range told (here refl) short
+range_short false told here none short = of_no_version told (none refl) short
+
+-- nor is a key found by what is told of a range, of a version or of the store
+pages : (told : Reply) → MayTellOfRange told → told ≡ reply.Found → ⊥
+pages told (inl is) found = let e : reply.Pairs is.0 ≡ reply.Found = sym is.1 ∙ found in cc
+pages told (inr (inl is)) found = let e : reply.Refused why.DeviceFault ≡ reply.Found = sym is ∙ found in cc
+pages told (inr (inr is)) found = let e : reply.Refused (why.Damaged is.0) ≡ reply.Found = sym is.1 ∙ found in cc
+
+pub range_pages : (known : Bool) (told : Reply) → (known ≡ true → MayTellOfRange told) → (known ≡ false → told ≡ reply.Refused why.UnknownVersion) → told ≡ reply.Found → ⊥
+range_pages true told here none found = pages told (here refl) found
+range_pages false told here none found = other_than (sym (none refl) ∙ found)
+
+pub info_finds : (m : Memory) (version : ℕ) (known : Bool) (told : Reply) → (known ≡ true → told ≡ info_told m version) → (known ≡ false → told ≡ reply.Refused why.UnknownVersion) → told ≡ reply.Found → ⊥
+info_finds m version true told here none found = let e : info_told m version ≡ reply.Found = sym (here refl) ∙ found in cc
+info_finds m version false told here none found = other_than (sym (none refl) ∙ found)
+
+pub stat_finds : (m : Memory) → stat_told m ≡ reply.Found → ⊥
+stat_finds m found = cc
+
+-- beside the reply to a command that is no page: one pair where a key was found, and else none
+pub pairs_beside : (told : Reply) (out : TheirPairs) → (told ≡ reply.Found → length out ≡ 1) → ((told ≡ reply.Found → ⊥) → out ≡ []) → HasPairs 0 told out
+pairs_beside reply.Found out one none = one refl
+pairs_beside (reply.Pairs more) out one none = let n = ap length (none (λ e. cc)) in (omega (arith, n), λ on. n)
+pairs_beside reply.Done out one none = none (λ e. cc)
+pairs_beside reply.Absent out one none = none (λ e. cc)
+pairs_beside (reply.Made v) out one none = none (λ e. cc)
+pairs_beside (reply.Info parent depth frozen) out one none = none (λ e. cc)
+pairs_beside (reply.Opened n) out one none = none (λ e. cc)
+pairs_beside (reply.Stat versions updates changes cursors) out one none = none (λ e. cc)
+pairs_beside (reply.Refused r) out one none = none (λ e. cc)
+
+pub no_pairs : (told : Reply) (out : TheirPairs) → (told ≡ reply.Found → ⊥) → out ≡ [] → HasPairs 0 told out
+no_pairs told out other none = pairs_beside told out (λ found. absurd (other found)) (λ _. none)
+
+-- a change is answered without pairs
+pub pairs_wanted : (r : Request) (c : Change) (told : Reply) (out : TheirPairs) → change_wanted r ≡ Some c → (told ≡ reply.Found → ⊥) → out ≡ [] → HasPairsFor r (as_told told out)
+pairs_wanted (Put v key value) c told out wanted other none = no_pairs told out other none
+pairs_wanted (Delete v key) c told out wanted other none = no_pairs told out other none
+pairs_wanted (Clone v) c told out wanted other none = no_pairs told out other none
+pairs_wanted _ c told out wanted other none = absurd (cc)
 
 -- a version that is refused is not there, and a cursor that is refused is not open
 pub version_refused : (m : Memory) (v : ℕ) (q : Refusal) → (if is_known m.parents v then None else Some why.UnknownVersion) ≡ Some q → is_known m.parents v ≡ false
@@ -213,9 +265,6 @@ info_says m version told known unknown = (λ off. ap plain (unknown off), λ is.
 -- a version that is not there is told so, without pairs
 pub unknown_answer : (told : Reply) (out : TheirPairs) → told ≡ reply.Refused why.UnknownVersion → out ≡ [] → as_told told out ≡ refusal why.UnknownVersion
 unknown_answer told out is none = λ i. as_told (is i) (none i)
-
-pub other_than : reply.Refused why.UnknownVersion ≡ reply.Found → ⊥
-other_than e = cc
 
 -- what reads a version leaves the table as it was
 says_kept : (k : Bool) (t : Table) (a : Answer) (r : Refusal) → (if k then replies_with t a else refuses t r).table ≡ t

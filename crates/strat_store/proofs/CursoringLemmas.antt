@@ -21,6 +21,7 @@ use Rattle.strat_cursor.proofs.TableRows.{rows_length, rows_less, rows_opened, t
 use Rattle.strat_cursor.specs.Cursors.{MayGoOn, TellsNext, arrays_named, closed_at, is_opened, moved_at, pairs_left}
 use Rattle.strat_cursor.specs.Held.{AreRowsOf, HeldCursor, HeldCursors, IsMapHeld}
 use Rattle.strat_cursor.specs.Looking.{AreCachedFrom, AreInOrder, LooksThrough, NamesNoBlock, arrays_there}
+use Rattle.strat_cursor.specs.Ranges.{FillsPage}
 use Rattle.strat_cursor.specs.declared.cursors.CursorFault.{CursorFault}
 use Rattle.strat_cursor.specs.declared.cursors.CursorFault.TheVariants as start_fault
 use Rattle.strat_cursor.specs.declared.cursors.NextFault.{NextFault}
@@ -44,13 +45,13 @@ use Rattle.strat_standing.specs.Contents.{Contents, contents_state}
 use Rattle.strat_standing.specs.Standing.{ContentsStand, LeavesContent}
 use Rattle.strat_state.specs.Level.{Level}
 use Rattle.strat_store.proofs.GettingLemmas.{blamed, cached, known, none_damaged, ordered, whole_read}
-use Rattle.strat_store.proofs.LookLemmas.{id_names}
 use Rattle.strat_store.proofs.RangingLemmas.{map_seen, page_told, table_asked}
 use Rattle.strat_store.specs.Applying.{FailsAsTold, IsDamagedIn, is_fault}
 use Rattle.strat_store.specs.Cursoring.{IsAppliedAt, cursors_after, reply_of_close, reply_of_next, reply_of_start}
 use Rattle.strat_store.specs.Held.{Held, IsConsistent, StandsAt, StandsWith, arrays_held, contents_held, position_at, table_at}
 use Rattle.strat_store.specs.Memory.{Memory, cursor_from, with_cursor}
-use Rattle.strat_store.specs.Ranging.{TellsOfCursor, TellsOfOpening, TellsOfVersion}
+use Rattle.strat_store.specs.Ranging.{HasPairs, TellsOfCursor, TellsOfOpening, TellsOfVersion}
+use Rattle.strat_cursor.proofs.ThroughLemmas.{id_names}
 
 -- what is cached of some arrays stays as an image has it while blocks of others come in, where a number says which array it is
 cached_beside : (content : Option Image) (f : Image) (next : ℕ) (mine others : List ArrayDesc) (c d : Blocks) → content ≡ Some f
@@ -468,6 +469,13 @@ opening_told c (Err start_fault.NoMemory) opens limit =
 pub nothing_told : {T E : Type 0} (P Q : Type 0) (r : Result T E) → OnErr r (P × Q) → OnErr r Q
 nothing_told P Q (Ok x) same = tt
 nothing_told P Q (Err e) same = same.1
+
+-- a page has the pairs that were told, and none where it failed
+pub pairs_paged : (r : Result Bool NextFault) (out : TheirPairs) (limit : ℕ) → IfOk r (λ more. FillsPage limit (length out) more) → OnErr r (out ≡ []) → HasPairs limit (reply_of_next r) out
+pairs_paged (Ok more) out limit fills none = fills
+pairs_paged (Err next_fault.UnknownCursor) out limit fills none = none
+pairs_paged (Err next_fault.Device) out limit fills none = none
+pairs_paged (Err (next_fault.Damaged b)) out limit fills none = none
 
 pub cursor_told : (f : Image) (v : DiskView) (s : Held) (n limit : ℕ) (out : TheirPairs) (r : Result Bool NextFault) → Exposes v f → is_fault (reply_of_next r) ≡ false
     → IfOk r (λ more. (c : HeldCursor) → Contains s.memory.cursors.opened c → c.number ≡ n → (g : Image) (k : ℕ) (pairs : Pairs) → Exposes v g → MayGoOn g k c s.cached → IsMapHeld g s.memory.parents c pairs → TellsNext pairs c limit out more)

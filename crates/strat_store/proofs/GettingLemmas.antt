@@ -42,7 +42,6 @@ use Rattle.strat_state.specs.Maps.{map_over}
 use Rattle.strat_state.specs.Reading.{level_zero}
 use Rattle.strat_state.specs.State.{State, versions_of, sources}
 use Rattle.strat_store.proofs.LookLawLemmas.{in_order}
-use Rattle.strat_store.proofs.LookLemmas.{still_cached}
 use Rattle.strat_store.proofs.MemoryLawLemmas.{key_unknown, key_found}
 use Rattle.strat_store.proofs.KeepingLemmas.{own_numbers, low_numbers}
 use Rattle.strat_store.proofs.WholeLemmas.{whole_promotes}
@@ -51,6 +50,7 @@ use Rattle.strat_store.specs.Getting.{reply_of_get}
 use Rattle.strat_store.specs.Held.{Held, IsConsistent, StandsWith, arrays_held, contents_held, head_held}
 use Rattle.strat_cursor.specs.Looking.{levels_there, arrays_there, MayBeFound, AreInOrder, AreCachedFrom, LooksThrough, NamesNoBlock, HaveOwnIds}
 use Rattle.strat_store.specs.Memory.{Memory}
+use Rattle.strat_cursor.proofs.ThroughLemmas.{still_cached}
 
 -- what is told of what was found is the answer
 answer_of : (e : Option Entry) (key : List ℕ) (out : TheirPairs) (told : Seen) → TellsFound e key [] out told → as_told (reply_of_get (Ok told)) out ≡ found key (option_and_then (λ x. x.value) e)

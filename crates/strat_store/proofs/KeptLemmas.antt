@@ -75,9 +75,9 @@ behind_kept s mem f g whole mem_is keeps b of =
     keeps b (le-ltb b (first_free mem) (omega (arith, behind, ap first_free mem_is)))
 
 -- the arrays of a level that was made, as a list of levels has them
-made_listed : (made : Option LevelDesc) → flat_map (λ (l : LevelDesc). l.arrays) (option_to_list made) ≡ arrays_made made
-made_listed None = refl
-made_listed (Some level) = append-nil level.arrays
+pub arrays_of_made : (made : Option LevelDesc) → flat_map (λ (l : LevelDesc). l.arrays) (option_to_list made) ≡ arrays_made made
+arrays_of_made None = refl
+arrays_of_made (Some level) = append-nil level.arrays
 
 -- the arrays that a promotion takes stand in levels
 pub taken_there : (s : Held) (target : ℕ) (a : ArrayDesc) → ArePlaced s.chained.manifest.levels s.levels → Among a (arrays_taken target s.chained.manifest) → Among a (arrays_there s.levels)
@@ -131,7 +131,7 @@ module _ (s : Held) (target : ℕ) (sb : Super) (chained : Chained) (levels : Li
       ap arrays_in placed.listed_are
       ∙ ap (λ (m : Manifest). arrays_in m.levels) are.manifest_is
       ∙ flat_map-append (λ (l : LevelDesc). l.arrays) (option_to_list are.made) (descs_behind target old.levels)
-      ∙ ap (λ (xs : List ArrayDesc). xs ++ behind) (made_listed are.made)
+      ∙ ap (λ (xs : List ArrayDesc). xs ++ behind) (arrays_of_made are.made)
 
   later : old.next_array ≤ next.next_array
   later = let e = ap (λ (m : Manifest). m.next_array) are.manifest_is in omega (arith, e)

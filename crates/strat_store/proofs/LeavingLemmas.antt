@@ -232,7 +232,7 @@ renews v u w r mid new cached told has keeps refused still pays counts agree =
     }
 
 -- what a change leaves of cursors
-wanted_of : (c : Change) → change_wanted (request_for c) ≡ Some c
+pub wanted_of : (c : Change) → change_wanted (request_for c) ≡ Some c
 wanted_of (change.Put v key value) = refl
 wanted_of (change.Delete v key) = refl
 wanted_of (change.Clone v) = refl

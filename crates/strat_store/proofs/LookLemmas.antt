@@ -1,137 +1,30 @@
 -- A look-up goes through the levels, and asks an array in each.
-use Rattle.std.proofs.Common.{◌≡◌, ◌≤◌, ◌<◌, ◌+◌, ◌-◌, ℕ, zero, suc, true, false, cond, leb, get_or, drop, inl, inr, ◌⊎◌, List, [], ◌∷◌, length, Contains, map, Option, Some, None, IsTrue, refl, sym, ap, ◌∙◌, subst, arith, true≢false, Result, Ok, Err}
-use Rattle.std.proofs.lemmas.Bool.{and_parts, not-true, le-leb}
+use Rattle.std.proofs.Common.{◌≡◌, ◌≤◌, ◌<◌, ◌+◌, ℕ, true, false, get_or, drop, List, [], ◌∷◌, length, Option, Some, None, IsTrue, refl, sym, ap, ◌∙◌, subst, true≢false, Result, Ok, Err}
 use Rattle.std.proofs.lemmas.List.{drop_all, drop_more}
-use Rattle.std.specs.List.{filter_map, cons_option, slice_get}
+use Rattle.std.specs.List.{filter_map, cons_option}
 use Rattle.std.specs.Prelude.{IfOk}
 use Rattle.std.specs.Option.{option_and_then, option_map, option_or, unwrap_or}
-use Rattle.strat_array.specs.Kept.{Kept, Blocks, IsBlockRead, Looks, ArrayStands}
+use Rattle.strat_array.specs.Kept.{Blocks, ArrayStands}
 use Rattle.strat_array.specs.Left.{all_in}
 use Rattle.strat_array.specs.Told.{TheirPairs, TellsFound, AddsPair}
-use Rattle.strat_array.specs.Within.{IsNoBlock}
 use Rattle.strat_array.specs.declared.seen.Seen.{Seen}
 use Rattle.strat_array.specs.declared.seen.Seen.TheVariants as seen
 use Rattle.strat_array.proofs.LawLemmas.{array_stands}
-use Rattle.strat_base.proofs.ListFacts.{Among, find_some, among_in_flat}
-use Rattle.strat_standing.proofs.ListLemmas.{among_contained, contained_among}
-use Rattle.strat_base.specs.Entries.{Entry, is_ascending, is_tagged}
+use Rattle.strat_base.specs.Entries.{Entry, is_ascending}
 use Rattle.strat_base.specs.Tree.{Parents}
 use Rattle.strat_base.specs.declared.descriptors.ArrayDesc.{ArrayDesc}
 use Rattle.strat_base.specs.declared.descriptors.LevelDesc.{LevelDesc}
 use Rattle.strat_base.specs.declared.failures.Fault.{Fault}
-use Rattle.strat_crash.proofs.MomentLemmas.{reads_refl, reads_trans}
 use Rattle.strat_crash.specs.Image.{Image}
 use Rattle.strat_crash.specs.Moments.{DiskView}
-use Rattle.strat_format.specs.Arrays.{blocks_of, block_on, entries_on}
-use Rattle.strat_level.specs.Levels.{desc_for, is_for, level_numbered}
-use Rattle.strat_recovery.proofs.OpeningLemmas.{next_some}
+use Rattle.strat_format.specs.Arrays.{blocks_of, entries_on}
+use Rattle.strat_level.specs.Levels.{desc_for}
 use Rattle.strat_recovery.specs.Asked.{on_disk}
-use Rattle.strat_state.proofs.LevelLemmas.{among_tagged}
-use Rattle.strat_state.specs.Level.{is_distinct}
 use Rattle.strat_state.specs.LookUp.{looked_up, first_live}
 use Rattle.strat_state.specs.Reading.{live_of}
-use Rattle.strat_base.specs.Tree.{below}
-use Rattle.strat_cursor.specs.Looking.{levels_there, arrays_there, AreInOrder, AreCachedFrom, LooksThrough, NamesNoBlock, HaveOwnIds, MayBeAsked, asked_of_level, array_says, decides, reads_of_array, reads_in}
-
--- the number of an array among others names it
-id_among : (arrays : List ArrayDesc) (b : ArrayDesc) → Among b arrays → Among b.id (map (λ a. a.id) arrays)
-id_among [] b there = there
-id_among (a ∷ arrays) b (inl here) = inl (ap (λ (x : ArrayDesc). x.id) here)
-id_among (a ∷ arrays) b (inr there) = inr (id_among arrays b there)
-
-one_id : (a : ArrayDesc) (arrays : List ArrayDesc) (b : ArrayDesc) → is_distinct (map (λ a. a.id) (a ∷ arrays)) ≡ true → Among b arrays → b.id ≡ a.id → ⊥
-one_id a arrays b own there same =
-    let parts = and_parts _ (is_distinct (map (λ a. a.id) arrays)) own in
-    true≢false (sym (among_tagged (map (λ a. a.id) arrays) a.id (subst (λ (n : ℕ). Among n (map (λ a. a.id) arrays)) same (id_among arrays b there))) ∙ not-true (is_tagged (map (λ a. a.id) arrays) a.id) parts.0)
-
-pub id_names : (arrays : List ArrayDesc) (a b : ArrayDesc) → is_distinct (map (λ a. a.id) arrays) ≡ true → Among a arrays → Among b arrays → a.id ≡ b.id → a ≡ b
-id_names [] a b own one other same = absurd one
-id_names (x ∷ arrays) a b own (inl one) (inl other) same = one ∙ sym other
-id_names (x ∷ arrays) a b own (inl one) (inr other) same = absurd (one_id x arrays b own other (sym same ∙ ap (λ (y : ArrayDesc). y.id) one))
-id_names (x ∷ arrays) a b own (inr one) (inl other) same = absurd (one_id x arrays a own one (same ∙ ap (λ (y : ArrayDesc). y.id) other))
-id_names (x ∷ arrays) a b own (inr one) (inr other) same = id_names arrays a b (and_parts _ (is_distinct (map (λ a. a.id) arrays)) own).1 one other same
-
--- blocks in a cache stay as an image has them while only such are added that stand on the disk
-still_same : (content : Option Image) (f : Image) (arrays : List ArrayDesc) (c d : Blocks) → content ≡ Some f → HaveOwnIds arrays
-    → ((k : ℕ × ℕ) (x : List Entry) → Contains d.entries (k, x) → Contains c.entries (k, x) ⊎ ((a : ArrayDesc) × Contains arrays a × IsBlockRead content a.id (blocks_of a.extents) k x))
-    → ((a : ArrayDesc) (index block : ℕ) (x : List Entry) → Contains arrays a → Contains c.entries ((a.id, index), x) → slice_get (blocks_of a.extents) index ≡ Some block → block_on f block ≡ Some x)
-    → (a : ArrayDesc) (index block : ℕ) (x : List Entry) → Contains arrays a → Contains d.entries ((a.id, index), x) → slice_get (blocks_of a.extents) index ≡ Some block → block_on f block ≡ Some x
-still_same content f arrays c d exposed own cached same a index block x of there at =
-    elim (cached (a.id, index) x there) [
-      | inl before ↦ same a index block x of before at
-      | inr got ↦
-          let read = got.2 in
-          let one : got.0 ≡ a = id_names arrays got.0 a own (contained_among arrays got.0 got.1) (contained_among arrays a of) (sym read.mine) in
-          let place : Some block ≡ Some read.block = sym at ∙ ap (λ (z : ArrayDesc). slice_get (blocks_of z.extents) index) (sym one) ∙ read.place in
-          let here : block ≡ read.block = cc in
-          ap (block_on f) here ∙ read.read f exposed
-    ]
-
-pub still_cached : (old new : DiskView) (f : Image) (next : ℕ) (arrays : List ArrayDesc) (c d : Blocks) → LooksThrough old new arrays c d → old.content ≡ Some f
-    → ((a : ArrayDesc) → Contains arrays a → a.id < next) → HaveOwnIds arrays → AreCachedFrom f next arrays c → AreCachedFrom f next arrays d
-still_cached old new f next arrays c d looks exposed few own cached = record {
-  old = λ k x there.
-      elim (looks.cached k x there) [
-        | inl before ↦ cached.old k x before
-        | inr got ↦ omega (arith, got.2.mine, few got.0 got.1)
-      ];
-  same = still_same old.content f arrays c d exposed own looks.cached cached.same;
-}
-
--- looking through arrays
-pub through_refl : (v : DiskView) (arrays : List ArrayDesc) (c : Blocks) → LooksThrough v v arrays c c
-through_refl v arrays c = record { disk = reads_refl v; cap = refl; cached = λ k x there. inl there }
-
-pub through_trans : (old mid new : DiskView) (arrays : List ArrayDesc) (c d e : Blocks) → LooksThrough old mid arrays c d → LooksThrough mid new arrays d e → LooksThrough old new arrays c e
-through_trans old mid new arrays c d e first second = record {
-  disk = reads_trans first.disk second.disk;
-  cap = second.cap ∙ first.cap;
-  cached = λ k x there.
-      elim (second.cached k x there) [
-        | inl before ↦ first.cached k x before
-        | inr got ↦
-            let read = got.2 in
-            inr (got.0, got.1, record { mine = read.mine; block = read.block; place = read.place; read = λ f exposed. read.read f (first.disk.same ∙ exposed) })
-      ];
-}
-
-pub through_one : (old new : DiskView) (arrays : List ArrayDesc) (a : ArrayDesc) (c d : Blocks) (s t : Option Kept) → Contains arrays a → Looks old new a.id (blocks_of a.extents) c d s t → LooksThrough old new arrays c d
-through_one old new arrays a c d s t of looks = record {
-  disk = looks.disk;
-  cap = looks.cap;
-  cached = λ k x there.
-      elim (looks.cached k x there) [
-        | inl before ↦ inl before
-        | inr read ↦ inr (a, of, read)
-      ];
-}
-
--- an array that is asked is one of those that are there
-at_there : (levels : List (Option LevelDesc)) (i : ℕ) (level : LevelDesc) → get_or levels i None ≡ Some level → Among level (levels_there levels)
-at_there [] i level e = absurd (cc)
-at_there (None ∷ levels) zero level e = absurd (cc)
-at_there (Some l ∷ levels) zero level e = let same : l ≡ level = cc in inl (sym same)
-at_there (None ∷ levels) (suc i) level e = at_there levels i level e
-at_there (Some l ∷ levels) (suc i) level e = inr (at_there levels i level e)
-
--- levels are counted from 1
-pub level_next : (levels : List (Option LevelDesc)) (i : ℕ) → level_numbered levels (i + 1) ≡ get_or levels i None
-level_next levels i =
-    let some : leb 1 (i + 1) ≡ true = le-leb 1 (i + 1) (omega arith) in
-    let before : i + 1 - 1 ≡ i = omega arith in
-    (λ j. cond (some j) (get_or levels (before j) None) None)
-
-numbered_there : (levels : List (Option LevelDesc)) (number : ℕ) (level : LevelDesc) → level_numbered levels number ≡ Some level → Among level (levels_there levels)
-numbered_there levels zero level e = absurd (cc)
-numbered_there levels (suc i) level e =
-    let next : i + 1 ≡ suc i = omega arith in
-    at_there levels i level (sym (level_next levels i) ∙ ap (λ (n : ℕ). level_numbered levels n) next ∙ e)
-
-pub asked_there : (parents : Parents) (levels : List (Option LevelDesc)) (number v : ℕ) (a : ArrayDesc) → asked_of_level parents levels number v ≡ Some a → Contains (arrays_there levels) a
-asked_there parents levels number v a e =
-    let found = next_some (λ level. desc_for parents level v) (level_numbered levels number) a e in
-    let among = find_some (is_for (below parents v found.0.horizon)) found.0.arrays a found.2 in
-    among_contained (arrays_there levels) a (among_in_flat (λ (l : LevelDesc). l.arrays) (levels_there levels) found.0 a (numbered_there levels number found.0 found.1) among.0)
+use Rattle.strat_cursor.specs.Looking.{levels_there, arrays_there, AreInOrder, AreCachedFrom, LooksThrough, HaveOwnIds, MayBeAsked, asked_of_level, array_says, decides, reads_of_array, reads_in}
+use Rattle.strat_cursor.proofs.ThroughLemmas.{still_same, through_refl, through_trans}
+use Rattle.strat_cursor.proofs.PickLemmas.{level_next, asked_there}
 
 -- what an array says, as it was found in the lists of its blocks
 pub tell_one : (content : Option Image) (f : Image) (a : ArrayDesc) (c : Blocks) (parents : Parents) (key : List ℕ) (v : ℕ) (old new : TheirPairs) (told : Seen) → content ≡ Some f → MayBeAsked f c a
@@ -228,13 +121,6 @@ pub reads_left : (n : ℕ) (parents : Parents) (v above : ℕ) (levels : List (O
 reads_left n parents v above levels within =
     ap (reads_in n parents v) (drop_more levels above None within)
     ∙ ap (λ (o : Option LevelDesc). reads_of_array n (option_and_then (λ l. desc_for parents l v) o) + reads_in n parents v (drop (above + 1) levels)) (sym (level_next levels above))
-
--- a block that a list of arrays names, where one of them does
-pub names_one : (content : Option Image) (arrays : List ArrayDesc) (a : ArrayDesc) (b : ℕ) → Contains arrays a → IsNoBlock content (blocks_of a.extents) b → NamesNoBlock content arrays b
-names_one content arrays a b of none = record { array = a; one = of; none = none }
-
-pub names_earlier : (old mid : Option Image) (arrays : List ArrayDesc) (b : ℕ) → mid ≡ old → NamesNoBlock mid arrays b → NamesNoBlock old arrays b
-names_earlier old mid arrays b same is = record { array = is.array; one = is.one; none = (is.none.0, λ f exposed. is.none.1 f (same ∙ exposed)) }
 
 -- where the whole of the levels was passed, nothing is found
 pub passed_all : (old now : DiskView) (levels : List (Option LevelDesc)) (parents : Parents) (key : List ℕ) (v above : ℕ) (c d : Blocks) → length levels ≤ above → Passing old now levels parents key v above c d

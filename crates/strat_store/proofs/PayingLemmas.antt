@@ -1,5 +1,5 @@
 -- What a store pays for its arrays, while changes are carried out and published.
-use Rattle.std.proofs.Common.{◌≡◌, ◌≤◌, ◌+◌, ◌*◌, ℕ, zero, suc, Bool, true, false, leb, inl, inr, List, [], ◌∷◌, ◌++◌, map, filter, flat_map, Contains, Option, None, Some, refl, sym, ap, ◌∙◌, subst, arith, length}
+use Rattle.std.proofs.Common.{◌≡◌, ◌≤◌, ◌+◌, ◌*◌, ℕ, zero, suc, Bool, true, false, leb, inl, inr, List, [], ◌∷◌, ◌++◌, map, filter, flat_map, Contains, Some, sym, ap, ◌∙◌, subst, arith, length}
 use Rattle.std.specs.List.{sum_by}
 use Rattle.std.specs.Option.{option_to_list}
 use Rattle.std.proofs.lemmas.Bool.{le-leb, lt-leb}
@@ -36,6 +36,7 @@ use Rattle.strat_store.proofs.SettlingLemmas.{listed_arrays}
 use Rattle.strat_store.specs.Held.{Held, IsConsistent, StandsWith, contents_held}
 use Rattle.strat_store.specs.Paying.{IsPaidIn, ArePaidSince, StoreTwoSince, CountsWritten}
 use Rattle.strat_store.specs.Settling.{WritesBeside, IsReadied}
+use Rattle.strat_store.proofs.KeptLemmas.{arrays_of_made}
 
 -- an image of contents whose state is paid for
 pub paid_as : (c : Image) (x : Contents) → ReadsAs c x → IsPaid (contents_state x) → IsPaidIn c
@@ -82,11 +83,6 @@ stored_since v start tables n trail c since s reads =
     let e : Some shows.1.state ≡ Some s = sym shows.1.reads ∙ reads in
     let same : shows.1.state ≡ s = cc in
     subst (λ (q : State). stored q ≤ 2 * updates_of q) same (stored_twice shows.1.state shows.1.sound)
-
--- the arrays of a level that was made, as a list of levels has them
-arrays_of_made : (made : Option LevelDesc) → flat_map (λ (l : LevelDesc). l.arrays) (option_to_list made) ≡ arrays_made made
-arrays_of_made None = refl
-arrays_of_made (Some level) = append-nil level.arrays
 
 -- the next manifest counts what was written
 pub counts_next : (w : DiskView) (s : Held) (x : Contents) → IsConsistent s → x ≡ contents_held s x.levels → (sb : Super) (chained : Chained) → IsReadied w s x sb chained → CountsWritten s.chained.manifest chained.manifest

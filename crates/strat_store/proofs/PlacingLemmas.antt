@@ -13,8 +13,8 @@ use Rattle.strat_standing.proofs.ListLemmas.{among_contained}
 use Rattle.strat_store.specs.Held.{ArePlaced}
 use Rattle.strat_cursor.specs.Looking.{levels_there}
 use Rattle.strat_store.specs.Recovering.{FitsInMemory, MayBePlaced}
-use Rattle.strat_store.proofs.LookLemmas.{level_next}
 use Rattle.strat_store.proofs.TagLemmas.{rising_parts}
+use Rattle.strat_cursor.proofs.PickLemmas.{level_next}
 
 -- a level before all that are there is the first of them
 set_first : (levels : List (Option LevelDesc)) (i : ℕ) (level : LevelDesc) → i < length levels → ((j : ℕ) → j ≤ i → get_or levels j None ≡ None)

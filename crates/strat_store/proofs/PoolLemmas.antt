@@ -255,38 +255,6 @@ module _ (old new : List PoolEntry) (parents : Parents) (zero z : Memtable) (cur
   pub made_entries : entries_held new zero.list ≡ entries_held old zero.list
   made_entries = (stands_while old new zero.list (made_arenas zero.list.arena made_zero) (omega (arith, made_zero, made_shares zero.list.arena)) stand.level.list).1
 
--- no cursors may go on anywhere
-pub none_pinned : (pool : List PoolEntry) (parents : Parents) (cursors : List OpenCursor) → cursors ≡ [] → ArePinned pool parents cursors
-none_pinned pool parents [] none = record {
-  held = record { stand = λ c at. absurd (let lt = at.1 in omega arith); shares = λ n. omega arith };
-  each = λ c at. absurd (let lt = at.1 in omega arith);
-}
-none_pinned pool parents (c ∷ cursors) none = absurd (cc)
-
-pub none_held : (pool : List PoolEntry) (cursors : List OpenCursor) → opened_held pool cursors ≡ [] → cursors ≡ []
-none_held pool [] none = refl
-none_held pool (c ∷ cursors) none = absurd (cc)
-
--- level 0 of new memory
-pub first_stands : (old new : List PoolEntry) (parents : Parents) (z : Memtable) (cursors : List OpenCursor) → old ≡ [] → cursors ≡ [] → MemtableStands new z
-    → (shares_at old z.list.arena ≡ 0) × (shares_at new z.list.arena ≡ 1) → SameBeside old new z.list.arena → StandInPool new parents z None cursors
-first_stands old new parents z cursors empty none level found same = record {
-  level = level;
-  beside = tt;
-  pinned = none_pinned new parents cursors none;
-  shares = λ n.
-      let no_cursors : shares_of cursors n ≡ 0 = ap (λ (cs : List OpenCursor). shares_of cs n) none in
-      let nothing : shares_at old n ≡ 0 = ap (λ (p : List PoolEntry). shares_at p n) empty in
-      elim (cases_eq n z.list.arena) [
-        | inl is ↦
-            let one : shares_at new n ≡ 1 = ap (λ m. shares_at new m) is ∙ found.1 in
-            let owned : once z.list.arena n ≡ 1 = ap (λ m. once z.list.arena m) is ∙ once_same z.list.arena in
-            omega (arith, one, no_cursors, owned, owns_alone z n)
-        | inr apart ↦
-            omega (arith, ap (λ (e : PoolEntry). e.shares) (same n apart), nothing, no_cursors, owns_alone z n, once_other z.list.arena n (λ e. apart (sym e)))
-      ];
-}
-
 -- an empty list has no entries
 pub no_entries : (pool : List PoolEntry) (list : ItemList) → list.items ≡ [] → entries_held pool list ≡ []
 no_entries pool list none = ap (λ (items : List Item). entries_of (arena_at pool list.arena).pairs items) none

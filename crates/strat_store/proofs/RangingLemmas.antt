@@ -18,7 +18,7 @@ use Rattle.strat_base.specs.declared.failures.Fault.TheVariants as fault
 use Rattle.strat_crash.specs.Image.{Image}
 use Rattle.strat_crash.specs.Moments.{DiskView}
 use Rattle.strat_cursor.specs.Looking.{levels_there, arrays_there, AreInOrder, AreCachedFrom, LooksThrough, NamesNoBlock, HaveOwnIds}
-use Rattle.strat_cursor.specs.Ranges.{content_on, seen_in, arrays_in_view, arrays_picked, IsMapSeen, IsPageOf}
+use Rattle.strat_cursor.specs.Ranges.{content_on, seen_in, arrays_in_view, arrays_picked, FillsPage, IsMapSeen, IsPageOf}
 use Rattle.strat_cursor.specs.Views.{zeros_in, IsReadable, TellsPage}
 use Rattle.strat_cursor.specs.declared.view.View.{View}
 use Rattle.strat_format.specs.Arrays.{block_on}
@@ -44,7 +44,7 @@ use Rattle.strat_store.proofs.GettingLemmas.{blamed, none_damaged, whole_read, i
 use Rattle.strat_store.specs.Applying.{is_fault, IsLookedUp, IsDamagedIn}
 use Rattle.strat_store.specs.Held.{Held, IsConsistent, StandsWith, contents_held}
 use Rattle.strat_store.specs.Memory.{Memory}
-use Rattle.strat_store.specs.Ranging.{reply_of_scan, IsMapAsked}
+use Rattle.strat_store.specs.Ranging.{reply_of_scan, HasPairs, IsMapAsked}
 
 -- what is made of what is picked is picked of what is made
 map_picked : {X A B : Type 0} (g : A → B) (h : X → Option A) (xs : List X) → map g (filter_map h xs) ≡ filter_map (λ x. option_map g (h x)) xs
@@ -219,3 +219,9 @@ module _ (v now : DiskView) (s : Held) (x : Contents) (d : Blocks) (n : ℕ) (lo
   known_range r is tells none names =
       subst (λ (z : Contents). IsLookedUp now (record s { cached = d }) z (Scan n lo hi limit) (as_told (reply_of_scan r) out)) (sym w.held)
       (there v s x.levels whole (subst (StandsWith v s) w.held w) now d looks leaves n lo hi limit out r is tells none names)
+
+-- a scan has the pairs that were told, and none where it failed
+pub pairs_scanned : (r : Result Bool Fault) (out : TheirPairs) (limit : ℕ) → IfOk r (λ more. FillsPage limit (length out) more) → OnErr r (out ≡ []) → HasPairs limit (reply_of_scan r) out
+pairs_scanned (Ok more) out limit fills none = fills
+pairs_scanned (Err fault.Device) out limit fills none = none
+pairs_scanned (Err (fault.Damaged b)) out limit fills none = none

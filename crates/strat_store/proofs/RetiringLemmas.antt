@@ -1,5 +1,5 @@
 -- Arrays that leave the levels: those that a cursor names are kept.
-use Rattle.std.proofs.Common.{◌≡◌, ◌≤◌, ◌<◌, ◌+◌, ℕ, Bool, true, false, inl, inr, List, [], ◌∷◌, ◌++◌, append-nil, length, length-append, take, get_or, Option, refl, sym, ap, ◌∙◌, subst, arith}
+use Rattle.std.proofs.Common.{◌≡◌, ◌≤◌, ◌<◌, ◌+◌, ℕ, Bool, true, false, inl, inr, List, [], ◌∷◌, ◌++◌, append-nil, length, length-append, take, get_or, refl, sym, ap, ◌∙◌, subst, arith}
 use Rattle.std.specs.Prelude.{if◌then◌else◌, nat_le}
 use Rattle.std.proofs.lemmas.Bool.{le-leb, lt-leb}
 use Rattle.std.proofs.lemmas.List.{take_more}
@@ -13,7 +13,7 @@ use Rattle.strat_cursor.specs.Cursors.{CursorsOver, is_array_named, retired_all,
 use Rattle.strat_plan.proofs.ListLemmas.{distinct_append, distinct_head, distinct_tail}
 use Rattle.strat_standing.specs.Occupied.{arrays_in}
 use Rattle.strat_state.specs.Level.{is_distinct}
-use Rattle.strat_store.specs.Memory.{Memory, prepared}
+use Rattle.strat_store.specs.Memory.{Memory}
 use Rattle.strat_store.specs.Publishing.{descs_to}
 
 -- numbers in two lists that are distinct together
@@ -87,9 +87,6 @@ pub record Retires (old : Memory) (arrays : List ArrayDesc) (now : Memory) (left
   pub going : retired_all left now.cursors ≡ retired_all arrays old.cursors
   pub room : length now.cursors.retired + length left ≤ now.cursors.room
   pub few : length now.cursors.retired + length left ≤ length old.cursors.retired + length arrays
-
-pub retires_none : (m : Memory) (arrays : List ArrayDesc) → length m.cursors.retired + length arrays ≤ m.cursors.room → Retires m arrays m arrays
-retires_none m arrays room = record { same = refl; going = refl; room = room; few = omega arith }
 
 -- one more
 pub retires_one : (old : Memory) (arrays : List ArrayDesc) (now next : Memory) (left rest : List ArrayDesc) (a : ArrayDesc) → Retires old arrays now left → left ≡ rest ++ a ∷ []
@@ -185,7 +182,3 @@ counted_more levels i level within is =
     ap (λ (ls : List LevelDesc). length (arrays_in ls)) (take_more levels i level within ∙ ap (λ (l : LevelDesc). take i levels ++ l ∷ []) (sym is))
     ∙ ap (λ (xs : List ArrayDesc). length xs) (flat_map-append arrays (take i levels) (level ∷ []) ∙ ap (λ (xs : List ArrayDesc). arrays_in (take i levels) ++ xs) (append-nil level.arrays))
     ∙ length-append (arrays_in (take i levels)) level.arrays
-
--- what memory is told of its preparation
-pub prepared_as : (m now : Memory) (o : Option ℕ) (n : ℕ) → now ≡ prepared m o n → now ≡ prepared m now.ready now.cursors.room
-prepared_as m now o n is = is ∙ (λ i. prepared m (sym (ap (λ (k : Memory). k.ready) is) i) (sym (ap (λ (k : Memory). k.cursors.room) is) i))

@@ -1,9 +1,6 @@
 -- A whole store may promote: what it holds is known, may be read, and is no more than any store has.
 use Rattle.std.proofs.Common.{◌≡◌, ◌<◌, ◌≤◌, ◌+◌, ◌*◌, ◌^◌, ℕ, zero, suc, Bool, true, not, eqb, ltb, leb, ◌&&◌, inl, inr, List, [], ◌∷◌, append-nil, length, map, Contains, flat_map, fold, filter_map, get_or, Option, None, Some, refl, sym, ap, ◌∙◌, subst, arith}
 use Rattle.std.specs.List.{list_all, range_with_len, sum, sum_by}
-use Rattle.std.specs.Ordering.{match_ordering}
-use Rattle.std.specs.declared.cmp.Ordering.{Ordering}
-use Rattle.std.specs.declared.cmp.Ordering.TheVariants.{Less, Equal, Greater}
 use Rattle.std.proofs.lemmas.Bool.Decides.{nat_tests}
 use Rattle.std.proofs.lemmas.List.{length-map}
 use Rattle.std.proofs.lemmas.Bool.{and_parts, ltb-true, leb-true, lt-ltb}
@@ -12,7 +9,6 @@ use Rattle.strat_array.specs.Within.{AreWithin}
 use Rattle.strat_base.proofs.ListFacts.{Among, all_at, all_from, among_split, among_in_flat}
 use Rattle.strat_base.specs.Change.{Change, Put, Delete, Clone}
 use Rattle.strat_base.specs.Entries.{Entry, is_tagged}
-use Rattle.strat_base.specs.Order.{entry_cmp}
 use Rattle.strat_base.specs.Tree.{Parents, is_known, has_child, with_child}
 use Rattle.strat_base.specs.declared.descriptors.ArrayDesc.{ArrayDesc}
 use Rattle.strat_base.specs.declared.descriptors.Extent.{Extent}
@@ -38,13 +34,15 @@ use Rattle.strat_state.proofs.AppendedLemmas.{length-grown}
 use Rattle.strat_state.proofs.LevelLemmas.{tagged_among}
 use Rattle.strat_state.proofs.UpdateLemmas.{all_among}
 use Rattle.strat_state.specs.Level.{is_distinct}
-use Rattle.strat_state.specs.Setting.{set_entry, set_all}
+use Rattle.strat_state.specs.Setting.{set_all}
 use Rattle.strat_state.specs.Sound.{is_accepted, are_accepted}
 use Rattle.strat_state.specs.State.{tree_after, update_of}
 use Rattle.strat_store.specs.Held.{Held, IsConsistent, StandsWith, contents_held}
 use Rattle.strat_store.specs.Publishing.{MayCompute}
 use Rattle.strat_cursor.specs.Looking.{arrays_there}
 use Rattle.strat_store.specs.Promoting.{MayPromote}
+use Rattle.strat_promotion.proofs.PaidLemmas.{updates_few}
+use Rattle.strat_store.proofs.MemoryLemmas.{left_few}
 
 -- an update that was accepted is at a version that is there
 accepted_known : (cm vm : ℕ) (parents : Parents) (n : ℕ) (journal : List Change) (e : Entry) → are_accepted cm vm parents n journal ≡ true → Among e (filter_map update_of journal)
@@ -91,13 +89,6 @@ accepted_few cm vm parents n (c ∷ journal) accepted le =
     let parts = and_parts (is_accepted cm vm parents n c) (are_accepted cm vm (tree_after parents c) (suc n) journal) accepted in
     let more = accepted_few cm vm (tree_after parents c) (suc n) journal parts.1 (below_limit n cm (counted_in cm vm parents n c parts.0) le) in
     omega (arith, more)
-
--- level 0 has no more entries than the journal has changes
-updates_few : (journal : List Change) → length (filter_map update_of journal) ≤ length journal
-updates_few [] = omega arith
-updates_few (Put v key value ∷ journal) = let rest = updates_few journal in omega (arith, rest)
-updates_few (Delete v key ∷ journal) = let rest = updates_few journal in omega (arith, rest)
-updates_few (Clone v ∷ journal) = let rest = updates_few journal in omega (arith, rest)
 
 -- the leads of the levels by their places are those of all arrays
 leads_all : (levels : List (Option LevelDesc)) (a : ℕ) (G : ℕ → ℕ) → ((i : ℕ) → G (a + i) ≡ leads_if_any (get_or levels i None))
@@ -148,26 +139,9 @@ array_lawful versions next (d ∷ ds) lawful own a among =
       | inr there ↦ array_lawful versions next ds laws.1 owns.1 a there
     ]
 
--- an entry that is set is one more at most
-set_few : (e : Entry) (entries : List Entry) → length (set_entry e entries) ≤ length entries + 1
-set_few e [] = omega arith
-set_few e (d ∷ entries) = by (entry_cmp e.key e.version d.key d.version) (set_few e entries)
-  where
-    by : (o : Ordering) → length (set_entry e entries) ≤ length entries + 1 → length (match_ordering o (e ∷ d ∷ entries) (e ∷ entries) (d ∷ set_entry e entries)) ≤ suc (length entries) + 1
-    by Less rest = omega arith
-    by Equal rest = omega arith
-    by Greater rest = omega (arith, rest)
-
-onto_few : (entries updates : List Entry) → length (fold (λ es e. set_entry e es) entries updates) ≤ length entries + length updates
-onto_few entries [] = omega arith
-onto_few entries (e ∷ updates) =
-    let rest = onto_few (set_entry e entries) updates in
-    let one = set_few e entries in
-    omega (arith, rest, one)
-
 pub entries_few : (journal : List Change) → length (set_all (filter_map update_of journal)) ≤ length journal
 entries_few journal =
-    let all = onto_few [] (filter_map update_of journal) in
+    let all = left_few (filter_map update_of journal) in
     let few = updates_few journal in
     omega (arith, all, few)
 

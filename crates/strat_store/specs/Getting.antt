@@ -16,9 +16,8 @@ reply_of_get (Ok seen.None) = reply.Absent
 reply_of_get (Err fault.Device) = reply.Refused why.DeviceFault
 reply_of_get (Err (fault.Damaged block)) = reply.Refused (why.Damaged block)
 
--- what may be told of a key at a version
+-- what may be told of a key at a version that is there
 abbrev pub MayTellOfKey : Reply → Type 0
 MayTellOfKey told =
-    (told ≡ reply.Refused why.UnknownVersion) ⊎ (told ≡ reply.Found) ⊎ (told ≡ reply.Absent)
-    ⊎ (told ≡ reply.Refused why.DeviceFault)
+    (told ≡ reply.Found) ⊎ (told ≡ reply.Absent) ⊎ (told ≡ reply.Refused why.DeviceFault)
     ⊎ ((block : ℕ) × (told ≡ reply.Refused (why.Damaged block)))

@@ -132,7 +132,7 @@ cursor_from m levels v lo hi = record {
 abbrev pub with_cursor : HeldCursors → HeldCursor → HeldCursors
 with_cursor c one = record c { opened = c.opened ++ one ∷ []; next = c.next + 1 }
 
--- the cursors of a table that memory gave its own it still gives them, whatever an image says
+-- cursors keep the rows that they had, whatever an image says
 abbrev pub KeepsRows : Memory → Memory → Type 0
 KeepsRows old new = (f : Image) (rows : List Cursor)
     → AreRowsOf f old.parents old.cursors.opened rows

@@ -10,6 +10,7 @@ use Rattle.strat_crash.specs.Image.{Image}
 use Rattle.strat_cursor.specs.Cursors.{MayGoOn, is_opened, pairs_left}
 use Rattle.strat_cursor.specs.Held.{HeldCursor, HeldCursors, IsMapHeld}
 use Rattle.strat_cursor.specs.Looking.{AreCachedAs, AreInOrder, arrays_there, levels_there}
+use Rattle.strat_cursor.specs.Ranges.{FillsPage}
 use Rattle.strat_model.specs.Answer.{Answer, plain, refusal}
 use Rattle.strat_model.specs.Kept.{IsMap}
 use Rattle.strat_model.specs.Pairs.{Pairs, value_of, range}
@@ -36,12 +37,28 @@ pub record IsMapAsked (f : Image) (parents : Parents) (entries : List Entry)
   pub each : (key : List ℕ)
       → value_of m key ≡ asked f parents (entries ∷ []) (levels_there levels) v key
 
--- what may be told of a range
+-- what may be told of a range of a version that is there
 abbrev pub MayTellOfRange : Reply → Type 0
 MayTellOfRange told =
-    (told ≡ reply.Refused why.UnknownVersion) ⊎ ((more : Bool) × (told ≡ reply.Pairs more))
-    ⊎ (told ≡ reply.Refused why.DeviceFault)
+    ((more : Bool) × (told ≡ reply.Pairs more)) ⊎ (told ≡ reply.Refused why.DeviceFault)
     ⊎ ((block : ℕ) × (told ≡ reply.Refused (why.Damaged block)))
+
+-- how many pairs a command asks for at most
+abbrev pub page_limit : Request → ℕ
+page_limit (Scan version lo hi limit) = limit
+page_limit (NextPairs number limit) = limit
+page_limit _ = 0
+
+-- beside a reply stand the one pair of a key that was found, those of a page, at most so many and just as many where others
+-- are said to follow, or else none
+abbrev pub HasPairs : ℕ → Reply → Pairs → Type 0
+HasPairs limit reply.Found pairs = length pairs ≡ 1
+HasPairs limit (reply.Pairs more) pairs = FillsPage limit (length pairs) more
+HasPairs limit _ pairs = pairs ≡ []
+
+-- an answer to a command has such pairs
+abbrev pub HasPairsFor : Request → Answer → Type 0
+HasPairsFor request answer = HasPairs (page_limit request) answer.reply answer.pairs
 
 -- what is told of a version that is there is this, and of any other that there is none
 abbrev pub TellsOfVersion : Memory → ℕ → Answer → Type 0 → Type 0

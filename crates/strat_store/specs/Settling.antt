@@ -110,7 +110,8 @@ pub record ArePublishedTo (target : ℕ) (sb : Super) (m : Manifest) (memory : M
   pub manifest_is : next ≡ manifest_after m memory target made
   pub sb_is : next_sb ≡ super_after sb first size
 
--- so they do, down to some target, and the cursors are those of memory, for which the arrays that were taken are kept
+-- a superblock and a manifest are published so, down to some target, and the cursors are those of memory, for which those of the
+-- arrays taken are kept that one of them names
 pub record ArePublishedAfter (sb : Super) (m : Manifest) (memory : Memory) (next_sb : Super)
     (next : Manifest) (cursors : HeldCursors) : Type 0 where
   pub target : ℕ

@@ -1,7 +1,7 @@
 //! Taking a manifest that was read into memory, where a store may have it.
 
 ghost use Rattle.std.specs.List.{list_all};
-ghost use Rattle.std.specs.Prelude.{◌≡◌, ◌≤◌, IfOk, IfSome, IfNone, IsTrue, true, false, nat_lt};
+ghost use Rattle.std.specs.Prelude.{◌≡◌, ◌≤◌, IfOk, IfSome, IfNone, IsTrue, false, nat_lt};
 ghost use Rattle.strat_format.specs.Arrays.{blocks_of};
 ghost use Rattle.strat_format.specs.Layout as places;
 ghost use Rattle.strat_format.specs.Manifest.{is_lawful_manifest};

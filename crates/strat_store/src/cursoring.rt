@@ -1,13 +1,11 @@
 //! Cursors of a store: they are opened, tell their pairs page by page, and are closed.
 
-ghost use Rattle.std.specs.Prelude.{◌≡◌, ◌≢◌, ◌≤◌, ℕ, List, [], length, true, false, Contains, IfOk};
+ghost use Rattle.std.specs.Prelude.{◌≡◌, ◌≢◌, ◌≤◌, ℕ, List, [], length, false};
 ghost use Rattle.strat_array.specs.Kept.{Blocks};
-ghost use Rattle.strat_base.specs.Tree.{is_known};
 ghost use Rattle.strat_crash.specs.Image.{Image};
 ghost use Rattle.strat_crash.specs.Moments.{Exposes};
-ghost use Rattle.strat_cursor.specs.Cursors.{arrays_named, closed_at, is_opened};
-ghost use Rattle.strat_cursor.specs.Held.{HeldCursor};
-ghost use Rattle.strat_cursor.specs.Looking.{LooksThrough, NamesNoBlock};
+ghost use Rattle.strat_cursor.specs.Cursors.{arrays_named, is_opened};
+ghost use Rattle.strat_cursor.specs.Looking.{LooksThrough};
 ghost use Rattle.strat_format.specs.Arrays.{block_on};
 ghost use Rattle.strat_model.specs.Answer.{as_told, plain};
 ghost use Rattle.strat_model.specs.Request.{OpenCursor, NextPairs, CloseCursor};
@@ -18,7 +16,7 @@ ghost use Rattle.strat_standing.specs.Contents.{Contents};
 ghost use Rattle.strat_store.specs.Applying.{FailsAsTold, IsDamagedIn, is_fault};
 ghost use Rattle.strat_store.specs.Cursoring.{IsAppliedAt, cursors_after, reply_of_close, reply_of_next, reply_of_start};
 ghost use Rattle.strat_store.specs.Held.{IsConsistent, StandsAt};
-ghost use Rattle.strat_store.specs.Ranging.{TellsFrom};
+ghost use Rattle.strat_store.specs.Ranging.{HasPairsFor, TellsFrom};
 ghost use Rattle.strat_store.specs.Recovering.{held_of, held_after};
 
 use crate::recovering::Recovered;
@@ -125,7 +123,8 @@ pub(crate) fn next_pairs<D: Disk>(
         × ((f : Image) → Exposes (D.view disk.old) f → block_on f b ≡ None) }
     ensures none { is_opened number held.old.memory.cursors.opened ≡ false
         → result ≡ reply.Refused why.UnknownCursor }
-    ensures len { (result ≢ reply.Found) × (result ≢ reply.Refused why.NoMemory) }
+    ensures len { (result ≢ reply.Found) × (result ≢ reply.Refused why.NoMemory)
+        × HasPairsFor (NextPairs number limit) (as_told result out.new) }
 {
     let told = held
         .memory

@@ -1,9 +1,9 @@
 //! Making a new store.
 
-ghost use Rattle.std.specs.Prelude.{◌≡◌, ◌≢◌, ◌≤◌, ℕ, OnOk, IsErrOf};
+ghost use Rattle.std.specs.Prelude.{◌≡◌, ◌≢◌, ◌≤◌, OnOk, IsErrOf};
 ghost use Rattle.strat_crash.specs.Faults.{CountsFaults, HasCause};
 ghost use Rattle.strat_crash.specs.Image.{Image};
-ghost use Rattle.strat_crash.specs.Moments.{DiskView, Exposes, Images, Since, Passes, IsDurable};
+ghost use Rattle.strat_crash.specs.Moments.{Exposes, Since, Passes};
 ghost use Rattle.strat_format.specs.SuperBlock.{AreLimits};
 ghost use Rattle.strat_store.specs.declared.formatting.FormatFault.TheVariants as fault;
 ghost use Rattle.strat_store.specs.Format.{IsNewDisk, IsBlank, IsShut, IsNoneOrNew, KeepsOthers};

@@ -127,7 +127,7 @@ pub(crate) fn get<D: Disk>(
         → IsDamagedIn (D.view disk.old).content held.now.memory held.now.published.levels b }
     ensures err { (b : ℕ) → result ≡ reply.Refused (why.Damaged b) → (f : Image)
         → Exposes (D.view disk.old) f → block_on f b ≡ None }
-    ensures end { MayTellOfKey result }
+    ensures end { is_known held.now.memory.parents version ≡ true → MayTellOfKey result }
     ensures len { (result ≡ reply.Found → length out.new ≡ 1)
         × (result ≢ reply.Found → out.new ≡ []) }
     ensures reads { (n : ℕ) → ((a : ArrayDesc)

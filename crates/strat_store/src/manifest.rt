@@ -1,21 +1,17 @@
 //! The manifest of a new store, as formatting writes it: nothing was changed or written, the first array
 //! will be number 1, there is one version, and no level.
 
-ghost use Rattle.std.specs.Prelude.{◌≡◌, ◌≤◌, ◌*◌, ℕ, length, bytes_eq, Some, Ok, Err, OnOk, IsErrOf};
-ghost use Rattle.strat_crash.specs.Faults.{CountsFaults, HasCause, ReadsAtMost};
-ghost use Rattle.strat_crash.specs.Image.{Image};
-ghost use Rattle.strat_crash.specs.Moments.{Exposes, WritesThrough, OnlyReads};
-ghost use Rattle.strat_format.specs.SuperBlock.{IsLawful, zeros};
-ghost use Rattle.strat_base.specs.declared.failures.Fault.TheVariants.{Damaged, Device};
-ghost use Rattle.strat_gate.specs.SuperView.{super_of};
+ghost use Rattle.std.specs.Prelude.{◌≡◌, ◌≤◌, ◌*◌};
+ghost use Rattle.strat_crash.specs.Faults.{CountsFaults};
+ghost use Rattle.strat_crash.specs.Moments.{WritesThrough};
+ghost use Rattle.strat_format.specs.SuperBlock.{zeros};
 ghost use Rattle.strat_store.specs.Format.{new_block};
 ghost use Rattle.strat_format.specs.Layout.{first_free};
-ghost use Rattle.strat_format.specs.Manifest.{new_manifest};
 
 use strat_base::limits::BLOCK;
-use strat_base::{Failed, Fault, put_u32, put_u64};
+use strat_base::{Failed, put_u32, put_u64};
 use strat_disk::{Disk, write_through};
-use strat_format::{MANIFEST_MIN, first_free};
+use strat_format::first_free;
 use strat_gate::SuperBlock;
 
 /// Spells the manifest's block into one of zeros.

@@ -1,5 +1,5 @@
 //! What an open store has in memory beside its levels and its journal: the tree of its versions, its
-//! counts, and level 0 with what the latest updates say.
+//! counts, level 0 with what the latest updates say, and the open cursors.
 
 ghost use Rattle.std.specs.Prelude.{◌≡◌, ◌<◌, ◌≤◌, ℕ, ◌+◌, ◌↔◌, [], ◌∷◌, length, map, false, Some, None, Contains, IfOk, OnOk, OnErr, IsErrOf, IsTrue, is_some};
 ghost use Rattle.strat_array.specs.Told.{TellsFound};
@@ -16,6 +16,7 @@ ghost use Rattle.strat_crash.specs.Moments.{Exposes};
 ghost use Rattle.strat_cursor.specs.Cursors.{MayGoOn, TellsNext, arrays_named, closed_at, is_opened, moved_at, retired_by};
 ghost use Rattle.strat_cursor.specs.Held.{HeldCursor, IsMapHeld};
 ghost use Rattle.strat_cursor.specs.Looking.{LooksThrough, MayBeFound, NamesNoBlock, arrays_there};
+ghost use Rattle.strat_cursor.specs.Ranges.{FillsPage};
 ghost use Rattle.strat_cursor.specs.declared.cursors.CursorFault.TheVariants as start_fault;
 ghost use Rattle.strat_cursor.specs.declared.cursors.NextFault.TheVariants as next_fault;
 ghost use Rattle.strat_format.specs.Manifest.{are_older};
@@ -37,8 +38,8 @@ use strat_level::{Levels, Zero};
 use strat_model::{Refusal, Reply};
 use strat_tree::Tree;
 
-/// What a store has in memory of its versions and of level 0. Beside level 0 the next one may stand
-/// ready, which takes its place when level 0 has gone into the levels.
+/// What a store has in memory of its versions, of level 0 and of its cursors, which share level 0's memory.
+/// Beside level 0 the next one may stand ready, which takes its place when level 0 has gone into the levels.
 #[derive(Drop)]
 pub struct Memory {
     changes_max: u32,
@@ -327,8 +328,8 @@ impl Memory {
         Ok(())
     }
 
-    /// Puts the next level 0, which stands ready, in the place of level 0, whose memory is given back.
-    /// It takes no memory and cannot fail.
+    /// Puts the next level 0, which stands ready, in the place of level 0, whose memory is given back unless a
+    /// cursor shares it. It takes no memory and cannot fail.
     pub fn restart(&mut self)
         requires found { IsTrue (is_some self.old.ready) }
         ensures ok { (mem : ℕ) → self.old.ready ≡ Some mem → self.new ≡ emptied mem self.old }
@@ -397,6 +398,7 @@ impl Memory {
             → c.number ≡ number → (f : Image) (next : ℕ) (m : Pairs)
             → Exposes (D.view disk.old) f → MayGoOn f next c cache.old
             → IsMapHeld f self.old.parents c m → TellsNext m c limit out.new more) }
+        ensures len { IfOk result (λ more. FillsPage limit (length out.new) more) }
         ensures end { IfOk result (λ more. self.new ≡ record self.old {
           cursors = record self.old.cursors {
             opened = moved_at number more out.new self.old.cursors.opened;

@@ -241,7 +241,7 @@ fn count_arrays(levels: &[LevelDesc]) -> Result<usize, NoMemory>
 }
 
 /// Takes the memory that settling asks for: the next level 0, and room for all arrays of these levels among those that are
-/// kept. The only error is want of memory, after which the rest of memory is as it was.
+/// kept, which stays for the next time. The only error is want of memory, after which the rest of memory is as it was.
 fn make_room(
     alloc: Global,
     memory: &mut Memory,

@@ -16,7 +16,7 @@ ghost use Rattle.strat_model.specs.declared.replies.Reply.TheVariants as reply;
 ghost use Rattle.strat_standing.specs.Contents.{Contents};
 ghost use Rattle.strat_store.specs.Applying.{is_fault, IsLookedUp, FailsAsTold, IsDamagedIn};
 ghost use Rattle.strat_store.specs.Held.{IsConsistent, StandsWith};
-ghost use Rattle.strat_store.specs.Ranging.{reply_of_scan, IsMapAsked, MayTellOfRange};
+ghost use Rattle.strat_store.specs.Ranging.{reply_of_scan, HasPairsFor, IsMapAsked, MayTellOfRange};
 ghost use Rattle.strat_store.specs.Recovering.{held_of};
 
 use crate::recovering::Recovered;
@@ -76,8 +76,8 @@ pub(crate) fn scan_range<D: Disk>(
         → IsDamagedIn (D.view disk.old).content held.now.memory held.now.published.levels b }
     ensures err { (b : ℕ) → result ≡ reply.Refused (why.Damaged b) → (f : Image)
         → Exposes (D.view disk.old) f → block_on f b ≡ None }
-    ensures end { MayTellOfRange result }
-    ensures len { length out.new ≤ limit }
+    ensures end { is_known held.now.memory.parents version ≡ true → MayTellOfRange result }
+    ensures len { HasPairsFor (Scan version lo.now hi.now limit) (as_told result out.new) }
 {
     if !held.memory.has(version) {
         return Reply::Refused(Refusal::UnknownVersion);

@@ -16,7 +16,6 @@ ghost use Rattle.strat_format.specs.SuperBlock.{IsLawful, newest_in};
 ghost use Rattle.strat_gate.specs.SuperView.{super_of};
 ghost use Rattle.strat_journal.specs.Log.{IsStale};
 ghost use Rattle.strat_journal.specs.Records.{logged_of};
-ghost use Rattle.strat_recovery.specs.Head.{Head};
 ghost use Rattle.strat_recovery.specs.Opened.{parents_in};
 ghost use Rattle.strat_recovery.specs.Opening.{accepted_in, recover_manifest, recover_journal, recover_head, recover};
 ghost use Rattle.strat_standing.specs.Contents.{Contents};

@@ -1,6 +1,6 @@
 //! An open store: what it holds in memory of a disk, and how it carries out commands.
 
-ghost use Rattle.std.specs.Prelude.{◌≡◌, ◌≢◌, ◌≤◌, ◌+◌, ℕ, List, [], ◌∷◌, length, Some, None, Ok, Err, IfOk, IfErr, IsErrOf, true, false};
+ghost use Rattle.std.specs.Prelude.{◌≡◌, ◌≢◌, ◌≤◌, ◌+◌, ℕ, List, [], length, Some, None, Ok, Err, IfOk, IfErr, IsErrOf, true, false};
 ghost use Rattle.strat_array.specs.Kept.{Blocks};
 ghost use Rattle.strat_base.specs.ChangeView.{change_of};
 ghost use Rattle.strat_base.specs.Finds.{Finds};
@@ -25,7 +25,7 @@ ghost use Rattle.strat_store.specs.Held.{IsConsistent, StandsAt, StandsWith, arr
 ghost use Rattle.strat_store.specs.Memory.{info_told};
 ghost use Rattle.strat_cursor.specs.Looking.{AreOfOldArrays, LooksThrough, arrays_there};
 ghost use Rattle.strat_store.specs.Paying.{StoreTwoSince};
-ghost use Rattle.strat_store.specs.Ranging.{TellsFrom};
+ghost use Rattle.strat_store.specs.Ranging.{HasPairsFor, TellsFrom};
 ghost use Rattle.strat_store.specs.Recovering.{held_of, held_after, empty_cache};
 ghost use Rattle.strat_store.specs.Settling.{LeavesPublished, carries_out};
 ghost use Rattle.strat_store.specs.declared.opening.AttachFault.TheVariants as fault;
@@ -139,7 +139,8 @@ fn look<D: Disk>(
         → (f : Image) → Exposes (D.view disk.old) f → is_fault result ≡ false
         → TellsFrom f (held_of held.now cache.old)
         (request_of command.now) (as_told result out.new) }
-    ensures len { result ≡ reply.Found → length out.new ≡ 1 }
+    ensures len { (result ≡ reply.Found → length out.new ≡ 1)
+        × HasPairsFor (request_of command.now) (as_told result out.new) }
     ensures same { LooksThrough (D.view disk.old) (D.view disk.new)
         (arrays_there held.now.published.levels) cache.old cache.new }
     ensures cause { FailsAsTold (D.faults disk.old) (D.faults disk.new) result }
@@ -192,7 +193,8 @@ fn query<D: Disk>(
             (request_of command.now) (as_told result out.new);
       };
     } }
-    ensures len { result ≡ reply.Found → length out.new ≡ 1 }
+    ensures len { (result ≡ reply.Found → length out.new ≡ 1)
+        × HasPairsFor (request_of command.now) (as_told result out.new) }
     ensures same { LooksThrough (D.view disk.old) (D.view disk.new)
         (arrays_held held.old.memory held.old.published.levels) cache.old cache.new }
     ensures cause { FailsAsTold (D.faults disk.old) (D.faults disk.new) result
@@ -211,7 +213,7 @@ fn query<D: Disk>(
     }
 }
 
-/// Answers a command: one that asks for a change is carried out, any other is looked up.
+/// Answers a command: one that asks for a change is carried out, any other is answered without one.
 fn answer<D: Disk>(
     alloc: Global,
     held: &mut Recovered,
@@ -239,6 +241,7 @@ fn answer<D: Disk>(
     ensures kept { is_fault result ≡ false → (cached : Blocks)
         → IsConsistent (held_of held.new cached) }
     ensures len { (result ≡ reply.Found → length out.new ≡ 1)
+        × HasPairsFor (request_of command.now) (as_told result out.new)
         × (held.new.sb.mem ≡ held.old.sb.mem) }
     ensures same { IsUntouched (D.view disk.old) (D.view disk.new) (request_of command.now)
         (held_of held.old cache.old) result (held_after held.new cache.new result)
@@ -286,8 +289,10 @@ impl Store {
     /// memory before anything of the store is replaced, and where there is none the answer is `NoMemory`, and the store is as it
     /// was. A get asks level 0, and then in each level one array at most, by a binary search of its blocks; a scan goes through
     /// level 0 and one array of each level, pair by pair. These take no memory but for blocks that are cached. An opening of a
-    /// cursor copies level 0, 12 bytes an item, and at most 22 descriptors, and reads no block: `NoMemory` where there is none.
-    /// A page of a cursor costs what a scan does. Other look-ups are O(1). `DeviceFault`: the disk counted a fault.
+    /// cursor copies where level 0's pairs stand, 12 bytes an item, and at most 22 descriptors, and reads no block: `NoMemory` where
+    /// there is none. The pairs it shares: a level 0 that was emptied keeps its memory while a cursor reads it. A page of a cursor
+    /// costs what a scan does, a closing O(arrays kept for cursors * arrays of all cursors). Other look-ups are O(1).
+    /// `DeviceFault`: the disk counted a fault.
     /// `Damaged`: this block of an array of the levels, or of one that a cursor holds on to, holds no entries, or in a level
     /// none that come after those before it. After these two, and no other, the store is spent.
     pub fn apply<D: Disk>(
@@ -312,6 +317,7 @@ impl Store {
             × (self.new.spent ≡ false → IsConsistent self.new
             × AreOfOldArrays self.new.chained.manifest.next_array self.new.cached) }
         ensures len { (result ≡ reply.Found → length out.new ≡ 1)
+            × HasPairsFor (request_of command.now) (as_told result out.new)
             × (length self.new.cached.entries ≤ self.new.cached.cap) }
         ensures same { (self.new.sb.mem ≡ self.old.sb.mem)
             × IsUntouched (D.view disk.old) (D.view disk.new) (request_of command.now)

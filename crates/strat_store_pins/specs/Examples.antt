@@ -1,5 +1,6 @@
 -- Arrays, cursors and memory of which little matters but what an example asks.
-use Rattle.std.specs.Prelude.{ℕ, List, [], ◌∷◌, Option, None}
+use Rattle.std.specs.Prelude.{ℕ, List, [], ◌∷◌, Option, None, Some}
+use Rattle.strat_base.specs.Entries.{Entry}
 use Rattle.strat_base.specs.declared.descriptors.ArrayDesc.{ArrayDesc}
 use Rattle.strat_base.specs.declared.descriptors.LevelDesc.{LevelDesc}
 use Rattle.strat_cursor.specs.Held.{HeldCursor, HeldCursors}
@@ -8,6 +9,10 @@ use Rattle.strat_store.specs.Memory.{Memory, fresh_memory}
 -- an array of a number, for version 0
 abbrev pub array : ℕ → ArrayDesc
 array n = record { id = n; entries = 1; leads = 1; least = 1; versions = 0 ∷ []; extents = [] }
+
+-- an entry of a key of one byte, at version 0
+abbrev pub entry : ℕ → Entry
+entry byte = record { key = byte ∷ []; version = 0; value = Some [] }
 
 -- a level with these arrays
 abbrev pub level : ℕ → List ArrayDesc → LevelDesc

@@ -1,7 +1,7 @@
 //! Open cursors, and the arrays that are kept for them.
 
 ghost use Rattle.std.specs.Prelude.{◌≡◌, [], ◌∷◌, Some, None, true, false};
-ghost use Rattle.strat_cursor.specs.Cursors.{arrays_named, behind_told, closed_at, goes_on, is_array_named, is_opened, moved_at, pairs_left, retired_all, retired_by, without_cursor};
+ghost use Rattle.strat_cursor.specs.Cursors.{arrays_named, closed_at, goes_on, is_array_named, is_opened, moved_at, pairs_left, retired_all, retired_by, without_cursor};
 ghost use Rattle.strat_store_pins.specs.Examples.{array, cursor, cursors};
 
 /// A page goes on at the least key behind the last one told, where it was where nothing was told, and nowhere at its end.

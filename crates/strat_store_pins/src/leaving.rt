@@ -8,8 +8,8 @@ ghost use Rattle.strat_model.specs.declared.replies.Refusal.TheVariants as why;
 ghost use Rattle.strat_model.specs.declared.replies.Reply.TheVariants as reply;
 ghost use Rattle.strat_store.specs.Cursoring.{cursors_after};
 ghost use Rattle.strat_store.specs.Held.{arrays_held};
-ghost use Rattle.strat_store.specs.Memory.{emptied, memory_after, renewed, stat_told};
-ghost use Rattle.strat_store_pins.specs.Examples.{array, cursor, cursors, level, memory};
+ghost use Rattle.strat_store.specs.Memory.{cursor_from, emptied, memory_after, renewed, stat_told};
+ghost use Rattle.strat_store_pins.specs.Examples.{array, cursor, cursors, entry, level, memory};
 
 /// An opening that is not refused adds a cursor behind the others, with the next number, over its range.
 pub fn an_opening_adds_a_cursor()
@@ -20,6 +20,21 @@ pub fn an_opening_adds_a_cursor()
         } }
     ensures err { cursors_after (memory (cursors [] [])) [] (OpenCursor 0 [] [])
         (refusal why.NoMemory) ≡ cursors [] [] }
+{}
+
+/// A cursor holds on to what stands in level 0 then, and to the array of each level that is read at its version.
+#[tactic(auto, unfolding(strat_base::specs::Tree::climb))]
+pub fn an_opened_cursor_keeps_what_is_there()
+    ensures ok { cursor_from (record (memory (cursors [] [])) {
+      parents = None ∷ Some 0 ∷ [];
+      entries = entry 97 ∷ [];
+    }) (None ∷ Some (level 2 (array 5 ∷ record (array 6) { versions = 2 ∷ [] } ∷ []))
+        ∷ Some (level 3 (array 7 ∷ [])) ∷ []) 1 (97 ∷ []) (99 ∷ [])
+        ≡ record (cursor 9 (Some (97 ∷ [])) (array 5 ∷ array 7 ∷ [])) {
+          version = 1;
+          zero = entry 97 ∷ [];
+          hi = 99 ∷ [];
+        } }
 {}
 
 /// A page moves its cursor behind the pairs told, unless it is refused.

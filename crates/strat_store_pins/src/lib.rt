@@ -1,7 +1,8 @@
-//! What the definitions of open cursors, and of what commands leave of them, compute on examples, so that none of them
-//! can be altered unnoticed. Each is the contract of a function that does nothing.
+//! What the definitions of open cursors, of what commands leave of them and of what they may be told compute on examples.
+//! Each is the contract of a function that does nothing.
 
 #![tactic(auto)]
 
 pub mod cursors;
 pub mod leaving;
+pub mod telling;

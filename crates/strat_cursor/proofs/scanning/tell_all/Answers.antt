@@ -2,7 +2,7 @@ use Rattle.std.proofs.Common.{sym, ◌∙◌, arith}
 use Rattle.strat_cursor.proofs.ContestLemmas.{won_bracket}
 use Rattle.strat_cursor.proofs.ThroughLemmas.{through_trans}
 use Rattle.strat_cursor.proofs.TurnLemmas.{at_hand}
-use Rattle.strat_cursor.proofs.TellLemmas.{entry_some, ended, none_left, tells_on, handled_len}
+use Rattle.strat_cursor.proofs.TellLemmas.{entry_some, ended, none_left, tells_on, handled_fills, handled_len}
 use Rattle.strat_cursor.proofs.scanning.tell_all.Goals as goal
 
 pub leader-requires-clause-kept : goal.leader-requires-clause-kept
@@ -16,6 +16,11 @@ returns-in-Some-handle_head-clause-ok g c =
     let e = entry_some _ c.in-Some.ensures.found.1 in
     ended _ _ c.args.view.now c.count-versions.ensures.kept c.args.v c.args.hi.now c.args.sources.now _ _ _ _ _ _ _ _ c.requires.same c.loop-w.invariant.telling c.loop-w.invariant.settled c.in-Some.w c.in-Some.ensures.found.0 e.0
     (c.handle_head.ensures.fits e.0 e.1) c.in-Some.ensures.ok e.1 c.args.limit c.handle_head.new.last.items c.handle_head.new.out c.in-Some-handle_head.more c.loop-w.invariant.few (c.in-Some-handle_head.ensures.ok e.0 e.1)
+
+pub returns-in-Some-handle_head-clause-len : goal.returns-in-Some-handle_head-clause-len
+returns-in-Some-handle_head-clause-len g c =
+    let e = entry_some _ c.in-Some.ensures.found.1 in
+    handled_fills e.0 c.args.hi.now c.args.limit c.loop-w.last.items c.handle_head.new.last.items c.loop-w.out c.handle_head.new.out c.in-Some-handle_head.more c.loop-w.invariant.few (c.in-Some-handle_head.ensures.ok e.0 e.1)
 
 pub returns-in-Some-handle_head-clause-room : goal.returns-in-Some-handle_head-clause-room
 returns-in-Some-handle_head-clause-room g c = (

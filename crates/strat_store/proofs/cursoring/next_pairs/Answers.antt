@@ -5,9 +5,9 @@ use Rattle.strat_model.specs.declared.replies.Reply.{Reply}
 use Rattle.strat_store.specs.Applying.{FailsAsTold, is_fault}
 use Rattle.strat_store.specs.Cursoring.{IsAppliedAt, cursors_after, reply_of_next}
 use Rattle.strat_store.specs.Memory.{Memory}
-use Rattle.strat_store.specs.Ranging.{TellsOfCursor}
+use Rattle.strat_store.specs.Ranging.{HasPairs, TellsOfCursor}
 use Rattle.strat_store.specs.Recovering.{held_of, held_after}
-use Rattle.strat_store.proofs.CursoringLemmas.{cursor_told, nothing_told, page_applied, page_blames, page_fails, page_found, page_leaves, page_short}
+use Rattle.strat_store.proofs.CursoringLemmas.{cursor_told, nothing_told, page_applied, page_blames, page_fails, page_found, page_leaves, page_short, pairs_paged}
 use Rattle.strat_store.proofs.KeepingLemmas.{consistent_after}
 use Rattle.strat_store.proofs.cursoring.next_pairs.Goals as goal
 
@@ -50,7 +50,12 @@ returns-clause-cause g c =
     (page_fails (g.D.Disk.faults c.args.disk.now) (g.D.Disk.faults c.next_pairs-told.new.disk) c.next_pairs-told.result c.next_pairs-told.ensures.cause)
 
 pub returns-clause-len : goal.returns-clause-len
-returns-clause-len g c = (λ found. page_found c.next_pairs-told.result (sym c.reply_of_next.ensures.ok ∙ found), λ short. page_short c.next_pairs-told.result (sym c.reply_of_next.ensures.ok ∙ short))
+returns-clause-len g c = (
+  λ found. page_found c.next_pairs-told.result (sym c.reply_of_next.ensures.ok ∙ found),
+  λ short. page_short c.next_pairs-told.result (sym c.reply_of_next.ensures.ok ∙ short),
+  subst (λ (r : Reply). HasPairs c.args.limit r c.next_pairs-told.new.out) (sym c.reply_of_next.ensures.ok)
+      (pairs_paged c.next_pairs-told.result c.next_pairs-told.new.out c.args.limit c.next_pairs-told.ensures.len (nothing_told _ _ c.next_pairs-told.result c.next_pairs-told.ensures.err)),
+)
 
 pub returns-clause-none : goal.returns-clause-none
 returns-clause-none g c = λ off. c.reply_of_next.ensures.ok ∙ ap reply_of_next (c.next_pairs-told.ensures.found.1 off)

@@ -4,8 +4,10 @@ use Rattle.strat_array.specs.Told.{TellsFound}
 use Rattle.strat_base.specs.declared.descriptors.ArrayDesc.{ArrayDesc}
 use Rattle.strat_crash.specs.Faults.{ReadsAtMost}
 use Rattle.strat_cursor.specs.Looking.{arrays_there, asked_of_level, array_says, reads_of_array}
-use Rattle.strat_store.proofs.LookLemmas.{asked_there, tell_one, through_one, names_one}
+use Rattle.strat_store.proofs.LookLemmas.{tell_one}
 use Rattle.strat_store.proofs.looking.ask_level.Goals as goal
+use Rattle.strat_cursor.proofs.PickLemmas.{asked_there}
+use Rattle.strat_cursor.proofs.ThroughLemmas.{through_one, names_one}
 
 pub find-requires-clause-fits : goal.find-requires-clause-fits
 find-requires-clause-fits g c =

@@ -3,8 +3,9 @@ use Rattle.strat_array.specs.Told.{TheirPairs, TellsFound, AddsPair}
 use Rattle.strat_recovery.specs.Asked.{on_disk}
 use Rattle.strat_state.specs.LookUp.{looked_up}
 use Rattle.strat_cursor.specs.Looking.{levels_there, decides}
-use Rattle.strat_store.proofs.LookLemmas.{through_trans, still_cached, passes_on, passing_answers, passed_all, reads_left, adds_none}
+use Rattle.strat_store.proofs.LookLemmas.{passes_on, passing_answers, passed_all, reads_left, adds_none}
 use Rattle.strat_store.proofs.looking.look_up.Goals as goal
+use Rattle.strat_cursor.proofs.ThroughLemmas.{through_trans, still_cached}
 
 pub returns-in_err-seen-clause-same : goal.returns-in_err-seen-clause-same
 returns-in_err-seen-clause-same g c = through_trans _ _ _ _ _ _ _ c.loop-above.invariant.0.looks c.ask_level.ensures.same

@@ -7,11 +7,12 @@ use Rattle.strat_model.specs.Request.{Scan}
 use Rattle.strat_model.specs.declared.replies.Reply.{Reply}
 use Rattle.strat_recovery.specs.TableOver.{are_known}
 use Rattle.strat_store.specs.Applying.{is_fault, IsLookedUp}
+use Rattle.strat_store.specs.Ranging.{HasPairs}
 use Rattle.strat_store.specs.Recovering.{held_of}
 use Rattle.strat_store.proofs.GettingLemmas.{whole_read}
-use Rattle.strat_store.proofs.LookLemmas.{through_refl}
-use Rattle.strat_store.proofs.RangingLemmas.{few_arrays, finds_range, range_told, damaged_range, none_in_range, unknown_range, known_range}
+use Rattle.strat_store.proofs.RangingLemmas.{few_arrays, finds_range, range_told, damaged_range, none_in_range, unknown_range, known_range, pairs_scanned}
 use Rattle.strat_store.proofs.ranging.scan_range.Goals as goal
+use Rattle.strat_cursor.proofs.ThroughLemmas.{through_refl}
 
 pub returns-then-not-has-clause-ok : goal.returns-then-not-has-clause-ok
 returns-then-not-has-clause-ok g c = λ x w.
@@ -50,6 +51,11 @@ returns-clause-found g c = λ f m exposed ordered cached none is asked.
     (finds_range _ _ c.args.held.now.memory.parents c.args.held.now.memory.entries c.args.held.now.published.levels c.args.version c.args.lo.now c.args.hi.now c.args.limit c.args.cache.now c.scan-found.new.out c.scan-found.result
     c.parts.ensures.found.0 (ap (λ (es : List Entry). es ∷ []) (ap (λ (list : ItemList). entries_held c.parts.result.1.now list) c.view.ensures.ok ∙ c.parts.ensures.ok)) refl (λ ps. refl) c.scan-found.ensures.ok)
     (ap is_fault (sym c.reply_of_scan.ensures.ok) ∙ none) f _ m exposed ordered may.own cached asked
+
+pub returns-clause-len : goal.returns-clause-len
+returns-clause-len g c =
+    subst (λ (told : Reply). HasPairs c.args.limit told c.scan-found.new.out) (sym c.reply_of_scan.ensures.ok)
+    (pairs_scanned c.scan-found.result c.scan-found.new.out c.args.limit c.scan-found.ensures.len c.scan-found.ensures.err)
 
 pub returns-clause-damaged : goal.returns-clause-damaged
 returns-clause-damaged g c = λ b told.

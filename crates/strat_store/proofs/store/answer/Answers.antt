@@ -10,7 +10,7 @@ use Rattle.strat_store.specs.Applying.{FollowsStep, is_fault}
 use Rattle.strat_store.specs.Cursoring.{IsAppliedAt, LeavesCursors, cursors_after}
 use Rattle.strat_store.specs.Recovering.{held_of, held_after}
 use Rattle.strat_store.proofs.AppliedLemmas.{change_applied}
-use Rattle.strat_store.proofs.ApplyLemmas.{look_follows, look_no_change, tells_from_wanted, tells_of_change, wanted_for}
+use Rattle.strat_store.proofs.ApplyLemmas.{look_follows, look_no_change, pairs_wanted, tells_from_wanted, tells_of_change, wanted_for}
 use Rattle.strat_store.proofs.LeavingLemmas.{left_queried, leaves_wanted, untouched_by}
 use Rattle.strat_store.proofs.QueryLemmas.{query_leaves}
 use Rattle.strat_store.proofs.store.answer.Goals as goal
@@ -33,7 +33,11 @@ returns-in-Some-clause-trail g c = λ x w.
     subst (λ (r : Request). FollowsStep before now x r (plain c.change.result)) (wanted_for (request_of c.args.command.now) _ c.in-Some.ensures) (c.change.ensures.trail x c.args.cache.now w)
 
 pub returns-in-Some-clause-len : goal.returns-in-Some-clause-len
-returns-in-Some-clause-len g c = (λ found. absurd (c.change.ensures.same.1 found), c.change.ensures.same.0)
+returns-in-Some-clause-len g c = (
+  λ found. absurd (c.change.ensures.same.1 found),
+  pairs_wanted (request_of c.args.command.now) _ c.change.result c.args.out.now c.in-Some.ensures c.change.ensures.same.1 c.requires.room,
+  c.change.ensures.same.0,
+)
 
 pub returns-in-None-clause-trail : goal.returns-in-None-clause-trail
 returns-in-None-clause-trail g c = λ x w.

@@ -1,4 +1,5 @@
-use Rattle.std.proofs.Common.{refl, sym, ap, ◌∙◌}
+use Rattle.std.proofs.Common.{◌≡◌, refl, sym, ap, ◌∙◌}
+use Rattle.strat_base.specs.Tree.{is_known}
 use Rattle.strat_model.specs.Answer.{as_told, plain}
 use Rattle.strat_model.specs.Command.{request_of}
 use Rattle.strat_model.specs.Request.{Get, Info, Scan, Stat}
@@ -10,7 +11,7 @@ use Rattle.strat_recovery.specs.StateTable.{table_of}
 use Rattle.strat_standing.specs.Contents.{contents_state}
 use Rattle.strat_store.specs.Applying.{is_fault}
 use Rattle.strat_store.specs.Recovering.{held_of}
-use Rattle.strat_store.proofs.ApplyLemmas.{get_same, info_calm, info_here, info_says, info_short, key_short, range_short, stat_short, tells_look, version_refused, look_applied, memory_applied, none_left, scan_fits, scan_same, stat_here, tells_calm, other_than, unknown_answer}
+use Rattle.strat_store.proofs.ApplyLemmas.{get_same, info_calm, info_finds, info_here, info_says, info_short, key_short, no_pairs, pairs_beside, range_pages, range_short, stat_finds, stat_short, tells_look, version_refused, look_applied, memory_applied, none_left, scan_fits, scan_same, stat_here, tells_calm, other_than, unknown_answer}
 use Rattle.strat_store.proofs.store.look.Goals as goal
 
 pub returns-in-Get-clause-ok : goal.returns-in-Get-clause-ok
@@ -46,7 +47,8 @@ pub returns-in-Get-clause-err : goal.returns-in-Get-clause-err
 returns-in-Get-clause-err g c =
     let s = held_of c.args.held.now c.args.cache.now in
     rw (c.in-Get.is)
-    (tells_look (g.D.Disk.view c.args.disk.now) s (Get c.in-Get.version c.in-Get.key.now) c.get.result (reply.Refused why.UnknownVersion) refl refl refl (key_short c.get.result c.get.ensures.end)
+    (tells_look (g.D.Disk.view c.args.disk.now) s (Get c.in-Get.version c.in-Get.key.now) c.get.result (reply.Refused why.UnknownVersion) refl refl refl
+    (key_short (is_known c.args.held.now.memory.parents c.in-Get.version) c.get.result c.get.ensures.end (λ off. (c.get.ensures.none off).0))
     (λ q refused. (c.get.ensures.none (version_refused s.memory c.in-Get.version q refused)).0) c.get.ensures.err)
 
 pub returns-in-Info-clause-err : goal.returns-in-Info-clause-err
@@ -67,18 +69,19 @@ returns-in-Scan-clause-err g c =
     let s = held_of c.args.held.now c.args.cache.now in
     rw (c.in-Scan.is)
     (tells_look (g.D.Disk.view c.args.disk.now) s (Scan c.in-Scan.version c.in-Scan.lo.now c.in-Scan.hi.now c.in-Scan.limit) c.scan_range.result (reply.Refused why.UnknownVersion) refl refl refl
-    (range_short c.scan_range.result c.scan_range.ensures.end) (λ q refused. (c.scan_range.ensures.none (version_refused s.memory c.in-Scan.version q refused)).0) c.scan_range.ensures.err)
+    (range_short (is_known c.args.held.now.memory.parents c.in-Scan.version) c.scan_range.result c.scan_range.ensures.end (λ off. (c.scan_range.ensures.none off).0))
+    (λ q refused. (c.scan_range.ensures.none (version_refused s.memory c.in-Scan.version q refused)).0) c.scan_range.ensures.err)
 
 pub returns-in-Get-clause-found : goal.returns-in-Get-clause-found
 returns-in-Get-clause-found g c = λ old f exposed calm. rw (c.in-Get.is) (
   λ off. unknown_answer c.get.result c.get.new.out (c.get.ensures.none off).0 (c.get.ensures.len.1 (λ found. other_than (sym (c.get.ensures.none off).0 ∙ found))),
-  λ known. (c.get.ensures.end, λ reads. c.get.ensures.found f exposed reads.ordered (record { old = old; same = reads.cached }) calm known),
+  λ known. (c.get.ensures.end known, λ reads. c.get.ensures.found f exposed reads.ordered (record { old = old; same = reads.cached }) calm known),
 )
 
 pub returns-in-Scan-clause-found : goal.returns-in-Scan-clause-found
 returns-in-Scan-clause-found g c = λ old f exposed calm. rw (c.in-Scan.is) (
   λ off. unknown_answer c.scan_range.result c.scan_range.new.out (c.scan_range.ensures.none off).0 (c.scan_range.ensures.none off).2,
-  λ known. (c.scan_range.ensures.end, λ reads pairs asked. c.scan_range.ensures.found f pairs exposed reads.ordered (record { old = old; same = reads.cached }) calm known asked),
+  λ known. (c.scan_range.ensures.end known, λ reads pairs asked. c.scan_range.ensures.found f pairs exposed reads.ordered (record { old = old; same = reads.cached }) calm known asked),
 )
 
 pub returns-in-Info-clause-found : goal.returns-in-Info-clause-found
@@ -86,6 +89,28 @@ returns-in-Info-clause-found g c = λ old f exposed calm. rw (c.in-Info.is, c.re
 
 pub returns-in-Stat-clause-found : goal.returns-in-Stat-clause-found
 returns-in-Stat-clause-found g c = λ old f exposed calm. rw (c.in-Stat.is, c.requires.room) (ap plain c.stat.ensures.ok)
+
+pub returns-in-Get-clause-len : goal.returns-in-Get-clause-len
+returns-in-Get-clause-len g c = rw (c.in-Get.is) (c.get.ensures.len.0, pairs_beside c.get.result c.get.new.out c.get.ensures.len.0 c.get.ensures.len.1)
+
+pub returns-in-Scan-clause-len : goal.returns-in-Scan-clause-len
+returns-in-Scan-clause-len g c = rw (c.in-Scan.is) (
+  λ found. absurd (range_pages (is_known c.args.held.now.memory.parents c.in-Scan.version) c.scan_range.result c.scan_range.ensures.end (λ off. (c.scan_range.ensures.none off).0) found),
+  c.scan_range.ensures.len,
+)
+
+pub returns-in-Info-clause-len : goal.returns-in-Info-clause-len
+returns-in-Info-clause-len g c =
+    let other = info_finds c.args.held.now.memory c.in-Info.version (is_known c.args.held.now.memory.parents c.in-Info.version) c.info.result c.info.ensures.found c.info.ensures.none in
+    rw (c.in-Info.is) (λ found. absurd (other found), no_pairs c.info.result c.args.out.now other c.requires.room)
+
+pub returns-in-Stat-clause-len : goal.returns-in-Stat-clause-len
+returns-in-Stat-clause-len g c =
+    let other : c.stat.result ≡ reply.Found → ⊥ = λ found. stat_finds c.args.held.now.memory (sym c.stat.ensures.ok ∙ found) in
+    rw (c.in-Stat.is) (λ found. absurd (other found), no_pairs c.stat.result c.args.out.now other c.requires.room)
+
+pub returns-in_default-clause-len : goal.returns-in_default-clause-len
+returns-in_default-clause-len g c = absurd (none_left c.args.command.now c.requires.none.0 c.requires.none.1 c.in_default.not-Get c.in_default.not-Scan c.in_default.not-Info c.in_default.not-Stat)
 
 pub returns-in_default-clause-ok : goal.returns-in_default-clause-ok
 returns-in_default-clause-ok g c = absurd (none_left c.args.command.now c.requires.none.0 c.requires.none.1 c.in_default.not-Get c.in_default.not-Scan c.in_default.not-Info c.in_default.not-Stat)
