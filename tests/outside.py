@@ -580,7 +580,7 @@ WRONG_WORDS = [
     [b"format", b"f", b" 4", b"100", b"10"], [b"format", b"f", b"4.0", b"100", b"10"],
     [b"format", b"f", b"4", b"0", b"10"], [b"format", b"f", b"4", b"16777217", b"10"],
     [b"format", b"f", b"4", b"100", b"0"], [b"format", b"f", b"4", b"100", b"16385"],
-    [b"format", b"f", b"4", b"100", b"-1"], [b"format", b"f", b"18446744073709551620", b"100", b"10"],
+    [b"format", b"f", b"4", b"100", b""], [b"format", b"f", b"4", b"100", b"-1"], [b"format", b"f", b"18446744073709551620", b"100", b"10"],
     [b"levels"], [b"levels", b""], [b"levels", b"a", b"b"], [b"Levels", b"a"], [b"check", b"a"],
     [b"workload"], [b"workload", b"f"], [b"workload", b"f", b"1"], [b"workload", b"", b"1", b"0"],
     [b"workload", b"f", b"1", b"0", b"0"], [b"workload", b"f", b"01", b"0"], [b"workload", b"f", b"1", b"00"],
@@ -832,6 +832,11 @@ def the_examples_of_the_protocol_are_frames(folder):
 
 def formatting_writes_the_bytes_of_a_new_store(folder):
     path = StoreFile(folder, 4, 100, 10).path
+    inside, outside = os.pipe()
+    os.write(outside, PUT_A)
+    expect("input left", (run(["format", path, "4", "100", "10"], stdin=inside)[1], os.read(inside, 100)), (0, PUT_A))
+    os.close(inside)
+    os.close(outside)
     data = bytes_of(path)
     head = hexed("a7 5354524154425431 0001 0000000000000001 00000006 0000001d 00 00000004 00000064 0000000a")
     expect("the superblock", data[:40], head)
@@ -920,8 +925,37 @@ level 1 horizon 1 leads 1 entries 1
 array 3 density 1/1 lead 1/1 versions 0
 stored 2 updates 13 written 3
 """),
+    (4, [clone(i) for i in range(1, 6)], """
+store generation 2 mem 4 changes 5 of 100 versions 6 of 10
+journal changes 1 updates 0
+stored 0 updates 0 written 0
+"""),
 ]
 DISTINCT = PUBLISHED[4]
+# The block and the bytes of the manifest of each
+SPELLINGS = [
+    (8, """00000004 00000001 0000000000000001 0000000000000002 00000004 00000000 00000001 00000002
+        01 01 00000004 00000001
+        0000000000000001 00000001 00000001 00000001 00000001 00000007 00000001 00000003 00000001 00000002 00000003"""),
+    (11, """00000008 00000005 0000000000000007 0000000000000003 00000004 00000000 00000000 00000000
+        01 01 00000004 00000002
+        0000000000000001 00000003 00000003 00000002 00000001 00000009 00000001 00000002 00000000 00000001
+        0000000000000002 00000004 00000002 00000003 00000001 0000000a 00000001 00000002 00000002 00000003"""),
+    (9, """00000004 00000002 0000000000000003 0000000000000003 00000003 00000000 00000001
+        01 01 00000003 00000002
+        0000000000000001 00000001 00000001 00000001 00000001 00000007 00000001 00000001 00000000
+        0000000000000002 00000002 00000001 00000001 00000001 00000008 00000001 00000002 00000001 00000002"""),
+    (8, """00000004 00000004 0000000000000003 0000000000000002 00000001
+        01 01 00000001 00000001
+        0000000000000001 00000003 00000003 00000003 00000001 00000007 00000001 00000001 00000000"""),
+    (8, """0000000c 0000000c 0000000000000018 0000000000000004 00000001
+        01 02 00000001 00000001
+        0000000000000003 0000000c 0000000c 0000000c 00000001 00000007 00000001 00000001 00000000"""),
+    (8, """0000000c 0000000c 0000000000000003 0000000000000004 00000001
+        01 01 00000001 00000001
+        0000000000000003 00000001 00000001 00000001 00000001 00000007 00000001 00000001 00000000"""),
+    (7, "00000004 00000000 0000000000000000 0000000000000001 00000005 00000000 00000000 00000000 00000000 00"),
+]
 
 
 def store_after(folder, mem, frames, *limits):
@@ -937,7 +971,15 @@ def publications_stand_where_they_should(folder):
             store, contents = store_after(folder, mem, pieces)
             expect(f"publication {number}", "\n".join(formats.levels_text(contents)), text.strip())
             store.expect_served("a look", [b"".join(get(v, key, v) for v in range(5) for key in (b"a", b"b", b"c", b"k07"))])
-    _, contents = store_after(folder, DISTINCT[0], [b"".join(DISTINCT[1])])
+    for number, ((mem, frames, _), (block, spelling)) in enumerate(zip(PUBLISHED, SPELLINGS, strict=True)):
+        store, contents = store_after(folder, mem, [b"".join(frames)])
+        expect(f"manifest {number}, its blocks", contents.chain, (block,))
+        bytes_there = formats.block_at(bytes_of(store.path), block)
+        expect(f"manifest {number}, its bytes", bytes_there.hex(), (bytes(4) + hexed(spelling)).ljust(BLOCK, b"\0").hex())
+    store, contents = store_after(folder, DISTINCT[0], [b"".join(DISTINCT[1])])
+    # the journal was turned: the region before is shut, and the other has the record of the last change
+    data, record = bytes_of(store.path), hexed("a7 01 00000000 03 6b3133 0002 3133 00")
+    expect("the regions", (data[8192], data[16384:16384 + len(record)]), (0, record))
     arrays = [(array.id, array.extents) for array in formats.arrays_of(contents.manifest)]
     expect("distinct keys", (contents.head.generation, arrays, contents.chain), (4, [(3, ((7, 1),))], (8,)))
     # the largest pairs, of which three fit into a block
@@ -1437,6 +1479,7 @@ def damaged_arrays_are_named(folder):
     for place, piece in wrong:
         # level 2 has its 12 keys in block 7, and the journal the last
         store, _ = store_after(folder, *DISTINCT[:2])
+        mended = formats.block_at(bytes_of(store.path), 7)
         altered(store.path, 7 * BLOCK + place, piece)
         fine = [get(1, b"k13"), stat(2), info(3), get(4, b"k01", 1)]
         store.expect_answers("before", fine)
@@ -1451,6 +1494,8 @@ def damaged_arrays_are_named(folder):
         store.expect_answers("more", [put(i, b"n%02d" % i, b"1") for i in range(4, 11)])
         expect_damaged("a publication", store, [get(1, b"n00"), put(2, b"n11", b"1")], 7)
         store.expect_answers("after it", [get(i, b"n%02d" % i) for i in range(11)])
+        altered(store.path, 7 * BLOCK, mended)
+        store.expect_served("mended", [put(1, b"n11", b"1") + get(2, b"k01") + scan(3)])
     # two arrays of a level: only the versions of one are damaged
     store, contents = store_after(folder, *PUBLISHED[1][:2])
     first, second = formats.arrays_of(contents.manifest)
@@ -1556,12 +1601,14 @@ def refused_openings():
     for name, tree in (
         ("arrays that meet", with_array(NEXT, extents=((7, 1),))), ("an array and the chain", with_array(NEXT, extents=((9, 1),))),
         ("an array that meets itself", with_array(FIRST, extents=((7, 1), (11, 1), (7, 1)), entries=3, tree=TREE)),
+        ("a run that reaches an array", with_array(FIRST, extents=((7, 2),))),
+        ("an array within a run", with_array(NEXT, extents=((12, 1),), tree=with_array(FIRST, extents=((11, 2),)))),
         ("a block of the journal", with_array(NEXT, extents=((5, 1),))), ("a superblock", with_array(DEEP, extents=((0, 1),))),
         ("two arrays with one number", with_array(DEEP, id=4)), ("tags that meet", with_array(FIRST, versions=(0, 2))),
         ("a tag past the horizon", with_array(DEEP, versions=(0, 1))), ("leads", TREE._replace(updates=5)),
         ("entries", with_array(FIRST, leads=0, least=0)), ("blocks", with_array(FIRST, extents=((7, 1), (11, 2)))),
         ("the next array", TREE._replace(next_array=16384 * 12 + 2)), ("what was written", TREE._replace(written=33554432 * 12 + 1)),
-        ("what was written, all", TREE._replace(written=2 ** 64 - 1)),
+        ("what was written, all", TREE._replace(written=2 ** 64 - 1)), ("the next array, all", TREE._replace(next_array=2 ** 64 - 1)),
     ):
         yield name, HEAD, tree
     yield "versions", HEAD._replace(versions_max=3), TREE
@@ -1649,6 +1696,40 @@ def chains_of_a_manifest_are_followed(folder):
     left = 20 * BLOCK + 4 + len(formats.spelled(tree)) - 2 * formats.CHAINED
     for place in (left, 21 * BLOCK - 1):
         expect_refused(f"filled at {place}", path, (data[:place] + b"\1" + data[place + 1:]).ljust(21 * BLOCK, b"\0"), 12)
+
+
+def long_chain(block):
+    """A file of 2,100 versions, whose manifest lies in blocks 6, 20 and 9, and whose only array has `a` at version 0 in this block."""
+    head = formats.new_head(MEM, 100000, 16384)._replace(generation=2, region=1)
+    level = formats.Level(1, 1, (formats.Array(1, 1, 1, 1, ((block, 1),), (0,)),))
+    tree, chain = formats.Manifest(2100, 1, 1, 2, (0,) * 2099, (level,)), [6, 20, 9]
+    blocks = {} if block in chain else {block: formats.block_of([formats.Entry(b"a", 0, b"1")])}
+    return formats.file_of(1, head, tree, chain, blocks)
+
+
+def a_long_chain_is_followed_by_a_longer_one(folder):
+    path = os.path.join(folder, "a.store")
+    for block in (6, 20, 9, 5):
+        expect_refused(f"an array in block {block}", path, long_chain(block), 6)
+    for block in (7, 19):
+        expect(f"an array in block {block}", expect_opened(f"an array in block {block}", path, long_chain(block)), 0)
+    data = long_chain(7)
+    with open(path, "wb") as file:
+        file.write(data)
+    store = formats.store_of(data, formats.read(data))
+    puts = [put(i, key, b"1", 2099) for i, key in enumerate((b"b", b"c", b"d", b"e", b"f"))]
+    looks = [get(9, key, version) for version in (0, 1, 2098, 2099, 2100) for key in (b"a", b"b", b"f")]
+    for sent in (puts + looks, looks):
+        out, status = store.serve(b"".join(sent))
+        expect("a long chain", serve(path, [b"".join(sent)]), (out, status, complaint(status)))
+    # the lowest blocks that are free: 8 and 10 have the arrays, one of which is for 2,099 versions
+    data = bytes_of(path)
+    contents = formats.read(data)
+    expect("the next chain", (contents.slot, contents.head.generation, contents.head.length, contents.chain),
+           (0, 3, 16906, (11, 12, 13, 14, 15)))
+    expect("its arrays", [array.extents for array in formats.arrays_of(contents.manifest)], [((8, 1),), ((10, 1),)])
+    expect("broken rules", list(formats.broken_rules(data, contents)), [])
+    expect_alike("a long chain", formats.store_of(data, contents), store)
 
 
 def thousands_of_puts_are_kept(folder):
@@ -1805,6 +1886,45 @@ def a_store_overwritten_with_noise_is_refused_by_name(folder):
             expect_opened(f"gate {gate} at {at}", path, data[:at] + bytes([gate]) + data[at + 1:])
 
 
+def blamed(data):
+    """The block that an opening of a file with these bytes names, or None."""
+    try:
+        formats.store_of(data, formats.read(data))
+    except formats.Damaged as damaged:
+        return damaged.block
+    return None
+
+
+def with_byte(data, place, byte):
+    return data[:place] + bytes([byte]) + data[place + 1:]
+
+
+def altered_bytes_are_named(folder):
+    stores = StoreFile(folder, 4, 100, 10), StoreFile(folder, 4, 100, 10), StoreFile(folder, 4, 100, 1)
+    for store in stores[1:]:
+        store.expect_served("a put", [PUT_A])
+    new, one, single = (bytes_of(store.path) for store in stores)
+    path, used = used_store(folder)
+    for name, place, byte in (("the slot's gate shut", 0, 0), ("its text", 1, 0x73)):
+        expect(name, expect_opened(name, path, with_byte(new, place, byte)), model.NOT_A_STORE)
+    for name, data, place, byte, block in (
+        ("the slot's generation", new, 18, 2, 6), ("its manifest's block", new, 22, 5, 0), ("its length", new, 26, 30, 6),
+        ("its region", new, 27, 2, 0), ("its versions", new, 38, 0xff, 0), ("a byte behind it", new, 40, 9, None),
+        ("the other slot open with no text", new, 4096, 0xa7, None), ("a gate with no change behind it", new, 8192, 0xa7, 2),
+        ("a chain that goes on", new, 24579, 1, 6), ("as many changes as may be", new, 24583, 100, None),
+        ("one more", new, 24583, 101, 6), ("an update without a change", new, 24587, 1, 6), ("a byte behind the manifest", new, 28671, 1, 6),
+        ("a put made a deletion", one, 8193, 2, None), ("a put made a clone", one, 8193, 3, None),
+        ("a put at a version that is not there", one, 8197, 1, 2), ("a clone past the limit", single, 8193, 3, 2),
+        ("the other region open behind a full one", used, 16384, 0xa7, 4), ("the last gate shut", used, 8225, 0, None),
+    ):
+        wrong = with_byte(data, place, byte)
+        status = expect_opened(name, path, wrong)
+        expect(name, (status, blamed(wrong)), (0 if block is None else model.DAMAGED, block))
+    # the other region open behind one with room is shut
+    altered(stores[1].path, 16384, b"\xa7")
+    stores[1].expect_served("a look", [GET_A])
+
+
 def a_published_store_overwritten_with_noise_is_refused_by_name(folder):
     chance = random.Random(9)
     for frames in (PUBLISHED[0][1], PUBLISHED[2][1], DISTINCT[1]):
@@ -1903,6 +2023,16 @@ def the_file_is_synced_at_each_sync_and_its_folder_once(folder):
         expect(f"serve {path}", got, (out, status, b""))
         # the opening, and for each put its record and its gate
         expect(f"serve {path}, syncs", syncs, [file_synced, folder_synced, *(8 * [file_synced])])
+        # one more, for which the journal is emptied; what looks at the store syncs nothing behind the opening, and writes nothing
+        fifth = put(9, b"9", b"v")
+        expect(f"serve {path}, a fifth put", serve(file, [fifth]), (*made.serve(fifth), b""))
+        before = bytes_of(file)
+        looks = (get(1, b"1") + get(2, b"9") + scan(3) + info(4) + stat(5) + open_cursor(6) + next_pairs(7, 1) + close_cursor(8, 1))
+        out, status = made.serve(looks)
+        got, syncs = traced(folder, ["serve", path], data=looks)
+        expect(f"serve {path}, looks", got, (out, status, b""))
+        expect(f"serve {path}, syncs of looks", syncs, [file_synced, folder_synced])
+        expect(f"serve {path}, the file's bytes are the same", bytes_of(file) == before, True)
 
 
 def a_sync_that_fails_is_a_device_fault(folder):
@@ -2185,11 +2315,13 @@ CHECKS = [
     each_refusal_of_a_manifest_has_a_file,
     the_rules_of_a_sound_file_are_checked,
     chains_of_a_manifest_are_followed,
+    a_long_chain_is_followed_by_a_longer_one,
     thousands_of_puts_are_kept,
     a_served_store_takes_the_memory_that_is_said,
     a_killed_run_loses_nothing_that_it_acknowledged,
     a_store_cut_short_is_refused_by_name,
     a_store_overwritten_with_noise_is_refused_by_name,
+    altered_bytes_are_named,
     a_published_store_overwritten_with_noise_is_refused_by_name,
     what_is_no_file_is_refused_by_name,
     a_file_is_reached_by_symbolic_links,

@@ -1,6 +1,7 @@
 //! Streams cut at every place.
 
-ghost use Rattle.std.specs.Prelude.{◌≤◌, length, IfSome};
+ghost use Rattle.std.specs.Prelude.{◌≡◌, ◌≤◌, length, IfSome};
+ghost use Rattle.strat_base.specs.Numbers.{number};
 
 use crate::hex::hex;
 use std::alloc::Global;
@@ -225,5 +226,23 @@ fn a_deframer_holds_the_largest_frame_and_a_piece(rt: HostRuntime) -> Result<(),
     assert!(rt; holds_a_part(&mut deframer));
     assert!(rt; finds_the_largest(&mut deframer));
     assert!(rt; has_the_largest(&deframer));
+    Ok(())
+}
+
+/// The length that is told of a frame that is too long: its first four bytes.
+fn length_told(deframer: &mut Deframer) -> Option<u32>
+    ensures { IfSome result (λ n. n ≡ number 4 deframer.old.held) }
+{
+    match deframer.next() {
+        Next::TooLong { length } => Some(length),
+        _ => None,
+    }
+}
+
+#[test]
+fn the_length_of_a_frame_that_is_too_long_is_told(rt: HostRuntime) -> Result<(), Fail> {
+    let mut deframer = Deframer::new(rt.alloc())?;
+    deframer.feed(&[0, 0, 8, 1]);
+    assert!(rt; length_told(&mut deframer) == Some(2049));
     Ok(())
 }

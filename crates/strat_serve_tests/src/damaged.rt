@@ -1,8 +1,7 @@
 //! A store whose only array is damaged behind its back, in block 7.
 
-use crate::rows::THIRTEEN_PUTS;
-use crate::scripts::{Script, block_blamed, changes_of, command, told};
-use crate::support::{gives, is_done, small_store};
+use crate::scripts::{Script, block_blamed, command, told};
+use crate::support::{THIRTEEN_PUTS, is_done, small_store};
 use std::alloc::Global;
 use strat_base::PairBuf;
 use strat_disk::MemDisk;
@@ -15,19 +14,6 @@ use strat_store::Store;
 const GET: &[u8] = b"\x00\x00\x00\x0e\x00\x00\x00\x01\x03\x00\x00\x00\x00\x00\x03k01";
 /// Its reply where block 7 is damaged.
 const DAMAGED: &[u8] = b"\x00\x00\x00\x09\x00\x00\x00\x01\x22\x00\x00\x00\x07";
-/// Asks for `k13`, and its reply from the journal alone.
-const NEWEST: &[u8] = b"\x00\x00\x00\x0e\x00\x00\x00\x02\x03\x00\x00\x00\x00\x00\x03k13";
-
-const FOUND: &[u8] = b"\x00\x00\x00\x08\x00\x00\x00\x02\x01\x00\x011";
-/// The replies to eleven puts that are done, and to a twelfth that needs block 7.
-const ELEVEN: &[u8] = b"\
-\x00\x00\x00\x05\x00\x00\x00\x01\x00\x00\x00\x00\x05\x00\x00\x00\x02\x00\
-\x00\x00\x00\x05\x00\x00\x00\x03\x00\x00\x00\x00\x05\x00\x00\x00\x04\x00\
-\x00\x00\x00\x05\x00\x00\x00\x05\x00\x00\x00\x00\x05\x00\x00\x00\x06\x00\
-\x00\x00\x00\x05\x00\x00\x00\x07\x00\x00\x00\x00\x05\x00\x00\x00\x08\x00\
-\x00\x00\x00\x05\x00\x00\x00\x09\x00\x00\x00\x00\x05\x00\x00\x00\x0a\x00\
-\x00\x00\x00\x05\x00\x00\x00\x0b\x00\
-\x00\x00\x00\x09\x00\x00\x00\x0c\x22\x00\x00\x00\x07";
 
 /// A store of thirteen puts, of which twelve are in block 7.
 fn thirteen(alloc: Global) -> Option<MemDisk> {
@@ -43,31 +29,6 @@ fn say_entries(disk: &mut MemDisk, entries: u8) -> bool {
     disk.alter(28672, 0);
     disk.alter(28673, entries);
     true
-}
-
-/// Whether a run names the block, in each of two runs, and still finds what the journal has.
-fn is_told(alloc: Global, disk: &mut MemDisk) -> bool {
-    let ended = Ended::Damaged { block: 7 };
-    gives(
-        alloc,
-        disk,
-        GET,
-        b"\x00\x00\x00\x08\x00\x00\x00\x01\x01\x00\x011",
-        Ended::Done,
-    ) && say_entries(disk, 0)
-        && gives(alloc, disk, NEWEST, FOUND, Ended::Done)
-        && gives(alloc, disk, GET, DAMAGED, ended)
-        && gives(alloc, disk, GET, DAMAGED, ended)
-        && ended.status() == 9
-}
-
-#[test]
-fn a_damaged_block_is_told_of(rt: HostRuntime) {
-    let Some(mut disk) = thirteen(rt.alloc()) else {
-        assert!(rt; false);
-        return;
-    };
-    assert!(rt; is_told(rt.alloc(), &mut disk));
 }
 
 /// Whether an open store names the block that was altered behind its back, and is spent: for a get, a scan, and a cursor.
@@ -161,37 +122,4 @@ fn a_failing_sink_hides_the_damaged_block(rt: HostRuntime) {
         return;
     };
     assert!(rt; is_hidden(rt.alloc(), &mut disk));
-}
-
-/// How many changes a store on a disk has accepted.
-fn changes_on(alloc: Global, disk: &mut MemDisk) -> Option<u32> {
-    let mut store = Store::attach(alloc, disk).ok()?;
-    let mut out = PairBuf::new(alloc).ok()?;
-    changes_of(&mut store, disk, &mut out)
-}
-
-/// Whether changes are taken until a publication needs the block, which is named then; each that was acknowledged is there,
-/// and once the block is mended the next is taken.
-fn is_met_by_a_publication(alloc: Global, disk: &mut MemDisk) -> bool {
-    say_entries(disk, 0)
-        && gives(
-            alloc,
-            disk,
-            THIRTEEN_PUTS,
-            ELEVEN,
-            Ended::Damaged { block: 7 },
-        )
-        && changes_on(alloc, disk) == Some(24)
-        && say_entries(disk, 12)
-        && is_done(alloc, disk, THIRTEEN_PUTS)
-        && changes_on(alloc, disk) == Some(37)
-}
-
-#[test]
-fn a_publication_names_the_damaged_block(rt: HostRuntime) {
-    let Some(mut disk) = thirteen(rt.alloc()) else {
-        assert!(rt; false);
-        return;
-    };
-    assert!(rt; is_met_by_a_publication(rt.alloc(), &mut disk));
 }

@@ -5,19 +5,11 @@
 #[cfg(test)]
 mod beside;
 #[cfg(test)]
-mod chains;
-#[cfg(test)]
-mod cursors;
-#[cfg(test)]
 mod damaged;
 #[cfg(test)]
 mod disks;
 #[cfg(test)]
 mod formatting;
-#[cfg(test)]
-mod refusals;
-#[cfg(test)]
-mod rows;
 #[cfg(test)]
 mod scripts;
 #[cfg(test)]

@@ -2,12 +2,11 @@
 
 ghost use Rattle.std.specs.Prelude.{◌≤◌, ◌+◌, ◌^◌};
 
-use crate::rows::THIRTEEN_PUTS;
 use crate::scripts::{
     Beside, CHANGES, LOOKS, Script, all_accepted, changes_of, count_accepted, fresh_beside,
     stay_alike,
 };
-use crate::support::{new_store, run, small_store};
+use crate::support::{THIRTEEN_PUTS, new_store, run, small_store};
 use std::alloc::Global;
 use strat_base::PairBuf;
 use strat_disk::{Disk, FuseDisk, MemDisk};
