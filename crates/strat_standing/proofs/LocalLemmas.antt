@@ -68,7 +68,7 @@ bytes_local : (f c : Image) (blocks : List ℕ) → SameOn f c blocks → chaine
 bytes_local f c [] same = refl
 bytes_local f c (b ∷ blocks) same = λ i. text_same f c b (same b (inl refl)) i ++ bytes_local f c blocks (λ d among. same d (inr among)) i
 
-manifest_local : (f c : Image) (first n : ℕ) (x : Chained) → manifest_at f first n ≡ Ok x → SameOn f c x.blocks → manifest_at c first n ≡ Ok x
+pub manifest_local : (f c : Image) (first n : ℕ) (x : Chained) → manifest_at f first n ≡ Ok x → SameOn f c x.blocks → manifest_at c first n ≡ Ok x
 manifest_local f c first n x e same =
     let read = and_then_ok (chain_from f [] first (chain_length n - 1)) (manifest_in_chain f first n) x e in
     let made = map_some (λ m. record { manifest = m; blocks = read.0 }) (manifest_filled n (chained_bytes f read.0)) x

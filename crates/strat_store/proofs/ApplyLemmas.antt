@@ -188,10 +188,6 @@ pages told (inl is) found = let e : reply.Pairs is.0 ≡ reply.Found = sym is.1 
 pages told (inr (inl is)) found = let e : reply.Refused why.DeviceFault ≡ reply.Found = sym is ∙ found in cc
 pages told (inr (inr is)) found = let e : reply.Refused (why.Damaged is.0) ≡ reply.Found = sym is.1 ∙ found in cc
 
-pub range_pages : (known : Bool) (told : Reply) → (known ≡ true → MayTellOfRange told) → (known ≡ false → told ≡ reply.Refused why.UnknownVersion) → told ≡ reply.Found → ⊥
-range_pages true told here none found = pages told (here refl) found
-range_pages false told here none found = other_than (sym (none refl) ∙ found)
-
 pub info_finds : (m : Memory) (version : ℕ) (known : Bool) (told : Reply) → (known ≡ true → told ≡ info_told m version) → (known ≡ false → told ≡ reply.Refused why.UnknownVersion) → told ≡ reply.Found → ⊥
 info_finds m version true told here none found = let e : info_told m version ≡ reply.Found = sym (here refl) ∙ found in cc
 info_finds m version false told here none found = other_than (sym (none refl) ∙ found)

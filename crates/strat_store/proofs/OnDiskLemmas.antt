@@ -1,86 +1,35 @@
 -- What a store holds of a disk whatever its arrays hold: the superblock and the manifest stay there, or others are published.
-use Rattle.std.proofs.Common.{◌≡◌, ◌≢◌, ◌≤◌, ◌<◌, ◌+◌, ◌-◌, ◌*◌, ℕ, zero, suc, Bool, true, false, cond, eqb, inl, inr, List, [], ◌∷◌, ◌++◌, Option, Some, None, Ok, Err, refl, sym, ap, ◌∙◌, subst, arith, true≢false}
-use Rattle.std.specs.Prelude.{IsSome, IfSome, option_map}
+use Rattle.std.proofs.Common.{◌≡◌, ◌≢◌, ◌≤◌, ◌<◌, ◌+◌, ◌-◌, ◌*◌, ℕ, Bool, true, false, inl, inr, List, [], Option, Some, None, Ok, refl, sym, ap, ◌∙◌, subst, arith, true≢false}
+use Rattle.std.specs.Prelude.{IsSome, IfSome}
 use Rattle.std.proofs.lemmas.Bool.{cases_lt, le-ltb, ltb-false}
 use Rattle.strat_base.specs.declared.descriptors.Extent.{Extent}
 use Rattle.strat_base.specs.declared.descriptors.LevelDesc.{LevelDesc}
-use Rattle.strat_base.specs.declared.limits.TheConstants.{BLOCK}
-use Rattle.strat_base.specs.Numbers.{number}
 use Rattle.strat_base.proofs.ListFacts.{Among, among_left}
-use Rattle.strat_crash.specs.Blocks.{KeepsBlock, KeepsTaken}
-use Rattle.strat_crash.specs.Image.{Image, SameIn, window}
+use Rattle.strat_crash.specs.Blocks.{KeepsTaken}
+use Rattle.strat_crash.specs.Image.{Image, SameIn}
 use Rattle.strat_crash.specs.Moments.{DiskView, Exposes, Images, Passes, TearsOnly, OnlyReads, IsDurable}
 use Rattle.strat_crash.proofs.BlockLemmas.{keeps_refl}
-use Rattle.strat_crash.proofs.ImageLemmas.{window_same, outside_same, outside_same_above}
+use Rattle.strat_crash.proofs.ImageLemmas.{outside_same, outside_same_above}
 use Rattle.strat_crash.proofs.MomentLemmas.{now_since_start, settled_at, at_told}
 use Rattle.strat_format.specs.Arrays.{blocks_of}
-use Rattle.strat_format.specs.Chain.{chain_length}
-use Rattle.strat_format.specs.Chained.{Chained, link_at, may_follow, chain_from, chained_bytes, manifest_filled, manifest_in_chain, manifest_at}
-use Rattle.strat_format.specs.Damage.{Read, and_then, passed_or, found_or, put_first}
+use Rattle.strat_format.specs.Chained.{Chained, manifest_at}
 use Rattle.strat_format.specs.Layout.{region_at, region_size, other_region, first_free}
 use Rattle.strat_format.specs.Manifest.{Manifest, manifest_bytes, is_lawful_manifest}
 use Rattle.strat_format.specs.SuperBlock.{Super, Slot, newest_in}
 use Rattle.strat_format.proofs.ChainLemmas.{chain_read}
-use Rattle.strat_format.proofs.DamageLemmas.{and_then_ok, passed_ok, found_ok, put_first_ok}
 use Rattle.strat_gate.specs.Laying.{LaysOver}
 use Rattle.strat_promote.specs.Job.{blocks_listed}
 use Rattle.strat_recovery.specs.Head.{descriptors}
 use Rattle.strat_recovery.specs.Opening.{belongs}
-use Rattle.strat_recovery.proofs.OpeningLemmas.{map_some}
 use Rattle.strat_standing.specs.Contents.{Contents, named_blocks}
 use Rattle.strat_standing.specs.Next.{HasManifest}
 use Rattle.strat_standing.specs.Standing.{LeavesContent}
 use Rattle.strat_standing.proofs.ListLemmas.{among_contained}
-use Rattle.strat_standing.proofs.LocalLemmas.{SameOn}
+use Rattle.strat_standing.proofs.LocalLemmas.{SameOn, manifest_local}
 use Rattle.strat_standing.proofs.PlaceLemmas.{places, newest_chosen, newest_local, named_behind}
 use Rattle.strat_store.specs.Held.{Held, IsConsistent, IsOnDisk, contents_held}
 use Rattle.strat_store.specs.Publishing.{IsWrittenTo, LaysSuperblock, WritesManifest}
 use Rattle.strat_store.specs.Settling.{KeepsPublished, WritesBeside, held_next}
-
--- a manifest is read again while the blocks of its chain stay
-link_same : (f c : Image) (b : ℕ) → KeepsBlock b f c → link_at c b ≡ link_at f b
-link_same f c b keeps = ap (number 4) (window_same f c (BLOCK * b) 4 (record { byte = λ i low high. keeps.byte i (omega arith) (omega arith) }))
-
-text_same : (f c : Image) (b : ℕ) → KeepsBlock b f c → window c (BLOCK * b + 4) (BLOCK - 4) ≡ window f (BLOCK * b + 4) (BLOCK - 4)
-text_same f c b keeps = window_same f c (BLOCK * b + 4) (BLOCK - 4) (record { byte = λ i low high. keeps.byte i (omega arith) (omega arith) })
-
-chain_still : (f c : Image) (before : List ℕ) (b n : ℕ) (blocks : List ℕ) → chain_from f before b n ≡ Ok blocks → SameOn f c blocks → chain_from c before b n ≡ Ok blocks
-unfolding chain_from
-chain_still f c before b zero blocks e same =
-    let one = passed_ok b (eqb (link_at f b) 0) (b ∷ []) blocks e in
-    let here : KeepsBlock b f c = same b (subst (λ (l : List ℕ). Among b l) one.1 (inl refl)) in
-    ap (λ (k : ℕ). passed_or b (eqb k 0) (b ∷ [])) (link_same f c b here) ∙ e
-chain_still f c before b (suc n) blocks e same =
-    by_test (may_follow (b ∷ before) (link_at f b)) refl (λ rest e' on. chain_still f c (b ∷ before) (link_at f b) n rest e' on) e
-  where
-    by_test : (t : Bool) → may_follow (b ∷ before) (link_at f b) ≡ t
-        → ((rest : List ℕ) → chain_from f (b ∷ before) (link_at f b) n ≡ Ok rest → SameOn f c rest → chain_from c (b ∷ before) (link_at f b) n ≡ Ok rest)
-        → cond t (put_first b (chain_from f (b ∷ before) (link_at f b) n)) (Err b) ≡ Ok blocks
-        → cond (may_follow (b ∷ before) (link_at c b)) (put_first b (chain_from c (b ∷ before) (link_at c b) n)) (Err b) ≡ Ok blocks
-    by_test false is further e = absurd (cc)
-    by_test true is further e =
-        let rest = put_first_ok b (chain_from f (b ∷ before) (link_at f b) n) blocks e in
-        let here : KeepsBlock b f c = same b (subst (λ (l : List ℕ). Among b l) rest.2 (inl refl)) in
-        let later : SameOn f c rest.0 = λ d among. same d (subst (λ (l : List ℕ). Among d l) rest.2 (inr among)) in
-        let there = further rest.0 rest.1 later in
-        ap (λ (k : ℕ). cond (may_follow (b ∷ before) k) (put_first b (chain_from c (b ∷ before) k n)) (Err b)) (link_same f c b here)
-        ∙ ap (λ (t : Bool). cond t (put_first b (chain_from c (b ∷ before) (link_at f b) n)) (Err b)) is
-        ∙ ap (λ (r : Read (List ℕ)). put_first b r) there
-        ∙ ap (λ (l : List ℕ). Ok l) rest.2
-
-bytes_still : (f c : Image) (blocks : List ℕ) → SameOn f c blocks → chained_bytes c blocks ≡ chained_bytes f blocks
-bytes_still f c [] same = refl
-bytes_still f c (b ∷ blocks) same = λ i. text_same f c b (same b (inl refl)) i ++ bytes_still f c blocks (λ d among. same d (inr among)) i
-
-manifest_still : (f c : Image) (first n : ℕ) (x : Chained) → manifest_at f first n ≡ Ok x → SameOn f c x.blocks → manifest_at c first n ≡ Ok x
-manifest_still f c first n x e same =
-    let read = and_then_ok (chain_from f [] first (chain_length n - 1)) (manifest_in_chain f first n) x e in
-    let made = map_some (λ m. record { manifest = m; blocks = read.0 }) (manifest_filled n (chained_bytes f read.0)) x
-    (found_ok first (option_map (λ m. record { manifest = m; blocks = read.0 }) (manifest_filled n (chained_bytes f read.0))) x read.2) in
-    let on : SameOn f c read.0 = subst (λ (l : List ℕ). SameOn f c l) (sym (ap (λ (y : Chained). y.blocks) made.2)) same in
-    ap (λ (r : Read (List ℕ)). and_then r (manifest_in_chain c first n)) (chain_still f c [] first (chain_length n - 1) read.0 read.1 on)
-    ∙ ap (λ (l : List ℕ). found_or first (option_map (λ m. record { manifest = m; blocks = read.0 }) (manifest_filled n l))) (bytes_still f c read.0 on)
-    ∙ read.2
 
 -- a store that holds the same superblock and manifest
 pub kept_on : (v : DiskView) (s t : Held) → KeepsPublished s t → IsOnDisk v s → IsOnDisk v t
@@ -108,7 +57,7 @@ still_on v w s on time each =
       content = told.0;
       exposed = told.1;
       newest = λ c left. let one = each c left in newest_local one.0 c one.2 ∙ on.newest one.0 one.1;
-      chain = λ c left. let one = each c left in manifest_still one.0 c s.sb.manifest s.sb.length s.chained (on.chain one.0 one.1) one.3;
+      chain = λ c left. let one = each c left in manifest_local one.0 c s.sb.manifest s.sb.length s.chained (on.chain one.0 one.1) one.3;
     }
 
 -- a disk that was only read
@@ -244,7 +193,7 @@ published_on v w u s target sb chained levels whole beside written leaves laid t
       exposed = told.1;
       newest = λ c left. laid.newest g s.slot s.sb mid.exposed (mid.newest g (at_told w.content (Images w) g mid.exposed leaves)) (λ e. absurd (omega (arith, e, slot))) greater c left;
       chain = λ c left.
-          manifest_still g c sb.manifest sb.length chained (written (told_some v.content on.content on.exposed) g mid.exposed)
+          manifest_local g c sb.manifest sb.length chained (written (told_some v.content on.content on.exposed) g mid.exposed)
           (λ b among.
           let behind = chain_behind (held_next s target sb chained levels) belonging b among in
           laid.behind g c mid.exposed left b (le-ltb b (first_free s.log.mem) (omega (arith, behind, mem, log_mem))));

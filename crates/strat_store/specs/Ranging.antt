@@ -43,7 +43,7 @@ MayTellOfRange told =
     ((more : Bool) × (told ≡ reply.Pairs more)) ⊎ (told ≡ reply.Refused why.DeviceFault)
     ⊎ ((block : ℕ) × (told ≡ reply.Refused (why.Damaged block)))
 
--- how many pairs a command asks for at most
+-- how many pairs a page may have that a command asks for, and 0 where it asks for none
 abbrev pub page_limit : Request → ℕ
 page_limit (Scan version lo hi limit) = limit
 page_limit (NextPairs number limit) = limit

@@ -139,8 +139,7 @@ fn look<D: Disk>(
         → (f : Image) → Exposes (D.view disk.old) f → is_fault result ≡ false
         → TellsFrom f (held_of held.now cache.old)
         (request_of command.now) (as_told result out.new) }
-    ensures len { (result ≡ reply.Found → length out.new ≡ 1)
-        × HasPairsFor (request_of command.now) (as_told result out.new) }
+    ensures len { HasPairsFor (request_of command.now) (as_told result out.new) }
     ensures same { LooksThrough (D.view disk.old) (D.view disk.new)
         (arrays_there held.now.published.levels) cache.old cache.new }
     ensures cause { FailsAsTold (D.faults disk.old) (D.faults disk.new) result }
@@ -193,8 +192,7 @@ fn query<D: Disk>(
             (request_of command.now) (as_told result out.new);
       };
     } }
-    ensures len { (result ≡ reply.Found → length out.new ≡ 1)
-        × HasPairsFor (request_of command.now) (as_told result out.new) }
+    ensures len { HasPairsFor (request_of command.now) (as_told result out.new) }
     ensures same { LooksThrough (D.view disk.old) (D.view disk.new)
         (arrays_held held.old.memory held.old.published.levels) cache.old cache.new }
     ensures cause { FailsAsTold (D.faults disk.old) (D.faults disk.new) result
@@ -240,8 +238,7 @@ fn answer<D: Disk>(
         (request_of command.now) (as_told result out.new) }
     ensures kept { is_fault result ≡ false → (cached : Blocks)
         → IsConsistent (held_of held.new cached) }
-    ensures len { (result ≡ reply.Found → length out.new ≡ 1)
-        × HasPairsFor (request_of command.now) (as_told result out.new)
+    ensures len { HasPairsFor (request_of command.now) (as_told result out.new)
         × (held.new.sb.mem ≡ held.old.sb.mem) }
     ensures same { IsUntouched (D.view disk.old) (D.view disk.new) (request_of command.now)
         (held_of held.old cache.old) result (held_after held.new cache.new result)
@@ -316,8 +313,7 @@ impl Store {
         ensures kept { (self.new.spent ≡ is_fault result)
             × (self.new.spent ≡ false → IsConsistent self.new
             × AreOfOldArrays self.new.chained.manifest.next_array self.new.cached) }
-        ensures len { (result ≡ reply.Found → length out.new ≡ 1)
-            × HasPairsFor (request_of command.now) (as_told result out.new)
+        ensures len { HasPairsFor (request_of command.now) (as_told result out.new)
             × (length self.new.cached.entries ≤ self.new.cached.cap) }
         ensures same { (self.new.sb.mem ≡ self.old.sb.mem)
             × IsUntouched (D.view disk.old) (D.view disk.new) (request_of command.now)

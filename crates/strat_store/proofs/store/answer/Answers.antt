@@ -34,7 +34,6 @@ returns-in-Some-clause-trail g c = λ x w.
 
 pub returns-in-Some-clause-len : goal.returns-in-Some-clause-len
 returns-in-Some-clause-len g c = (
-  λ found. absurd (c.change.ensures.same.1 found),
   pairs_wanted (request_of c.args.command.now) _ c.change.result c.args.out.now c.in-Some.ensures c.change.ensures.same.1 c.requires.room,
   c.change.ensures.same.0,
 )

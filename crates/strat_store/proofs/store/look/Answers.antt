@@ -11,7 +11,7 @@ use Rattle.strat_recovery.specs.StateTable.{table_of}
 use Rattle.strat_standing.specs.Contents.{contents_state}
 use Rattle.strat_store.specs.Applying.{is_fault}
 use Rattle.strat_store.specs.Recovering.{held_of}
-use Rattle.strat_store.proofs.ApplyLemmas.{get_same, info_calm, info_finds, info_here, info_says, info_short, key_short, no_pairs, pairs_beside, range_pages, range_short, stat_finds, stat_short, tells_look, version_refused, look_applied, memory_applied, none_left, scan_fits, scan_same, stat_here, tells_calm, other_than, unknown_answer}
+use Rattle.strat_store.proofs.ApplyLemmas.{get_same, info_calm, info_finds, info_here, info_says, info_short, key_short, no_pairs, pairs_beside, range_short, stat_finds, stat_short, tells_look, version_refused, look_applied, memory_applied, none_left, scan_fits, scan_same, stat_here, tells_calm, other_than, unknown_answer}
 use Rattle.strat_store.proofs.store.look.Goals as goal
 
 pub returns-in-Get-clause-ok : goal.returns-in-Get-clause-ok
@@ -91,23 +91,20 @@ pub returns-in-Stat-clause-found : goal.returns-in-Stat-clause-found
 returns-in-Stat-clause-found g c = λ old f exposed calm. rw (c.in-Stat.is, c.requires.room) (ap plain c.stat.ensures.ok)
 
 pub returns-in-Get-clause-len : goal.returns-in-Get-clause-len
-returns-in-Get-clause-len g c = rw (c.in-Get.is) (c.get.ensures.len.0, pairs_beside c.get.result c.get.new.out c.get.ensures.len.0 c.get.ensures.len.1)
+returns-in-Get-clause-len g c = rw (c.in-Get.is) (pairs_beside c.get.result c.get.new.out c.get.ensures.len.0 c.get.ensures.len.1)
 
 pub returns-in-Scan-clause-len : goal.returns-in-Scan-clause-len
-returns-in-Scan-clause-len g c = rw (c.in-Scan.is) (
-  λ found. absurd (range_pages (is_known c.args.held.now.memory.parents c.in-Scan.version) c.scan_range.result c.scan_range.ensures.end (λ off. (c.scan_range.ensures.none off).0) found),
-  c.scan_range.ensures.len,
-)
+returns-in-Scan-clause-len g c = rw (c.in-Scan.is) (c.scan_range.ensures.len)
 
 pub returns-in-Info-clause-len : goal.returns-in-Info-clause-len
 returns-in-Info-clause-len g c =
     let other = info_finds c.args.held.now.memory c.in-Info.version (is_known c.args.held.now.memory.parents c.in-Info.version) c.info.result c.info.ensures.found c.info.ensures.none in
-    rw (c.in-Info.is) (λ found. absurd (other found), no_pairs c.info.result c.args.out.now other c.requires.room)
+    rw (c.in-Info.is) (no_pairs c.info.result c.args.out.now other c.requires.room)
 
 pub returns-in-Stat-clause-len : goal.returns-in-Stat-clause-len
 returns-in-Stat-clause-len g c =
     let other : c.stat.result ≡ reply.Found → ⊥ = λ found. stat_finds c.args.held.now.memory (sym c.stat.ensures.ok ∙ found) in
-    rw (c.in-Stat.is) (λ found. absurd (other found), no_pairs c.stat.result c.args.out.now other c.requires.room)
+    rw (c.in-Stat.is) (no_pairs c.stat.result c.args.out.now other c.requires.room)
 
 pub returns-in_default-clause-len : goal.returns-in_default-clause-len
 returns-in_default-clause-len g c = absurd (none_left c.args.command.now c.requires.none.0 c.requires.none.1 c.in_default.not-Get c.in_default.not-Scan c.in_default.not-Info c.in_default.not-Stat)

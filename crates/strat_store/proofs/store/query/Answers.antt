@@ -45,16 +45,16 @@ pub returns-in-OpenCursor-clause-found : goal.returns-in-OpenCursor-clause-found
 returns-in-OpenCursor-clause-found g c = λ old f exposed calm. rw (c.in-OpenCursor.is, c.requires.room) (c.open_cursor.ensures.found f c.args.cache.now)
 
 pub returns-in-OpenCursor-clause-len : goal.returns-in-OpenCursor-clause-len
-returns-in-OpenCursor-clause-len g c = rw (c.in-OpenCursor.is) (λ found. absurd (c.open_cursor.ensures.same.1 found), no_pairs c.open_cursor.result c.args.out.now c.open_cursor.ensures.same.1 c.requires.room)
+returns-in-OpenCursor-clause-len g c = rw (c.in-OpenCursor.is) (no_pairs c.open_cursor.result c.args.out.now c.open_cursor.ensures.same.1 c.requires.room)
 
 pub returns-in-CloseCursor-clause-found : goal.returns-in-CloseCursor-clause-found
 returns-in-CloseCursor-clause-found g c = λ old f exposed calm. rw (c.in-CloseCursor.is, c.requires.room) (c.close_cursor.ensures.found f c.args.cache.now)
 
 pub returns-in-CloseCursor-clause-len : goal.returns-in-CloseCursor-clause-len
-returns-in-CloseCursor-clause-len g c = rw (c.in-CloseCursor.is) (λ found. absurd (c.close_cursor.ensures.same.1 found), no_pairs c.close_cursor.result c.args.out.now c.close_cursor.ensures.same.1 c.requires.room)
+returns-in-CloseCursor-clause-len g c = rw (c.in-CloseCursor.is) (no_pairs c.close_cursor.result c.args.out.now c.close_cursor.ensures.same.1 c.requires.room)
 
 pub returns-in-NextPairs-clause-len : goal.returns-in-NextPairs-clause-len
-returns-in-NextPairs-clause-len g c = rw (c.in-NextPairs.is) (λ found. absurd (c.next_pairs.ensures.len.0 found), c.next_pairs.ensures.len.2)
+returns-in-NextPairs-clause-len g c = rw (c.in-NextPairs.is) (c.next_pairs.ensures.len.2)
 
 pub returns-in-OpenCursor-clause-cause : goal.returns-in-OpenCursor-clause-cause
 returns-in-OpenCursor-clause-cause g c = rw (c.in-OpenCursor.is) (
