@@ -23,7 +23,7 @@ use Rattle.strat_standing.specs.Standing.{ShowsTable}
 use Rattle.strat_store.proofs.PayingLemmas.{paid_then, stored_since}
 use Rattle.strat_serve.specs.Session.{EndHasCause}
 use Rattle.strat_serve.specs.World.{World, world}
-use Rattle.castle.specs.Working.{EndsWorkload, EndsOnExposed, FollowsNew, CarriesOutWorkload, LeavesWorkload, SendsSummary, summary_of}
+use Rattle.castle.specs.Working.{EndsOnExposed, FollowsNew, CarriesOutWorkload, LeavesWorkload, SendsSummary, summary_of}
 use Rattle.castle.proofs.CompleteLemmas.{finds_head}
 
 -- a disk that only was read since a workload was carried out whole has what that left
@@ -136,21 +136,6 @@ module _ (seed count : ℕ) (d2 d3 : DiskView) (reads : OnlyReads d2 d3) (k0 k1 
   summary_sent ended.Source writes = absurd writes
   summary_sent ended.Budget writes = absurd writes
   summary_sent ended.Unsound writes = absurd writes
-
--- a report ends as a run of a workload may
-pub summary_ends : (seed count : ℕ) (disk : DiskView) (how : Ended) (k0 k1 : Option (List ℕ)) → WritesReport (summary_text seed count) disk how k0 k1 → EndsWorkload how
-summary_ends seed count disk ended.Done k0 k1 writes = tt
-summary_ends seed count disk ended.Device k0 k1 writes = tt
-summary_ends seed count disk ended.Sink k0 k1 writes = tt
-summary_ends seed count disk ended.NoMemory k0 k1 writes = tt
-summary_ends seed count disk ended.NotAStore k0 k1 writes = tt
-summary_ends seed count disk (ended.Damaged block) k0 k1 writes = tt
-summary_ends seed count disk ended.Usage k0 k1 writes = absurd writes
-summary_ends seed count disk ended.FrameTooLong k0 k1 writes = absurd writes
-summary_ends seed count disk ended.Truncated k0 k1 writes = absurd writes
-summary_ends seed count disk ended.Source k0 k1 writes = absurd writes
-summary_ends seed count disk ended.Budget k0 k1 writes = absurd writes
-summary_ends seed count disk ended.Unsound k0 k1 writes = absurd writes
 
 -- a report blames no source
 no_source : (say : Read (Option Head) → List ℕ) (disk : DiskView) (how : Ended) (k0 k1 : Option (List ℕ)) → WritesReport say disk how k0 k1 → how ≢ ended.Source

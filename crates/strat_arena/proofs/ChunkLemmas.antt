@@ -1,7 +1,7 @@
 -- Pairs stay where they are while chunks are added and bytes appended.
 use Rattle.std.proofs.Common.{◌≡◌, ◌<◌, ◌≤◌, ℕ, suc, ◌-◌, List, [], ◌∷◌, ◌++◌, length, get_or, set, take, drop, map, inl, inr, refl, sym, ap, ◌∙◌, arith, length-append, length-drop, slice_range}
 use Rattle.std.proofs.lemmas.Bool.{cases_eq}
-use Rattle.std.proofs.lemmas.List.{append-nil, length-set, length_push, get_or-set_same, get_or-set_other, get_or_append_left, take-append-le, drop-append-le}
+use Rattle.std.proofs.lemmas.List.{append-nil, length-set, get_or-set_same, get_or-set_other, take-append-le, drop-append-le}
 use Rattle.strat_arena.specs.declared.arena.PairPlace.{PairPlace}
 use Rattle.strat_arena.specs.ChunkView.{ChunkView}
 use Rattle.strat_arena.specs.Chunks.{chunk_at, pair_at, LiesWithin, Extends}
@@ -42,17 +42,6 @@ place_kept old new ext place lies =
       value = lies.value;
       within = omega (arith, lies.within, ap length grown.1, length-append (chunk_at old place.chunk).bytes grown.0);
     }
-
--- nothing is added
-pub extends_same : (chunks : List ChunkView) → Extends chunks chunks
-extends_same chunks = record { longer = omega arith; each = λ n within. ([], sym (append-nil (chunk_at chunks n).bytes)) }
-
--- a chunk is added
-pub extends_push : (chunks : List ChunkView) (chunk : ChunkView) → Extends chunks (chunks ++ chunk ∷ [])
-extends_push chunks chunk = record {
-  longer = omega (arith, length_push chunks chunk);
-  each = λ n within. ([], ap (λ (c : ChunkView). c.bytes) (get_or_append_left chunks (chunk ∷ []) (record { bytes = []; capacity = 0 }) n within) ∙ sym (append-nil (chunk_at chunks n).bytes));
-}
 
 -- bytes are appended to a chunk
 pub extends_set : (chunks : List ChunkView) (n : ℕ) (chunk : ChunkView) (more : List ℕ) → n < length chunks → chunk.bytes ≡ (chunk_at chunks n).bytes ++ more → Extends chunks (set chunks n chunk)

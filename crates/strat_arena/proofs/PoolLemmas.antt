@@ -1,8 +1,8 @@
 -- What a change of one entry does to a pool.
-use Rattle.std.proofs.Common.{◌≡◌, ◌<◌, ℕ, ◌+◌, Bool, cond, if◌then◌else◌, ◌==◌, List, [], ◌∷◌, ◌++◌, length, get_or, set, inl, inr, sym, ap, ◌∙◌, arith, lt-ltb, eq-eqb, ne_eqb}
+use Rattle.std.proofs.Common.{◌≡◌, ◌<◌, ℕ, ◌+◌, Bool, cond, if◌then◌else◌, ◌==◌, List, length, get_or, set, inl, inr, ap, arith, lt-ltb, eq-eqb, ne_eqb}
 use Rattle.std.proofs.lemmas.Bool.{cases_lt, cases_eq}
-use Rattle.std.proofs.lemmas.List.{length_push, get_or-set_same, get_or-set_other, get_or_append_left, get_or_past}
-use Rattle.std.proofs.lemmas.List.Sums.{sum_by-set, sum_by_push}
+use Rattle.std.proofs.lemmas.List.{get_or-set_same, get_or-set_other, get_or_past}
+use Rattle.std.proofs.lemmas.List.Sums.{sum_by-set}
 use Rattle.strat_arena.specs.declared.pool.PoolEntry.{PoolEntry}
 use Rattle.strat_arena.specs.ArenaView.{no_arena}
 use Rattle.strat_arena.specs.PoolView.{shares_at, is_shared, count_shared, SameBeside}
@@ -57,13 +57,3 @@ module _ (pool : List PoolEntry) (n : ℕ) (e : PoolEntry) where
         | inl gone ↦ omega (arith, count_less old gone, left, ap unless (eq-eqb e.shares 0 gone))
         | inr some ↦ omega (arith, count_same old (omega arith), left, ap unless (ne_eqb e.shares 0 some))
       ]
-
-pub same_pushed : (pool : List PoolEntry) (e : PoolEntry) → SameBeside pool (pool ++ e ∷ []) (length pool)
-same_pushed pool e m apart =
-    elim (cases_lt m (length pool)) [
-      | inl known ↦ get_or_append_left pool (e ∷ []) vacant m known
-      | inr past ↦ get_or_past (pool ++ e ∷ []) m vacant (omega (arith, length_push pool e)) ∙ sym (get_or_past pool m vacant past)
-    ]
-
-pub count_pushed : (pool : List PoolEntry) (e : PoolEntry) → 0 < e.shares → count_shared (pool ++ e ∷ []) ≡ count_shared pool + 1
-count_pushed pool e new = omega (arith, sum_by_push counted pool e, one e new)

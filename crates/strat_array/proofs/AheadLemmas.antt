@@ -27,10 +27,3 @@ next_ahead held count block next before r1 r2 step first most none past =
 -- the block that is held is not ahead
 pub ahead_held : (s : Option Kept) (array count : ℕ) (place : Place) → is_some (held_block s array place.block) ≡ true → blocks_ahead s array count place ≡ count - (place.block + 1)
 ahead_held s array count place held = ap (λ (b : Bool). cond b (count - (place.block + 1)) (count - place.block)) held
-
-pub ahead_most : (s : Option Kept) (array count : ℕ) (place : Place) → blocks_ahead s array count place ≤ count
-ahead_most s array count place = go (is_some (held_block s array place.block))
-  where
-    go : (h : Bool) → cond h (count - (place.block + 1)) (count - place.block) ≤ count
-    go true = omega arith
-    go false = omega arith

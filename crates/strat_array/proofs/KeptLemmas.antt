@@ -1,9 +1,8 @@
 -- Blocks that are kept stay right while an array is looked at.
-use Rattle.std.proofs.Common.{◌≡◌, ℕ, zero, suc, Bool, true, false, cond, eqb, inl, inr, List, [], ◌∷◌, length, Contains, Option, Some, None, IsSome, IfSome, is_some, refl, sym, ap, ◌∙◌, subst, arith, true≢false, eq-eqb}
+use Rattle.std.proofs.Common.{◌≡◌, ℕ, zero, suc, Bool, true, false, cond, inl, inr, List, [], ◌∷◌, length, Contains, Option, Some, None, IsSome, IfSome, refl, sym, ap, ◌∙◌, subst, arith, true≢false}
 use Rattle.std.specs.List.{slice_get}
 use Rattle.std.specs.Map.{lookup}
 use Rattle.std.specs.Option.{option_map, option_and_then, option_or}
-use Rattle.std.proofs.lemmas.Bool.{and_from}
 use Rattle.lru.proofs.CallerLemmas.{Contains-lookup}
 use Rattle.strat_base.specs.Entries.{Entry}
 use Rattle.strat_crash.specs.Image.{Image}
@@ -147,29 +146,6 @@ held_is content array blocks c lists index x (Some kept) stands held =
           stands.held index x (λ j. Some (key j, same j))
       | false ↦ λ t. let e : None ≡ Some x = sym (ap (λ (b : Bool). cond b (Some kept.1) None) t) ∙ held in absurd (cc)
     ] refl
-
--- a block that a scratch holds is kept, and so is one in the cache
-pub kept_held : (c : Blocks) (s : Option Kept) (array index : ℕ) → is_some (held_block s array index) ≡ true → IsSome (kept_block c s array index)
-kept_held c s array index held = go (held_block s array index) held
-  where
-    go : (o : Option (List Entry)) → is_some o ≡ true → IsSome (option_or o (lookup (is_keyed array index) c.entries))
-    go None h = absurd (true≢false (sym h))
-    go (Some x) h = refl
-
-pub kept_cached : (c : Blocks) (s : Option Kept) (array index : ℕ) → IsSome (lookup (is_keyed array index) c.entries) → IsSome (kept_block c s array index)
-kept_cached c s array index there = go (held_block s array index)
-  where
-    go : (o : Option (List Entry)) → IsSome (option_or o (lookup (is_keyed array index) c.entries))
-    go None = there
-    go (Some x) = refl
-
-pub held_there : (s : Option Kept) (array index : ℕ) → IsSome s → IfSome s (λ kept. kept.0 ≡ (array, index)) → is_some (held_block s array index) ≡ true
-held_there None array index some is = absurd (true≢false (sym some))
-held_there (Some kept) array index some is =
-    let a : array ≡ kept.0.0 = sym (ap (λ (k : ℕ × ℕ). k.0) is) in
-    let b : index ≡ kept.0.1 = sym (ap (λ (k : ℕ × ℕ). k.1) is) in
-    let t : is_keyed array index kept.0 ≡ true = and_from (eqb array kept.0.0) (eqb index kept.0.1) (eq-eqb array kept.0.0 a) (eq-eqb index kept.0.1 b) in
-    ap (λ (b : Bool). is_some (cond b (Some kept.1) None)) t
 
 -- the looks of a call that brings a block
 module _ (old : DiskView) (array : ℕ) (blocks : List ℕ) (c d : Blocks) (s : Option Kept) (recalled : AddsNone c d) where

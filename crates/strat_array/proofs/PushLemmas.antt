@@ -1,5 +1,5 @@
 -- Entries that are pushed into an array.
-use Rattle.std.proofs.Common.{◌≡◌, ◌<◌, ◌≤◌, ◌+◌, ◌*◌, ℕ, cond, Bool, true, false, leb, List, [], ◌∷◌, ◌++◌, length, Some, sym, ap, ◌∙◌, arith, append_assoc, true≢false, length-append}
+use Rattle.std.proofs.Common.{◌≡◌, ◌<◌, ◌≤◌, ◌+◌, ◌*◌, ℕ, cond, Bool, true, false, leb, List, [], ◌∷◌, ◌++◌, length, Some, sym, ap, ◌∙◌, arith, true≢false, length-append}
 use Rattle.std.specs.Bool.{OnTrue}
 use Rattle.std.proofs.lemmas.Bool.{OnTrue_at, le-leb}
 use Rattle.strat_base.specs.declared.descriptors.Extent.{Extent}
@@ -43,14 +43,6 @@ one_fits_block e lawful =
 pub others_first : (entries : List Entry) (e : Entry) → fits_fields e ≡ true → false ≡ leb (length (block_front (entries ++ e ∷ []))) 4096 → 0 < length entries
 others_first [] e lawful none = absurd (true≢false (sym (one_fits_block e lawful) ∙ sym none))
 others_first (d ∷ entries) e lawful none = omega arith
-
--- an entry behind those that are in no block
-pub pushed_pending : (f g : Image) (extents : List Extent) (pending next entries : List Entry) (e : Entry) → f ≡ g → next ≡ pending ++ e ∷ [] → IsWritten f extents pending entries → IsWritten g extents next (entries ++ e ∷ [])
-pushed_pending f g extents pending next entries e same is old = record {
-  written = old.written;
-  read = ap (λ (c : Image). entries_on c (blocks_of extents)) (sym same) ∙ old.read;
-  all = ap (λ (l : List Entry). l ++ e ∷ []) old.all ∙ append_assoc old.written pending (e ∷ []) ∙ ap (λ (l : List Entry). old.written ++ l) (sym is);
-}
 
 -- an entry behind those that were written
 pub pushed_anew : (f g : Image) (extents new : List Extent) (pending next entries : List Entry) (e : Entry) → next ≡ e ∷ []

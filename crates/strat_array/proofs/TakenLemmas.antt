@@ -6,9 +6,6 @@ use Rattle.strat_extent.specs.Blocks.{SpaceView, AreRuns, inside, times_in, tota
 use Rattle.strat_extent.specs.Change.{IsMarked, AreLowest}
 use Rattle.strat_array.specs.Taking.{IsLowestTaken}
 
-bit : Bool → ℕ
-bit b = cond b 1 0
-
 bits : (p q r : Bool) → cond p 1 0 ≡ cond q 1 0 + cond r 1 0 → p ≡ (q || r)
 bits true true r e = refl
 bits true false true e = refl

@@ -174,9 +174,6 @@ length-shifted : (first : ℕ) (starts : List ℕ) → length (shifted first sta
 length-shifted first [] = refl
 length-shifted first (start ∷ starts) = omega (arith, length-append (be 2 (first + start)) (shifted first starts), length-be 2 (first + start), length-shifted first starts)
 
-pub none_put : (old : List ℕ) → placed old 2 [] ≡ old
-none_put old = ap (λ (x : List ℕ). x ++ drop 2 old) (append-nil (take 2 old)) ∙ take-append-drop 2 old
-
 -- one more offset
 pub offset_put : (old starts : List ℕ) (first i : ℕ) → i < length starts → 2 + 2 * length starts ≤ length old
     → placed (placed old 2 (shifted first (take i starts))) (2 + 2 * i) (be 2 (first + get_or starts i 0)) ≡ placed old 2 (shifted first (take (i + 1) starts))

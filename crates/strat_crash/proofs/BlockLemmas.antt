@@ -1,9 +1,9 @@
 -- How calls compose that change free blocks alone.
-use Rattle.std.proofs.Common.{◌≡◌, ◌≢◌, ◌+◌, ◌*◌, ◌≤◌, ◌<◌, ℕ, Bool, true, false, inl, inr, List, length, Option, Some, None, Ok, Err, Result, OnOk, OnErr, IsSome, refl, sym, ap, ◌∙◌, subst, arith, true≢false}
+use Rattle.std.proofs.Common.{◌≡◌, ◌+◌, ◌*◌, ℕ, Bool, true, false, inl, inr, List, length, Option, Some, None, Ok, Err, Result, OnOk, OnErr, IsSome, refl, sym, ◌∙◌, subst, arith, true≢false}
 use Rattle.std.specs.Option.{IsSomeAnd}
 use Rattle.std.proofs.lemmas.Bool.{cases_lt}
-use Rattle.strat_crash.specs.Image.{Image, SameIn, Outside, window, patch}
-use Rattle.strat_crash.specs.Moments.{DiskView, Exposes, Images, Since, Passes, TearsOnly, OnlyReads, Writes, Garbles}
+use Rattle.strat_crash.specs.Image.{Image, Outside, patch}
+use Rattle.strat_crash.specs.Moments.{DiskView, Exposes, Images, Passes, TearsOnly, OnlyReads, Writes, Garbles}
 use Rattle.strat_crash.specs.Blocks.{KeepsBlock, KeepsTaken, TearsBlocks}
 use Rattle.strat_crash.proofs.ImageLemmas.{outside_patch}
 use Rattle.strat_crash.proofs.MomentLemmas.{since_now, now_since_start, each_then, passes_refl, passes_trans, at_told}

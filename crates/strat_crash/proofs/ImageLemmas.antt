@@ -43,9 +43,6 @@ is_over at n f g h under within past = same_everywhere h (over at n f g) (λ i. 
 pub outside_refl : (at n : ℕ) (c : Image) → Outside at n c c
 outside_refl at n c = record { below = λ i is. refl; above = λ i is. refl }
 
-pub outside_sym : {at n : ℕ} {old new : Image} → Outside at n old new → Outside at n new old
-outside_sym o = record { below = λ i is. sym (o.below i is); above = λ i is. sym (o.above i is) }
-
 pub outside_trans : {at n : ℕ} {old mid new : Image} → Outside at n old mid → Outside at n mid new → Outside at n old new
 outside_trans o p = record { below = λ i is. p.below i is ∙ o.below i is; above = λ i is. p.above i is ∙ o.above i is }
 

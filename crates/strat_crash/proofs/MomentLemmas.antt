@@ -32,11 +32,6 @@ pub each_then : (mid new : DiskView) (t : ℕ) (P : Image → Type 0) → Passes
     → ((c : Image) → Since new mid.moment c → P c) → (c : Image) → Since new t c → P c
 each_then mid new t P passes before after c since = elim (since_split mid new t c passes since) [ inl early ↦ before c early | inr late ↦ after c late ]
 
--- an image of the middle is one since then
-pub since_kept : (mid new : DiskView) (t : ℕ) (c : Image) → Passes mid new → Since mid t c → Since new t c
-since_kept mid new t c passes since =
-    record { at = since.at; from = since.from; till = omega (arith, since.till, passes.later); left = passes.kept since.at c since.till since.left }
-
 pub passes_refl : (v : DiskView) → Passes v v
 passes_refl v = record { exposed = λ some. some; later = omega arith; past = λ m c le left. left; kept = λ m c le left. left }
 

@@ -1,7 +1,6 @@
 -- Trails are joined, lengthened and shortened.
-use Rattle.std.proofs.Common.{◌≡◌, ◌≤◌, ◌<◌, ℕ, zero, suc, ◌+◌, ◌-◌, max, nat_lt, if◌then◌else◌, inl, inr, ◌⊎◌, List, [], ◌∷◌, ◌++◌, length, map, refl, sym, ◌∙◌, ap, subst, arith, length-append, append_assoc}
+use Rattle.std.proofs.Common.{◌≡◌, ◌≤◌, ◌<◌, ℕ, zero, suc, ◌+◌, ◌-◌, max, nat_lt, if◌then◌else◌, inl, inr, ◌⊎◌, List, [], ◌∷◌, ◌++◌, length, refl, sym, ◌∙◌, ap, subst, arith, length-append, append_assoc}
 use Rattle.std.proofs.lemmas.Bool.{cases_lt}
-use Rattle.std.proofs.lemmas.List.{length-map}
 use Rattle.std.proofs.lemmas.Bool.Decides.{nat_tests}
 use Rattle.strat_crash.specs.Image.{Image}
 use Rattle.strat_crash.specs.Moments.{DiskView, Images, Since, Passes, OnlyReads}
@@ -104,18 +103,6 @@ trail_of_two {T} shows v start x y rest later each at_end = record {
     ]
     before (suc k) m c le low high left early = absurd (omega arith)
 
--- a smaller number
-pub trail_fewer : {T : Type 0} (shows : Image → T → Type 0) (v : DiskView) (start : ℕ) (tables : List T) (n less : ℕ) → less ≤ n
-    → Trail shows v start tables n → Trail shows v start tables less
-trail_fewer shows v start tables n less le t = record {
-  mark = t.mark;
-  first = t.first;
-  rise = λ k low. t.rise k (omega arith);
-  last = let order : t.mark less ≤ t.mark n = marks_in_order t.mark n t.rise less n le (omega arith) in omega (arith, t.last);
-  place = omega (arith, t.place);
-  each = λ k m c low. t.each k m c (omega arith);
-}
-
 -- more tables after the last
 pub trail_more : {T : Type 0} (shows : Image → T → Type 0) (v : DiskView) (start : ℕ) (tables more : List T) (n : ℕ)
     → Trail shows v start tables n → Trail shows v start (tables ++ more) n
@@ -127,23 +114,6 @@ trail_more shows v start tables more n t = record {
   place = omega (arith, t.place, length-append tables more);
   each = λ k m c le low high left. let p = t.each k m c le low high left in (p.0, p.1, at_left tables more p.0 (shows c) p.2);
 }
-
--- tables of which others follow
-pub trail_shown : {T U : Type 0} (shows : Image → T → Type 0) (shows' : Image → U → Type 0) (f : T → U) (v : DiskView) (start : ℕ) (tables : List T) (n : ℕ)
-    → ((c : Image) (x : T) → shows c x → shows' c (f x)) → Trail shows v start tables n → Trail shows' v start (map f tables) n
-trail_shown {T} {U} shows shows' f v start tables n follows t = record {
-  mark = t.mark;
-  first = t.first;
-  rise = t.rise;
-  last = t.last;
-  place = omega (arith, t.place, length-map tables f);
-  each = λ k m c le low high left. let p = t.each k m c le low high left in (p.0, p.1, mapped tables p.0 c p.2);
-}
-  where
-    mapped : (xs : List T) (i : ℕ) (c : Image) → At xs i (shows c) → At (map f xs) i (shows' c)
-    mapped [] i c h = absurd h
-    mapped (x ∷ xs) zero c h = follows c x h
-    mapped (x ∷ xs) (suc i) c h = mapped xs i c h
 
 -- the marks of two trails joined: those of the first up to its number, then those of the second
 abbrev joined_mark : (ℕ → ℕ) → (ℕ → ℕ) → ℕ → ℕ → ℕ

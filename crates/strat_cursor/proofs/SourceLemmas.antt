@@ -258,10 +258,6 @@ pub through_source : (old new : DiskView) (s : Source) (a : _) (c d : Blocks) (t
 through_source old new s a c d t u is looks =
     subst (λ (x : Source). LooksThrough old new (arrays_at x) c d) (sym is) (through_one old new (a.now ∷ []) a.now c d t u (only_one a.now) looks)
 
--- of what is forgotten nothing is held
-pub through_begun : (old new : DiskView) (s : Source) (a : _) (c d : Blocks) (u : Option Kept) → s ≡ source.Array a → Looks old new a.now.id (blocks_of a.now.extents) c d None u → LooksThrough old new (arrays_at s) c d
-through_begun old new s a c d u is looks = through_source old new s a c d None u is looks
-
 pub names_source : (content : Option Image) (s : Source) (a : _) (b : ℕ) → s ≡ source.Array a → IsNoBlock content (blocks_of a.now.extents) b → NamesNoBlock content (arrays_at s) b
 names_source content s a b is none =
     subst (λ (x : Source). NamesNoBlock content (arrays_at x) b) (sym is) (names_one content (a.now ∷ []) a.now b (only_one a.now) none)

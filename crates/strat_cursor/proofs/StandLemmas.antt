@@ -17,7 +17,7 @@ use Rattle.strat_array.specs.Kept.{Kept, Blocks, Looks, ArrayStands}
 use Rattle.strat_array.specs.Steps.{left_from, Settles, HoldsPlace, IsNear}
 use Rattle.strat_array.specs.Walk.{is_seen_at}
 use Rattle.strat_array.proofs.FindLemmas.{left_held}
-use Rattle.strat_array.proofs.KeptLemmas.{looks_refl, looks_trans, stands_after}
+use Rattle.strat_array.proofs.KeptLemmas.{looks_trans, stands_after}
 use Rattle.strat_cursor.specs.Ahead.{is_after}
 use Rattle.strat_cursor.specs.Sources.{PassesUndue, is_due, left_behind, entry_held, places_ahead}
 
@@ -96,9 +96,6 @@ item_past parents v (x ∷ xs) (suc i) past = item_past parents v xs i (omega ar
 pub record Standing (old now : DiskView) (array : ℕ) (blocks : List ℕ) (c d : Blocks) (s t : Option Kept) (parents : Parents) (v : ℕ) (last : List ℕ) (first place : Place) : Type 0 where
   pub looks : Looks old now array blocks c d s t
   pub passes : (lists : List (List Entry)) → ArrayStands old.content array blocks c s lists → PassesUndue parents v last (left_from lists first) (left_from lists place)
-
-pub standing_begins : (v0 : DiskView) (array : ℕ) (blocks : List ℕ) (c : Blocks) (s : Option Kept) (parents : Parents) (v : ℕ) (last : List ℕ) (place : Place) → Standing v0 v0 array blocks c c s s parents v last place place
-standing_begins v0 array blocks c s parents v last place = record { looks = looks_refl v0 array blocks c s; passes = λ lists stands. passes_none parents v last (left_from lists place) }
 
 module _ (old mid now : DiskView) (array : ℕ) (blocks : List ℕ) (c d e : Blocks) (s t u : Option Kept) (parents : Parents) (v : ℕ) (last : List ℕ) (first place : Place) (standing : Standing old mid array blocks c d s t parents v last first place)
     (looks : Looks mid now array blocks d e t u) where

@@ -6,7 +6,6 @@ use Rattle.std.specs.Ordering.{is_lt}
 use Rattle.std.proofs.lemmas.Bool.{and_parts, and_from, lt-ltb, le-ltb}
 use Rattle.std.proofs.lemmas.List.{append_assoc, append-nil, take_all}
 use Rattle.std.proofs.Math.Seq.{take-append_seam}
-use Rattle.std.proofs.lemmas.Cmp.{nat_list_cmp_total}
 use Rattle.strat_array.specs.Kept.{Blocks}
 use Rattle.strat_base.specs.Entries.{Entry}
 use Rattle.strat_base.specs.EntryBytes.{fits_fields, is_markable}
@@ -15,7 +14,6 @@ use Rattle.strat_base.specs.Order.{key_cmp}
 use Rattle.strat_base.specs.Tree.{IsTree}
 use Rattle.strat_crash.specs.Image.{Image}
 use Rattle.strat_crash.specs.Moments.{DiskView}
-use Rattle.strat_merge.proofs.OrderLemmas.{not_before_itself}
 use Rattle.strat_model.specs.Pairs.{Pair, Pairs, value_of, is_between, range}
 use Rattle.strat_cursor.specs.Ahead.{is_after, range_after}
 use Rattle.strat_cursor.specs.Contest.{head_in, LeadsAll, NoneAhead}
@@ -23,8 +21,8 @@ use Rattle.strat_cursor.specs.Looking.{LooksThrough, HaveOwnIds}
 use Rattle.strat_cursor.specs.Picking.{AreSourcesOf}
 use Rattle.strat_cursor.specs.Ranges.{arrays_in_view, arrays_picked, FillsPage, IsMapSeen, IsPageOf}
 use Rattle.strat_state.specs.LookUp.{first_live}
-use Rattle.strat_cursor.specs.Sources.{IsSpent, content_of}
-use Rattle.strat_cursor.proofs.ThroughLemmas.{through_refl, through_trans}
+use Rattle.strat_cursor.specs.Sources.{content_of}
+use Rattle.strat_cursor.proofs.ThroughLemmas.{through_trans}
 use Rattle.strat_cursor.specs.Turning.{is_under, AddsValue, HandlesKey, AreSettled, AreUpTo, IsLater}
 use Rattle.strat_cursor.specs.Views.{zeros_in}
 use Rattle.strat_cursor.specs.declared.desks.Desk.{Desk}
@@ -46,19 +44,6 @@ key_some e fits =
     go : (k : List ℕ) → is_key k ≡ true → 0 < length k
     go [] is = absurd (true≢false (sym is))
     go (b ∷ k) is = omega arith
-
-spent_itself : (k : List ℕ) → 0 < length k → is_after k k ≡ false
-spent_itself [] low = absurd (omega (arith, low))
-spent_itself (b ∷ k) low = not_before_itself nat_list_cmp_total (b ∷ k)
-
--- after a key was handled its entry is spent
-pub handled_spent : (e : Entry) (hi : List ℕ) (limit : ℕ) (last next : List ℕ) (out new : Pairs) (o : Option Entry) → o ≡ Some e → fits_fields e ≡ true → HandlesKey e hi limit last next out new None → IsSpent next o
-handled_spent e hi limit last next out new o at fits handles =
-    subst (λ (x : Option Entry). IsSpent next x) (sym at)
-    (elim handles [
-      | inl before ↦ ap (λ (k : List ℕ). is_after k e.key) before.1 ∙ before.0
-      | inr told ↦ ap (λ (k : List ℕ). is_after k e.key) told.2 ∙ spent_itself e.key (key_some e fits)
-    ])
 
 pub handled_later : (e : Entry) (hi : List ℕ) (limit : ℕ) (last next : List ℕ) (out new : Pairs) → fits_fields e ≡ true → HandlesKey e hi limit last next out new None → IsLater last next
 handled_later e hi limit last next out new fits handles = elim handles [
@@ -83,19 +68,12 @@ handled_len e hi limit last next out new few handles = elim handles [
     adds None is = omega (arith, few, ap (λ (ps : Pairs). length ps) is)
     adds (Some x) is = omega (arith, is.0, ap (λ (ps : Pairs). length ps) is.1, length-append {A = Pair} out ((e.key, x) ∷ []))
 
-pub ended_same : (e : Entry) (hi : List ℕ) (limit : ℕ) (last next : List ℕ) (out new : Pairs) (more : Bool) → HandlesKey e hi limit last next out new (Some more) → new ≡ out
-ended_same e hi limit last next out new true handles = handles.4
-ended_same e hi limit last next out new false handles = handles.2
-
 -- what a scan has told since it began, in each image that it may be read in
 pub record Telling (old now : DiskView) (view : View) (v : ℕ) (hi : List ℕ) (sources : List Source) (c d : Blocks) (first last : List ℕ) (from desks : List Desk) (before out : Pairs) : Type 0 where
   pub looks : LooksThrough old now (arrays_in_view view.levels) c d
   pub up : (f : Image) (lo : List ℕ) (m : Pairs) → old.content ≡ Some f → HaveOwnIds (arrays_in_view view.levels) → AreUpTo f c view.pool.now view.tree.now.parents v lo first sources from
       → IsMapSeen f view.tree.now.parents (zeros_in view) (arrays_picked view.tree.now.parents view.levels v) v m
       → AreUpTo f d view.pool.now view.tree.now.parents v lo last sources desks × (before ++ range_after m lo hi first ≡ out ++ range_after m lo hi last)
-
-pub telling_begins : (v0 : DiskView) (view : View) (v : ℕ) (hi : List ℕ) (sources : List Source) (c : Blocks) (first : List ℕ) (from : List Desk) (before : Pairs) → Telling v0 v0 view v hi sources c c first first from from before before
-telling_begins v0 view v hi sources c first from before = record { looks = through_refl v0 (arrays_in_view view.levels) c; up = λ f lo m exposed own up seen. (up, refl) }
 
 page_done : (pairs out rest : Pairs) (limit : ℕ) → pairs ≡ out ++ rest → rest ≡ [] → length out ≤ limit → IsPageOf pairs limit out false
 page_done pairs out rest limit is none few =

@@ -1,8 +1,7 @@
 -- The events of a disk in memory, one after the other.
-use Rattle.std.proofs.Common.{◌≡◌, List, [], ◌∷◌, ◌++◌, length, refl, sym, ◌∙◌, ap, arith, length-append}
-use Rattle.std.proofs.lemmas.List.{take-append-le}
+use Rattle.std.proofs.Common.{◌≡◌, List, [], ◌∷◌, ◌++◌, refl, sym, ◌∙◌, ap}
 use Rattle.strat_disk.specs.Medium.{Medium}
-use Rattle.strat_disk.specs.History.{after_event, replay, at_moment, Continues}
+use Rattle.strat_disk.specs.History.{after_event, replay}
 use Rattle.strat_disk.specs.declared.event.Event.{Event}
 
 pub replay_more : (m : Medium) (events : List Event) (event : Event) → replay m (events ++ event ∷ []) ≡ after_event event (replay m events)
@@ -20,21 +19,6 @@ pub replays_same : (old new : Medium) (events new_events : List Event) (before a
     → replay old events ≡ before → after ≡ before → replay new new_events ≡ after
 replays_same old new events new_events before after same more replays is =
     ap (λ (m : Medium). replay m new_events) same ∙ ap (λ (l : List Event). replay old l) more ∙ replays ∙ sym is
-
-pub continues_more : (old new : Medium) (events new_events : List Event) (event : Event) → new ≡ old → new_events ≡ events ++ event ∷ [] → Continues old events new new_events
-continues_more old new events new_events event same more = record {
-  later = let e = ap length more in omega (arith, length-append events (event ∷ []), e);
-  one = let e = ap length more in omega (arith, length-append events (event ∷ []), e);
-  past = λ n le. ap (λ (m : Medium). at_moment m new_events n) same ∙ ap (λ (l : List Event). at_moment old l n) more
-      ∙ ap (λ (l : List Event). replay old l) (take-append-le n events (event ∷ []) le);
-}
-
-pub continues_same : (old new : Medium) (events new_events : List Event) → new ≡ old → new_events ≡ events → Continues old events new new_events
-continues_same old new events new_events same more = record {
-  later = let e = ap length more in omega (arith, e);
-  one = let e = ap length more in omega (arith, e);
-  past = λ n le. ap (λ (m : Medium). at_moment m new_events n) same ∙ ap (λ (l : List Event). at_moment old l n) more;
-}
 
 pub replays_none : (first now : Medium) (events : List Event) → events ≡ [] → first ≡ now → replay first events ≡ now
 unfolding replay

@@ -4,7 +4,7 @@ use Rattle.std.proofs.lemmas.Bool.{cases_lt}
 use Rattle.std.proofs.lemmas.List.{get_or_append_left, get_or-append_right, get_or_past, get_or-replicate, get_or-take, get_or-drop, length-replicate, length-take-le, take_all}
 use Rattle.strat_crash.specs.Image.{Image, HoldsBytes, over, patch}
 use Rattle.strat_crash.proofs.ImageLemmas.{below, inside, above, lies, over_below, over_inside, over_above}
-use Rattle.strat_disk.specs.Medium.{Medium, shown, written, settled, IsWhole}
+use Rattle.strat_disk.specs.Medium.{Medium, shown, written, IsWhole}
 
 -- lists that read as a medium are that medium
 pub shown_is : (m : Medium) (bytes durable : List ℕ) (pending : List Bool) → ((i : ℕ) → get_or bytes i 0 ≡ m.content i)
@@ -96,10 +96,6 @@ whole_written at bytes m whole new = record {
     | above is ↦ over_above at (length bytes) _ m.content i is ∙ whole.same i (sym (over_above at (length bytes) _ m.pending i is) ∙ quiet)
   ];
 }
-
--- where nothing is pending a sync changes nothing
-pub settled_quiet : (m : Medium) → IsWhole m → ((i : ℕ) → m.pending i ≡ false) → m ≡ settled m
-settled_quiet m whole quiet = λ j. record { content = m.content; durable = λ i. sym (whole.same i (quiet i)) j; pending = λ i. quiet i j }
 
 pub over_both : {A : Type 0} (at n : ℕ) (f g : ℕ → A) (x : A) → ((i : ℕ) → f i ≡ x) → ((i : ℕ) → g i ≡ x) → (i : ℕ) → over at n f g i ≡ x
 over_both at n f g x in_it out_of_it i = elim (lies at n i) [

@@ -5,7 +5,7 @@ use Rattle.std.proofs.lemmas.Bool.Decides.{nat_tests}
 use Rattle.strat_base.specs.declared.descriptors.Extent.{Extent}
 use Rattle.strat_extent.specs.Blocks.{SpaceView, inside, times_in, total_len, AreRuns, is_used, is_free, uses}
 use Rattle.strat_extent.specs.Change.{IsMarked, SameBlocks, CanMark, CanGive}
-use Rattle.strat_extent.specs.Gap.{IsHolePlace, IsGap, IsInHole, HasUsedBlock}
+use Rattle.strat_extent.specs.Gap.{IsHolePlace, IsGap}
 use Rattle.strat_extent.proofs.CountLemmas.{inside_in, inside_below, inside_above, inside_le, inside_bounds}
 use Rattle.strat_extent.proofs.RunLemmas.{run_at, times_runs, runs_span, place_gap, none_below}
 
@@ -21,20 +21,11 @@ uses_counted s b a = counted _ (times_in s.holes b) (times_runs s.first s.end s.
 pub is_used_of : (s : SpaceView) (b : ℕ) → s.first ≤ b → b < s.end → times_in s.holes b ≡ 0 → is_used s b ≡ true
 is_used_of s b p q e = grind (arith, nat_tests)
 
-pub unused_in_hole : (s : SpaceView) (b : ℕ) → 0 < times_in s.holes b → is_used s b ≡ false
-unused_in_hole s b p = grind (arith, nat_tests)
-
-pub unused_above : (s : SpaceView) (b : ℕ) → s.end ≤ b → is_used s b ≡ false
-unused_above s b p = grind (arith, nat_tests)
-
 pub is_free_of : (s : SpaceView) (b : ℕ) → s.first ≤ b → b < 4294967295 → is_used s b ≡ false → is_free s b ≡ true
 is_free_of s b p q e = grind (arith, nat_tests)
 
 pub free_bounds : (s : SpaceView) (b : ℕ) → is_free s b ≡ true → (s.first ≤ b) × (b < 4294967295) × (is_used s b ≡ false)
 free_bounds s b e = (grind (arith, nat_tests), grind (arith, nat_tests), grind (arith, nat_tests))
-
-pub used_bounds : (s : SpaceView) (b : ℕ) → is_used s b ≡ true → (s.first ≤ b) × (b < s.end) × (times_in s.holes b ≡ 0)
-used_bounds s b e = (grind (arith, nat_tests), grind (arith, nat_tests), grind (arith, nat_tests))
 
 pub uses_used : (s : SpaceView) (b : ℕ) → 0 < uses s b → is_used s b ≡ true
 uses_used s b p = grind (arith, nat_tests)
@@ -60,54 +51,11 @@ marked s t xs first a c le le2 blocks total = record {
   count = omega (arith, total, first, runs_span s.first s.end s.holes le a, runs_span t.first t.end t.holes le2 c);
 }
 
-inside_none : (low high b : ℕ) → high ≤ low → inside low high b ≡ 0
-inside_none low high b p = grind (arith, nat_tests)
-
--- an empty run
-pub marked_empty : (s : SpaceView) (run : Extent) → run.len ≡ 0 → IsMarked s (run ∷ []) s
-marked_empty s run e = record {
-  first = refl;
-  used = λ b. omega (arith, inside_none run.start (run.start + run.len) b (omega arith));
-  count = omega arith;
-}
-
-pub can_mark_empty : (s : SpaceView) (run : Extent) → run.len ≡ 0 → CanMark s (run ∷ [])
-can_mark_empty s run e = record {
-  free = λ b p. absurd (omega (arith, p, inside_none run.start (run.start + run.len) b (omega arith)));
-  once = λ b. omega (arith, inside_none run.start (run.start + run.len) b (omega arith));
-}
-
--- a run of which each block is free
-can_mark_run : (s : SpaceView) (run : Extent) → ((b : ℕ) → run.start ≤ b → b < run.start + run.len → is_free s b ≡ true) → CanMark s (run ∷ [])
-can_mark_run s run each = record {
-  free = λ b p.
-      let at : (run.start ≤ b) × (b < run.start + run.len) = inside_bounds run.start (run.start + run.len) b (omega (arith, p)) in
-      each b at.0 at.1;
-  once = λ b. omega (arith, inside_le run.start (run.start + run.len) b);
-}
-
 times_at : (rs : List Extent) (i : ℕ) (d : Extent) (b : ℕ) → i < length rs
     → inside (get_or rs i d).start ((get_or rs i d).start + (get_or rs i d).len) b ≤ times_in rs b
 times_at [] i d b lt = absurd (omega arith)
 times_at (r ∷ rs) zero d b lt = omega arith
 times_at (r ∷ rs) (suc i) d b lt = omega (arith, times_at rs i d b (omega arith))
-
-pub can_mark_in_hole : (s : SpaceView) (i : ℕ) (run : Extent) → AreRuns s.first s.holes s.end → s.end < 4294967296 → IsInHole s.holes i run
-    → CanMark s (run ∷ [])
-can_mark_in_hole s i run a fits o = can_mark_run s run (λ b p q.
-    let at : (s.first ≤ (get_or s.holes i run).start) × (0 < (get_or s.holes i run).len) × ((get_or s.holes i run).start + (get_or s.holes i run).len < s.end)
-    = run_at s.first s.end s.holes i run a o.within in
-    is_free_of s b (omega (arith, at.0, o.start run)) (omega (arith, at.2, o.end run))
-    (unused_in_hole s b (omega (
-      arith,
-      times_at s.holes i run b o.within,
-      inside_in (get_or s.holes i run).start ((get_or s.holes i run).start + (get_or s.holes i run).len) b
-          (omega (arith, o.start run)) (omega (arith, o.end run)),
-    ))))
-
-pub can_mark_above : (s : SpaceView) (run : Extent) → s.first ≤ s.end → s.end ≤ run.start → run.start + run.len < 4294967296 → CanMark s (run ∷ [])
-can_mark_above s run le above fits = can_mark_run s run (λ b p q.
-    is_free_of s b (omega arith) (omega arith) (unused_above s b (omega arith)))
 
 -- a run with a block that cannot be marked
 pub cannot_mark : (s : SpaceView) (run : Extent) (b : ℕ) → run.start ≤ b → b < run.start + run.len → is_free s b ≡ false → CanMark s (run ∷ []) → ⊥
@@ -122,9 +70,6 @@ low_not_free s b e = grind (arith, nat_tests)
 
 pub high_not_free : (s : SpaceView) (b : ℕ) → 4294967295 ≤ b → is_free s b ≡ false
 high_not_free s b e = grind (arith, nat_tests)
-
-pub cannot_mark_used : (s : SpaceView) (run : Extent) → HasUsedBlock s.first s.holes s.end run → CanMark s (run ∷ []) → ⊥
-cannot_mark_used s run u = cannot_mark s run u.block u.from u.to (used_not_free s u.block (is_used_of s u.block u.above u.below u.none))
 
 -- a run of used blocks: no hole has one of them, and they stand from the first on below the end
 pub given_once : (s : SpaceView) (run : Extent) → AreRuns s.first s.holes s.end → CanGive s (run ∷ [])
@@ -234,10 +179,6 @@ pub can_give_next : (s t : SpaceView) (xs : List Extent) (i : ℕ) (x : Extent) 
     → CanGive s xs → IsMarked t (take i xs) s → CanGive t (x ∷ [])
 can_give_next s t xs i x lt e can m b =
     omega (arith, can b, m.used b, times_take xs i x b lt, times_front xs (suc i) b, ap (λ (z : Extent). inside z.start (z.start + z.len) b) e)
-
--- what was marked can be given back, and then all is as before
-pub can_give_marked : (s t : SpaceView) (xs : List Extent) → IsMarked s xs t → CanGive t xs
-can_give_marked s t xs m b = omega (arith, m.used b)
 
 same_bool : (p q : Bool) → ◌≡◌ {A = ℕ} (if p then 1 else 0) (if q then 1 else 0) → p ≡ q
 same_bool false false e = refl

@@ -1,5 +1,5 @@
 -- Runs taken one after another, each the lowest that is free.
-use Rattle.std.proofs.Common.{◌≡◌, inl, inr, ℕ, ◌+◌, ◌-◌, ◌<◌, ◌≤◌, ◌^◌, Bool, true, false, List, [], ◌∷◌, ◌++◌, refl, ◌∙◌, arith}
+use Rattle.std.proofs.Common.{◌≡◌, inl, inr, ℕ, ◌+◌, ◌-◌, ◌<◌, ◌≤◌, ◌^◌, Bool, true, false, List, [], ◌∷◌, ◌++◌, ◌∙◌, arith}
 use Rattle.std.proofs.lemmas.Bool.{cases_lt}
 use Rattle.strat_base.specs.declared.descriptors.Extent.{Extent}
 use Rattle.strat_extent.specs.Blocks.{SpaceView, times_in, total_len, AreRuns, is_used}
@@ -42,15 +42,6 @@ pub record TakenSoFar (s : SpaceView) (n : ℕ) (taken : List Extent) (left : �
   pub lowest : AreLowest taken t
   pub runs : AreRuns s.first taken (2 ^ 32)
   pub next : 0 < left → (r : ℕ) → s.first ≤ r → is_used t r ≡ false → AreRuns s.first taken r
-
-pub taken_none : (s : SpaceView) (n : ℕ) → TakenSoFar s n [] n s
-taken_none s n = record {
-  marked = record { first = refl; used = λ b. omega arith; count = omega arith };
-  total = omega arith;
-  lowest = λ a b p. absurd (omega (arith, p));
-  runs = tt;
-  next = λ p r le e. tt;
-}
 
 clash : (p : Bool) → p ≡ true → p ≡ false → ⊥
 clash p e f = cc

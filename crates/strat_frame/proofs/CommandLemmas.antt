@@ -1,9 +1,9 @@
 -- A command that is read is the command that was spelled, and what was spelled is read again.
-use Rattle.std.proofs.Common.{◌≡◌, ℕ, ◌^◌, ◌<◌, Bool, true, false, cond, leb, eqb, List, [], ◌∷◌, ◌++◌, length, Option, Some, None, refl, sym, ap, subst, ◌∙◌, length-append, arith, inl, inr, ◌⊎◌}
+use Rattle.std.proofs.Common.{◌≡◌, ℕ, ◌^◌, ◌<◌, true, cond, leb, eqb, List, [], ◌∷◌, ◌++◌, length, Option, Some, None, refl, sym, ap, subst, ◌∙◌, length-append, arith, inl, inr, ◌⊎◌}
 use Rattle.std.proofs.lemmas.Bool.{le-leb, eqb-true}
 use Rattle.std.proofs.lemmas.List.{nil_from_length}
 use Rattle.std.proofs.lemmas.Option.{cond_some, same_Some, none-some}
-use Rattle.std.specs.Option.{option_and_then, option_map, unwrap_or}
+use Rattle.std.specs.Option.{option_and_then, option_map}
 use Rattle.strat_base.specs.Numbers.{be, AreBytes}
 use Rattle.strat_base.proofs.NumberLemmas.{length-be, number-be, be-number_1}
 use Rattle.strat_model.specs.declared.replies.Refusal.{Refusal}
@@ -122,11 +122,6 @@ form_is_read body tag request is = ap command_in is.text ∙ command_again tag r
 -- what is not read has the form of no command
 none_read : (body : List ℕ) (tag : ℕ) (request : Request) → command_in body ≡ None → HasForm body tag request → ⊥
 none_read body tag request none is = none-some (tag, request) (sym none ∙ form_is_read body tag request is)
-
--- a number that may be there, or 0
-or_zero : (b : Bool) (n : ℕ) → unwrap_or (cond b (Some n) None) 0 ≡ cond b n 0
-or_zero true n = refl
-or_zero false n = refl
 
 -- a body that is not read is malformed
 pub is_malformed : (body : List ℕ) (tag : ℕ) → command_in body ≡ None → tag ≡ tag_of body → IsMalformed body tag

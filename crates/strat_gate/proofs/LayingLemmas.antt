@@ -11,10 +11,6 @@ use Rattle.strat_format.proofs.SuperBlockLemmas.{open_fields, length-spelled, le
 use Rattle.strat_gate.specs.Gates.{EndsShut}
 use Rattle.strat_gate.specs.Laying.{LaysOver, OldOrNew}
 
--- where a slot's block begins, and where the other's does
-abbrev pub at_slot : ℕ → ℕ
-at_slot n = 4096 * n
-
 -- an image with the slots of another, but for one slot's block
 pub record OtherSame (f : Image) (n : ℕ) (c : Image) : Type 0 where
   pub byte : (i : ℕ) → i < 8192 → (i < 4096 * n) ⊎ (4096 * n + 4096 ≤ i) → c i ≡ f i

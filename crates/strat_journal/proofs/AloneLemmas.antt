@@ -1,6 +1,6 @@
 -- What an opening reads today, and the journal.
 use Rattle.std.proofs.Common.{map, ◌≡◌, ◌≢◌, ◌≤◌, ◌<◌, ◌+◌, ◌-◌, ℕ, zero, suc, Bool, true, false, eqb, ◌&&◌, not, inl, inr, List, [], ◌∷◌, ◌++◌, length, Option, Some, None, Result, Ok, Err, refl, sym, ap, ◌∙◌, arith, length-append, true≢false}
-use Rattle.std.proofs.lemmas.Bool.{and_from, eqb-true, eq-eqb, cases_Bool, cases_eq}
+use Rattle.std.proofs.lemmas.Bool.{eqb-true, eq-eqb, cases_Bool, cases_eq}
 use Rattle.std.proofs.lemmas.List.{append-nil, length-map}
 use Rattle.strat_crash.specs.Image.{Image, window}
 use Rattle.strat_base.specs.Change.{Change, change_bytes, change_in}
@@ -109,18 +109,10 @@ pub test_passed : (n : ℕ) (others : Bool) (block : ℕ) (xs : List Owned) → 
 test_passed n others block xs shut =
     ap (λ (b : Bool). passed_or block (not b) (map logged_of xs)) (test_off n others (map logged_of xs) (λ full. shut (sym (length-map xs logged_of) ∙ full)))
 
-pub test_refused : (n : ℕ) (others : Bool) (block : ℕ) (xs : List Owned) → length xs ≡ n → others ≡ true → alone_or n others block (map logged_of xs) ≡ Err block
-test_refused n others block xs full up =
-    ap (λ (b : Bool). passed_or block (not b) (map logged_of xs))
-    (and_from (eqb (length (map logged_of xs)) n) others (eq-eqb (length (map logged_of xs)) n (length-map xs logged_of ∙ full)) up)
-
 -- the journal by the active region's records and the test behind them
 pub alone_of : (c : Image) (mem active : ℕ) (logged : List Logged) → region_records c mem active ≡ Ok logged
     → journal_in_one c mem active ≡ alone_or mem (is_open (c (region_at mem (other_region active)))) (region_first mem (other_region active)) logged
 alone_of c mem active logged e = ap (alone mem (is_open (c (region_at mem (other_region active)))) (region_first mem (other_region active))) e
-
-pub alone_torn : (c : Image) (mem active block : ℕ) → region_records c mem active ≡ Err block → journal_in_one c mem active ≡ Err block
-alone_torn c mem active block e = ap (alone mem (is_open (c (region_at mem (other_region active)))) (region_first mem (other_region active))) e
 
 -- a test of two things that failed, where one of them holds
 pub off_by : (r others : Bool) (P : Type 0) → (r ≡ true → (others ≡ true) × P) × ((others ≡ true) × P → r ≡ true) → r ≡ false → P → others ≡ false

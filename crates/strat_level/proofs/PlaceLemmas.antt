@@ -100,9 +100,6 @@ end_of_tie entries up key i at = record {
   after = λ k d le within. tied_after entries up key 0 i at k d (omega arith) within;
 }
 
-pub end_of_gap : (entries : List Entry) (key : List ℕ) (i : ℕ) → IsPlaceFor entries key 0 i → IsEnd entries key i
-end_of_gap entries key i at = record { within = at.within; before = λ k d lt. ap is_gt (at.before k d lt); after = at.after }
-
 -- an entry is set over the one of its key and version
 pub set_at_place : (entries : List Entry) (e : Entry) (i : ℕ) → is_ascending entries ≡ true → IsPlaceOf entries e.key e.version i → set_entry e entries ≡ set entries i e
 set_at_place [] e i up at = let lt = at.within in absurd (omega arith)

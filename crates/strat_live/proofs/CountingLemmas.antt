@@ -7,7 +7,7 @@ use Rattle.std.proofs.lemmas.List.{get_or-set_same, get_or-set_other, get_or_pas
 use Rattle.std.proofs.lemmas.List.Sums.{sum_by-cons, sum_by_push, sum_by_more, sum_by-set, sum_by-take-le, get_or-le-sum_by}
 use Rattle.std.proofs.lemmas.List.Folds.{list_all-append, list_all-map}
 use Rattle.strat_base.specs.Tree.{Parents, parent_of, IsTree}
-use Rattle.strat_base.proofs.ListFacts.{any_among, all_at, fold-push}
+use Rattle.strat_base.proofs.ListFacts.{any_among, all_at}
 use Rattle.strat_base.proofs.TreeLemmas.{option_cases, parent_older, along_path}
 use Rattle.strat_arena.specs.declared.items.Item.{Item}
 use Rattle.strat_live.specs.Group.{is_descending}
@@ -30,9 +30,6 @@ same_sum f g same xs = λ i. fold (λ a x. a + same x i) 0 xs
 pub length_tallied : (counts places : List ℕ) → length (tallied counts places) ≡ length counts
 length_tallied counts [] = refl
 length_tallied counts (u ∷ places) = length_tallied (set counts u (get_or counts u 0 + 1)) places ∙ length-set counts u (get_or counts u 0 + 1)
-
-pub tallied_push : (counts places : List ℕ) (u : ℕ) → tallied counts (places ++ u ∷ []) ≡ set (tallied counts places) u (get_or (tallied counts places) u 0 + 1)
-tallied_push counts places u = fold-push (λ ns v. set ns v (get_or ns v 0 + 1)) counts places u
 
 pub sum_tallied : (counts places : List ℕ) → list_all (λ u. ltb u (length counts)) places ≡ true → sum (tallied counts places) ≡ sum counts + length places
 sum_tallied counts [] below = omega arith

@@ -47,28 +47,6 @@ place_from_point tops x at le point =
       high = λ k le lt. leb-false (get_or tops k d).start x (point.1 k d le lt);
     }
 
--- the last interval that starts at a number or before is the only one that may hold it
-pub place_covered : (tops : List Interval) (x at : ℕ) → at ≤ length tops → IsPlaceAmong tops x at → 0 < at → x < (top_at tops (at - 1)).end → IsCovered tops x
-place_covered tops x at within place some lt = (at - 1, omega arith, place.low (at - 1) (omega arith), lt)
-
-pub place_free : (tops : List Interval) (interval : Interval) (at : ℕ) → AreApart tops → at ≤ length tops → IsPlaceAmong tops interval.start at → (0 < at → (top_at tops (at - 1)).end ≤ interval.start) → IsAmong tops interval (insert tops at interval)
-place_free tops interval at apart within place past =
-    record {
-      at = at;
-      within = within;
-      low = λ k lt.
-          let last : (top_at tops (at - 1)).end ≤ interval.start = past (omega arith) in
-          elim (cases_eq k (at - 1)) [
-            | inl same ↦ rw same last
-            | inr other ↦
-                let gap : (top_at tops k).end ≤ (top_at tops (at - 1)).start = apart.gaps k (at - 1) (omega arith) (omega arith) in
-                let some : (top_at tops (at - 1)).start < (top_at tops (at - 1)).end = apart.some (at - 1) (omega arith) in
-                omega arith
-          ];
-      high = place.high;
-      is = refl;
-    }
-
 -- an interval in a list with one more: one before it, the new one, or one behind it
 data FromInsert (tops : List Interval) (at : ℕ) (interval : Interval) (k : ℕ) : Type 0 where
   below : k < at → top_at (insert tops at interval) k ≡ top_at tops k → FromInsert tops at interval k

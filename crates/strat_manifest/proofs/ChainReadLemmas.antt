@@ -43,10 +43,6 @@ chain_same f xs ys b (suc n) same =
     ap (λ (t : Bool). cond t (put_first b (chain_from f (b ∷ xs) (link_at f b) n)) (Err b)) (follow_same (b ∷ xs) (b ∷ ys) (link_at f b) (more (link_at f b)))
     ∙ ap (λ (r : Read (List ℕ)). cond (may_follow (b ∷ ys) (link_at f b)) (put_first b r) (Err b)) (chain_same f (b ∷ xs) (b ∷ ys) (link_at f b) n more)
 
-put_none : (r : Read (List ℕ)) → put_all [] r ≡ r
-put_none (Ok ys) = refl
-put_none (Err k) = refl
-
 put_behind : (xs : List ℕ) (b : ℕ) (r : Read (List ℕ)) → put_all xs (put_first b r) ≡ put_all (xs ++ b ∷ []) r
 put_behind xs b (Ok ys) = ap (λ (l : List ℕ). Ok l) (sym (append_assoc xs (b ∷ []) ys))
 put_behind xs b (Err k) = refl
@@ -80,17 +76,6 @@ module _ (f : Image) (xs : List ℕ) (b n : ℕ) where
 abbrev pub ReadsLink : Option Image → ℕ → ℕ → List ℕ → List ℕ → Type 0
 ReadsLink content block next old new =
     (f : Image) → content ≡ Some f → (next ≡ link_at f block) × (new ≡ old ++ window f (4096 * block + 4) 4092)
-
--- no link was followed
-pub followed_none : (content : Option Image) (first n : ℕ) (blocks bytes : List ℕ) → blocks ≡ first ∷ [] → bytes ≡ [] → IsFollowed content first n blocks bytes first n
-followed_none content first n blocks bytes is none = record {
-  front = [];
-  found = is;
-  rest = λ f told. sym (put_none (chain_from f [] first n));
-  read = λ f told. none;
-  count = omega arith;
-  size = ap length none;
-}
 
 module _ (content : Option Image) (first n : ℕ) (blocks bytes : List ℕ) (block left next : ℕ) (new : List ℕ) (s : IsFollowed content first n blocks bytes block left) (link : ReadsLink content block next bytes new) where
   here : (f : Image) → content ≡ Some f → (later : ℕ) → left ≡ later → chain_from f [] first n ≡ put_all s.front (chain_from f s.front block later)

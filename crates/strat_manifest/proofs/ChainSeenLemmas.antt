@@ -1,7 +1,7 @@
 -- Blocks that are marked in a space, and added to extents.
-use Rattle.std.proofs.Common.{◌≡◌, ◌<◌, ◌+◌, ◌-◌, ℕ, zero, suc, Result, Ok, Err, IfOk, MatchBool, Bool, true, false, eqb, leb, ltb, not, ◌&&◌, ◌||◌, ◌↔◌, inl, inr, get_or, List, [], ◌∷◌, ◌++◌, length, take, refl, sym, ap, ◌∙◌, subst, arith, append_assoc, append-nil, true≢false}
+use Rattle.std.proofs.Common.{◌≡◌, ◌<◌, ◌+◌, ◌-◌, ℕ, zero, suc, Result, Ok, Err, IfOk, MatchBool, Bool, true, false, eqb, ltb, ◌||◌, ◌↔◌, inl, inr, get_or, List, [], ◌∷◌, ◌++◌, length, take, refl, sym, ap, ◌∙◌, subst, arith, append_assoc, append-nil, true≢false}
 use Rattle.std.specs.List.{list_any, range_with_len}
-use Rattle.std.proofs.lemmas.Bool.{cases_order, eqb-true, eq-eqb, le-leb, lt-ltb, ltb-true, and_from, false_from_ne_true, ne_eqb}
+use Rattle.std.proofs.lemmas.Bool.{cases_order, eqb-true, eq-eqb, lt-ltb, ltb-true, false_from_ne_true, ne_eqb}
 use Rattle.std.proofs.lemmas.Grind.{flat_map-append}
 use Rattle.std.proofs.lemmas.List.{take_more, take_all}
 use Rattle.std.proofs.lemmas.List.Folds.{list_any-append}
@@ -11,7 +11,6 @@ use Rattle.strat_extent.specs.Change.{IsMarked, SameBlocks, CanMark}
 use Rattle.strat_extent.proofs.BlockLemmas.{marked_or}
 use Rattle.strat_extent.proofs.CountLemmas.{inside_in, inside_below, inside_above, inside_le}
 use Rattle.strat_format.specs.Arrays.{blocks_of}
-use Rattle.strat_format.specs.Chained.{may_follow}
 use Rattle.strat_manifest.specs.Chains.{AreSeen}
 
 -- an extent of one block
@@ -62,20 +61,6 @@ seen_more s t b blocks marked seen = record {
       marked_or s t (one_block b ∷ []) marked q ∙ ap (λ (p : Bool). is_used s q || p) (one_time b q) ∙ ap (λ (p : Bool). p || eqb b q) (seen.used q)
       ∙ or_end (list_any (λ other. eqb other q) blocks) (eqb b q) ∙ sym (list_any-append (λ other. eqb other q) blocks (b ∷ []));
 }
-
--- a block that isn't 0 may be marked exactly where it may follow those that were seen
-pub free_follows : (s : SpaceView) (b : ℕ) (blocks : List ℕ) → AreSeen s blocks → 0 < b → is_free s b ≡ may_follow blocks b
-free_follows s b blocks seen some =
-    (λ i. (low i && ltb b 4294967295) && not (seen.used b i))
-  where
-    low : leb s.first b ≡ leb 1 b
-    low = le-leb s.first b (omega (arith, seen.first)) ∙ sym (le-leb 1 b (omega arith))
-
--- each block may be the first
-pub free_first : (s : SpaceView) (b : ℕ) → AreSeen s [] → b < 4294967295 → is_free s b ≡ true
-free_first s b seen within =
-    and_from (leb s.first b && ltb b 4294967295) (not (is_used s b)) (and_from (leb s.first b) (ltb b 4294967295) (le-leb s.first b (omega (arith, seen.first))) (lt-ltb b 4294967295 within))
-    (ap not (seen.used b))
 
 range_longer : (a n : ℕ) → range_with_len a (n + 1) ≡ range_with_len a n ++ (a + n) ∷ []
 range_longer a zero = let same : a ≡ a + 0 = omega arith in ap (λ (k : ℕ). k ∷ []) same

@@ -118,16 +118,6 @@ pub record RunSoFar (old now : DiskView) (start n next left head : ℕ) (bytes :
   pub tears : (free : ℕ → Bool) → ((b : ℕ) → start ≤ b → b < start + n → free b ≡ true) → TearsBlocks free old now
   pub first : 0 < done → head ≡ start + left
 
-pub run_none : (v : DiskView) (start n next : ℕ) (bytes : List ℕ) → RunSoFar v v start n next n next bytes
-run_none v start n next bytes = record {
-  done = 0;
-  count = omega arith;
-  put = λ f g rest told now is above held.
-      (is, above, subst (λ (h : Image). HoldsChain h rest (drop (4092 * n) bytes)) (exposed_once v f g told now) held);
-  tears = λ free frees. blocks_refl free v;
-  first = λ some. absurd (omega arith);
-}
-
 above_weaker : (low low2 : ℕ) (blocks : List ℕ) → low2 ≤ low → AreAbove low blocks → AreAbove low2 blocks
 above_weaker low low2 [] le above = tt
 above_weaker low low2 (b ∷ blocks) le above = ((let a = above.0 in omega arith), above_weaker low low2 blocks le above.1)
@@ -312,14 +302,6 @@ module _ (old mid new : DiskView) (extents : List Extent) (i j at head : ℕ) (r
       head_of : (n : ℕ) → 0 < n → run.start ≡ next_block (range_with_len run.start n ++ blocks_of (drop i extents))
       head_of zero lt = absurd (omega arith)
       head_of (suc n) lt = refl
-
--- where all extents were written
-pub extents_all : (old now : DiskView) (extents : List Extent) (i at head : ℕ) (bytes : List ℕ) → ExtentsSoFar old now extents i at head bytes → i ≡ 0 → LeavesChain old now (blocks_of extents) bytes × (head ≡ next_block (blocks_of extents))
-extents_all old now extents i at head bytes so none =
-    let start : at ≡ 0 = so.place ∙ ap (λ (k : ℕ). 4092 * total_len (take k extents)) none in (
-      λ told g is. subst (λ (k : ℕ). HoldsChain g (blocks_of extents) (drop k bytes)) start (subst (λ (k : ℕ). HoldsChain g (blocks_of (drop k extents)) (drop at bytes)) none (so.put told g is)),
-      so.first ∙ ap (λ (k : ℕ). next_block (blocks_of (drop k extents))) none,
-    )
 
 -- blocks that were taken were free
 pub taken_free : (before after : SpaceView) (xs : List Extent) → IsMarked before xs after → AreRuns before.first xs (2 ^ 32) → (b : ℕ) → 0 < times_in xs b → is_free before b ≡ true

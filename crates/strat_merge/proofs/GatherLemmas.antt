@@ -180,17 +180,6 @@ module _ (disk : DiskView) (now next : List RunView) (r : ℕ) (e : Entry) (pass
         some_same : (xs ys : List Entry) → Some xs ≡ Some ys → xs ≡ ys
         some_same xs ys is = cc
 
--- a version that is below what all runs' are below
-head_run : (runs : List RunView) (i : ℕ) (e : Entry) → head_at runs i ≡ Some e → (v : RunView) × Among v runs × (v.first ≡ Some e)
-head_run runs i e is =
-    elim (option_cases (slice_get runs i)) [
-      | inl none ↦ absurd (no_entry e (sym (ap (λ (o : Option RunView). option_and_then (λ run. run.first) o) none) ∙ is))
-      | inr some ↦ (some.0, get_among runs i some.0 some.1, sym (ap (λ (o : Option RunView). option_and_then (λ run. run.first) o) some.1) ∙ is)
-    ]
-  where
-    no_entry : (f : Entry) → None ≡ Some f → ⊥
-    no_entry f is' = cc
-
 under_set : (n : ℕ) (runs : List RunView) (r : ℕ) (before after : RunView) → slice_get runs r ≡ Some before → after.versions ≡ before.versions → are_under n runs ≡ true → are_under n (set runs r after) ≡ true
 under_set n [] r before after there same under = refl
 under_set n (v ∷ runs) zero before after there same under =

@@ -1,16 +1,14 @@
 -- The items of a group and their entries.
-use Rattle.std.proofs.Common.{◌≡◌, ◌≤◌, ◌<◌, ℕ, ◌+◌, true, false, ◌&&◌, nat_lt, nat_le, ◌-◌, ◌^◌, ◌==◌, List, [], ◌∷◌, ◌++◌, length, get_or, Option, Some, None, refl, sym, ap, ◌∙◌, arith, length-append}
-use Rattle.std.specs.List.{list_all, slice_get}
-use Rattle.std.specs.Option.{option_map, option_map_or}
+use Rattle.std.proofs.Common.{◌≡◌, ◌≤◌, ◌<◌, ℕ, ◌+◌, true, ◌&&◌, nat_lt, nat_le, ◌-◌, ◌^◌, List, [], ◌∷◌, ◌++◌, length, get_or, refl, sym, ap, ◌∙◌, arith, length-append}
+use Rattle.std.specs.List.{list_all}
 use Rattle.std.specs.Ordering.{is_lt, nat_cmp, ordering_then}
 use Rattle.std.specs.declared.cmp.Ordering.{Ordering}
 use Rattle.std.specs.declared.cmp.Ordering.TheVariants.{Less, Equal, Greater}
 use Rattle.std.proofs.lemmas.Bool.{and_parts, and_from}
 use Rattle.std.proofs.lemmas.Bool.Decides.{nat_tests}
 use Rattle.std.proofs.lemmas.Cmp.{nat_list_cmp_total, tied_itself, ranked}
-use Rattle.std.proofs.lemmas.List.{get_or_append_left, map-append, length-map}
+use Rattle.std.proofs.lemmas.List.{get_or_append_left, map-append}
 use Rattle.std.proofs.lemmas.List.Folds.{list_all-append}
-use Rattle.std.proofs.lemmas.Option.{slice_get-map}
 use Rattle.std.proofs.Math.Seq.{get_or-append_seam}
 use Rattle.strat_arena.specs.ArenaView.{KeyValue}
 use Rattle.strat_arena.specs.declared.items.Item.{Item}
@@ -23,7 +21,6 @@ use Rattle.strat_base.proofs.EntryLemmas.{is_of_key}
 use Rattle.strat_live.specs.Group.{is_descending}
 use Rattle.strat_live.specs.Counting.{are_below}
 use Rattle.strat_arena.specs.Items.{said_by, entry_of_item, entries_of, have_pairs}
-use Rattle.strat_merge.specs.Gathered.{last_entry}
 
 below_test : (a b : ℕ) → nat_lt a b ≡ true → a < b
 below_test a b is = grind (arith, nat_tests)
@@ -73,18 +70,6 @@ size_small e size fits small =
   where
     key_small : (k : List ℕ) → is_key k ≡ true → length k ≤ 255
     key_small k is = let both = and_parts (nat_le 1 (length k)) (nat_le (length k) 255) is in grind (arith, nat_tests)
-
--- the last item of a group, as its last entry
-pub last_as_entry : (pairs : List KeyValue) (items : List Item) (v : ℕ) → option_map_or (λ item. item.version == v) (slice_get items (length items - 1)) false
-    ≡ option_map_or (λ (last : Entry). last.version == v) (last_entry (entries_of pairs items)) false
-last_as_entry pairs items v =
-    sym (ap (λ n. option_map_or (λ (last : Entry). last.version == v) (slice_get (entries_of pairs items) (n - 1)) false) (length-map items (entry_of_item pairs))
-    ∙ ap (λ (o : Option Entry). option_map_or (λ (last : Entry). last.version == v) o false) (slice_get-map (entry_of_item pairs) items (length items - 1))
-    ∙ mapped (slice_get items (length items - 1)))
-  where
-    mapped : (o : Option Item) → option_map_or (λ (last : Entry). last.version == v) (option_map (entry_of_item pairs) o) false ≡ option_map_or (λ item. item.version == v) o false
-    mapped None = refl
-    mapped (Some item) = refl
 
 -- entries of one key descend by version
 lt_version : (e f : Entry) → e.key ≡ f.key → is_lt (entry_cmp e.key e.version f.key f.version) ≡ true → f.version < e.version

@@ -8,11 +8,9 @@ use Rattle.std.proofs.lemmas.Option.{slice_get-map}
 use Rattle.strat_crash.specs.Image.{Image}
 use Rattle.strat_crash.specs.Moments.{DiskView, Exposes, OnlyReads}
 use Rattle.strat_crash.specs.Faults.{HasCause}
-use Rattle.strat_base.specs.declared.failures.Fault.{Fault}
 use Rattle.strat_base.specs.declared.failures.Fault.TheVariants as fault
 use Rattle.strat_base.specs.declared.failures.Trouble.{Trouble}
 use Rattle.strat_base.specs.declared.failures.Trouble.TheVariants.{Device, Damaged}
-use Rattle.strat_base.specs.Troubles.{as_trouble}
 use Rattle.strat_merge.specs.Reading.{ReadsRuns}
 use Rattle.std.specs.Prelude.{Result, Ok, Err, IsErrOf, OnOk}
 use Rattle.strat_merge.specs.Runs.{RunView, head_at, Advances, ReadsFront, ReadsLeft, blocks_left, IsBadFor}
@@ -138,43 +136,12 @@ replay_one disk old new r passes winners won =
     (λ i apart. ap (λ (o : Option RunView). option_and_then (λ run. run.first) o) (get_set_other old r i passes.after apart)) in
     subst (λ (vs : List RunView). PlayedBeside vs winners ((length old + r) / 2)) (sym passes.others) beside
 
--- errors that differ, and errors that are the same
-not_damaged : (b : ℕ) (r : Result (Unit {0}) Trouble) → r ≡ Err Device → r ≡ Err (Damaged b) → ⊥
-not_damaged b r one two = cc
-
 not_device : (b : ℕ) (r : Result (Unit {0}) Trouble) → r ≡ Err (Damaged b) → r ≡ Err Device → ⊥
 not_device b r one two = cc
-
-fault_apart : (b : ℕ) → fault.Damaged b ≡ fault.Device → ⊥
-fault_apart b e = cc
-
-same_damage : (a b : ℕ) (r : Result (Unit {0}) Trouble) (s : Result (Unit {0}) Fault) → r ≡ Err (Damaged a) → s ≡ Err (fault.Damaged a) → r ≡ Err (Damaged b) → s ≡ Err (fault.Damaged b)
-same_damage a b r s one two three = cc
 
 pub on_ok_map : {T E A B : Type 0} (r : Result T E) → OnOk r A → (A → B) → OnOk r B
 on_ok_map (Ok x) a f = f a
 on_ok_map (Err e) a f = tt
-
--- a result as one of the merge
-pub as_troubles : {R : Type 0} (view : R → RunView) (disk after : DiskView) (faults failed before now : ℕ) (old new : List R) (f : Fault)
-    → ReadsRuns {T = Unit {0}} view fault.Device fault.Damaged disk after faults failed before now old new (Err f)
-    → ReadsRuns {T = Unit {0}} view Device Damaged disk after faults failed before now old new (Err (as_trouble f))
-as_troubles view disk after faults failed before now old new fault.Device reads = record {
-  same = reads.same;
-  cause = record { later = reads.cause.later; ok = tt; device = λ _. reads.cause.device refl; other = λ apart. absurd (apart refl) };
-  named = λ b is. absurd (not_damaged b (Err Device) refl is);
-  blamed = λ b is. absurd (not_damaged b (Err Device) refl is);
-  fewer = reads.fewer;
-  left = reads.left;
-}
-as_troubles view disk after faults failed before now old new (fault.Damaged block) reads = record {
-  same = reads.same;
-  cause = record { later = reads.cause.later; ok = tt; device = λ is. absurd (not_device block (Err (Damaged block)) refl is); other = λ _. reads.cause.other (fault_apart block) };
-  named = λ b is. reads.named b (same_damage block b (Err (Damaged block)) (Err (fault.Damaged block)) refl refl is);
-  blamed = λ b is. reads.blamed b (same_damage block b (Err (Damaged block)) (Err (fault.Damaged block)) refl refl is);
-  fewer = reads.fewer;
-  left = reads.left;
-}
 
 -- the same of the runs of a merger
 pub replay_after : (disk : DiskView) (old new others : List RunView) (r n : ℕ) (winners held : List ℕ) → PassesOne disk old new r → others ≡ new → n ≡ length others → winners ≡ held

@@ -117,10 +117,6 @@ module _ {R : Type 0} (view : R → RunView) where
 pub all_runs : {R : Type 0} (view : R → RunView) → ((x : R) → IsEntryRun (view x)) → (runs : List R) (v : RunView) → Among v (map view runs) → IsEntryRun v
 all_runs view law runs v among = let at = map_among view runs v among in subst (λ (w : RunView). IsEntryRun w) (sym at.2) (law at.0)
 
-pub if_some_map : {X : Type 0} (A B : X → Type 0) (o : Option X) → IfSome o A → ((x : X) → A x → B x) → IfSome o B
-if_some_map A B None a f = tt
-if_some_map A B (Some x) a f = f x a
-
 -- what taking an entry does
 pub record Took {R : Type 0} (view : R → RunView) (a b : Touched R) (r : ℕ) : Type 0 where
   pub passes : PassesOne a.disk (map view a.runs) (map view b.runs) r

@@ -13,12 +13,11 @@ use Rattle.strat_base.specs.Entries.{Entry}
 use Rattle.strat_crash.specs.Image.{Image}
 use Rattle.strat_crash.specs.Moments.{DiskView, Exposes}
 use Rattle.strat_crash.specs.Blocks.{TearsBlocks}
-use Rattle.strat_crash.proofs.BlockLemmas.{blocks_refl}
 use Rattle.strat_extent.specs.Blocks.{SpaceView, is_free}
 use Rattle.strat_format.specs.Arrays.{blocks_of, entries_on}
 use Rattle.strat_promote.specs.Spaces.{TakesMore}
 use Rattle.strat_promote.specs.Closing.{all_extents, AreAllUsed, AreSealed}
-use Rattle.strat_promote.proofs.SpacesLemmas.{takes_refl, takes_trans, takes_all, used_all, torn_on, others_stay}
+use Rattle.strat_promote.proofs.SpacesLemmas.{takes_trans, takes_all, used_all, torn_on, others_stay}
 use Rattle.strat_promote.proofs.PushingLemmas.{still_told}
 
 get_set_same : {X : Type 0} (xs : List X) (q : ℕ) (x w : X) → slice_get xs q ≡ Some w → slice_get (set xs q x) q ≡ Some x
@@ -40,9 +39,6 @@ pub record AreTaking (disk now : DiskView) (before after : SpaceView) (old new :
   pub takes : TakesMore before after (all_extents old) (all_extents new)
   pub torn : TearsBlocks (is_free before) disk now
 
-pub none_taking : (v : DiskView) (s : SpaceView) (ws : List ArrayProgress) → AreAllUsed s ws → AreTaking v v s s ws ws
-none_taking v s ws used = record { len = refl; used = used; takes = takes_refl s (all_extents ws); torn = blocks_refl (is_free s) v }
-
 pub taking_next : (v m n : DiskView) (s t u : SpaceView) (old mid : List ArrayProgress) (q : ℕ) (w x : ArrayProgress) → AreTaking v m s t old mid
     → slice_get mid q ≡ Some w → TakesMore t u w.extents x.extents → TearsBlocks (is_free t) m n → AreTaking v n s u old (set mid q x)
 taking_next v m n s t u old mid q w x so_far at takes torn = record {
@@ -62,9 +58,6 @@ pub record AreSealing (disk now : DiskView) (before after : SpaceView) (i : ℕ)
   pub taking : AreTaking disk now before after old new
   pub sealed : (q : ℕ) (w : ArrayProgress) → q < i → slice_get old q ≡ Some w → IsSealedAt disk now new q w
   pub left : (q : ℕ) → i ≤ q → slice_get new q ≡ slice_get old q
-
-pub none_sealing : (v : DiskView) (s : SpaceView) (ws : List ArrayProgress) → AreAllUsed s ws → AreSealing v v s s 0 ws ws
-none_sealing v s ws used = record { taking = none_taking v s ws used; sealed = λ q w lt at. absurd (omega arith); left = λ q le. refl }
 
 pub sealing_next : (v m n : DiskView) (s t u : SpaceView) (old mid : List ArrayProgress) (i : ℕ) (w x : ArrayProgress) → AreAllUsed s old → AreSealing v m s t i old mid
     → slice_get mid i ≡ Some w → TakesMore t u w.extents x.extents → TearsBlocks (is_free t) m n → x.id ≡ w.id → x.count ≡ w.count

@@ -3,7 +3,7 @@ use Rattle.std.proofs.Common.{◌≡◌, ◌<◌, ◌+◌, ℕ, true, Bool, List
 use Rattle.std.specs.List.{list_all}
 use Rattle.std.specs.Ordering.{is_lt}
 use Rattle.std.proofs.lemmas.Bool.{and_parts, and_from}
-use Rattle.std.proofs.lemmas.List.{append-nil, append_assoc, take-append-drop, length-map, get_or-map}
+use Rattle.std.proofs.lemmas.List.{append_assoc, take-append-drop, length-map, get_or-map}
 use Rattle.strat_arena.specs.ArenaView.{KeyValue}
 use Rattle.strat_arena.specs.Items.{entry_of_item, entries_of}
 use Rattle.strat_arena.specs.declared.items.Item.{Item}
@@ -12,13 +12,12 @@ use Rattle.strat_base.specs.Order.{entry_cmp}
 use Rattle.strat_crash.specs.Blocks.{TearsBlocks}
 use Rattle.strat_crash.specs.Image.{Image}
 use Rattle.strat_crash.specs.Moments.{DiskView, Exposes, Passes}
-use Rattle.strat_crash.proofs.BlockLemmas.{blocks_refl, exposed_once}
 use Rattle.strat_extent.specs.Blocks.{SpaceView, is_free}
 use Rattle.strat_array.specs.Progress.{ArrayProgress}
 use Rattle.strat_array.specs.Pushed.{IsEndOf, IsPushed, with_entry}
 use Rattle.strat_array.proofs.StayLemmas.{more_end, end_ascends}
 use Rattle.strat_promote.specs.Spaces.{TakesMore}
-use Rattle.strat_promote.proofs.SpacesLemmas.{takes_refl, takes_trans, torn_on}
+use Rattle.strat_promote.proofs.SpacesLemmas.{takes_trans, torn_on}
 use Rattle.strat_promote.proofs.ZeroLemmas.{front_next}
 
 -- these entries were pushed so far
@@ -28,16 +27,6 @@ pub record ArePushed (old now : DiskView) (s t : SpaceView) (was is : ArrayProgr
   pub torn : TearsBlocks (is_free s) old now
   pub end : IsEndOf is.pending (was.pending ++ entries)
   pub pushed : (f g : Image) (es : List Entry) → Exposes old f → Exposes now g → IsPushed f was es → IsPushed g is (es ++ entries)
-
-pub none_so_far : (v : DiskView) (s : SpaceView) (w : ArrayProgress) → ArePushed v v s s w w []
-none_so_far v s w = record {
-  id = refl;
-  takes = takes_refl s w.extents;
-  torn = blocks_refl (is_free s) v;
-  end = record { front = []; split = append-nil w.pending };
-  pushed = λ f g es told tells pushed.
-      subst (λ (l : List Entry). IsPushed g w l) (sym (append-nil es)) (subst (λ (h : Image). IsPushed h w es) (exposed_once v f g told tells) pushed);
-}
 
 -- a disk that exposed its content does so after what passed
 pub still_told : (old mid : DiskView) (f : Image) → Passes old mid → Exposes old f → (g : Image) × Exposes mid g

@@ -4,7 +4,6 @@ use Rattle.strat_base.specs.Entries.{Entry}
 use Rattle.strat_base.specs.declared.descriptors.ArrayDesc.{ArrayDesc}
 use Rattle.strat_base.specs.declared.descriptors.LevelDesc.{LevelDesc}
 use Rattle.strat_crash.specs.Blocks.{AgreeOn, TearsBlocks}
-use Rattle.strat_crash.proofs.BlockLemmas.{blocks_refl, exposed_once}
 use Rattle.strat_crash.specs.Image.{Image}
 use Rattle.strat_crash.specs.Moments.{DiskView, Exposes}
 use Rattle.std.specs.List.{Contains}
@@ -34,7 +33,7 @@ use Rattle.strat_promote.specs.declared.stage.Stage.TheVariants as stage
 use Rattle.strat_promote.specs.declared.step.Step.{Step}
 use Rattle.strat_promote.specs.declared.step.Step.TheVariants as step
 use Rattle.strat_promote.specs.declared.step.Task.{Task}
-use Rattle.strat_promote.proofs.BudgetLemmas.{IsHeld, held_begun, near_next, key_more, key_same, none_taken, taken_most, entry_left, none_left_in}
+use Rattle.strat_promote.proofs.BudgetLemmas.{IsHeld, near_next, key_more, key_same, none_taken, taken_most, entry_left, none_left_in}
 use Rattle.strat_promote.proofs.PushingLemmas.{still_told}
 use Rattle.strat_promote.proofs.SpacesLemmas.{takes_refl, takes_trans, torn_on}
 use Rattle.strat_promote.proofs.WrittenLemmas.{inputs_same, bad_input_same}
@@ -86,21 +85,6 @@ pub record IsSlicing (task : Task) (inputs : Inputs) (limit : ℕ) (start now : 
       → IsUnderway g job task.first new × IsHeld f job limit (stage_consumed new)
   pub due : read + blocks_due (arrays_to inputs.levels task.target) new ≤ reads + blocks_due (arrays_to inputs.levels task.target) old
   pub among : IsReadFrom (arrays_to inputs.levels task.target) old → IsReadFrom (arrays_to inputs.levels task.target) new
-
--- no step was taken
-pub slicing_begun : (task : Task) (inputs : Inputs) (limit : ℕ) (v : DiskView) (s : SpaceView) (stage : Stage) (faults reads : ℕ) → stage_consumed stage < limit → IsSteady task.horizon stage → AreAllUsed s (stage_writers stage)
-    → IsSlicing task inputs limit v v s s stage stage faults faults reads reads
-slicing_begun task inputs limit v s stage faults reads below steady used = record {
-  steady = steady;
-  used = used;
-  takes = takes_refl s (all_extents (stage_writers stage));
-  torn = blocks_refl (is_free s) v;
-  calm = refl;
-  goes = λ f g job told tells task' blocks underway.
-      (subst (λ (c : Image). IsUnderway c job task.first stage) (exposed_once v f g told tells) underway, held_begun f job limit (stage_consumed stage) below);
-  due = omega arith;
-  among = λ from. from;
-}
 
 module _ (task : Task) (inputs : Inputs) (limit : ℕ) (start mid now : DiskView) (s t u : SpaceView) (old stage new : Stage) (faults failed after reads read last : ℕ)
     (slicing : IsSlicing task inputs limit start mid s t old stage faults failed reads read)

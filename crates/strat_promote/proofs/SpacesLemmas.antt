@@ -10,7 +10,6 @@ use Rattle.strat_crash.specs.Image.{Image}
 use Rattle.strat_crash.specs.Moments.{DiskView, Exposes}
 use Rattle.strat_crash.proofs.BlockLemmas.{blocks_trans, blocks_wider}
 use Rattle.strat_extent.specs.Blocks.{SpaceView, times_in, is_used, is_free, uses}
-use Rattle.strat_extent.specs.Change.{CanGive}
 use Rattle.strat_extent.proofs.BlockLemmas.{times_listed}
 use Rattle.strat_extent.proofs.ChangeLemmas.{uses_used}
 use Rattle.strat_extent.proofs.CountLemmas.{times_append}
@@ -75,10 +74,6 @@ takes_trans s t u old mid new one two =
 pub used_more : (s t : SpaceView) (old new : List Extent) → TakesMore s t old new → AreUsed s (blocks_of old) → AreUsed t (blocks_of new)
 used_more s t old new takes used = λ b there.
     elim (takes.mine b there) [ inl before ↦ takes.kept b (used b before) | inr now ↦ now ]
-
--- blocks that may be given back may be so once more are taken
-pub given_all : (s t : SpaceView) (old new : List Extent) → TakesMore s t old new → CanGive s old → CanGive t new
-given_all s t old new takes held = λ b. omega (arith, takes.used b, held b)
 
 -- what changes blocks that are free after more were taken changes blocks that were free before
 pub torn_on : (s t : SpaceView) (old new : List Extent) (before mid now : DiskView) → TakesMore s t old new → TearsBlocks (is_free s) before mid → TearsBlocks (is_free t) mid now

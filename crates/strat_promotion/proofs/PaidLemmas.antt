@@ -32,9 +32,6 @@ power_up : (n k : ℕ) → 2 ^ n ≤ 2 ^ (k + n)
 power_up n zero = let same : 2 ^ (0 + n) ≡ 2 ^ n = ap (λ (e : ℕ). 2 ^ e) (omega arith) in omega (arith, same)
 power_up n (suc k) = let ih = power_up n k in let double = pow-suc 2 (k + n) in let same : 2 ^ (suc k + n) ≡ 2 ^ suc (k + n) = ap (λ (e : ℕ). 2 ^ e) (omega arith) in omega (arith, ih, double, same)
 
-power_le : (n k : ℕ) → n ≤ k → 2 ^ n ≤ 2 ^ k
-power_le n k le = let up = power_up n (k - n) in let same : 2 ^ ((k - n) + n) ≡ 2 ^ k = ap (λ (e : ℕ). 2 ^ e) (omega arith) in omega (arith, up, same)
-
 -- the depth stays: each lead taken goes one level deeper at least, and the journal's changes go all the way
 same_depth : (w c m d j x taken kept leads above initial n written half : ℕ) → d ≡ x + j → 1 ≤ j → w + 4 * (taken + kept) ≤ 4 * d * c → leads * x + above ≤ taken
     → written ≤ 2 * n → n ≤ initial + leads → initial ≤ m → n ≤ 2 * half → half ≤ m + above → w + written + 4 * (n * x + kept) ≤ 4 * d * (c + m)

@@ -41,9 +41,6 @@ module _ (keep : Entry → Bool) (entries : List Entry) (single : is_single entr
             absurd (true≢false (sym kept.1 ∙ ap keep (sym equal) ∙ drops))
       ]
 
-value_of_entry : Option Entry → Option (List ℕ)
-value_of_entry o = option_and_then (λ e. e.value) o
-
 some_or_none : (o : Option (List ℕ)) → (is_some o ≡ true) ⊎ (o ≡ None)
 some_or_none None = inr refl
 some_or_none (Some value) = inl refl

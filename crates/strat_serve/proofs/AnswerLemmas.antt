@@ -77,10 +77,6 @@ tells (reply.Refused (why.Damaged b)) = record {
   damaged = λ block e. let f : ◌≡◌ {A = Option Fault} (Some (fault.Damaged b)) (Some (fault.Damaged block)) = e in let same : b ≡ block = cc in ap (λ (x : ℕ). reply.Refused (why.Damaged x)) same;
 }
 
--- a store is spent where it met a fault
-pub spent_by : (r : Reply) (met : Option Fault) (spent : Bool) → met ≡ fault_told r → spent ≡ is_fault r → spent ≡ is_some met
-spent_by r met spent is s = s ∙ (tells r).spent ∙ ap is_some (sym is)
-
 -- a count of faults rises for the device's fault alone
 pub fails_as_met : (r : Reply) (met : Option Fault) (before now : ℕ) → met ≡ fault_told r → FailsAsTold before now r → FailsAsMet before now met
 fails_as_met r met before now is told = record {

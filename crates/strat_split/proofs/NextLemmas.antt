@@ -7,9 +7,8 @@ use Rattle.std.proofs.lemmas.List.{get_or-set_same, get_or-set_other, length-set
 use Rattle.strat_base.specs.Tree.{Parents}
 use Rattle.strat_base.proofs.ListFacts.{all_at, find_some}
 use Rattle.strat_arena.specs.declared.items.Item.{Item}
-use Rattle.strat_live.specs.Counting.{are_below}
 use Rattle.strat_live.specs.Group.{is_descending, is_live_item}
-use Rattle.strat_split.specs.Chains.{first_labelled, IsLinked}
+use Rattle.strat_split.specs.Chains.{first_labelled}
 use Rattle.strat_split.specs.Dealing.{Deal, labels_of, above_of, item_leads, taken_over, with_gift, passed_on, IsDealing}
 use Rattle.strat_split.specs.Hanging.{carriers_of}
 use Rattle.strat_split.specs.Shares.{IsLeadChain}
@@ -141,21 +140,3 @@ module _ (tree : Parents) (plan : Plan) (items : List Item) (deal after : Deal) 
         given_next tree parents plan items deal dealing ready q late lt least taken taken_is after.gifts passed r (omega (arith, from_is)) lt_r
         ∙ ap (λ (n : ℕ). cond (ltb (get_or (carriers_of plan.part_of plan.parts) r 0) n) (taken_over parents items (above_of plan r)) None) (sym from_is);
   }
-
--- nothing is dealt yet
-pub dealing_begun : (tree : Parents) (plan : Plan) (items : List Item) (deal : Deal) → is_descending items ≡ true → are_below (length plan.part_of) items ≡ true → are_below (length tree) items ≡ true → length deal.heads ≡ length plan.parts → IsLinked (labels_of plan items) deal.heads deal.nexts 0 → ((q : ℕ) → get_or deal.gifts q None ≡ None) → deal.from ≡ 0
-    → IsDealing tree plan items deal
-dealing_begun tree plan items deal down low known heads_len linked none start =
-    let many : length (labels_of plan items) ≡ length items = length-map items (λ (item : Item). get_or plan.part_of item.version 0) in
-    record {
-      descending = down;
-      low = low;
-      known = known;
-      heads_len = heads_len;
-      nexts_len = omega (arith, linked.nexts_len);
-      due = λ q late lt. linked.first q (omega arith);
-      past = λ q past. absurd (omega arith);
-      next = λ i lt inside. linked.next i (omega arith) (omega arith) (omega arith);
-      gifts = λ q test lt all. ap (λ (o : Option Item). option_map_or test o true) (none q);
-      given = λ parents ready q late lt. none q ∙ sym (ap (λ (b : Bool). cond b (taken_over parents items (above_of plan q)) None) (le-ltb (get_or (carriers_of plan.part_of plan.parts) q 0) deal.from (omega arith)));
-    }

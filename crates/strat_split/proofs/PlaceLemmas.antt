@@ -1,13 +1,13 @@
 -- A version placed as its fate says.
 use Rattle.std.proofs.Common.{◌≡◌, ◌<◌, ◌≤◌, ◌+◌, ◌-◌, ◌*◌, ℕ, Bool, true, false, eqb, inl, inr, List, [], ◌∷◌, ◌++◌, length, get_or, set, replicate, Some, None, refl, sym, ap, ◌∙◌, subst, arith}
 use Rattle.std.proofs.lemmas.Bool.{eq-eqb, ne_eqb, cases_eq}
-use Rattle.std.proofs.lemmas.List.{get_or-set_same, get_or-set_other, get_or-replicate, length-set, length-replicate, length_push}
+use Rattle.std.proofs.lemmas.List.{get_or-set_same, get_or-set_other, get_or-replicate, length-set, length-replicate}
 use Rattle.strat_base.specs.Tree.{IsTree}
 use Rattle.strat_tree.specs.Ancestor.{up}
 use Rattle.strat_plan.specs.Plan.{in_no_part}
 use Rattle.strat_split.specs.Survey.{Told, AreCounted}
 use Rattle.strat_split.specs.Greedy.{sums_from, leads_of_rest, fate_of, open_after, fate_after}
-use Rattle.strat_split.specs.Placing.{nth_part, part_sum, part_below, top_part, IsFit, IsServed, IsSoFar, IsDrafted, IsPlaced}
+use Rattle.strat_split.specs.Placing.{nth_part, part_sum, part_below, top_part, IsFit, IsServed, IsSoFar, IsPlaced}
 use Rattle.strat_split.specs.declared.parts.Part.{Part}
 use Rattle.strat_split.specs.declared.gather.Fate.{Fate}
 use Rattle.strat_split.specs.declared.gather.Fate.TheVariants.{Joins, Closes, Alone}
@@ -181,16 +181,6 @@ pub closes_placed : (t : Told) → AreCounted t → (c p leads : ℕ) (part : Pa
     → part ≡ part_below t p c leads → IsPlaced c (length parts) part labels (set joins p (length parts)) parts labels' joins' parts' → IsSoFar t (c + 1) labels' joins' parts'
 closes_placed t lawful c p leads part labels joins labels' joins' parts parts' positive lt far p_is is part_is placed =
     so_far_at t (c + 1) (set labels c (length parts)) (set (set joins p (length parts)) c (length parts)) labels' joins' (parts ++ part_below t p c leads ∷ []) parts' placed.labels_are placed.joins_are (placed.parts_are ∙ ap (λ (x : Part). parts ++ x ∷ []) part_is) (placed_closes t lawful c p labels joins parts positive lt far p_is leads is)
-
--- lists as long as they were
-pub drafted_more : (n c label : ℕ) (part : Part) (labels joins labels' joins' : List ℕ) (parts parts' : List Part) → length labels ≡ n → length joins ≡ n → length parts ≤ c → IsPlaced c label part labels joins parts labels' joins' parts' → IsDrafted n (c + 1) labels' joins' parts'
-drafted_more n c label part labels joins labels' joins' parts parts' a b d placed =
-    let len : length parts' ≡ length parts + 1 = ap (λ (x : List Part). length x) placed.parts_are ∙ length_push parts part in
-    record {
-      labels_len = ap (λ (x : List ℕ). length x) placed.labels_are ∙ length-set labels c label ∙ a;
-      joins_len = ap (λ (x : List ℕ). length x) placed.joins_are ∙ length-set joins c label ∙ b;
-      few = omega arith;
-    }
 
 -- version 0
 module _ (t : Told) (lawful : AreCounted t) (first : ℕ) (first_is : first ≡ leads_of_rest t 0) where

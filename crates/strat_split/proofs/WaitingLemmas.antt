@@ -16,17 +16,6 @@ listed_same test other numbers same listed = record {
   all = λ q passes. listed.all q (same q ∙ passes);
 }
 
-pub listed_none : (test : ℕ → Bool) → ((q : ℕ) → test q ≡ false) → IsListed test []
-listed_none test none = record {
-  descends = λ j k less lt. absurd (omega arith);
-  each = λ k lt. absurd (omega arith);
-  all = λ q passes. absurd (true≢false (sym passes ∙ none q));
-}
-
--- where nothing is listed, nothing passes
-pub none_listed : (test : ℕ → Bool) (numbers : List ℕ) → IsListed test numbers → length numbers ≡ 0 → (q : ℕ) → test q ≡ false
-none_listed test numbers listed empty q = false_from_ne_true (test q) (λ passes. let found = listed.all q passes in omega (arith, found.1))
-
 module _ (test : ℕ → Bool) (q : ℕ) (off : test q ≡ false) (numbers : List ℕ) (listed : IsListed test numbers) where
   apart : (k : ℕ) → k < length numbers → get_or numbers k 0 ≡ q → ⊥
   apart k lt same = true≢false (sym (listed.each k lt) ∙ ap test same ∙ off)

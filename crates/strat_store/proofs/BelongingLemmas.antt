@@ -1,14 +1,11 @@
 -- Sums that stand still at the end of their type, and tests of all arrays.
-use Rattle.std.proofs.Common.{◌≡◌, ◌<◌, ◌≤◌, ◌+◌, ◌-◌, ◌^◌, ◌&&◌, ℕ, leb, min, drop, get_or, length, List, [], ◌∷◌, inl, inr, refl, sym, ap, ◌∙◌, arith}
+use Rattle.std.proofs.Common.{◌≡◌, ◌<◌, ◌≤◌, ◌+◌, ◌-◌, ◌^◌, ℕ, leb, min, List, [], ◌∷◌, inl, inr, refl, sym, ap, ◌∙◌, arith}
 use Rattle.std.proofs.Math.Nat.{min-eq_left, le-min}
 use Rattle.std.proofs.lemmas.Bool.{cases_Bool, leb-true, leb-false, lt-leb}
-use Rattle.std.proofs.lemmas.List.{drop_more}
-use Rattle.std.proofs.lemmas.List.Folds.{list_all-append}
 use Rattle.std.proofs.lemmas.List.Sums.{sum_by-cons, sum_by-append}
-use Rattle.std.specs.List.{list_all, sum_by}
+use Rattle.std.specs.List.{sum_by}
 use Rattle.strat_base.specs.declared.descriptors.ArrayDesc.{ArrayDesc}
 use Rattle.strat_base.specs.declared.descriptors.LevelDesc.{LevelDesc}
-use Rattle.strat_recovery.specs.Opening.{is_filled}
 use Rattle.strat_standing.specs.Occupied.{arrays_in}
 
 -- a number that stands still at an end is at most one below that end exactly where it is so itself
@@ -36,9 +33,3 @@ few_leads levels m few = capped (sum_by (λ (l : LevelDesc). sum_by (λ a. a.lea
           sum_by-cons (λ (x : LevelDesc). sum_by (λ a. a.leads) x.arrays) l ls,
           joined ls,
         )
-
--- a test of the arrays of the levels that are left
-pub filled_left : (levels : List LevelDesc) (i : ℕ) (d : LevelDesc) → i < length levels → list_all is_filled (arrays_in (drop i levels)) ≡ (list_all is_filled (get_or levels i d).arrays && list_all is_filled (arrays_in (drop (i + 1) levels)))
-filled_left levels i d within =
-    ap (λ (ls : List LevelDesc). list_all is_filled (arrays_in ls)) (drop_more levels i d within)
-    ∙ list_all-append is_filled (get_or levels i d).arrays (arrays_in (drop (i + 1) levels))

@@ -1,7 +1,7 @@
 -- Numbers that are new to a set, one after the other.
-use Rattle.std.proofs.Common.{◌≡◌, ◌<◌, ◌+◌, ℕ, Bool, true, false, cond, eqb, ltb, not, ◌≢◌, ◌≤◌, ◌&&◌, ◌||◌, map, drop, get_or, length, List, [], ◌∷◌, ◌++◌, inl, inr, refl, sym, ap, ◌∙◌, arith, append_assoc, append-nil, true≢false}
+use Rattle.std.proofs.Common.{◌≡◌, ◌<◌, ◌+◌, ℕ, Bool, true, false, cond, eqb, ltb, not, ◌≢◌, ◌&&◌, ◌||◌, map, drop, get_or, length, List, [], ◌∷◌, ◌++◌, inl, inr, refl, sym, ap, ◌∙◌, arith, append_assoc, append-nil, true≢false}
 use Rattle.std.proofs.lemmas.Bool.{cases_Bool, eqb-true, eq-eqb, ltb-true, ltb-false}
-use Rattle.std.proofs.lemmas.List.{drop_more, drop_all, map-append}
+use Rattle.std.proofs.lemmas.List.{drop_more, map-append}
 use Rattle.std.specs.Bool.{MatchBool}
 use Rattle.std.specs.Cmp.{nat_cmp_is}
 use Rattle.std.specs.List.{list_all}
@@ -50,12 +50,6 @@ module _ (levels : List LevelDesc) (i : ℕ) (x : LevelDesc) (within : i < lengt
 
   pub ids_stop : ((rest : List ℕ) → are_new mid (ids x.arrays ++ rest) ≡ false) → (rest : List ℕ) → are_new old (ids (arrays_in levels) ++ rest) ≡ false
   ids_stop none rest = sym (going rest) ∙ ap (are_new mid) (ids_first rest) ∙ none (ids (arrays_in (drop (i + 1) levels)) ++ rest)
-
-pub ids_end : (arrays : List ArrayDesc) (i : ℕ) (old now : ℕ → Bool) → length arrays ≤ i → ((rest : List ℕ) → are_new now (ids (drop i arrays) ++ rest) ≡ are_new old (ids arrays ++ rest)) → (rest : List ℕ) → are_new now rest ≡ are_new old (ids arrays ++ rest)
-ids_end arrays i old now past going rest = sym (ap (λ (rs : List ArrayDesc). are_new now (ids rs ++ rest)) (drop_all i arrays past)) ∙ going rest
-
-pub levels_ids_end : (levels : List LevelDesc) (i : ℕ) (old now : ℕ → Bool) → length levels ≤ i → ((rest : List ℕ) → are_new now (ids (arrays_in (drop i levels)) ++ rest) ≡ are_new old (ids (arrays_in levels) ++ rest)) → (rest : List ℕ) → are_new now rest ≡ are_new old (ids (arrays_in levels) ++ rest)
-levels_ids_end levels i old now past going rest = sym (ap (λ (ls : List LevelDesc). are_new now (ids (arrays_in ls) ++ rest)) (drop_all i levels past)) ∙ going rest
 
 -- numbers are new to no others where they are distinct
 cmp_same : (x q : ℕ) → is_eq (nat_cmp x q) ≡ eqb q x

@@ -23,7 +23,7 @@ use Rattle.strat_recovery.specs.Asked.{on_disk}
 use Rattle.strat_state.specs.LookUp.{looked_up, first_live}
 use Rattle.strat_state.specs.Reading.{live_of}
 use Rattle.strat_cursor.specs.Looking.{levels_there, arrays_there, AreInOrder, AreCachedFrom, LooksThrough, HaveOwnIds, MayBeAsked, asked_of_level, array_says, decides, reads_of_array, reads_in}
-use Rattle.strat_cursor.proofs.ThroughLemmas.{still_same, through_refl, through_trans}
+use Rattle.strat_cursor.proofs.ThroughLemmas.{still_same, through_trans}
 use Rattle.strat_cursor.proofs.PickLemmas.{level_next, asked_there}
 
 -- what an array says, as it was found in the lists of its blocks
@@ -67,9 +67,6 @@ pub record Passing (old now : DiskView) (levels : List (Option LevelDesc)) (pare
   pub looks : LooksThrough old now (arrays_there levels) c d
   pub silent : (f : Image) (next : ℕ) → old.content ≡ Some f → AreInOrder f (arrays_there levels) → HaveOwnIds (arrays_there levels) → AreCachedFrom f next (arrays_there levels) c
       → looked_up (on_disk f) parents [] (levels_there (drop above levels)) v key ≡ looked_up (on_disk f) parents [] (levels_there levels) v key
-
-pub passing_begins : (view : DiskView) (levels : List (Option LevelDesc)) (parents : Parents) (key : List ℕ) (v : ℕ) (c : Blocks) → Passing view view levels parents key v 0 c c
-passing_begins view levels parents key v c = record { looks = through_refl view (arrays_there levels) c; silent = λ f next exposed ordered own cached. refl }
 
 module _ (old mid : DiskView) (levels : List (Option LevelDesc)) (parents : Parents) (key : List ℕ) (v above : ℕ) (c d : Blocks) where
   abbrev asks : Option ArrayDesc

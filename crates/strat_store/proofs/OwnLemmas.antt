@@ -50,9 +50,6 @@ pub record Marking (old now : SpaceView) (left all : List Extent) : Type 0 where
   pub marked : (t : SpaceView) → UsesMore now left t → UsesMore old all t
   pub can : CanMark old all → CanMark now left
 
-pub marking_begins : (s : SpaceView) (all : List Extent) → Marking s s all all
-marking_begins s all = record { marked = λ t more. more; can = λ can. can }
-
 marking_step : (old mid new : SpaceView) (xs left all : List Extent) → Marking old mid (xs ++ left) all → UsesMore mid xs new → Marking old new left all
 marking_step old mid new xs left all m more = record {
   marked = λ t rest. m.marked t (uses_both mid new t xs left more rest);

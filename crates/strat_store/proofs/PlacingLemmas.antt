@@ -10,7 +10,6 @@ use Rattle.strat_format.specs.Manifest.{is_rising}
 use Rattle.strat_level.specs.Levels.{level_numbered}
 use Rattle.strat_recovery.specs.Opening.{has_own_versions}
 use Rattle.strat_standing.proofs.ListLemmas.{among_contained}
-use Rattle.strat_store.specs.Held.{ArePlaced}
 use Rattle.strat_cursor.specs.Looking.{levels_there}
 use Rattle.strat_store.specs.Recovering.{FitsInMemory, MayBePlaced}
 use Rattle.strat_store.proofs.TagLemmas.{rising_parts}
@@ -130,14 +129,6 @@ module _ (listed left rest : List LevelDesc) (level : LevelDesc) (levels : List 
           ∙ e in
           let it : level ≡ l = cc in
           ap (λ (z : LevelDesc). z.number) (sym it) ∙ sym here
-
--- none is left
-pub placed_all : (listed left : List LevelDesc) (levels : List (Option LevelDesc)) → IsPlacing listed left levels → left ≡ [] → ArePlaced listed levels × (list_all has_own_versions listed ≡ true)
-placed_all listed left levels old none =
-    let whole : listed ≡ old.done = old.all ∙ ap (λ (xs : List LevelDesc). xs ++ old.done) none in (
-      record { count = old.count; listed_are = old.there ∙ sym whole; numbered = old.numbered },
-      ap (λ (xs : List LevelDesc). list_all has_own_versions xs) whole ∙ old.own,
-    )
 
 -- a level that has versions of its own was put into its place
 pub placed_in : (listed left rest : List LevelDesc) (level l : LevelDesc) (levels new : List (Option LevelDesc)) → IsPlacing listed left levels → left ≡ rest ++ level ∷ []

@@ -1,5 +1,5 @@
 -- What recovery finds of a store, part by part.
-use Rattle.std.proofs.Common.{◌≡◌, ◌≤◌, ◌<◌, ◌+◌, ◌-◌, ℕ, zero, suc, Bool, true, false, cond, eqb, leb, ltb, not, ◌&&◌, List, [], ◌∷◌, length, Option, Some, None, Result, Ok, Err, refl, sym, ap, ◌∙◌, subst, arith}
+use Rattle.std.proofs.Common.{◌≡◌, ◌≤◌, ◌<◌, ◌+◌, ◌-◌, ℕ, zero, suc, Bool, true, false, cond, eqb, leb, ltb, not, ◌&&◌, List, [], ◌∷◌, length, Option, Some, Result, Ok, Err, refl, sym, ap, ◌∙◌, subst, arith}
 use Rattle.std.proofs.lemmas.Bool.{and_parts, and_from, leb-true, ltb-true, lt-ltb}
 use Rattle.std.specs.List.{list_all, list_any}
 use Rattle.std.specs.Prelude.{option_map, fold}
@@ -75,10 +75,6 @@ manifest_low c first n y low e =
     let made = map_some (λ m. record { manifest = m; blocks = chain.0 }) (manifest_filled n (chained_bytes c chain.0)) y (found_ok first (option_map (λ m. record { manifest = m; blocks = chain.0 }) (manifest_filled n (chained_bytes c chain.0))) y chain.2) in
     subst (λ (x : Chained). list_all (λ b. ltb b 4294967295) x.blocks ≡ true) made.2 (chain_low c [] first (chain_length n - 1) chain.0 low chain.1)
 
--- a chain that is damaged, and a manifest that does not belong
-pub chain_damaged : (c : Image) (sb : Super) (b : ℕ) → manifest_at c sb.manifest sb.length ≡ Err b → recover_manifest c sb ≡ Err b
-chain_damaged c sb b e = ap (λ (r : Read Chained). and_then r (λ y. passed_or sb.manifest (belongs sb y) y.manifest)) e
-
 pub manifest_damaged : (c : Image) (sb : Super) (y : Chained) → sb.manifest < 4294967295 → manifest_at c sb.manifest sb.length ≡ Ok y
     → (list_all (λ x. ltb x 4294967295) y.blocks ≡ true → belongs sb y ≡ false) → recover_manifest c sb ≡ Err sb.manifest
 manifest_damaged c sb y low e not' =
@@ -139,9 +135,6 @@ pub journal_recovered : (c : Image) (sb : Super) (m : Manifest) (logged : List L
 journal_recovered c sb m logged r read accepted =
     ap (λ (x : Read (List Logged)). and_then x (accepted_in sb.changes_max sb.versions_max (parents_in m) m.changes)) read ∙ accepted
 
-pub journal_damaged : (c : Image) (sb : Super) (m : Manifest) (b : ℕ) → journal_in_one c sb.mem sb.region ≡ Err b → recover_journal c sb m ≡ Err b
-journal_damaged c sb m b read = ap (λ (x : Read (List Logged)). and_then x (accepted_in sb.changes_max sb.versions_max (parents_in m) m.changes)) read
-
 module _ (c : Image) (sb : Super) where
   -- a head is found where its manifest and its journal are
   pub head_recovered_from : (m : Manifest) (journal : List Change) → recover_manifest c sb ≡ Ok m → recover_journal c sb m ≡ Ok journal → recover_head c sb ≡ Ok (record { sb = sb; manifest = m; journal = journal })
@@ -165,12 +158,6 @@ module _ (c : Image) (sb : Super) where
   pub store_damaged : (slot b : ℕ) → newest_in c ≡ Ok (Some (slot, sb)) → recover_head c sb ≡ Err b → recover c ≡ Err b
   store_damaged slot b newest damaged =
       ap (λ (r : Read (Option (ℕ × Super))). and_then r (recover_slot c)) newest ∙ ap (λ (r : Read Head). and_then r (λ h. Ok (Some h))) damaged
-
-pub slots_damaged : (c : Image) (b : ℕ) → newest_in c ≡ Err b → recover c ≡ Err b
-slots_damaged c b e = ap (λ (r : Read (Option (ℕ × Super))). and_then r (recover_slot c)) e
-
-pub no_store : (c : Image) → newest_in c ≡ Ok None → recover c ≡ Ok None
-no_store c e = ap (λ (r : Read (Option (ℕ × Super))). and_then r (recover_slot c)) e
 
 damaged_trouble : (t : Trouble) (block : ℕ) → of_trouble t ≡ fault.Damaged block → t ≡ Damaged block
 damaged_trouble NoMemory block e = absurd (cc)

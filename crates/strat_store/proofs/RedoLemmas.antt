@@ -36,10 +36,6 @@ pub record IsRedone (m : Memory) (logged : List Logged) (k : ℕ) (now : Memory)
   pub rest : accepted_by m logged ≡ after_these (changes_before k logged) (accepted_by now (drop k logged))
   pub lawful : list_all is_lawful (changes_before k logged) ≡ true
 
-after_none : (r : Read (List Change)) → after_these [] r ≡ r
-after_none (Ok xs) = refl
-after_none (Err block) = refl
-
 after_one : (xs : List Change) (c : Change) (r : Read (List Change)) → after_these xs (put_first c r) ≡ after_these (xs ++ c ∷ []) r
 after_one xs c (Ok ys) = ap (λ (zs : List Change). Ok zs) (sym (append_assoc xs (c ∷ []) ys))
 after_one xs c (Err block) = refl
@@ -70,9 +66,6 @@ room_any : (m : Memory) (c : Change) → 1 ≤ m.spare → HasRoomFor m c
 room_any m (Put v key value) free = free
 room_any m (Delete v key) free = free
 room_any m (Clone v) free = tt
-
-pub redone_none : (m : Memory) (logged : List Logged) → length logged ≤ m.spare → IsRedone m logged 0 m
-redone_none m logged room = record { now_is = refl; room = omega (arith, room); rest = sym (after_none (accepted_by m logged)); lawful = refl }
 
 pub redone_all : (m : Memory) (logged : List Logged) (k : ℕ) (now : Memory) → length logged ≤ k → IsRedone m logged k now
     → (accepted_by m logged ≡ Ok (map (λ (l : Logged). l.change) logged)) × (now ≡ fold memory_after m (map (λ (l : Logged). l.change) logged))
