@@ -9,8 +9,8 @@ ghost use Rattle.strat_base.specs.Samples.{says};
 ghost use Rattle.strat_crash.specs.Image.{patch};
 ghost use Rattle.strat_format.specs.SuperBlock.{newest_in};
 ghost use Rattle.strat_recovery.specs.Bad.{fits_behind};
-ghost use Rattle.strat_recovery.specs.Disks.{formatted, new_super, chain_super, chain_manifest};
-ghost use Rattle.strat_recovery.specs.Opening.{belongs, accepted_in};
+ghost use Rattle.strat_recovery.specs.Disks.{formatted, new_super, chain_super, chain_manifest, published_by};
+ghost use Rattle.strat_recovery.specs.Opening.{belongs, accepted_in, recover};
 ghost use Rattle.strat_pins.specs.Disks.{array_at, having, in_block_eight, led_by, after_two_changes, with_second_slot, in_two_blocks};
 
 /// Two arrays may be the same in all but their numbers, blocks and versions, and share none of these.
@@ -121,4 +121,10 @@ pub fn entries_fit_their_place()
         × (fits_behind 1 in_two_blocks [] (says 97 1 49 ∷ []) ≡ false) }
     ensures leads { fits_behind 2 in_two_blocks (says 97 0 49 ∷ [])
         (says 98 0 49 ∷ says 99 0 49 ∷ []) ≡ false }
+{}
+
+/// Where a manifest does not belong to its superblock, and a record of the journal is none, the manifest is blamed.
+pub fn manifests_are_tested_before_journals()
+    ensures { recover (patch (published_by (record chain_super { versions_max = 3 }) chain_manifest)
+        16385 (0 ∷ [])) ≡ Err 8 }
 {}

@@ -1,18 +1,19 @@
 //! Values at the bounds of the formats: at each bound one that passes, and one past it that doesn't. Each is
 //! the contract of a function that does nothing.
 
-#![tactic(auto, unfolding(strat_base::specs::Numbers::be, strat_base::specs::Numbers::number, strat_base::specs::Change::change_in, strat_crash::specs::Image::window, strat_crash::specs::Image::over, strat_format::specs::Block::block_bytes, strat_format::specs::Chained::chain_from, strat_format::specs::Manifest::all_pass, strat_format::specs::Manifest::manifest_bytes, strat_format::specs::Manifest::manifest_in, strat_format::specs::Manifest::read_manifest, strat_format::specs::Manifest::read_level, strat_format::specs::Manifest::read_array, strat_format::specs::Manifest::read_extent, strat_format::specs::Manifest::read_items, strat_format::specs::Manifest::read_number, strat_format::specs::Records::records))]
+#![tactic(auto, unfolding(strat_base::specs::Numbers::be, strat_base::specs::Numbers::number, strat_base::specs::Change::change_in, strat_crash::specs::Image::window, strat_crash::specs::Image::over, strat_format::specs::Block::block_bytes, strat_format::specs::Chained::chain_from, strat_format::specs::Manifest::all_pass, strat_format::specs::Manifest::manifest_bytes, strat_format::specs::Manifest::manifest_in, strat_format::specs::Manifest::read_manifest, strat_format::specs::Manifest::read_level, strat_format::specs::Manifest::read_array, strat_format::specs::Manifest::read_extent, strat_format::specs::Manifest::read_items, strat_format::specs::Manifest::read_number, strat_format::specs::Records::records, strat_format::specs::SuperBlock::slot_of, strat_format::specs::SuperBlock::zeros))]
 
-ghost use Rattle.std.specs.Prelude.{◌≡◌, [], ◌∷◌, ◌++◌, map, replicate, Some, None, Ok, Err, true, false};
+ghost use Rattle.std.specs.Prelude.{◌≡◌, [], ◌∷◌, ◌++◌, map, replicate, Some, None, Ok, Err, true, false, take};
 ghost use Rattle.strat_base.specs.Samples.{says, gone};
 ghost use Rattle.strat_format.specs.Block.{fits_block, block_bytes};
-ghost use Rattle.strat_format.specs.Manifest.{is_lawful_extent, is_lawful_array, is_lawful_level, is_lawful_manifest, manifest_bytes, manifest_in};
+ghost use Rattle.strat_format.specs.Manifest.{is_lawful_extent, is_lawful_array, is_lawful_level, is_lawful_manifest, manifest_bytes, manifest_in, new_manifest};
 ghost use Rattle.strat_pins.specs.Formats.{four_entries, from_block, two_leads, in_extents, for_versions, odd_level, with_arrays, second_extent_at, without_levels, two_arrays, two_arrays_bytes, least_super, greatest_super, slot_with, slot_of_generation, put_of, with_puts, bytes_from, chain_links};
 ghost use Rattle.strat_format.specs.Chain.{chain_length};
-ghost use Rattle.strat_format.specs.Chained.{may_follow, chain_from};
+ghost use Rattle.strat_format.specs.Chained.{may_follow, chain_from, manifest_filled, manifest_at};
 ghost use Rattle.strat_format.specs.Layout.{region_size};
 ghost use Rattle.strat_format.specs.Records.{records_bytes, records, journal_of, journal_in_one};
-ghost use Rattle.strat_format.specs.SuperBlock.{in_range, newer};
+ghost use Rattle.strat_format.specs.SuperBlock.{in_range, newer, slot_of, body};
+ghost use Rattle.strat_recovery.specs.Disks.{new_super};
 
 /// The block of `a` with the value `1` at version 0, and of `b` gone from version 258 on.
 pub fn bytes_of_a_block_of_two()
@@ -212,4 +213,21 @@ pub fn records_are_known_by_their_gates()
     ensures first { records (bytes_from 12288 (records_bytes (put_of 97 ∷ []))) 12310 1 12288
         ≡ Ok (record { change = put_of 97; block = 3 } ∷ []) }
     ensures none { records (bytes_from 12287 (0xa7 ∷ [])) 12310 1 12287 ≡ Err 2 }
+{}
+
+/// A superblock's generation is read with all of its eight bytes.
+pub fn generations_have_eight_bytes()
+    ensures { slot_of (take 40 (0xa7 ∷ body (record new_super { generation = 4294967298 })))
+        ≡ Some (slot_with (record new_super { generation = 4294967298 })) }
+{}
+
+/// What fills the last block behind a manifest is 0, from its first byte on.
+pub fn the_first_byte_behind_a_manifest_counts()
+    ensures ok { manifest_filled 29 (manifest_bytes new_manifest ++ 0 ∷ []) ≡ Some new_manifest }
+    ensures fill { manifest_filled 29 (manifest_bytes new_manifest ++ 1 ∷ []) ≡ None }
+{}
+
+/// Where a whole chain has no manifest its first block is blamed.
+pub fn the_first_block_of_a_chain_is_blamed()
+    ensures { manifest_at (chain_links 7 0) 6 4093 ≡ Err 6 }
 {}

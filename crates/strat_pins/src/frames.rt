@@ -9,6 +9,7 @@ ghost use Rattle.strat_model.specs.declared.replies.Reply.TheVariants as reply;
 ghost use Rattle.strat_model.specs.Answer.{plain, as_told};
 ghost use Rattle.strat_model.specs.Request.{Put, Delete, Get, Clone, Scan, Info, OpenCursor, NextPairs, CloseCursor, Stat};
 ghost use Rattle.strat_model.specs.Spelling.{command_bytes, command_body, size_refusal, FitsFields, FitsParent, FitsReply, FitsPairs, HasForm, reply_body, tag_of};
+ghost use Rattle.strat_model.specs.Stream.{Whole, Rest, Long, ending_of, IsBody};
 
 /// A key has 1 to 255 bytes.
 pub fn keys_have_1_to_255_bytes()
@@ -174,4 +175,13 @@ pub fn numbers_of_replies_fit_their_fields()
         × (¬ FitsReply (reply.Stat 0 0 0 4294967296)) }
     ensures block { FitsReply (reply.Refused (why.Damaged 4294967295))
         × (¬ FitsReply (reply.Refused (why.Damaged 4294967296))) }
+{}
+
+/// Behind the last whole frame stands nothing, the part of a frame, or the length of one that is too long: a body has up to
+/// 2,048 bytes.
+pub fn streams_end_in_three_ways()
+    ensures whole { ending_of [] ≡ Whole }
+    ensures rest { (ending_of (0 ∷ []) ≡ Rest) × (ending_of (0 ∷ 0 ∷ 8 ∷ 0 ∷ []) ≡ Rest) }
+    ensures long { ending_of (0 ∷ 0 ∷ 8 ∷ 1 ∷ []) ≡ Long }
+    ensures body { IsBody (replicate 2048 0) × (¬ IsBody (replicate 2049 0)) }
 {}

@@ -4,6 +4,7 @@
 #![tactic(auto)]
 
 pub mod bad_disks;
+pub mod crashes;
 pub mod disks;
 pub mod formats;
 pub mod frames;

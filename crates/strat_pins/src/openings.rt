@@ -2,7 +2,7 @@
 //! nothing.
 
 ghost use Rattle.std.specs.Prelude.{◌≡◌, [], ◌∷◌, replicate, Some, None, true, false};
-ghost use Rattle.strat_base.specs.Change.{Put};
+ghost use Rattle.strat_base.specs.Change.{Put, Clone};
 ghost use Rattle.strat_format.specs.SuperBlock.{AreLimits};
 ghost use Rattle.strat_recovery.specs.Passed.{is_sized, PassesOpening};
 ghost use Rattle.strat_pins.specs.Openings.{filled_chain, chain_with, chained_array};
@@ -57,4 +57,9 @@ pub fn keys_and_values_are_sized()
     ensures more { is_sized
         (record { key = 97 ∷ []; version = 0; value = Some (replicate 1025 49) }) ≡ false }
     ensures key { is_sized (record { key = []; version = 0; value = None }) ≡ false }
+{}
+
+/// The versions of the journal count among the most: a chain that is full takes no clone there.
+pub fn versions_of_the_journal_count()
+    ensures { ¬ PassesOpening (record filled_chain { journal = Clone 3 ∷ [] }) }
 {}

@@ -2,11 +2,13 @@
 //! more. Each is the contract of a function that does nothing.
 
 ghost use Rattle.std.specs.Prelude.{◌≡◌, ◌≤◌, ℕ, List, [], ◌∷◌, Some, None, true, false};
-ghost use Rattle.strat_model.specs.Answer.{accepts};
+ghost use Rattle.strat_model.specs.Answer.{accepts, refusal};
 ghost use Rattle.strat_model.specs.Request.{Put, Delete, Get, Clone, Scan, Info, OpenCursor, NextPairs, CloseCursor, Stat};
-ghost use Rattle.strat_model.specs.Run.{is_change, takes_memory, reaches_disk, fill_after, position_after, Position, Response, AnswersNoCommand, AnswersNoMemory, AnswersFault, Exchange, Interruption, IsTranscript, bodies_of, responses_of, tables_of};
+ghost use Rattle.strat_model.specs.Run.{is_change, takes_memory, reaches_disk, fill_after, position_after, Position, Response, AnswersNoCommand, AnswersNoMemory, AnswersFault, Exchange, Interruption, IsTranscript, bodies_of, responses_of, tables_of, AnswersByTable, IsFault, IsRun, Transcript};
 ghost use Rattle.strat_model.specs.Step.{step};
 ghost use Rattle.strat_model.specs.Table.{fresh, bare};
+ghost use Rattle.strat_model.specs.Spelling.{Spells};
+ghost use Rattle.strat_model.specs.declared.replies.Refusal.TheVariants as why;
 
 /// A put, a delete and a clone change a store.
 pub fn three_commands_are_changes()
@@ -97,4 +99,35 @@ pub fn accepted_changes_are_journalled()
         (Put 1 (97 ∷ []) [])).fill ≡ 2 }
     ensures get { (position_after 4 (record { table = fresh 2 2; fill = 2 })
         (Get 0 (97 ∷ []))).fill ≡ 2 }
+{}
+
+/// A transcript is a run from where it begins to where its exchanges lead, and the first of these stands at its beginning.
+pub fn runs_begin_where_they_are_said_to()
+    ensures first { (mem : ℕ) (at after : Position) (x : Exchange) → IsRun mem at (x ∷ []) after
+        → x.at ≡ at }
+    ensures all { (mem : ℕ) (at : Position) (t : Transcript) → IsTranscript mem at t
+        → IsRun mem at t.exchanges t.after }
+{}
+
+/// A command that the table answers is spelled under the tag of its response, which has the answer of the table's step, and
+/// leads to that step's table.
+pub fn commands_are_answered_by_the_table()
+    ensures { (mem : ℕ) (at after : Position) (body : List ℕ) (response : Response)
+        (by : AnswersByTable mem at body response after)
+        → Spells body response.tag by.request
+        × (response.answer ≡ (step at.table by.request).answer)
+        × (after ≡ position_after mem at by.request) }
+{}
+
+/// Want of memory is told, and ends no run.
+pub fn want_of_memory_is_no_fault()
+    ensures { ¬ IsFault (refusal why.NoMemory) }
+{}
+
+/// What a run leaves has neither cursors nor their number: the next run counts from 1.
+pub fn cursors_end_with_their_run()
+    ensures { bare (record (fresh 2 2) {
+      cursors = record { number = 1; left = [] } ∷ [];
+      next_cursor = 2;
+    }) ≡ fresh 2 2 }
 {}

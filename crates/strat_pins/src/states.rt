@@ -3,12 +3,16 @@
 
 #![tactic(auto, unfolding(strat_base::specs::Tree::climb, strat_state::specs::State::deep))]
 
-ghost use Rattle.std.specs.Prelude.{◌≡◌, [], ◌∷◌, ◌++◌, true, false};
+ghost use Rattle.std.specs.Prelude.{◌≡◌, [], ◌∷◌, ◌++◌, true, false, None, Some, codes};
 ghost use Rattle.strat_state.specs.Breach.{breach, breaches};
-ghost use Rattle.strat_state.specs.Sound.{is_numbered_from, IsWellFormed};
+ghost use Rattle.strat_state.specs.Sound.{is_numbered_from, IsWellFormed, are_accepted};
 ghost use Rattle.strat_state.specs.State.{densities, lead_fractions, stored, deep, promised, IsPaid};
-ghost use Rattle.strat_state.specs.Worked.{fan};
+ghost use Rattle.strat_state.specs.Worked.{fan, array_of, first_level};
 ghost use Rattle.strat_pins.specs.States.{two_levels, two_levels_after, only_array_in, with_a_lead, without_leads, eight_leads_in, a_third_is_live, later_is_sparser, tag_at_the_horizon, shallower_horizon_is, fan_says, after_puts, all_broken};
+ghost use Rattle.strat_base.specs.Change.{Put, Clone};
+ghost use Rattle.strat_base.specs.Samples.{says};
+ghost use Rattle.strat_recovery.specs.Texts.{check_line};
+ghost use Rattle.strat_state.specs.Broken.{early_horizon, with_empty_journal};
 
 /// After nine changes there may be leads in level 2, and 72 entries may be written: four for each change
 /// and level. Of these a lead in level 1 keeps back four.
@@ -106,4 +110,42 @@ pub fn breaches_are_told_in_order()
         ∷ breach 99 1 2 ∷ breach 100 1 2 ∷ breach 101 1 2 ∷ breach 102 1 2 ∷ breach 103 1 0
         ∷ breach 104 1 0 ∷ breach 105 1 0 ∷ breach 105 2 0 ∷ breach 106 2 0
         ∷ breach 107 1 1 ∷ breach 107 1 2 ∷ breach 108 0 0 ∷ [] }
+{}
+
+/// Each change of a journal counts against the most that a store takes.
+pub fn changes_of_a_journal_are_counted()
+    ensures most { are_accepted 2 1 (None ∷ []) 0
+        (Put 0 (97 ∷ []) [] ∷ Put 0 (97 ∷ []) [] ∷ []) ≡ true }
+    ensures more { are_accepted 1 1 (None ∷ []) 0
+        (Put 0 (97 ∷ []) [] ∷ Put 0 (97 ∷ []) [] ∷ []) ≡ false }
+{}
+
+/// Level 3 is too deep for a lead after sixteen changes that were merged, and one more in the journal pays for no level.
+pub fn changes_of_the_journal_pay_for_no_depth()
+    ensures { ¬ IsPaid (record (only_array_in 3 with_a_lead) {
+      changes = 16;
+      journal = Put 1 (97 ∷ []) [] ∷ [];
+    }) }
+{}
+
+/// A level of horizon 2 has no version that the journal makes.
+pub fn clones_of_the_journal_raise_no_horizon()
+    ensures { breaches (record early_horizon {
+      levels = first_level 2 (array_of 1 (0 ∷ 1 ∷ []) (says 97 0 49 ∷ []) 1 1 1 ∷ []);
+      journal = Clone 0 ∷ [];
+    }) ≡ breach 105 1 0 ∷ [] }
+{}
+
+/// An entry that is live in an array at a version of its tag, and in no table there, breaks the rule of equal maps at its array.
+pub fn entries_that_no_map_has_are_found()
+    ensures { breaches (with_empty_journal (None ∷ Some 0 ∷ []) 3 (first_level 2 (
+        array_of 1 (0 ∷ []) (says 97 0 49 ∷ []) 1 1 1
+        ∷ array_of 2 (1 ∷ [])
+        (says 97 0 49 ∷ says 98 0 57 ∷ says 99 1 49 ∷ says 100 1 49 ∷ []) 4 2 4 ∷ [])))
+        ≡ breach 99 1 2 ∷ breach 102 1 2 ∷ [] }
+{}
+
+/// The line of a breach tells its rule, its level and its array.
+pub fn level_and_array_are_told()
+    ensures { check_line (breach 104 2 0 ∷ []) ≡ codes "unsound h level 2 array 0" }
 {}

@@ -5,4 +5,5 @@
 
 pub mod cursors;
 pub mod leaving;
+pub mod publishing;
 pub mod telling;
