@@ -138,7 +138,7 @@ fn a_crash_leaves_a_prefix_of_changes_over_levels(rt: HostRuntime) {
     };
     let plan = Plan {
         script: Script::Changes,
-        most: 7,
+        most: CHANGES,
         look: Script::Look,
         looks: LOOKS,
     };
