@@ -5,3 +5,5 @@ pub mod SizeLemmas
 pub mod SummaryLemmas
 pub mod TextLemmas
 pub mod ArgumentLemmas
+pub mod HeadlineLemmas
+pub mod OutcomeLemmas

@@ -3,6 +3,8 @@
 
 mod arguments;
 mod formatting;
+mod headline;
+mod laws;
 mod links;
 mod program;
 mod working;
@@ -63,8 +65,7 @@ fn start<R: Env + Input + Print + Files + AllocGlobal>(rt: &R) -> u8 {
         // `run` says that these arguments name no subcommand, and opens no file.
         return run_over(rt, &words, "");
     };
-    // The system gives an opened file the lowest free number, which is a standard stream's where
-    // that is closed. These
+    // The system gives an opened file the lowest free number, which is a standard stream's where that is closed. These
     // three take such numbers before the store's file can, and keep them until the run has ended.
     let (Ok(_first), Ok(_second), Ok(_third)) = (open_folder(rt), open_folder(rt), open_folder(rt))
     else {
@@ -85,5 +86,7 @@ fn main(rt: HostRuntime) -> ExitCode {
     ExitCode::from(status)
 }
 
+#[cfg(test)]
+mod edges;
 #[cfg(test)]
 mod tests;

@@ -14,7 +14,7 @@ use crate::cache::Cache;
 use crate::place::{Place, count_blocks};
 use crate::reading::{lend, reach};
 use crate::scratch::Scratch;
-use strat_base::{ArrayDesc, Fault};
+use strat_base::{ArrayDesc, Fault, key_order};
 use strat_block::BlockView;
 use strat_disk::Disk;
 
@@ -23,7 +23,7 @@ fn begins_below(block: &BlockView<'_>, key: &[u8]) -> bool
     ensures ok { result ≡ starts_below key.now block.now }
 {
     let _some = block.len();
-    block.key_at(0).cmp(key).is_lt()
+    key_order(block.key_at(0), key).is_lt()
 }
 
 /// Whether the block at an index begins with a key below this one: one read at most.

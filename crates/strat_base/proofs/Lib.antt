@@ -1,4 +1,5 @@
 pub mod NumberLemmas
+pub mod WordLemmas
 pub mod PairLemmas
 pub mod ListFacts
 pub mod TreeLemmas

@@ -5,6 +5,7 @@ ghost use Rattle.strat_base.specs.Order.{entry_cmp};
 ghost use Rattle.strat_base.specs.Sizes.{is_key, is_value};
 
 use crate::limits::{KEY_MAX, VALUE_MAX};
+use crate::order::key_order;
 use std::cmp::Ordering;
 
 /// The number of a version, from 0 in the order in which they were made.
@@ -43,8 +44,9 @@ pub fn value_ok(value: &[u8]) -> bool
 }
 
 /// The order of entries in blocks and runs: by key, and among those of one key the newest version first.
+#[inline(always)]
 pub fn entry_order(a: &Entry<'_>, b: &Entry<'_>) -> Ordering
     ensures { result ≡ entry_cmp a.now.key.now a.now.version b.now.key.now b.now.version }
 {
-    a.key.cmp(b.key).then(b.version.cmp(&a.version))
+    key_order(a.key, b.key).then(b.version.cmp(&a.version))
 }

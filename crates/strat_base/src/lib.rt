@@ -11,6 +11,7 @@ pub mod laws;
 pub mod limits;
 mod lists;
 mod numbers;
+mod order;
 mod pairs;
 mod troubles;
 
@@ -21,4 +22,5 @@ pub use entry_fields::{entry_size, get_entry, put_entry};
 pub use failures::{Failed, Fault, NoMemory, Trouble};
 pub use lists::Listing;
 pub use numbers::{get_u8, get_u16, get_u32, get_u64, put_u16, put_u32, put_u64};
+pub use order::key_order;
 pub use pairs::PairBuf;

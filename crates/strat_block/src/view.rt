@@ -12,7 +12,7 @@ use crate::check::is_block;
 use std::alloc::Global;
 use std::marker::Model;
 use strat_base::limits::BLOCK;
-use strat_base::{Entry, NoMemory, Val, Version, get_entry, get_u16};
+use strat_base::{Entry, NoMemory, Val, Version, get_entry, get_u16, key_order};
 
 /// How many entries a block has.
 fn count(bytes: &[u8]) -> usize
@@ -132,7 +132,7 @@ impl<'a> BlockView<'a> {
         requires { i < length self.now }
         ensures ok { (d : TheEntry) → result ≡ stands_below key.now (slice_index_or self.now i d) }
     {
-        self.key_at(i).cmp(key).is_lt()
+        key_order(self.key_at(i), key).is_lt()
     }
 
     /// The place of the first entry whose key is at or after this one, or how many there are where none is.

@@ -9,12 +9,11 @@ use Rattle.strat_base.specs.Entries.{Entry, is_ascending}
 use Rattle.strat_base.specs.declared.descriptors.ArrayDesc.{ArrayDesc}
 use Rattle.strat_crash.specs.Image.{Image}
 use Rattle.strat_crash.specs.Moments.{DiskView}
-use Rattle.strat_cursor.specs.Looking.{LooksThrough}
+use Rattle.strat_cursor.specs.Looking.{LooksThrough, HaveFewBlocks}
 use Rattle.strat_cursor.specs.Picking.{IsOfView, AreSourcesOf}
-use Rattle.strat_cursor.specs.Ranges.{arrays_in_view}
-use Rattle.strat_cursor.specs.Sources.{MayBeRead, MayBeBegun, IsSettledAt, IsUpTo, StandsIn, content_of, HaveFewBlocks}
+use Rattle.strat_cursor.specs.Sources.{MayBeRead, MayBeBegun, IsSettledAt, IsUpTo, StandsIn, content_of}
 use Rattle.strat_cursor.specs.Turning.{AreSettled, AreUpTo, sum_over}
-use Rattle.strat_cursor.specs.Views.{IsReadable}
+use Rattle.strat_cursor.specs.Views.{IsReadable, arrays_read}
 use Rattle.strat_cursor.specs.declared.desks.Desk.{Desk}
 use Rattle.strat_cursor.specs.declared.sources.Source.{Source}
 use Rattle.strat_cursor.specs.declared.sources.Source.TheVariants as source
@@ -24,37 +23,37 @@ use Rattle.strat_cursor.proofs.ThroughLemmas.{still_same, through_refl, through_
 use Rattle.strat_cursor.proofs.TurnLemmas.{stands_still}
 
 -- a source of a view may begin, after others did
-pub may_begin : (old now : DiskView) (view : View) (f : Image) (next : ℕ) (c d : Blocks) (s : Source) → IsOfView view s → LooksThrough old now (arrays_in_view view.levels) c d → old.content ≡ Some f → IsReadable f next view c → MayBeBegun f d s
-may_begin old now view f next c d source.None of looks exposed may = tt
-may_begin old now view f next c d (source.Zero list) of looks exposed may = tt
-may_begin old now view f next c d (source.Array a) of looks exposed may =
+pub may_begin : (old now : DiskView) (view : View) (v : ℕ) (f : Image) (next : ℕ) (c d : Blocks) (s : Source) → IsOfView view v s → LooksThrough old now (arrays_read view v) c d → old.content ≡ Some f → IsReadable f next view v c → MayBeBegun f d s
+may_begin old now view v f next c d source.None of looks exposed may = tt
+may_begin old now view v f next c d (source.Zero list) of looks exposed may = tt
+may_begin old now view v f next c d (source.Array a) of looks exposed may =
     let there = of.there a.now (0, omega arith, refl) in
     let entries = may.ordered.each a.now there in
     record {
       entries = entries.0;
       read = entries.1;
       ordered = entries.2;
-      cached = λ index block x at place. still_same old.content f (arrays_in_view view.levels) c d exposed may.ids looks.cached may.cached.same a.now index block x there at place;
+      cached = λ index block x at place. still_same old.content f (arrays_read view v) c d exposed may.ids looks.cached may.cached.same a.now index block x there at place;
     }
 
 -- its entries are in order
-in_order : (view : View) (f : Image) (next : ℕ) (c : Blocks) (s : Source) → IsOfView view s → IsReadable f next view c → is_ascending (content_of f view.pool.now s) ≡ true
-in_order view f next c source.None of may = refl
-in_order view f next c (source.Zero list) of may = of.read.ascending
-in_order view f next c (source.Array a) of may =
+in_order : (view : View) (v : ℕ) (f : Image) (next : ℕ) (c : Blocks) (s : Source) → IsOfView view v s → IsReadable f next view v c → is_ascending (content_of f view.pool.now s) ≡ true
+in_order view v f next c source.None of may = refl
+in_order view v f next c (source.Zero list) of may = of.read.ascending
+in_order view v f next c (source.Array a) of may =
     let entries = may.ordered.each a.now (of.there a.now (0, omega arith, refl)) in
     ap (λ (o : Option (List Entry)). is_ascending (unwrap_or o [])) entries.1 ∙ entries.2
 
 -- the sources below a number have begun
 pub record Beginning (old now : DiskView) (view : View) (v : ℕ) (lo : List ℕ) (sources : List Source) (c d : Blocks) (i : ℕ) (desks : List Desk) : Type 0 where
-  pub looks : LooksThrough old now (arrays_in_view view.levels) c d
+  pub looks : LooksThrough old now (arrays_read view v) c d
   pub settled : (j : ℕ) (e : Desk) → j < i → slice_get desks j ≡ Some e → (s : Source) → slice_get sources j ≡ Some s → MayBeRead view.pool.now s × IsSettledAt view.tree.now.parents v view.pool.now s e
-  pub up : (f : Image) (next : ℕ) → old.content ≡ Some f → IsReadable f next view c → (j : ℕ) (e : Desk) → j < i → slice_get desks j ≡ Some e → (s : Source) → slice_get sources j ≡ Some s
+  pub up : (f : Image) (next : ℕ) → old.content ≡ Some f → IsReadable f next view v c → (j : ℕ) (e : Desk) → j < i → slice_get desks j ≡ Some e → (s : Source) → slice_get sources j ≡ Some s
       → IsUpTo f view.pool.now view.tree.now.parents v lo [] s e × StandsIn f d s e.scratch
 
 pub begins : (v0 : DiskView) (view : View) (v : ℕ) (lo : List ℕ) (sources : List Source) (c : Blocks) (desks : List Desk) → Beginning v0 v0 view v lo sources c c 0 desks
 begins v0 view v lo sources c desks = record {
-  looks = through_refl v0 (arrays_in_view view.levels) c;
+  looks = through_refl v0 (arrays_read view v) c;
   settled = λ j e low at s there. absurd (omega (arith, low));
   up = λ f next exposed may j e low at s there. absurd (omega (arith, low));
 }
@@ -63,11 +62,11 @@ module _ (old now new : DiskView) (view : View) (v : ℕ) (lo : List ℕ) (sourc
   same_source : (t : Source) → slice_get sources i ≡ Some t → t ≡ s
   same_source t at = let both : Some t ≡ Some s = sym at ∙ here in cc
 
-  pub begins_more : LooksThrough now new (arrays_in_view view.levels) d g → IsSettledAt view.tree.now.parents v view.pool.now s e
+  pub begins_more : LooksThrough now new (arrays_read view v) d g → IsSettledAt view.tree.now.parents v view.pool.now s e
       → ((f : Image) → now.content ≡ Some f → MayBeBegun f d s → IsUpTo f view.pool.now view.tree.now.parents v lo [] s e × StandsIn f g s e.scratch)
       → Beginning old new view v lo sources c g (i + 1) (set desks i e)
   begins_more looks next_settled next_up = record {
-    looks = through_trans old now new (arrays_in_view view.levels) c d g begun.looks looks;
+    looks = through_trans old now new (arrays_read view v) c d g begun.looks looks;
     settled =
         each_more (λ (j : ℕ) (x : Desk). (t : Source) → slice_get sources j ≡ Some t → MayBeRead view.pool.now t × IsSettledAt view.tree.now.parents v view.pool.now t x) desks i e begun.settled
         (λ t at. subst (λ (x : Source). MayBeRead view.pool.now x × IsSettledAt view.tree.now.parents v view.pool.now x e) (sym (same_source t at)) ((are.each i s here).read, next_settled));
@@ -75,19 +74,19 @@ module _ (old now new : DiskView) (view : View) (v : ℕ) (lo : List ℕ) (sourc
         each_more (λ (j : ℕ) (x : Desk). (t : Source) → slice_get sources j ≡ Some t → IsUpTo f view.pool.now view.tree.now.parents v lo [] t x × StandsIn f g t x.scratch) desks i e
         (λ j x low at t there.
         let both = begun.up f next exposed may j x low at t there in
-        (both.0, stands_still now new (arrays_in_view view.levels) f d g t x.scratch looks (begun.looks.disk.same ∙ exposed) may.ids (are.each j t there).there both.1))
+        (both.0, stands_still now new (arrays_read view v) f d g t x.scratch looks (begun.looks.disk.same ∙ exposed) may.ids (are.each j t there).there both.1))
         (λ t at.
         subst (λ (x : Source). IsUpTo f view.pool.now view.tree.now.parents v lo [] x e × StandsIn f g x e.scratch) (sym (same_source t at))
-        (next_up f (begun.looks.disk.same ∙ exposed) (may_begin old now view f next c d s (are.each i s here) begun.looks exposed may)));
+        (next_up f (begun.looks.disk.same ∙ exposed) (may_begin old now view v f next c d s (are.each i s here) begun.looks exposed may)));
   }
 
 module _ (old now : DiskView) (view : View) (v : ℕ) (lo : List ℕ) (sources : List Source) (c d : Blocks) (i : ℕ) (desks : List Desk) (are : AreSourcesOf view v sources) (begun : Beginning old now view v lo sources c d i desks) (all : length sources ≤ i) where
   pub all_settled : length desks ≡ length sources → AreSettled view.tree.now.parents v view.pool.now sources desks
   all_settled same = record { same = same; each = λ j s e at there. begun.settled j e (omega (arith, all, got_low sources j s at)) there s at }
 
-  pub all_up : (f : Image) (next : ℕ) → old.content ≡ Some f → IsReadable f next view c → AreUpTo f d view.pool.now view.tree.now.parents v lo [] sources desks
+  pub all_up : (f : Image) (next : ℕ) → old.content ≡ Some f → IsReadable f next view v c → AreUpTo f d view.pool.now view.tree.now.parents v lo [] sources desks
   all_up f next exposed may = record {
-    ordered = λ j s at. in_order view f next c s (are.each j s at) may;
+    ordered = λ j s at. in_order view v f next c s (are.each j s at) may;
     each = λ j s e at there. begun.up f next exposed may j e (omega (arith, all, got_low sources j s at)) there s at;
   }
 

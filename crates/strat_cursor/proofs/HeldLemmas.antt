@@ -13,7 +13,7 @@ use Rattle.strat_base.specs.Entries.{Entry}
 use Rattle.strat_base.specs.declared.descriptors.ArrayDesc.{ArrayDesc}
 use Rattle.strat_level.specs.Memtable.{ItemList, Memtable, entries_held, ListStands}
 use Rattle.strat_model.specs.Pairs.{Pairs}
-use Rattle.strat_cursor.specs.Cursors.{OpenCursor, CursorsView, is_opened, moved_at, moved_on, without_cursor, arrays_named, is_array_named, those_named, closed_at, retired_by}
+use Rattle.strat_cursor.specs.Cursors.{OpenCursor, CursorsView, is_opened, moved_at, moved_on, without_cursor, arrays_named, arrays_of_number, is_array_named, those_named, closed_at, retired_by}
 use Rattle.strat_cursor.specs.Held.{HeldCursor, HeldCursors, cursor_held, opened_held, cursors_held}
 use Rattle.strat_cursor.specs.Pins.{ArePinned, SharesFollow, IsStarted, IsCopyOf, IsCopyIfAny, shares_of}
 use Rattle.strat_cursor.proofs.PinLemmas.{arenas_stay, among_contained, shares_more, pinned_without}
@@ -45,6 +45,15 @@ module _ (pool : List PoolEntry) where
   pub held_arrays : (cursors : List OpenCursor) → arrays_named (opened_held pool cursors) ≡ arrays_named cursors
   held_arrays [] = refl
   held_arrays (c ∷ cursors) = ap (λ (x : List ArrayDesc). c.arrays ++ x) (held_arrays cursors)
+
+  pub held_of_number : (n : ℕ) (cursors : List OpenCursor) → arrays_of_number n (opened_held pool cursors) ≡ arrays_of_number n cursors
+  held_of_number n [] = refl
+  held_of_number n (c ∷ cursors) =
+      elim (eqb c.number n) as (λ b. arrays_named (cond b (cursor_held pool c ∷ filter (λ (x : HeldCursor). eqb x.number n) (opened_held pool cursors)) (filter (λ (x : HeldCursor). eqb x.number n) (opened_held pool cursors)))
+      ≡ arrays_named (cond b (c ∷ filter (λ (x : OpenCursor). eqb x.number n) cursors) (filter (λ (x : OpenCursor). eqb x.number n) cursors))) [
+        | false ↦ held_of_number n cursors
+        | true ↦ ap (λ (x : List ArrayDesc). c.arrays ++ x) (held_of_number n cursors)
+      ]
 
   pub held_names : (cursors : List OpenCursor) (id : ℕ) → is_array_named (opened_held pool cursors) id ≡ is_array_named cursors id
   held_names [] id = refl

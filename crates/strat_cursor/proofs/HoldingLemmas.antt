@@ -23,8 +23,8 @@ use Rattle.strat_recovery.proofs.BadLemmas.{contained_at}
 use Rattle.strat_state.specs.Level.{is_distinct}
 use Rattle.strat_model.specs.Pairs.{Pairs}
 use Rattle.strat_cursor.specs.Cursors.{CursorOver, OpenCursor, MayGoOn, moved_at, moved_on, without_cursor, arrays_named}
-use Rattle.strat_cursor.specs.Looking.{AreInOrder, HaveOwnIds, AreCachedFrom, arrays_there, levels_there}
-use Rattle.strat_cursor.specs.Pins.{arena_pinned, arenas_of, shares_of, arrays_asked}
+use Rattle.strat_cursor.specs.Looking.{AreInOrder, HaveOwnIds, AreCachedFrom, arrays_there, levels_there, arrays_asked}
+use Rattle.strat_cursor.specs.Pins.{arena_pinned, arenas_of, shares_of}
 use Rattle.strat_cursor.proofs.PinLemmas.{among_contained, asked_of_levels, asked_there, each_moved}
 
 arenas_few : (c : OpenCursor) → length (arenas_of c) ≤ 2
@@ -140,18 +140,29 @@ asked_distinct parents v (level ∷ levels) distinct =
         (λ b among. not_tagged (flat_map (λ (x : LevelDesc). x.arrays) levels) b a.id (apart a (find_some (is_for (below parents v level.horizon)) level.arrays a is).0) (asked_of_levels parents v levels b among))))
         rest
 
+-- what holds of all arrays of levels holds of those that are asked at a version
+module _ (parents : Parents) (levels : List (Option LevelDesc)) (v : ℕ) where
+  pub asked_in_all : (a : ArrayDesc) → Contains (arrays_asked parents levels v) a → Contains (arrays_there levels) a
+  asked_in_all a at = among_contained (arrays_there levels) a (asked_there parents v levels a (contained_at a (arrays_asked parents levels v) at.0 at.1 at.2))
+
+  pub asked_own : HaveOwnIds (arrays_there levels) → HaveOwnIds (arrays_asked parents levels v)
+  asked_own own = asked_distinct parents v (levels_there levels) own
+
+  pub asked_ordered : (f : Image) → AreInOrder f (arrays_there levels) → AreInOrder f (arrays_asked parents levels v)
+  asked_ordered f ordered = record { each = λ a at. ordered.each a (asked_in_all a at) }
+
+  pub asked_cached : (f : Image) (next : ℕ) (c : Blocks) → AreCachedFrom f next (arrays_there levels) c → AreCachedFrom f next (arrays_asked parents levels v) c
+  asked_cached f next c cached = record { old = cached.old; same = λ a index block x at. cached.same a index block x (asked_in_all a at) }
+
 -- a cursor may go on where a look-up in the levels of its start may
 pub asked_may_go_on : {L : Type 0} (f : Image) (next : ℕ) (parents : Parents) (levels : List (Option LevelDesc)) (v : ℕ) (c : CursorOver L) (cached : Blocks)
     → c.arrays ≡ arrays_asked parents levels v → AreInOrder f (arrays_there levels) → HaveOwnIds (arrays_there levels) → AreCachedFrom f next (arrays_there levels) cached
     → MayGoOn f next c cached
-asked_may_go_on f next parents levels v c cached is ordered ids cached_from =
-    let there : (a : ArrayDesc) → Contains c.arrays a → Contains (arrays_there levels) a = λ a at.
-    among_contained (arrays_there levels) a (asked_there parents v levels a (subst (λ (x : List ArrayDesc). Among a x) is (contained_at a c.arrays at.0 at.1 at.2))) in
-    record {
-      ordered = record { each = λ a at. ordered.each a (there a at) };
-      ids = subst (λ (x : List ArrayDesc). HaveOwnIds x) (sym is) (asked_distinct parents v (levels_there levels) ids);
-      same = record { old = cached_from.old; same = λ a index block x at. cached_from.same a index block x (there a at) };
-    }
+asked_may_go_on f next parents levels v c cached is ordered ids cached_from = record {
+  ordered = subst (λ (x : List ArrayDesc). AreInOrder f x) (sym is) (asked_ordered parents levels v f ordered);
+  ids = subst (λ (x : List ArrayDesc). HaveOwnIds x) (sym is) (asked_own parents levels v ids);
+  same = subst (λ (x : List ArrayDesc). AreCachedFrom f next x cached) (sym is) (asked_cached parents levels v f next cached cached_from);
+}
 
 -- what look-ups in other arrays add to the cache leaves a cursor's blocks in it as they are
 pub goes_on_beside : {L : Type 0} (f : Image) (next : ℕ) (c : CursorOver L) (others : List ArrayDesc) (old new : Blocks) → MayGoOn f next c old

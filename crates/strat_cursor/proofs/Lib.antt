@@ -11,10 +11,12 @@ pub mod BeginLemmas
 pub mod FaultLemmas
 pub mod HeldLemmas
 pub mod HoldingLemmas
+pub mod MapFound
 pub mod NextLemmas
 pub mod OpenedLemmas
 pub mod PageReads
 pub mod PinLemmas
+pub mod ReadLemmas
 pub mod RetiredLemmas
 pub mod RowLemmas
 pub mod StartLemmas

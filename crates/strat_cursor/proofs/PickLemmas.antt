@@ -1,9 +1,9 @@
 -- An array that is asked at a version is one of a view's.
-use Rattle.std.proofs.Common.{◌≡◌, ◌<◌, ◌≤◌, ◌+◌, ◌-◌, Bor, set, ℕ, zero, suc, Bool, true, cond, leb, eqb, get_or, inl, inr, List, [], ◌∷◌, ◌++◌, length, Contains, map, Option, Some, None, refl, sym, ap, ◌∙◌, subst, arith}
+use Rattle.std.proofs.Common.{◌≡◌, ◌<◌, ◌≤◌, ◌+◌, ◌-◌, Bor, set, ℕ, zero, suc, Bool, true, cond, leb, eqb, get_or, inl, inr, List, [], ◌∷◌, ◌++◌, length, Contains, flat_map, map, Option, Some, None, refl, sym, ap, ◌∙◌, subst, arith}
 use Rattle.std.proofs.lemmas.Bool.{le-leb, cases_lt, ne_eqb}
 use Rattle.std.proofs.lemmas.List.{length-map}
 use Rattle.std.specs.List.{filter_map, cons_option, slice_get}
-use Rattle.std.specs.Option.{option_and_then, option_or}
+use Rattle.std.specs.Option.{option_and_then, option_or, option_to_list}
 use Rattle.strat_arena.specs.declared.pool.PoolEntry.{PoolEntry}
 use Rattle.strat_base.proofs.ListFacts.{Among, find_some, among_in_flat}
 use Rattle.strat_base.specs.Entries.{Entry}
@@ -15,11 +15,11 @@ use Rattle.strat_level.specs.Levels.{desc_for, is_for, level_numbered}
 use Rattle.strat_recovery.proofs.OpeningLemmas.{next_some}
 use Rattle.strat_state.specs.LookUp.{first_live}
 use Rattle.strat_state.specs.Reading.{live_of}
-use Rattle.strat_cursor.specs.Looking.{levels_there, arrays_there, asked_of_level}
-use Rattle.strat_cursor.specs.Picking.{array_picked, HaveNumbers, content_if, sealed_if, content_at, IsOfView, AreSourcesOf}
+use Rattle.strat_cursor.specs.Looking.{arrays_asked, levels_there, arrays_there, asked_of_level}
+use Rattle.strat_cursor.specs.Picking.{array_picked, arrays_numbered, HaveNumbers, content_if, sealed_if, content_at, IsOfView, AreSourcesOf}
 use Rattle.strat_cursor.specs.Ranges.{arrays_in_view, arrays_picked, content_on, seen_in, sealed_held}
-use Rattle.strat_cursor.specs.Sources.{content_of}
-use Rattle.strat_cursor.specs.Views.{ViewStands, sealed_in, zeros_in}
+use Rattle.strat_cursor.specs.Sources.{arrays_at, content_of}
+use Rattle.strat_cursor.specs.Views.{ViewStands, arrays_read, sealed_in, zeros_in}
 use Rattle.strat_cursor.specs.declared.sources.Source.{Source}
 use Rattle.strat_cursor.specs.declared.sources.Source.TheVariants as source
 use Rattle.strat_cursor.specs.declared.view.Picked.{Picked}
@@ -64,21 +64,42 @@ asked_there parents levels number v a e =
     let among = find_some (is_for (below parents v found.0.horizon)) found.0.arrays a found.2 in
     among_contained (arrays_there levels) a (among_in_flat (λ (l : LevelDesc). l.arrays) (levels_there levels) found.0 a (numbered_there levels number found.0 found.1) among.0)
 
+-- what is picked of one that is there is among what is picked of all
+among_picked : {X A : Type 0} (h : X → Option A) (xs : List X) (x : X) (a : A) → Among x xs → h x ≡ Some a → Among a (filter_map h xs)
+among_picked h [] x a there is = absurd there
+among_picked {A = A} h (y ∷ xs) x a (inl here) is = subst (λ (o : Option A). Among a (cons_option o (filter_map h xs))) (sym (ap h (sym here) ∙ is)) (inl refl)
+among_picked h (y ∷ xs) x a (inr there) is =
+    let rest = among_picked h xs x a there is in
+    elim (h y) as (λ o. Among a (cons_option o (filter_map h xs))) [
+      | None ↦ rest
+      | Some b ↦ inr rest
+    ]
+
+-- an array that is asked in a level is one of those that are asked
+pub asked_among : (parents : Parents) (levels : List (Option LevelDesc)) (number v : ℕ) (a : ArrayDesc) → asked_of_level parents levels number v ≡ Some a → Contains (arrays_asked parents levels v) a
+asked_among parents levels number v a e =
+    let found = next_some (λ level. desc_for parents level v) (level_numbered levels number) a e in
+    among_contained (arrays_asked parents levels v) a (among_picked (λ (level : LevelDesc). desc_for parents level v) (levels_there levels) found.0 a (numbered_there levels number found.0 found.1) found.2)
+
 -- the array of a number is one of the view's
 pub picked_there : (parents : Parents) (levels : Picked) (v n : ℕ) (a : ArrayDesc) → array_picked parents levels v n ≡ Some a → Contains (arrays_in_view levels) a
 picked_there parents (picked.Live levels) v n a is = asked_there parents levels.now (n + 1) v a is
 picked_there parents (picked.Pinned arrays) v n a is = got_contained arrays.now n a is
 
-only : {X : Type 0} (x y : X) → Contains (x ∷ []) y → y ≡ x
+-- and one of those that are read
+pub picked_among : (parents : Parents) (levels : Picked) (v n : ℕ) (a : ArrayDesc) → array_picked parents levels v n ≡ Some a → Contains (arrays_picked parents levels v) a
+picked_among parents (picked.Live levels) v n a is = asked_among parents levels.now (n + 1) v a is
+picked_among parents (picked.Pinned arrays) v n a is = got_contained arrays.now n a is
+
+pub only : {X : Type 0} (x y : X) → Contains (x ∷ []) y → y ≡ x
 only x y (zero, low, at) = sym at
 only x y (suc n, low, at) = absurd (omega (arith, low))
 
-pub array_of_view : (view : View) (v n : ℕ) (a : Bor ArrayDesc) → ViewStands view → array_picked view.tree.now.parents view.levels v n ≡ Some a.now → IsOfView view (source.Array a)
+pub array_of_view : (view : View) (v n : ℕ) (a : Bor ArrayDesc) → ViewStands view → array_picked view.tree.now.parents view.levels v n ≡ Some a.now → IsOfView view v (source.Array a)
 array_of_view view v n a stands is =
-    let there = picked_there view.tree.now.parents view.levels v n a.now is in
     record {
-      read = stands.arrays.each a.now there;
-      there = λ b of. subst (λ (x : ArrayDesc). Contains (arrays_in_view view.levels) x) (sym (only a.now b of)) there;
+      read = stands.arrays.each a.now (picked_there view.tree.now.parents view.levels v n a.now is);
+      there = λ b of. subst (λ (x : ArrayDesc). Contains (arrays_read view v) x) (sym (only a.now b of)) (picked_among view.tree.now.parents view.levels v n a.now is);
     }
 
 -- the arrays of all numbers
@@ -186,12 +207,60 @@ get_within [] i low = absurd (omega (arith, low))
 get_within (x ∷ xs) zero low = (x, refl)
 get_within (x ∷ xs) (suc i) low = get_within xs i (omega (arith, low))
 
+-- lists that are the same by their numbers, none where there is no list, are the same when they are joined
+joined_same : (sources : List Source) (lists : List (List ArrayDesc)) → ((i : ℕ) → get_or (map arrays_at sources) i [] ≡ get_or lists i []) → flat_map arrays_at sources ≡ flat_map (λ l. l) lists
+joined_same [] [] each = refl
+joined_same [] (l ∷ lists) each = joined_same [] lists (λ i. each (suc i)) ∙ ap (λ (x : List ArrayDesc). x ++ flat_map (λ r. r) lists) (each zero)
+joined_same (s ∷ sources) [] each = ap (λ (x : List ArrayDesc). x ++ flat_map arrays_at sources) (each zero) ∙ joined_same sources [] (λ i. each (suc i))
+joined_same (s ∷ sources) (l ∷ lists) each = (λ j. each zero j ++ joined_same sources lists (λ i. each (suc i)) j)
+
+joined_levels : (parents : Parents) (v : ℕ) (levels : List (Option LevelDesc)) → flat_map (λ (l : List ArrayDesc). l) (map option_to_list (map (λ level. option_and_then (λ l. desc_for parents l v) level) levels)) ≡ arrays_asked parents levels v
+joined_levels parents v [] = refl
+joined_levels parents v (None ∷ levels) = joined_levels parents v levels
+joined_levels parents v (Some level ∷ levels) =
+    elim (desc_for parents level v) as (λ (o : Option ArrayDesc). option_to_list o ++ flat_map (λ (l : List ArrayDesc). l) (map option_to_list (map (λ x. option_and_then (λ l. desc_for parents l v) x) levels)) ≡ cons_option o (arrays_asked parents levels v)) [
+      | None ↦ joined_levels parents v levels
+      | Some a ↦ ap (λ (r : List ArrayDesc). a ∷ r) (joined_levels parents v levels)
+    ]
+
+joined_arrays : (arrays : List ArrayDesc) → flat_map (λ (l : List ArrayDesc). l) (map option_to_list (map (λ a. Some a) arrays)) ≡ arrays
+joined_arrays [] = refl
+joined_arrays (a ∷ arrays) = ap (λ (r : List ArrayDesc). a ∷ r) (joined_arrays arrays)
+
+joined_picks : (parents : Parents) (levels : Picked) (v : ℕ) → flat_map (λ (l : List ArrayDesc). l) (map option_to_list (picks parents levels v)) ≡ arrays_picked parents levels v
+unfolding picks
+joined_picks parents (picked.Live levels) v = joined_levels parents v levels.now
+joined_picks parents (picked.Pinned arrays) v = joined_arrays arrays.now
+
+-- the arrays of all sources of a view
+all_arrays : View → ℕ → List (List ArrayDesc)
+all_arrays view v = [] ∷ [] ∷ map option_to_list (picks view.tree.now.parents view.levels v)
+
+get_arrays : (view : View) (v i : ℕ) → get_or (all_arrays view v) i [] ≡ arrays_numbered view v i
+unfolding all_arrays
+get_arrays view v zero = refl
+get_arrays view v (suc zero) = refl
+get_arrays view v (suc (suc n)) =
+    let less : suc (suc n) - 2 ≡ n = omega arith in
+    let here : List ArrayDesc = option_to_list (array_picked view.tree.now.parents view.levels v (suc (suc n) - 2)) in
+    let far : here ≡ arrays_numbered view v (suc (suc n)) =
+    sym (ap (λ (b : Bool). cond b [] (cond (eqb (suc (suc n)) 1) [] here)) (ne_eqb (suc (suc n)) 0 (λ e. omega arith))
+    ∙ ap (λ (b : Bool). cond b [] here) (ne_eqb (suc (suc n)) 1 (λ e. omega arith))) in
+    get_map option_to_list (picks view.tree.now.parents view.levels v) n None
+    ∙ ap option_to_list (get_picks view.tree.now.parents view.levels v n ∙ ap (λ (k : ℕ). array_picked view.tree.now.parents view.levels v k) (sym less))
+    ∙ far
+
+-- what a source has and where it is read from is so by its number
+abbrev pub IsNumbered : View → ℕ → ℕ → Source → Type 0
+IsNumbered view v i s = IsOfView view v s × ((f : Image) → content_of f view.pool.now s ≡ content_at f view v i) × (arrays_at s ≡ arrays_numbered view v i)
+
 -- sources that are each that of its number
-pub sources_of : (view : View) (v : ℕ) (sources : List Source) → HaveNumbers view.levels → length sources ≡ 24 → ((i : ℕ) (s : Source) → slice_get sources i ≡ Some s → IsOfView view s × ((f : Image) → content_of f view.pool.now s ≡ content_at f view v i)) → AreSourcesOf view v sources
-unfolding all_places
+pub sources_of : (view : View) (v : ℕ) (sources : List Source) → HaveNumbers view.levels → length sources ≡ 24 → ((i : ℕ) (s : Source) → slice_get sources i ≡ Some s → IsNumbered view v i s) → AreSourcesOf view v sources
+unfolding all_places all_arrays
 sources_of view v sources have count each = record {
   count = count;
   each = λ i s at. (each i s at).0;
+  arrays = joined_same sources (all_arrays view v) same ∙ joined_picks view.tree.now.parents view.levels v;
   seen = λ f key. first_same view.tree.now.parents v key (map (content_of f view.pool.now) sources) (all_places f view v) (λ i. alike f i) ∙ seen_places f view v key;
 }
   where
@@ -203,6 +272,16 @@ sources_of view v sources have count each = record {
       | inr past ↦
           get_past (map (content_of f view.pool.now) sources) i [] (omega (arith, past, count, length-map sources (content_of f view.pool.now)))
           ∙ sym (get_past (all_places f view v) i [] (omega (arith, past, few_picks view.tree.now.parents view.levels v have, length-map (picks view.tree.now.parents view.levels v) (content_if f))))
+    ]
+
+    same : (i : ℕ) → get_or (map arrays_at sources) i [] ≡ get_or (all_arrays view v) i []
+    same i = elim (cases_lt i 24) [
+      | inl low ↦
+          let s = get_within sources i (omega (arith, low, count)) in
+          get_mapped arrays_at sources i s.0 [] s.1 ∙ (each i s.0 s.1).2 ∙ sym (get_arrays view v i)
+      | inr past ↦
+          get_past (map arrays_at sources) i [] (omega (arith, past, count, length-map sources arrays_at))
+          ∙ sym (get_past (all_arrays view v) i [] (omega (arith, past, few_picks view.tree.now.parents view.levels v have, length-map (picks view.tree.now.parents view.levels v) (λ (o : Option ArrayDesc). option_to_list o))))
     ]
 
 -- a cursor's arrays are no more than may be picked

@@ -18,12 +18,12 @@ use Rattle.strat_level.specs.Levels.{desc_for, is_for}
 use Rattle.strat_level.proofs.PutLemmas.{stands_while}
 use Rattle.strat_recovery.specs.TableOver.{are_known}
 use Rattle.strat_recovery.proofs.BadLemmas.{contained_at}
-use Rattle.strat_cursor.specs.Looking.{MayBeFound, arrays_there, levels_there}
+use Rattle.strat_cursor.specs.Looking.{MayBeFound, arrays_there, levels_there, arrays_asked}
 use Rattle.strat_cursor.specs.Ranges.{sealed_held}
 use Rattle.strat_cursor.specs.Cursors.{CursorOver, OpenCursor, zeros_pinned, without_cursor, moved_at, moved_on}
 use Rattle.strat_cursor.specs.Held.{cursor_held}
 use Rattle.strat_model.specs.Pairs.{Pairs}
-use Rattle.strat_cursor.specs.Pins.{arena_pinned, arenas_of, shares_of, SharesFollow, ListsStand, HoldShares, IsListKnown, IsPinned, ArePinned, MayBePinned, TakesShares, GivesShares, IsCopyOf, IsCopyIfAny, arrays_asked}
+use Rattle.strat_cursor.specs.Pins.{arena_pinned, arenas_of, shares_of, SharesFollow, ListsStand, HoldShares, IsListKnown, IsPinned, ArePinned, MayBePinned, TakesShares, GivesShares, IsCopyOf, IsCopyIfAny}
 
 -- how many shares a cursor has in an arena
 abbrev pub takes : OpenCursor → ℕ → ℕ

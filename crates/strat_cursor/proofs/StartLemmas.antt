@@ -9,8 +9,8 @@ use Rattle.strat_base.specs.Tree.{Parents}
 use Rattle.strat_base.specs.declared.descriptors.ArrayDesc.{ArrayDesc}
 use Rattle.strat_base.specs.declared.descriptors.LevelDesc.{LevelDesc}
 use Rattle.strat_level.specs.Levels.{desc_for, level_numbered}
-use Rattle.strat_cursor.specs.Looking.{levels_there}
-use Rattle.strat_cursor.specs.Pins.{arrays_asked, arrays_before}
+use Rattle.strat_cursor.specs.Looking.{levels_there, arrays_asked}
+use Rattle.strat_cursor.specs.Pins.{arrays_before}
 
 -- the levels that are there in front of one more
 one_more_level : (parents : Parents) (v : ℕ) (level : Option LevelDesc)

@@ -19,12 +19,12 @@ use Rattle.strat_cursor.specs.Ahead.{is_after, range_after}
 use Rattle.strat_cursor.specs.Contest.{head_in, LeadsAll, NoneAhead}
 use Rattle.strat_cursor.specs.Looking.{LooksThrough, HaveOwnIds}
 use Rattle.strat_cursor.specs.Picking.{AreSourcesOf}
-use Rattle.strat_cursor.specs.Ranges.{arrays_in_view, arrays_picked, FillsPage, IsMapSeen, IsPageOf}
+use Rattle.strat_cursor.specs.Ranges.{FillsPage, IsMapSeen, IsPageOf}
 use Rattle.strat_state.specs.LookUp.{first_live}
 use Rattle.strat_cursor.specs.Sources.{content_of}
 use Rattle.strat_cursor.proofs.ThroughLemmas.{through_trans}
 use Rattle.strat_cursor.specs.Turning.{is_under, AddsValue, HandlesKey, AreSettled, AreUpTo, IsLater}
-use Rattle.strat_cursor.specs.Views.{zeros_in}
+use Rattle.strat_cursor.specs.Views.{zeros_in, arrays_read}
 use Rattle.strat_cursor.specs.declared.desks.Desk.{Desk}
 use Rattle.strat_cursor.specs.declared.sources.Source.{Source}
 use Rattle.strat_cursor.specs.declared.view.View.{View}
@@ -70,9 +70,9 @@ handled_len e hi limit last next out new few handles = elim handles [
 
 -- what a scan has told since it began, in each image that it may be read in
 pub record Telling (old now : DiskView) (view : View) (v : ℕ) (hi : List ℕ) (sources : List Source) (c d : Blocks) (first last : List ℕ) (from desks : List Desk) (before out : Pairs) : Type 0 where
-  pub looks : LooksThrough old now (arrays_in_view view.levels) c d
-  pub up : (f : Image) (lo : List ℕ) (m : Pairs) → old.content ≡ Some f → HaveOwnIds (arrays_in_view view.levels) → AreUpTo f c view.pool.now view.tree.now.parents v lo first sources from
-      → IsMapSeen f view.tree.now.parents (zeros_in view) (arrays_picked view.tree.now.parents view.levels v) v m
+  pub looks : LooksThrough old now (arrays_read view v) c d
+  pub up : (f : Image) (lo : List ℕ) (m : Pairs) → old.content ≡ Some f → HaveOwnIds (arrays_read view v) → AreUpTo f c view.pool.now view.tree.now.parents v lo first sources from
+      → IsMapSeen f view.tree.now.parents (zeros_in view) (arrays_read view v) v m
       → AreUpTo f d view.pool.now view.tree.now.parents v lo last sources desks × (before ++ range_after m lo hi first ≡ out ++ range_after m lo hi last)
 
 page_done : (pairs out rest : Pairs) (limit : ℕ) → pairs ≡ out ++ rest → rest ≡ [] → length out ≤ limit → IsPageOf pairs limit out false
@@ -91,13 +91,13 @@ page_more pairs out rest p limit is few full =
 
 module _ (old now : DiskView) (view : View) (tree : IsTree view.tree.now.parents) (v : ℕ) (hi : List ℕ) (sources : List Source) (c d : Blocks) (first last : List ℕ) (from desks : List Desk) (before out : Pairs) (are : AreSourcesOf view v sources)
     (telling : Telling old now view v hi sources c d first last from desks before out) (settled : AreSettled view.tree.now.parents v view.pool.now sources desks) where
-  value_is : (f : Image) (m : Pairs) → IsMapSeen f view.tree.now.parents (zeros_in view) (arrays_picked view.tree.now.parents view.levels v) v m → (key : List ℕ) (o : Option Entry) → first_live view.tree.now.parents (map (content_of f view.pool.now) sources) v key ≡ o
+  value_is : (f : Image) (m : Pairs) → IsMapSeen f view.tree.now.parents (zeros_in view) (arrays_read view v) v m → (key : List ℕ) (o : Option Entry) → first_live view.tree.now.parents (map (content_of f view.pool.now) sources) v key ≡ o
       → value_of m key ≡ option_and_then (λ e. e.value) o
   value_is f m seen key o is = seen.each key ∙ ap (λ (x : Option Entry). option_and_then (λ e. e.value) x) (sym (are.seen f key) ∙ is)
 
   -- no source has an entry left: all was told
-  pub none_left : (limit : ℕ) → NoneAhead view.pool.now sources desks → length out ≤ limit → (f : Image) (lo : List ℕ) (m : Pairs) → old.content ≡ Some f → HaveOwnIds (arrays_in_view view.levels)
-      → AreUpTo f c view.pool.now view.tree.now.parents v lo first sources from → IsMapSeen f view.tree.now.parents (zeros_in view) (arrays_picked view.tree.now.parents view.levels v) v m → IsPageOf (before ++ range_after m lo hi first) limit out false
+  pub none_left : (limit : ℕ) → NoneAhead view.pool.now sources desks → length out ≤ limit → (f : Image) (lo : List ℕ) (m : Pairs) → old.content ≡ Some f → HaveOwnIds (arrays_read view v)
+      → AreUpTo f c view.pool.now view.tree.now.parents v lo first sources from → IsMapSeen f view.tree.now.parents (zeros_in view) (arrays_read view v) v m → IsPageOf (before ++ range_after m lo hi first) limit out false
   none_left limit none few f lo m exposed own up seen =
       let both = telling.up f lo m exposed own up seen in
       page_done (before ++ range_after m lo hi first) out (range_after m lo hi last) limit both.1
@@ -106,15 +106,15 @@ module _ (old now : DiskView) (view : View) (tree : IsTree view.tree.now.parents
 
   module _ (w : ℕ) (low : w < length sources) (e : Entry) (fits : fits_fields e ≡ true) (leads : LeadsAll view.pool.now sources desks w) (here : head_in view.pool.now sources desks w ≡ Some e) where
     -- the least key is not below hi: all was told
-    pub past_left : (limit : ℕ) → is_under hi e.key ≡ false → length out ≤ limit → (f : Image) (lo : List ℕ) (m : Pairs) → old.content ≡ Some f → HaveOwnIds (arrays_in_view view.levels)
-        → AreUpTo f c view.pool.now view.tree.now.parents v lo first sources from → IsMapSeen f view.tree.now.parents (zeros_in view) (arrays_picked view.tree.now.parents view.levels v) v m → IsPageOf (before ++ range_after m lo hi first) limit out false
+    pub past_left : (limit : ℕ) → is_under hi e.key ≡ false → length out ≤ limit → (f : Image) (lo : List ℕ) (m : Pairs) → old.content ≡ Some f → HaveOwnIds (arrays_read view v)
+        → AreUpTo f c view.pool.now view.tree.now.parents v lo first sources from → IsMapSeen f view.tree.now.parents (zeros_in view) (arrays_read view v) v m → IsPageOf (before ++ range_after m lo hi first) limit out false
     past_left limit past few f lo m exposed own up seen =
         let both = telling.up f lo m exposed own up seen in
         page_done (before ++ range_after m lo hi first) out (range_after m lo hi last) limit both.1
         (range_done lo hi last m (λ key is. value_is f m seen key None (below_seen f d view.pool.now view.tree.now.parents tree v lo last sources desks settled both.0 w e leads here key (range_come lo hi last key is) (past_hi lo hi last e.key key past is))))
         few
 
-    module _ (f : Image) (lo : List ℕ) (m : Pairs) (up : AreUpTo f d view.pool.now view.tree.now.parents v lo last sources desks) (seen : IsMapSeen f view.tree.now.parents (zeros_in view) (arrays_picked view.tree.now.parents view.levels v) v m) (after : is_after last e.key ≡ true) (under : is_under hi e.key ≡ true) where
+    module _ (f : Image) (lo : List ℕ) (m : Pairs) (up : AreUpTo f d view.pool.now view.tree.now.parents v lo last sources desks) (seen : IsMapSeen f view.tree.now.parents (zeros_in view) (arrays_read view v) v m) (after : is_after last e.key ≡ true) (under : is_under hi e.key ≡ true) where
       lead_source : (s : Source) × (slice_get sources w ≡ Some s)
       lead_source = get_within sources w low
 
@@ -144,19 +144,19 @@ module _ (old now : DiskView) (view : View) (tree : IsTree view.tree.now.parents
           ∙ ap (λ (ps : Pairs). ps ++ range_after m lo hi e.key) (sym adds.1)
 
     -- a key with a value, where no more may be told
-    pub more_left : (limit : ℕ) → is_after last e.key ≡ true → is_under hi e.key ≡ true → is_some e.value ≡ true → length out ≤ limit → limit ≤ length out → (f : Image) (lo : List ℕ) (m : Pairs) → old.content ≡ Some f → HaveOwnIds (arrays_in_view view.levels)
-        → AreUpTo f c view.pool.now view.tree.now.parents v lo first sources from → IsMapSeen f view.tree.now.parents (zeros_in view) (arrays_picked view.tree.now.parents view.levels v) v m → IsPageOf (before ++ range_after m lo hi first) limit out true
+    pub more_left : (limit : ℕ) → is_after last e.key ≡ true → is_under hi e.key ≡ true → is_some e.value ≡ true → length out ≤ limit → limit ≤ length out → (f : Image) (lo : List ℕ) (m : Pairs) → old.content ≡ Some f → HaveOwnIds (arrays_read view v)
+        → AreUpTo f c view.pool.now view.tree.now.parents v lo first sources from → IsMapSeen f view.tree.now.parents (zeros_in view) (arrays_read view v) v m → IsPageOf (before ++ range_after m lo hi first) limit out true
     more_left limit after under some few full f lo m exposed own up seen =
         let both = telling.up f lo m exposed own up seen in
         let x = value_some e.value some in
         page_more (before ++ range_after m lo hi first) out (range_after m lo hi e.key) (e.key, x.0) limit (both.1 ∙ ap (λ (r : Pairs). out ++ r) (told_first f lo m both.0 seen after under x.0 x.1)) few full
 
     -- the least key was handled, and its source went on
-    pub tells_on : (new : DiskView) (limit : ℕ) (g : Blocks) (next : List ℕ) (after : List Desk) (told : Pairs) → HandlesKey e hi limit last next out told None → LooksThrough now new (arrays_in_view view.levels) d g
-        → ((f : Image) (lo prev : List ℕ) → now.content ≡ Some f → HaveOwnIds (arrays_in_view view.levels) → IsLater prev next → AreUpTo f d view.pool.now view.tree.now.parents v lo prev sources desks → AreUpTo f g view.pool.now view.tree.now.parents v lo next sources after)
+    pub tells_on : (new : DiskView) (limit : ℕ) (g : Blocks) (next : List ℕ) (after : List Desk) (told : Pairs) → HandlesKey e hi limit last next out told None → LooksThrough now new (arrays_read view v) d g
+        → ((f : Image) (lo prev : List ℕ) → now.content ≡ Some f → HaveOwnIds (arrays_read view v) → IsLater prev next → AreUpTo f d view.pool.now view.tree.now.parents v lo prev sources desks → AreUpTo f g view.pool.now view.tree.now.parents v lo next sources after)
         → Telling old new view v hi sources c g first next from after before told
     tells_on new limit g next after told handles looks goes = record {
-      looks = through_trans old now new (arrays_in_view view.levels) c d g telling.looks looks;
+      looks = through_trans old now new (arrays_read view v) c d g telling.looks looks;
       up = λ f lo m exposed own up seen.
           let both = telling.up f lo m exposed own up seen in (
             goes f lo last (telling.looks.disk.same ∙ exposed) own (handled_later e hi limit last next out told fits handles) both.0,
@@ -175,8 +175,8 @@ entry_some (Some e) some = (e, refl)
 pub ended : (old now : DiskView) (view : View) (tree : IsTree view.tree.now.parents) (v : ℕ) (hi : List ℕ) (sources : List Source) (c d : Blocks) (first last : List ℕ) (from desks : List Desk) (before out : Pairs) (are : AreSourcesOf view v sources)
     (telling : Telling old now view v hi sources c d first last from desks before out) (settled : AreSettled view.tree.now.parents v view.pool.now sources desks)
     (w : ℕ) (low : w < length sources) (e : Entry) (fits : fits_fields e ≡ true) (leads : LeadsAll view.pool.now sources desks w) (here : head_in view.pool.now sources desks w ≡ Some e) (limit : ℕ) (next : List ℕ) (told : Pairs) (more : Bool)
-    → length out ≤ limit → HandlesKey e hi limit last next out told (Some more) → (f : Image) (lo : List ℕ) (m : Pairs) → old.content ≡ Some f → HaveOwnIds (arrays_in_view view.levels)
-    → AreUpTo f c view.pool.now view.tree.now.parents v lo first sources from → IsMapSeen f view.tree.now.parents (zeros_in view) (arrays_picked view.tree.now.parents view.levels v) v m → IsPageOf (before ++ range_after m lo hi first) limit told more
+    → length out ≤ limit → HandlesKey e hi limit last next out told (Some more) → (f : Image) (lo : List ℕ) (m : Pairs) → old.content ≡ Some f → HaveOwnIds (arrays_read view v)
+    → AreUpTo f c view.pool.now view.tree.now.parents v lo first sources from → IsMapSeen f view.tree.now.parents (zeros_in view) (arrays_read view v) v m → IsPageOf (before ++ range_after m lo hi first) limit told more
 ended old now view tree v hi sources c d first last from desks before out are telling settled w low e fits leads here limit next told true few handles f lo m exposed own up seen =
     subst (λ (ps : Pairs). IsPageOf (before ++ range_after m lo hi first) limit ps true) (sym handles.4)
     (more_left old now view tree v hi sources c d first last from desks before out are telling settled w low e fits leads here limit handles.0 handles.1 handles.2 few handles.3 f lo m exposed own up seen)

@@ -38,14 +38,15 @@ id_names (x ∷ arrays) a b own (inl one) (inr other) same = absurd (one_id x ar
 id_names (x ∷ arrays) a b own (inr one) (inl other) same = absurd (one_id x arrays a own one (same ∙ ap (λ (y : ArrayDesc). y.id) other))
 id_names (x ∷ arrays) a b own (inr one) (inr other) same = id_names arrays a b (and_parts _ (is_distinct (map (λ a. a.id) arrays)) own).1 one other same
 
--- blocks in a cache stay as an image has them while only such are added that stand on the disk
-pub still_same : (content : Option Image) (f : Image) (arrays : List ArrayDesc) (c d : Blocks) → content ≡ Some f → HaveOwnIds arrays
+-- the blocks of one of several arrays stay in a cache as an image has them while only such are added that stand on the disk
+pub still_one : (content : Option Image) (f : Image) (arrays : List ArrayDesc) (c d : Blocks) → content ≡ Some f → HaveOwnIds arrays
     → ((k : ℕ × ℕ) (x : List Entry) → Contains d.entries (k, x) → Contains c.entries (k, x) ⊎ ((a : ArrayDesc) × Contains arrays a × IsBlockRead content a.id (blocks_of a.extents) k x))
-    → ((a : ArrayDesc) (index block : ℕ) (x : List Entry) → Contains arrays a → Contains c.entries ((a.id, index), x) → slice_get (blocks_of a.extents) index ≡ Some block → block_on f block ≡ Some x)
-    → (a : ArrayDesc) (index block : ℕ) (x : List Entry) → Contains arrays a → Contains d.entries ((a.id, index), x) → slice_get (blocks_of a.extents) index ≡ Some block → block_on f block ≡ Some x
-still_same content f arrays c d exposed own cached same a index block x of there at =
+    → (a : ArrayDesc) → Contains arrays a
+    → ((index block : ℕ) (x : List Entry) → Contains c.entries ((a.id, index), x) → slice_get (blocks_of a.extents) index ≡ Some block → block_on f block ≡ Some x)
+    → (index block : ℕ) (x : List Entry) → Contains d.entries ((a.id, index), x) → slice_get (blocks_of a.extents) index ≡ Some block → block_on f block ≡ Some x
+still_one content f arrays c d exposed own cached a of same index block x there at =
     elim (cached (a.id, index) x there) [
-      | inl before ↦ same a index block x of before at
+      | inl before ↦ same index block x before at
       | inr got ↦
           let read = got.2 in
           let one : got.0 ≡ a = id_names arrays got.0 a own (contained_among arrays got.0 got.1) (contained_among arrays a of) (sym read.mine) in
@@ -53,6 +54,14 @@ still_same content f arrays c d exposed own cached same a index block x of there
           let here : block ≡ read.block = cc in
           ap (block_on f) here ∙ read.read f exposed
     ]
+
+-- and so those of all of them
+pub still_same : (content : Option Image) (f : Image) (arrays : List ArrayDesc) (c d : Blocks) → content ≡ Some f → HaveOwnIds arrays
+    → ((k : ℕ × ℕ) (x : List Entry) → Contains d.entries (k, x) → Contains c.entries (k, x) ⊎ ((a : ArrayDesc) × Contains arrays a × IsBlockRead content a.id (blocks_of a.extents) k x))
+    → ((a : ArrayDesc) (index block : ℕ) (x : List Entry) → Contains arrays a → Contains c.entries ((a.id, index), x) → slice_get (blocks_of a.extents) index ≡ Some block → block_on f block ≡ Some x)
+    → (a : ArrayDesc) (index block : ℕ) (x : List Entry) → Contains arrays a → Contains d.entries ((a.id, index), x) → slice_get (blocks_of a.extents) index ≡ Some block → block_on f block ≡ Some x
+still_same content f arrays c d exposed own cached same a index block x of there at =
+    still_one content f arrays c d exposed own cached a of (λ i b y held place. same a i b y of held place) index block x there at
 
 pub still_cached : (old new : DiskView) (f : Image) (next : ℕ) (arrays : List ArrayDesc) (c d : Blocks) → LooksThrough old new arrays c d → old.content ≡ Some f
     → ((a : ArrayDesc) → Contains arrays a → a.id < next) → HaveOwnIds arrays → AreCachedFrom f next arrays c → AreCachedFrom f next arrays d

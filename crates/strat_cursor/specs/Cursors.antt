@@ -95,6 +95,10 @@ without_cursor number cursors = filter (λ c. not (c.number == number)) cursors
 abbrev pub arrays_named : {L : Type 0} → List (CursorOver L) → List ArrayDesc
 arrays_named cursors = flat_map (λ c. c.arrays) cursors
 
+-- the arrays that the cursor of a number names, if there is one
+abbrev pub arrays_of_number : {L : Type 0} → ℕ → List (CursorOver L) → List ArrayDesc
+arrays_of_number number cursors = arrays_named (filter (λ c. c.number == number) cursors)
+
 -- some cursor names the array of a number
 abbrev pub is_array_named : {L : Type 0} → List (CursorOver L) → ℕ → Bool
 is_array_named cursors id = list_any (λ c. list_any (λ a. a.id == id) c.arrays) cursors

@@ -1,5 +1,5 @@
 -- What a look-up finds in the levels of a store, through a cache of blocks.
-use Rattle.std.specs.Prelude.{◌≡◌, ◌<◌, ℕ, ◌+◌, Bool, true, false, List, [], ◌∷◌, length, ◌⊎◌, Contains, flat_map, map, slice_get, Option, Some, None, unwrap_or, option_and_then, IsTrue}
+use Rattle.std.specs.Prelude.{◌≡◌, ◌<◌, ℕ, ◌+◌, ◌^◌, Bool, true, false, List, [], ◌∷◌, length, ◌⊎◌, Contains, flat_map, map, slice_get, Option, Some, None, unwrap_or, option_and_then, IsTrue}
 use Rattle.std.specs.List.{filter_map}
 use Rattle.strat_array.specs.Kept.{Blocks, IsBlockRead}
 use Rattle.strat_array.specs.Within.{AreWithin, IsNoBlock}
@@ -9,6 +9,7 @@ use Rattle.strat_base.specs.Entries.{Entry, is_ascending}
 use Rattle.strat_base.specs.Tree.{Parents}
 use Rattle.strat_base.specs.declared.descriptors.ArrayDesc.{ArrayDesc}
 use Rattle.strat_base.specs.declared.descriptors.LevelDesc.{LevelDesc}
+use Rattle.strat_crash.specs.Faults.{ReadsAtMost}
 use Rattle.strat_crash.specs.Image.{Image}
 use Rattle.strat_crash.specs.Moments.{DiskView, OnlyReads}
 use Rattle.strat_format.specs.Arrays.{blocks_of, block_on, entries_on}
@@ -70,6 +71,10 @@ pub record NamesNoBlock (content : Option Image) (arrays : List ArrayDesc) (b : 
 abbrev pub HaveOwnIds : List ArrayDesc → Type 0
 HaveOwnIds arrays = IsTrue (is_distinct (map (λ a. a.id) arrays))
 
+-- of each level the array that is asked at a version, if it has one, the shallowest level's first
+abbrev pub arrays_asked : Parents → List (Option LevelDesc) → ℕ → List ArrayDesc
+arrays_asked parents levels v = filter_map (λ level. desc_for parents level v) (levels_there levels)
+
 -- the array that is asked at a version in the level of a number
 abbrev pub asked_of_level : Parents → List (Option LevelDesc) → ℕ → ℕ → Option ArrayDesc
 asked_of_level parents levels number v =
@@ -95,14 +100,18 @@ decides seen.None = false
 decides seen.Gone = true
 decides seen.Put = true
 
--- how many blocks a look-up reads of an array at most, which has fewer than 2^n; of none it reads none
-abbrev pub reads_of_array : ℕ → Option ArrayDesc → ℕ
-reads_of_array n None = 0
-reads_of_array n (Some a) = n + 1 + length (blocks_of a.extents)
+-- each of these arrays has fewer blocks than 2^n
+abbrev pub HaveFewBlocks : ℕ → List ArrayDesc → Type 0
+HaveFewBlocks n arrays =
+    (a : ArrayDesc) → Contains arrays a → length (blocks_of a.extents) < 2 ^ n
 
--- how many blocks a look-up at a version reads in levels at most, of each array fewer than 2^n
-abbrev pub reads_in : ℕ → Parents → ℕ → List (Option LevelDesc) → ℕ
-reads_in n parents v [] = 0
-reads_in n parents v (level ∷ levels) =
-    reads_of_array n (option_and_then (λ l. desc_for parents l v) level)
-    + reads_in n parents v levels
+-- how many blocks of arrays are read at most, each of fewer than 2^n: n + 1 by a search, and each once more
+abbrev pub reads_of_arrays : ℕ → List ArrayDesc → ℕ
+reads_of_arrays n [] = 0
+reads_of_arrays n (a ∷ arrays) =
+    n + 1 + length (blocks_of a.extents) + reads_of_arrays n arrays
+
+-- of these arrays no more is read: in each a search, n + 1 of its blocks where it has fewer than 2^n, and each block once more
+abbrev pub ReadsArrays : List ArrayDesc → ℕ → ℕ → Type 0
+ReadsArrays arrays before now =
+    (n : ℕ) → HaveFewBlocks n arrays → ReadsAtMost (reads_of_arrays n arrays) before now

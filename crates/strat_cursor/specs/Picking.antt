@@ -1,6 +1,7 @@
 -- The sources of a view at a version: level 0, the sealed one, and the array of each level.
-use Rattle.std.specs.Prelude.{◌≡◌, ◌≤◌, ℕ, ◌+◌, ◌-◌, ◌==◌, if◌then◌else◌, List, [], length, map, Contains, Option, None, Some, option_and_then, slice_get}
+use Rattle.std.specs.Prelude.{◌≡◌, ◌≤◌, ℕ, ◌+◌, ◌-◌, ◌==◌, if◌then◌else◌, List, [], length, map, flat_map, Contains, Option, None, Some, option_and_then, slice_get}
 use Rattle.strat_arena.specs.declared.pool.PoolEntry.{PoolEntry}
+use Rattle.std.specs.Option.{option_to_list}
 use Rattle.strat_base.specs.Entries.{Entry}
 use Rattle.strat_base.specs.Tree.{Parents}
 use Rattle.strat_base.specs.declared.descriptors.ArrayDesc.{ArrayDesc}
@@ -8,9 +9,9 @@ use Rattle.strat_crash.specs.Image.{Image}
 use Rattle.strat_level.specs.Levels.{desc_for, level_numbered}
 use Rattle.strat_level.specs.Memtable.{ItemList, entries_held}
 use Rattle.strat_state.specs.LookUp.{first_live}
-use Rattle.strat_cursor.specs.Ranges.{arrays_in_view, arrays_picked, content_on, seen_in}
+use Rattle.strat_cursor.specs.Ranges.{content_on, seen_in}
 use Rattle.strat_cursor.specs.Sources.{MayBeRead, arrays_at, content_of}
-use Rattle.strat_cursor.specs.Views.{sealed_in, zeros_in}
+use Rattle.strat_cursor.specs.Views.{arrays_read, sealed_in, zeros_in}
 use Rattle.strat_cursor.specs.declared.sources.Source.{Source}
 use Rattle.strat_cursor.specs.declared.view.Picked.{Picked}
 use Rattle.strat_cursor.specs.declared.view.Picked.TheVariants as picked
@@ -45,17 +46,24 @@ content_at f view v i =
     else (if i == 1 then sealed_if view.pool.now (sealed_in view)
     else content_if f (array_picked view.tree.now.parents view.levels v (i - 2)))
 
--- a source of a view can be read, and its array is one of the view's
-pub record IsOfView (view : View) (s : Source) : Type 0 where
-  pub read : MayBeRead view.pool.now s
-  pub there : (a : ArrayDesc) → Contains (arrays_at s) a → Contains (arrays_in_view view.levels) a
+-- the array of the source of a number, if it has one
+abbrev pub arrays_numbered : View → ℕ → ℕ → List ArrayDesc
+arrays_numbered view v i =
+    if i == 0 then []
+    else (if i == 1 then []
+    else option_to_list (array_picked view.tree.now.parents view.levels v (i - 2)))
 
--- these are the sources of a view at a version: each is of the view, and look-ups through them find what
--- look-ups through the view do
+-- a source of a view can be read, and its array is one of those that are read at a version
+pub record IsOfView (view : View) (v : ℕ) (s : Source) : Type 0 where
+  pub read : MayBeRead view.pool.now s
+  pub there : (a : ArrayDesc) → Contains (arrays_at s) a → Contains (arrays_read view v) a
+
+-- these are the sources of a view at a version: each is of the view, they have the arrays that are read,
+-- and look-ups through them find what look-ups through the view do
 pub record AreSourcesOf (view : View) (v : ℕ) (sources : List Source) : Type 0 where
   pub count : length sources ≡ 24
-  pub each : (i : ℕ) (s : Source) → slice_get sources i ≡ Some s → IsOfView view s
+  pub each : (i : ℕ) (s : Source) → slice_get sources i ≡ Some s → IsOfView view v s
+  pub arrays : flat_map arrays_at sources ≡ arrays_read view v
   pub seen : (f : Image) (key : List ℕ)
       → first_live view.tree.now.parents (map (content_of f view.pool.now) sources) v key
-      ≡ seen_in f view.tree.now.parents (zeros_in view)
-      (arrays_picked view.tree.now.parents view.levels v) v key
+      ≡ seen_in f view.tree.now.parents (zeros_in view) (arrays_read view v) v key

@@ -1,5 +1,5 @@
 -- What cursors hold on to: shares in arenas, and lists and arrays that they read.
-use Rattle.std.specs.Prelude.{◌≡◌, ◌≤◌, ◌<◌, ◌+◌, ◌==◌, ℕ, List, [], ◌∷◌, ◌++◌, length, count_by, flat_map, filter_map, take, Option, Some, None, Contains, IfSome, IsTrue}
+use Rattle.std.specs.Prelude.{◌≡◌, ◌≤◌, ◌<◌, ◌+◌, ◌==◌, ℕ, List, [], ◌∷◌, ◌++◌, length, count_by, flat_map, take, Option, Some, None, Contains, IfSome, IsTrue}
 use Rattle.strat_arena.specs.PoolView.{pool_entry, arena_at, shares_at}
 use Rattle.strat_arena.specs.declared.pool.PoolEntry.{PoolEntry}
 use Rattle.strat_base.specs.Tree.{Parents}
@@ -7,8 +7,7 @@ use Rattle.strat_base.specs.declared.descriptors.ArrayDesc.{ArrayDesc}
 use Rattle.strat_level.specs.Memtable.{ItemList, Memtable, entries_held, ListStands}
 use Rattle.strat_recovery.specs.TableOver.{are_known}
 use Rattle.strat_base.specs.declared.descriptors.LevelDesc.{LevelDesc}
-use Rattle.strat_level.specs.Levels.{desc_for}
-use Rattle.strat_cursor.specs.Looking.{MayBeFound, arrays_there, levels_there}
+use Rattle.strat_cursor.specs.Looking.{MayBeFound, arrays_asked, arrays_there}
 use Rattle.strat_cursor.specs.Cursors.{OpenCursor, CursorsView}
 
 -- the arena of a list, if there is one
@@ -111,10 +110,6 @@ pub record IsStarted (old new : CursorsView) (version : ℕ) (lo hi : List ℕ) 
     hi = hi;
   }
   pub after : new ≡ record old { opened = old.opened ++ cursor ∷ []; next = old.next + 1 }
-
--- of each level the array that is read at a version, if it has one, the shallowest level's first
-abbrev pub arrays_asked : Parents → List (Option LevelDesc) → ℕ → List ArrayDesc
-arrays_asked parents levels v = filter_map (λ level. desc_for parents level v) (levels_there levels)
 
 -- of each of the first levels the array that is read at a version, if it has one
 abbrev pub arrays_before : Parents → List (Option LevelDesc) → ℕ → ℕ → List ArrayDesc

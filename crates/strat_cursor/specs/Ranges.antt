@@ -1,17 +1,16 @@
 -- The pairs of a version in a range, as look-ups through level 0 and the levels find them.
-use Rattle.std.specs.Prelude.{◌≡◌, ◌≤◌, ℕ, Bool, true, nat_lt, List, [], ◌∷◌, ◌++◌, length, map, filter_map, take, Option, None, Some, option_and_then, unwrap_or}
+use Rattle.std.specs.Prelude.{◌≡◌, ◌≤◌, ℕ, Bool, true, nat_lt, List, [], ◌∷◌, ◌++◌, length, map, take, Option, None, Some, option_and_then, unwrap_or}
 use Rattle.strat_arena.specs.declared.pool.PoolEntry.{PoolEntry}
 use Rattle.strat_base.specs.Entries.{Entry}
 use Rattle.strat_base.specs.Tree.{Parents}
 use Rattle.strat_base.specs.declared.descriptors.ArrayDesc.{ArrayDesc}
 use Rattle.strat_crash.specs.Image.{Image}
 use Rattle.strat_format.specs.Arrays.{blocks_of, entries_on}
-use Rattle.strat_level.specs.Levels.{desc_for}
 use Rattle.strat_level.specs.Memtable.{ItemList, entries_held}
 use Rattle.strat_model.specs.Kept.{IsMap}
 use Rattle.strat_model.specs.Pairs.{Pairs, value_of}
 use Rattle.strat_state.specs.LookUp.{first_live}
-use Rattle.strat_cursor.specs.Looking.{arrays_there, levels_there}
+use Rattle.strat_cursor.specs.Looking.{arrays_asked, arrays_there}
 use Rattle.strat_cursor.specs.declared.view.Picked.{Picked}
 use Rattle.strat_cursor.specs.declared.view.Picked.TheVariants as picked
 
@@ -22,8 +21,7 @@ arrays_in_view (picked.Pinned arrays) = arrays.now
 
 -- the arrays that are asked at a version, of each level one at most, the shallowest level's first
 abbrev pub arrays_picked : Parents → Picked → ℕ → List ArrayDesc
-arrays_picked parents (picked.Live levels) v =
-    filter_map (λ level. desc_for parents level v) (levels_there levels.now)
+arrays_picked parents (picked.Live levels) v = arrays_asked parents levels.now v
 arrays_picked parents (picked.Pinned arrays) v = arrays.now
 
 -- what a view has of a sealed level 0, in a list

@@ -1,5 +1,5 @@
 -- The places that a range is read from, each with the entries that it has left.
-use Rattle.std.specs.Prelude.{◌≡◌, ◌<◌, ℕ, ◌+◌, ◌-◌, ◌*◌, ◌^◌, ⊤, Bool, false, if◌then◌else◌, List, [], ◌∷◌, length, drop, find, slice_get, Contains, Option, None, Some, option_and_then, unwrap_or, IfSome, IsTrue}
+use Rattle.std.specs.Prelude.{◌≡◌, ◌<◌, ℕ, ◌+◌, ◌-◌, ◌*◌, ◌^◌, ⊤, Bool, false, if◌then◌else◌, List, [], ◌∷◌, length, drop, find, slice_get, Option, None, Some, option_and_then, unwrap_or, IfSome, IsTrue}
 use Rattle.std.specs.List.{list_all}
 use Rattle.strat_arena.specs.declared.pool.PoolEntry.{PoolEntry}
 use Rattle.strat_array.specs.Blocks.{lists_on}
@@ -148,8 +148,3 @@ abbrev pub reads_of_source : ℕ → Source → ℕ
 reads_of_source n source.None = 0
 reads_of_source n (source.Zero list) = 0
 reads_of_source n (source.Array a) = n + 1 + length (blocks_of a.now.extents)
-
--- each of these arrays has fewer blocks than 2^n
-abbrev pub HaveFewBlocks : ℕ → List ArrayDesc → Type 0
-HaveFewBlocks n arrays =
-    (a : ArrayDesc) → Contains arrays a → length (blocks_of a.extents) < 2 ^ n

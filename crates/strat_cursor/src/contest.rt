@@ -11,7 +11,7 @@ use crate::desks::Desk;
 use crate::sources::{Source, head};
 use std::alloc::Global;
 use strat_arena::ArenaPool;
-use strat_base::{Entry, NoMemory};
+use strat_base::{Entry, NoMemory, key_order};
 
 /// The first entry that a source has left, if there is one. O(1), and nothing is read.
 #[tactic(auto, using(crate::proofs::ContestLemmas::get_here))]
@@ -35,7 +35,7 @@ fn is_before(e: &Entry<'_>, a: usize, f: &Entry<'_>, b: usize) -> bool
     ensures ok { result ≡ is_ahead (Some (keyed (entry_of e.now))) a
         (Some (keyed (entry_of f.now))) b }
 {
-    e.key.cmp(f.key).then(a.cmp(&b)).is_lt()
+    key_order(e.key, f.key).then(a.cmp(&b)).is_lt()
 }
 
 /// Whether a source is ahead of another. A comparison of keys where they lie.

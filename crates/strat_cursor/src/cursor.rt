@@ -10,7 +10,7 @@ ghost use Rattle.strat_crash.specs.Moments.{Exposes};
 ghost use Rattle.strat_level.specs.Memtable.{ListStands};
 ghost use Rattle.strat_model.specs.Pairs.{Pairs};
 ghost use Rattle.strat_cursor.specs.Cursors.{goes_on, moved_on, pairs_left, IsMapPinned, MayGoOn, TellsNext};
-ghost use Rattle.strat_cursor.specs.Looking.{LooksThrough, NamesNoBlock};
+ghost use Rattle.strat_cursor.specs.Looking.{LooksThrough, NamesNoBlock, ReadsArrays};
 ghost use Rattle.strat_cursor.specs.Pins.{IsPinned, ListsStand, GivesShares, arenas_of, arena_pinned};
 ghost use Rattle.strat_cursor.specs.Ranges.{FillsPage, IsPageOf};
 
@@ -139,6 +139,7 @@ impl Cursor {
         ensures damaged { (b : ℕ) → IsErrOf result (Damaged b)
             → NamesNoBlock (D.view disk.old).content self.now.arrays b }
         ensures cause { HasCause Device (D.faults disk.old) (D.faults disk.new) result }
+        ensures reads { ReadsArrays self.now.arrays (D.reads disk.old) (D.reads disk.new) }
     {
         let Some(from) = &self.from else {
             return Ok(false);
@@ -201,6 +202,7 @@ impl Cursor {
         ensures damaged { (b : ℕ) → IsErrOf result (Damaged b)
             → NamesNoBlock (D.view disk.old).content self.old.arrays b }
         ensures cause { HasCause Device (D.faults disk.old) (D.faults disk.new) result }
+        ensures reads { ReadsArrays self.old.arrays (D.reads disk.old) (D.reads disk.new) }
     {
         let more = self.page(disk, cache, pool, tree, limit, desks, out)?;
         self.advance(more, out);

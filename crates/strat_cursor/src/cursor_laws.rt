@@ -16,8 +16,8 @@ ghost use Rattle.strat_level.specs.Memtable.{ItemList, entries_held, ListStands}
 ghost use Rattle.strat_model.specs.Pairs.{Pairs};
 ghost use Rattle.strat_cursor.specs.Cursors.{CursorOver, OpenCursor, MayGoOn, arrays_named, moved_at, without_cursor};
 ghost use Rattle.strat_cursor.specs.Held.{opened_held};
-ghost use Rattle.strat_cursor.specs.Looking.{AreInOrder, HaveOwnIds, AreCachedFrom, arrays_there};
-ghost use Rattle.strat_cursor.specs.Pins.{ArePinned, arrays_asked, shares_of};
+ghost use Rattle.strat_cursor.specs.Looking.{AreInOrder, HaveOwnIds, AreCachedFrom, arrays_there, arrays_asked};
+ghost use Rattle.strat_cursor.specs.Pins.{ArePinned, shares_of};
 
 /// Cursors may go on, and read the same entries, where each list that stood in the pool stands and reads as before, as
 /// after a put, and so where each arena that they share stays, as after releases and starts of others.

@@ -10,11 +10,11 @@ ghost use Rattle.strat_crash.specs.Faults.{HasCause};
 ghost use Rattle.strat_crash.specs.Image.{Image};
 ghost use Rattle.strat_crash.specs.Moments.{Exposes};
 ghost use Rattle.strat_model.specs.Pairs.{Pairs};
-ghost use Rattle.strat_cursor.specs.Cursors.{OpenCursor, IsMapPinned, MayGoOn, TellsNext, are_named, arrays_named, closed_at, is_array_named, is_opened, moved_at, retired_by, those_named};
+ghost use Rattle.strat_cursor.specs.Cursors.{OpenCursor, IsMapPinned, MayGoOn, TellsNext, are_named, arrays_named, arrays_of_number, closed_at, is_array_named, is_opened, moved_at, retired_by, those_named};
 ghost use Rattle.strat_cursor.specs.CursorFaults.{as_next_fault};
-ghost use Rattle.strat_cursor.specs.Looking.{LooksThrough, NamesNoBlock};
+ghost use Rattle.strat_cursor.specs.Looking.{LooksThrough, NamesNoBlock, ReadsArrays, arrays_asked};
 ghost use Rattle.strat_cursor.specs.Ranges.{FillsPage};
-ghost use Rattle.strat_cursor.specs.Pins.{HoldShares, ArePinned, IsSamePool, IsStarted, MayBePinned, SharesFollow, arrays_asked};
+ghost use Rattle.strat_cursor.specs.Pins.{HoldShares, ArePinned, IsSamePool, IsStarted, MayBePinned, SharesFollow};
 ghost use Rattle.strat_cursor.specs.declared.cursors.CursorFault.TheVariants as start_fault;
 ghost use Rattle.strat_cursor.specs.declared.cursors.NextFault.TheVariants as next_fault;
 
@@ -213,8 +213,9 @@ impl Cursors {
     }
 
     /// Puts the first pairs that a cursor has left into `out`, at most `limit`: it then has the others left. Answers
-    /// whether there are any. It takes no memory but for cached blocks. After an error all cursors are as before. Device: the disk counted a
-    /// fault. Damaged: this block of one of the cursor's arrays is no block of entries.
+    /// whether there are any. It reads of the cursor's arrays what `scan` does, and takes no memory but for cached blocks.
+    /// After an error all cursors are as before. Device: the disk counted a fault. Damaged: this block of one of the cursor's
+    /// arrays is no block of entries.
     pub fn next<D: Disk>(
         &mut self,
         disk: &mut D,
@@ -229,11 +230,11 @@ impl Cursors {
         requires kept { ArePinned pool.now tree.now.parents self.old.opened }
         requires fits { (1 ≤ limit) × (limit ≤ 256) }
         requires room { out.old ≡ [] }
-        ensures ok { IfOk result (λ more. (c : OpenCursor) → Contains self.old.opened c
+        ensures ok { IfOk result (λ more. FillsPage limit (length out.new) more
+            × ((c : OpenCursor) → Contains self.old.opened c
             → c.number ≡ number → (f : Image) (next : ℕ) (m : Pairs)
             → Exposes (D.view disk.old) f → MayGoOn f next c cache.old
-            → IsMapPinned f tree.now.parents pool.now c m → TellsNext m c limit out.new more) }
-        ensures len { IfOk result (λ more. FillsPage limit (length out.new) more) }
+            → IsMapPinned f tree.now.parents pool.now c m → TellsNext m c limit out.new more)) }
         ensures kept { ArePinned pool.now tree.now.parents self.new.opened }
         ensures end { IfOk result (λ more. self.new
             ≡ record self.old { opened = moved_at number more out.new self.old.opened }) }
@@ -246,6 +247,8 @@ impl Cursors {
             → Contains self.old.opened c → c.number ≡ number
             → NamesNoBlock (D.view disk.old).content c.arrays b }
         ensures cause { HasCause next_fault.Device (D.faults disk.old) (D.faults disk.new) result }
+        ensures reads { ReadsArrays (arrays_of_number number self.old.opened)
+            (D.reads disk.old) (D.reads disk.new) }
     {
         let Some(place) = place_of(&self.opened, number) else {
             return Err(NextFault::UnknownCursor);

@@ -4,6 +4,7 @@
 ghost use Rattle.std.specs.List.{list_any};
 ghost use Rattle.std.specs.Prelude.{◌≡◌, ◌<◌, ◌+◌, ◌==◌, ◌++◌, ◌∷◌, ℕ, Bool, true, false, not, List, [], length, filter, Option, Some, option_map, ◌⊎◌, Contains};
 ghost use Rattle.strat_arena.specs.declared.pool.PoolEntry.{PoolEntry};
+ghost use Rattle.strat_base.specs.Entries.{Entry};
 ghost use Rattle.strat_base.specs.Tree.{Parents, with_child, IsTree};
 ghost use Rattle.strat_base.specs.declared.descriptors.ArrayDesc.{ArrayDesc};
 ghost use Rattle.strat_crash.specs.Blocks.{AgreeOn};
@@ -19,6 +20,16 @@ ghost use Rattle.strat_cursor.specs.Cursors.{CursorOver, CursorsOver, CursorsVie
 ghost use Rattle.strat_cursor.specs.Held.{HeldCursor, AreRowsOf, IsMapHeld, cursor_held, cursors_held, opened_held};
 ghost use Rattle.strat_cursor.specs.Looking.{HaveOwnIds};
 ghost use Rattle.strat_cursor.specs.Pins.{ArePinned, IsStarted, SharesFollow};
+ghost use Rattle.strat_cursor.specs.Ranges.{IsMapSeen};
+
+/// Look-ups find a map, whatever they go through: some pairs are those that lists of level 0 and arrays have in an image at
+/// a version, and so those that a cursor reads. What is said of a page for each such map is thus said of one.
+pub fn look_ups_find_a_map()
+    ensures ok { (f : Image) (parents : Parents) (zeros : List (List Entry))
+        (arrays : List ArrayDesc) (v : ℕ) → (m : Pairs) × IsMapSeen f parents zeros arrays v m }
+    ensures found { (f : Image) (parents : Parents) (c : HeldCursor)
+        → (m : Pairs) × IsMapHeld f parents c m }
+{}
 
 /// What open cursors do is what a table does with its own: as many are there, a number is one of them in both, the page
 /// of one and the pairs that it has left are the table's, and a closed one is gone from both.

@@ -3,8 +3,8 @@
 ghost use Rattle.std.specs.Option.{option_copied};
 ghost use Rattle.std.specs.Prelude.{◌≡◌, ◌<◌, ◌+◌, length};
 ghost use Rattle.strat_crash.specs.Image.{Image};
-ghost use Rattle.strat_cursor.specs.Picking.{array_picked, HaveNumbers, content_at, IsOfView, AreSourcesOf};
-ghost use Rattle.strat_cursor.specs.Sources.{content_of};
+ghost use Rattle.strat_cursor.specs.Picking.{array_picked, arrays_numbered, HaveNumbers, content_at, IsOfView, AreSourcesOf};
+ghost use Rattle.strat_cursor.specs.Sources.{arrays_at, content_of};
 ghost use Rattle.strat_cursor.specs.Views.{ViewStands};
 
 use crate::sources::Source;
@@ -40,7 +40,8 @@ fn source_at<'a>(view: &View<'a>, v: Version, i: usize) -> Source<'a>
     requires fits { v < length view.now.tree.now.parents }
     requires room { i < 24 }
     ensures ok { (f : Image) → content_of f view.now.pool.now result ≡ content_at f view.now v i }
-    ensures found { IsOfView view.now result }
+    ensures found { IsOfView view.now v result }
+    ensures same { arrays_at result ≡ arrays_numbered view.now v i }
 {
     if i == 0 {
         return Source::Zero(view.zero);

@@ -10,12 +10,12 @@ ghost use Rattle.strat_model.specs.Pairs.{Pairs};
 ghost use Rattle.strat_cursor.specs.Ahead.{range_after};
 ghost use Rattle.strat_cursor.specs.Contest.{contenders};
 ghost use Rattle.strat_cursor.specs.Picking.{AreSourcesOf};
-ghost use Rattle.strat_cursor.specs.Sources.{reads_left, reads_of_source, HaveFewBlocks};
+ghost use Rattle.strat_cursor.specs.Sources.{reads_left, reads_of_source};
 ghost use Rattle.strat_cursor.specs.Turning.{AreSettled, AreUpTo, sum_over};
 ghost use Rattle.strat_cursor.specs.DeskFields.{HasScanRoom};
-ghost use Rattle.strat_cursor.specs.Looking.{LooksThrough, NamesNoBlock, HaveOwnIds};
-ghost use Rattle.strat_cursor.specs.Ranges.{arrays_in_view, arrays_picked, FillsPage, IsMapSeen, IsPageOf};
-ghost use Rattle.strat_cursor.specs.Views.{ViewStands, IsReadable, TellsPage, zeros_in};
+ghost use Rattle.strat_cursor.specs.Looking.{LooksThrough, NamesNoBlock, HaveOwnIds, HaveFewBlocks, ReadsArrays};
+ghost use Rattle.strat_cursor.specs.Ranges.{FillsPage, IsMapSeen, IsPageOf};
+ghost use Rattle.strat_cursor.specs.Views.{ViewStands, IsReadable, TellsPage, arrays_read, zeros_in};
 
 use crate::contest::{leader, play_all};
 use crate::desks::{Desk, Desks};
@@ -44,18 +44,18 @@ fn begin_all<D: Disk>(
         sources.now desks.new) }
     ensures len { length desks.new ≡ length desks.old }
     ensures ok { OnOk result ((f : Image) (next : ℕ) → Exposes (D.view disk.old) f
-        → IsReadable f next view.now cache.old
+        → IsReadable f next view.now v cache.old
         → AreUpTo f cache.new view.now.pool.now view.now.tree.now.parents v lo.now []
         sources.now desks.new) }
     ensures same { LooksThrough (D.view disk.old) (D.view disk.new)
-        (arrays_in_view view.now.levels) cache.old cache.new }
+        (arrays_read view.now v) cache.old cache.new }
     ensures damaged { (b : ℕ) → IsErrOf result (Damaged b)
-        → NamesNoBlock (D.view disk.old).content (arrays_in_view view.now.levels) b }
+        → NamesNoBlock (D.view disk.old).content (arrays_read view.now v) b }
     ensures cause { HasCause Device (D.faults disk.old) (D.faults disk.new) result }
-    ensures reads { (n : ℕ) → HaveFewBlocks n (arrays_in_view view.now.levels)
+    ensures reads { (n : ℕ) → HaveFewBlocks n (arrays_read view.now v)
         → ReadsAtMost (sum_by (reads_of_source n) sources.now)
         (D.reads disk.old) (D.reads disk.new) }
-    ensures room { OnOk result ((n : ℕ) → HaveFewBlocks n (arrays_in_view view.now.levels)
+    ensures room { OnOk result ((n : ℕ) → HaveFewBlocks n (arrays_read view.now v)
         → D.reads disk.new + sum_over reads_left sources.now desks.new
         ≤ D.reads disk.old + sum_by (reads_of_source n) sources.now) }
 {
@@ -97,19 +97,19 @@ fn tell_all<D: Disk>(
         winners.old }
     requires room { (limit ≤ 256) × (255 ≤ vec_capacity last.old) × (length out.old ≤ limit) }
     ensures ok { IfOk result (λ more. (f : Image) (lo : List ℕ) (m : Pairs)
-        → Exposes (D.view disk.old) f → HaveOwnIds (arrays_in_view view.now.levels)
+        → Exposes (D.view disk.old) f → HaveOwnIds (arrays_read view.now v)
         → AreUpTo f cache.old view.now.pool.now view.now.tree.now.parents v lo last.old.items
         sources.now desks.old
         → IsMapSeen f view.now.tree.now.parents (zeros_in view.now)
-        (arrays_picked view.now.tree.now.parents view.now.levels v) v m
+        (arrays_read view.now v) v m
         → IsPageOf (out.old ++ range_after m lo hi.now last.old.items) limit out.new more) }
     ensures len { IfOk result (λ more. FillsPage limit (length out.new) more) }
     ensures room { (255 ≤ vec_capacity last.new) × (length desks.new ≡ length desks.old)
         × IsBracket (length sources.now) winners.new }
     ensures same { LooksThrough (D.view disk.old) (D.view disk.new)
-        (arrays_in_view view.now.levels) cache.old cache.new }
+        (arrays_read view.now v) cache.old cache.new }
     ensures damaged { (b : ℕ) → IsErrOf result (Damaged b)
-        → NamesNoBlock (D.view disk.old).content (arrays_in_view view.now.levels) b }
+        → NamesNoBlock (D.view disk.old).content (arrays_read view.now v) b }
     ensures cause { HasCause Device (D.faults disk.old) (D.faults disk.new) result }
     ensures reads { ReadsAtMost (sum_over reads_left sources.now desks.old)
         (D.reads disk.old) (D.reads disk.new) }
@@ -145,16 +145,16 @@ fn scan_sources<D: Disk>(
     requires kept { HasScanRoom desks.old winners.old (vec_capacity last.old) }
     requires room { (limit ≤ 256) × (out.old ≡ []) }
     ensures ok { IfOk result (λ more. (f : Image) (next : ℕ) → Exposes (D.view disk.old) f
-        → IsReadable f next view.now cache.old
+        → IsReadable f next view.now v cache.old
         → TellsPage f view.now v lo.now hi.now limit out.new more) }
     ensures len { IfOk result (λ more. FillsPage limit (length out.new) more) }
     ensures kept { HasScanRoom desks.new winners.new (vec_capacity last.new) }
     ensures same { LooksThrough (D.view disk.old) (D.view disk.new)
-        (arrays_in_view view.now.levels) cache.old cache.new }
+        (arrays_read view.now v) cache.old cache.new }
     ensures damaged { (b : ℕ) → IsErrOf result (Damaged b)
-        → NamesNoBlock (D.view disk.old).content (arrays_in_view view.now.levels) b }
+        → NamesNoBlock (D.view disk.old).content (arrays_read view.now v) b }
     ensures cause { HasCause Device (D.faults disk.old) (D.faults disk.new) result }
-    ensures reads { (n : ℕ) → HaveFewBlocks n (arrays_in_view view.now.levels)
+    ensures reads { (n : ℕ) → HaveFewBlocks n (arrays_read view.now v)
         → ReadsAtMost (sum_by (reads_of_source n) sources.now)
         (D.reads disk.old) (D.reads disk.new) }
 {
@@ -183,15 +183,15 @@ fn scan_with<D: Disk>(
     requires same { AreSourcesOf view.now v sources.now }
     requires room { (limit ≤ 256) × (out.old ≡ []) }
     ensures ok { IfOk result (λ more. (f : Image) (next : ℕ) → Exposes (D.view disk.old) f
-        → IsReadable f next view.now cache.old
+        → IsReadable f next view.now v cache.old
         → TellsPage f view.now v lo.now hi.now limit out.new more) }
     ensures len { IfOk result (λ more. FillsPage limit (length out.new) more) }
     ensures same { LooksThrough (D.view disk.old) (D.view disk.new)
-        (arrays_in_view view.now.levels) cache.old cache.new }
+        (arrays_read view.now v) cache.old cache.new }
     ensures damaged { (b : ℕ) → IsErrOf result (Damaged b)
-        → NamesNoBlock (D.view disk.old).content (arrays_in_view view.now.levels) b }
+        → NamesNoBlock (D.view disk.old).content (arrays_read view.now v) b }
     ensures cause { HasCause Device (D.faults disk.old) (D.faults disk.new) result }
-    ensures reads { (n : ℕ) → HaveFewBlocks n (arrays_in_view view.now.levels)
+    ensures reads { (n : ℕ) → HaveFewBlocks n (arrays_read view.now v)
         → ReadsAtMost (sum_by (reads_of_source n) sources.now)
         (D.reads disk.old) (D.reads disk.new) }
 {
@@ -212,7 +212,8 @@ fn scan_with<D: Disk>(
 }
 
 /// The first pairs of a version from `lo` on and below `hi`, or without an upper bound where `hi` is empty: at most
-/// `limit` of them are put into `out`. Answers whether there are others in the range.
+/// `limit` of them are put into `out`. Answers whether there are others in the range. Of each level one array is read at
+/// most: in one of fewer than 2^n blocks a search reads n + 1 of them, and each block is read once more.
 pub fn scan<D: Disk>(
     disk: &mut D,
     cache: &mut Cache,
@@ -229,15 +230,17 @@ pub fn scan<D: Disk>(
     requires fits { (1 ≤ limit) × (limit ≤ 256) }
     requires room { out.old ≡ [] }
     ensures ok { IfOk result (λ more. (f : Image) (next : ℕ) → Exposes (D.view disk.old) f
-        → IsReadable f next view.now cache.old
+        → IsReadable f next view.now version cache.old
         → TellsPage f view.now version lo.now hi.now limit out.new more) }
     ensures len { IfOk result (λ more. FillsPage limit (length out.new) more) }
     ensures err { OnErr result (out.new ≡ []) }
     ensures same { LooksThrough (D.view disk.old) (D.view disk.new)
-        (arrays_in_view view.now.levels) cache.old cache.new }
+        (arrays_read view.now version) cache.old cache.new }
     ensures damaged { (b : ℕ) → IsErrOf result (Damaged b)
-        → NamesNoBlock (D.view disk.old).content (arrays_in_view view.now.levels) b }
+        → NamesNoBlock (D.view disk.old).content (arrays_read view.now version) b }
     ensures cause { HasCause Device (D.faults disk.old) (D.faults disk.new) result }
+    ensures reads { ReadsArrays (arrays_read view.now version)
+        (D.reads disk.old) (D.reads disk.new) }
 {
     let sources = pick(view, version);
     let told = scan_with(

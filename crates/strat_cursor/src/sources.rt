@@ -8,7 +8,7 @@ ghost use Rattle.strat_crash.specs.Image.{Image};
 ghost use Rattle.strat_crash.specs.Moments.{Exposes};
 ghost use Rattle.strat_format.specs.Arrays.{blocks_of};
 ghost use Rattle.strat_array.specs.Left.{all_in, is_from};
-ghost use Rattle.strat_cursor.specs.Looking.{LooksThrough, NamesNoBlock};
+ghost use Rattle.strat_cursor.specs.Looking.{LooksThrough, NamesNoBlock, HaveFewBlocks};
 ghost use Rattle.strat_array.specs.Kept.{Looks, ArrayStands};
 ghost use Rattle.strat_array.specs.Within.{AreWithin, IsNoBlock};
 ghost use Rattle.strat_base.specs.Entries.{Entry as TheEntry, is_ascending};
@@ -18,12 +18,12 @@ ghost use Rattle.strat_base.specs.Tree.{is_ancestor};
 ghost use Rattle.strat_level.specs.Memtable.{ListStands, entries_held};
 ghost use Rattle.strat_array.specs.Steps.{blocks_ahead, left_from, HoldsPlace};
 ghost use Rattle.strat_cursor.specs.Ahead.{is_after};
-ghost use Rattle.strat_cursor.specs.Sources.{MayBeRead, HasHead, first_at_source, entry_held, is_due, arrays_at, left_at_source, steps_left, reads_left, reads_of_source, HaveFewBlocks, IsSettledAt, IsUpTo, IsSpent, MayBeBegun, StandsIn, left_behind, places_ahead, blocks_behind, PassesUndue};
+ghost use Rattle.strat_cursor.specs.Sources.{MayBeRead, HasHead, first_at_source, entry_held, is_due, arrays_at, left_at_source, steps_left, reads_left, reads_of_source, IsSettledAt, IsUpTo, IsSpent, MayBeBegun, StandsIn, left_behind, places_ahead, blocks_behind, PassesUndue};
 
 use crate::desks::Desk;
 use strat_arena::ArenaPool;
 use strat_array::{Cache, Place, Scratch, seek, settle};
-use strat_base::{ArrayDesc, Entry, Fault, Version};
+use strat_base::{ArrayDesc, Entry, Fault, Version, key_order};
 use strat_disk::Disk;
 use strat_level::ZeroView;
 use strat_tree::Tree;
@@ -89,7 +89,7 @@ pub(crate) fn head<'a>(
 pub(crate) fn is_after(last: &[u8], key: &[u8]) -> bool
     ensures ok { result ≡ is_after last.now key.now }
 {
-    last.is_empty() || last.cmp(key).is_lt()
+    last.is_empty() || key_order(last, key).is_lt()
 }
 
 /// Whether an entry decides its key: the key is after the last one that was handled, and the entry is at v or at an

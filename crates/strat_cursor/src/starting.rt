@@ -5,7 +5,8 @@ ghost use Rattle.std.specs.Prelude.{◌≡◌, ◌<◌, ◌≤◌, ◌+◌, ◌-
 ghost use Rattle.strat_arena.specs.PoolView.{shares_at, count_shared};
 ghost use Rattle.strat_level.specs.Levels.{desc_for, level_numbered};
 ghost use Rattle.strat_level.specs.Memtable.{ListStands};
-ghost use Rattle.strat_cursor.specs.Pins.{IsCopyOf, IsCopyIfAny, IsSamePool, TakesShares, arenas_of, arena_pinned, arrays_asked};
+ghost use Rattle.strat_cursor.specs.Pins.{IsCopyOf, IsCopyIfAny, IsSamePool, TakesShares, arenas_of, arena_pinned};
+ghost use Rattle.strat_cursor.specs.Looking.{arrays_asked};
 
 use crate::cursor::{Cursor, bound_of};
 use std::alloc::Global;

@@ -13,9 +13,9 @@ ghost use Rattle.strat_merge.specs.Bracket.{IsBracket, IsTournament};
 ghost use Rattle.strat_cursor.specs.Contest.{contenders, head_in, AreAtHand};
 ghost use Rattle.strat_cursor.specs.Looking.{LooksThrough, NamesNoBlock, HaveOwnIds};
 ghost use Rattle.strat_cursor.specs.Picking.{AreSourcesOf};
-ghost use Rattle.strat_cursor.specs.Ranges.{arrays_in_view};
 ghost use Rattle.strat_cursor.specs.Sources.{IsSpent, steps_left, reads_left};
 ghost use Rattle.strat_cursor.specs.Turning.{is_under, TellsValue, HandlesKey, AreSettled, AreUpTo, IsLater, sum_over};
+ghost use Rattle.strat_cursor.specs.Views.{arrays_read};
 
 use crate::contest::{head_in, replay};
 use crate::desks::Desk;
@@ -23,14 +23,14 @@ use crate::sources::{Source, advance, is_after};
 use crate::view::View;
 use strat_arena::ArenaPool;
 use strat_array::Cache;
-use strat_base::{Entry, Fault, PairBuf, Val, Version};
+use strat_base::{Entry, Fault, PairBuf, Val, Version, key_order};
 use strat_disk::Disk;
 
 /// Whether a key is below hi, where that is not empty.
 fn is_under(hi: &[u8], key: &[u8]) -> bool
     ensures ok { result ≡ is_under hi.now key.now }
 {
-    hi.is_empty() || key.cmp(hi).is_lt()
+    hi.is_empty() || key_order(key, hi).is_lt()
 }
 
 /// Tells the pair of an entry that has a value, or answers that there are `limit` pairs already.
@@ -137,7 +137,7 @@ pub(crate) fn go_on<D: Disk>(
     ensures len { (length desks.new ≡ length desks.old)
         × IsBracket (length sources.now) winners.new }
     ensures ok { OnOk result ((f : Image) (lo prev : List ℕ) → Exposes (D.view disk.old) f
-        → HaveOwnIds (arrays_in_view view.now.levels) → IsLater prev last.now
+        → HaveOwnIds (arrays_read view.now v) → IsLater prev last.now
         → AreUpTo f cache.old view.now.pool.now view.now.tree.now.parents v lo prev
         sources.now desks.old
         → AreUpTo f cache.new view.now.pool.now view.now.tree.now.parents v lo last.now
@@ -147,9 +147,9 @@ pub(crate) fn go_on<D: Disk>(
         × (D.reads disk.new + sum_over reads_left sources.now desks.new
         ≤ D.reads disk.old + sum_over reads_left sources.now desks.old)) }
     ensures same { LooksThrough (D.view disk.old) (D.view disk.new)
-        (arrays_in_view view.now.levels) cache.old cache.new }
+        (arrays_read view.now v) cache.old cache.new }
     ensures damaged { (b : ℕ) → IsErrOf result (Damaged b)
-        → NamesNoBlock (D.view disk.old).content (arrays_in_view view.now.levels) b }
+        → NamesNoBlock (D.view disk.old).content (arrays_read view.now v) b }
     ensures cause { HasCause Device (D.faults disk.old) (D.faults disk.new) result }
     ensures reads { ReadsAtMost (sum_over reads_left sources.now desks.old)
         (D.reads disk.old) (D.reads disk.new) }

@@ -4,3 +4,4 @@ pub mod DamageLemmas
 pub mod ManifestLemmas
 pub mod RegionLemmas
 pub mod SuperBlockLemmas
+pub mod TwoRegionsLemmas

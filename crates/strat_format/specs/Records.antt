@@ -1,5 +1,5 @@
 -- Records of a journal on a disk: from a region's first byte on, each an open gate and a change.
-use Rattle.std.specs.Prelude.{ℕ, zero, suc, ◌+◌, ◌-◌, ◌/◌, ◌==◌, ◌&&◌, not, Bool, if◌then◌else◌, List, [], ◌∷◌, ◌++◌, length, Option, Some, None, Ok, Err}
+use Rattle.std.specs.Prelude.{ℕ, zero, suc, ◌+◌, ◌-◌, ◌/◌, ◌==◌, nat_lt, if◌then◌else◌, List, [], ◌∷◌, ◌++◌, length, Option, Some, None, Ok, Err}
 use Rattle.strat_base.specs.declared.limits.TheConstants.{BLOCK}
 use Rattle.strat_crash.specs.Image.{Image, window}
 use Rattle.strat_base.specs.Change.{Change, change_bytes, change_in}
@@ -51,16 +51,19 @@ journal_of c mem active =
     and_then (region_records c mem active)
     (full_then mem (region_records c mem (other_region active)))
 
--- an open gate at the head of the region that is not active
-abbrev pub is_other_open : Image → ℕ → ℕ → Bool
-is_other_open c mem active = is_open (c (region_at mem (other_region active)))
+-- the first records of a region, at most n
+abbrev pub first_records : Image → ℕ → ℕ → ℕ → Read (List Logged)
+first_records c mem region n =
+    records c (region_at mem region + region_size mem) n (region_at mem region)
 
--- the journal in one region: where the active one is full, an open gate at the head of the other is
--- damage
-abbrev pub journal_in_one : Image → ℕ → ℕ → Read (List Logged)
-journal_in_one c mem active =
+-- the records of a region behind a full one: at least two fewer than it takes, or else its first block is damaged
+abbrev pub records_behind : Image → ℕ → ℕ → Read (List Logged)
+records_behind c mem region =
+    and_then (first_records c mem region (mem - 1))
+    (λ later. passed_or (region_first mem region) (nat_lt (length later) (mem - 1)) later)
+
+-- the journal that recovery takes: that of both regions, of at most two changes fewer than both take
+abbrev pub journal_in_two : Image → ℕ → ℕ → Read (List Logged)
+journal_in_two c mem active =
     and_then (region_records c mem active)
-    (λ logged. passed_or
-    (region_first mem (other_region active))
-    (not ((length logged == mem) && is_other_open c mem active))
-    logged)
+    (full_then mem (records_behind c mem (other_region active)))

@@ -1,11 +1,12 @@
 //! Laws of what is read of a disk. Each is the contract of a function that does nothing.
 
-ghost use Rattle.std.specs.Prelude.{◌≡◌, ℕ, List, ◌∷◌, length, Ok};
+ghost use Rattle.std.specs.Prelude.{◌≡◌, ◌≢◌, ◌≤◌, ◌<◌, ◌-◌, ◌*◌, ℕ, List, [], ◌∷◌, length, Ok};
 ghost use Rattle.strat_format.specs.Chain.{IsChain};
 ghost use Rattle.strat_format.specs.Chained.{manifest_at};
 ghost use Rattle.strat_crash.specs.Image.{Image};
+ghost use Rattle.strat_format.specs.Layout.{region_at, open_flag};
 ghost use Rattle.strat_format.specs.Manifest.{Manifest, SpellsManifest};
-ghost use Rattle.strat_format.specs.Records.{Logged, journal_of, journal_in_one};
+ghost use Rattle.strat_format.specs.Records.{Logged, journal_of, journal_in_two};
 
 /// A manifest is read from the chain of blocks that holds it.
 pub fn chains_are_read_as_written()
@@ -14,8 +15,15 @@ pub fn chains_are_read_as_written()
         → manifest_at c b (length bytes) ≡ Ok (record { manifest = m; blocks = b ∷ blocks }) }
 {}
 
-/// A journal that one region holds is the journal of both.
-pub fn one_region_may_hold_the_journal()
-    ensures { (c : Image) (mem active : ℕ) (logged : List Logged)
-        → journal_in_one c mem active ≡ Ok logged → journal_of c mem active ≡ Ok logged }
+/// What recovery takes as the journal is that of both regions, of at most two changes fewer than they take, and each such
+/// journal is taken. It is empty where the active region's first gate is closed.
+pub fn recovery_takes_the_journal_of_both_regions()
+    ensures whole { (c : Image) (mem active : ℕ) (logged : List Logged) → 0 < mem
+        → journal_in_two c mem active ≡ Ok logged
+        → (journal_of c mem active ≡ Ok logged) × (length logged ≤ 2 * mem - 2) }
+    ensures taken { (c : Image) (mem active : ℕ) (logged : List Logged) → 0 < mem
+        → journal_of c mem active ≡ Ok logged → length logged ≤ 2 * mem - 2
+        → journal_in_two c mem active ≡ Ok logged }
+    ensures none { (c : Image) (mem active : ℕ) → 0 < mem → c (region_at mem active) ≢ open_flag
+        → journal_in_two c mem active ≡ Ok [] }
 {}

@@ -1,7 +1,7 @@
 -- What the steps of an append leave: until the first gate is raised the list, and then the list or all of the batch behind it.
-use Rattle.std.proofs.Common.{Bool, take, drop, Some, ◌-◌, ◌≡◌, ◌≢◌, ◌≤◌, ◌<◌, ◌+◌, ℕ, zero, suc, true, ◌⊎◌, inl, inr, List, [], ◌∷◌, ◌++◌, length, Ok, sym, ap, ◌∙◌, subst, arith, length-append}
+use Rattle.std.proofs.Common.{Bool, cond, take, drop, Some, ◌-◌, ◌≡◌, ◌≢◌, ◌≤◌, ◌<◌, ◌+◌, ℕ, zero, suc, true, ◌⊎◌, inl, inr, List, [], ◌∷◌, ◌++◌, length, Ok, sym, ap, ◌∙◌, subst, arith, length-append}
 use Rattle.std.specs.List.{list_all}
-use Rattle.std.proofs.lemmas.Bool.{cases_eq}
+use Rattle.std.proofs.lemmas.Bool.{cases_eq, lt-ltb}
 use Rattle.strat_crash.specs.Image.{Image, HoldsBytes, Outside, window, patch}
 use Rattle.strat_crash.specs.Moments.{DiskView, Images, Since, TearsOnly, IsDurable}
 use Rattle.strat_base.specs.Change.{Change, is_lawful}
@@ -13,7 +13,7 @@ use Rattle.strat_journal.specs.Records.{journal_changes}
 use Rattle.strat_gate.specs.Raising.{BehindOrRaised}
 use Rattle.strat_journal.proofs.KeepLemmas.{behind_split}
 use Rattle.strat_gate.proofs.RaisingLemmas.{patched_first, patched_twice}
-use Rattle.strat_journal.specs.Log.{Log, Keeps, Stands, GivesAllOrNone, batch_joined, gate_of}
+use Rattle.strat_journal.specs.Log.{Log, Keeps, Stands, GivesAllOrNone, batch_joined, batch_region, gate_of}
 use Rattle.strat_journal.proofs.RecordLemmas.{window_front, window_rest, window_both}
 use Rattle.strat_journal.proofs.LaidLemmas.{LaidIn, records_bytes-append, all_lawful-append, length-records_bytes, region_takes, laid_given, given_laid}
 
@@ -40,7 +40,7 @@ first_raised c at rest up there =
     let behind : window c (suc at) (length rest) ≡ rest = ap (λ (n : ℕ). window c n (length rest)) next ∙ there in
     λ i. up i ∷ behind i
 
-one_is : (c : Image) (at byte : ℕ) → window c at 1 ≡ byte ∷ [] → c at ≡ byte
+pub one_is : (c : Image) (at byte : ℕ) → window c at 1 ≡ byte ∷ [] → c at ≡ byte
 unfolding window
 one_is c at byte e = cc
 
@@ -53,7 +53,7 @@ module _ (log : Log) (ready : Ready log) where
     | inr past ↦ out.above (region_at log.mem (other_region log.active)) past
   ]
 
-  keeps_laid : (d c : Image) (n : ℕ) → Outside (gate_of log + 1) n d c → LaidIn d log.mem log.active log.list → LaidIn c log.mem log.active log.list
+  pub keeps_laid : (d c : Image) (n : ℕ) → Outside (gate_of log + 1) n d c → LaidIn d log.mem log.active log.list → LaidIn c log.mem log.active log.list
   keeps_laid d c n out laid = record {
     text = window_same d c (region_at log.mem log.active) (length (records_bytes log.list)) (record { byte = λ i low high. out.below i (omega arith) }) ∙ laid.text;
     lawful = laid.lawful;
@@ -63,7 +63,7 @@ module _ (log : Log) (ready : Ready log) where
   }
 
   -- the list and the whole batch stand where the gate of an image in which the rest of the batch was written is raised
-  raised_laid : (f c : Image) (rest : List ℕ) → 0xa7 ∷ rest ≡ records_bytes log.batch ++ 0 ∷ [] → LaidIn f log.mem log.active log.list
+  pub raised_laid : (f c : Image) (rest : List ℕ) → 0xa7 ∷ rest ≡ records_bytes log.batch ++ 0 ∷ [] → LaidIn f log.mem log.active log.list
       → window f (gate_of log + 1) (length rest) ≡ rest → Outside (gate_of log) 1 f c → c (gate_of log) ≡ 0xa7
       → LaidIn c log.mem log.active (log.list ++ log.batch)
   raised_laid f c rest split laid there out up =
@@ -187,8 +187,14 @@ module _ (mem active : ℕ) (stale : Bool) (list batch : List Change) (bytes : L
       region_takes mem,
     )
 
-    pub append_images : TearsOnly old new gate (1 + length rest) → TearsOnly old new (region_at mem active) (region_size mem)
-    append_images tears = tears_wider old new gate (1 + length rest) (region_at mem active) (region_size mem) (omega arith) (omega (arith, gate_same, high)) tears
+    -- the active region has room, so it is the one that takes the batch
+    taker : batch_region log ≡ active
+    taker = ap (λ (b : Bool). cond b active (other_region active)) (lt-ltb (length list) mem (omega (arith, some, keeps.few, keeps.list_count, keeps.batch_count)))
+
+    pub append_images : TearsOnly old new gate (1 + length rest) → TearsOnly old new (region_at mem (batch_region log)) (region_size mem)
+    append_images tears =
+        subst (λ (r : ℕ). TearsOnly old new (region_at mem r) (region_size mem)) (sym taker)
+        (tears_wider old new gate (1 + length rest) (region_at mem active) (region_size mem) (omega arith) (omega (arith, gate_same, high)) tears)
 
     pub append_moment : ((f : Image) → old.content ≡ Some f → (c : Image) → Since new old.moment c → BehindOrRaised old f gate rest c)
         → (f : Image) → old.content ≡ Some f → Images old f → ((d : Image) → Images old d → HoldsBytes d) → Stands old log → (c : Image) → Since new old.moment c → GivesAllOrNone log c

@@ -1,15 +1,17 @@
 -- What closing a gate leaves.
-use Rattle.std.proofs.Common.{◌≡◌, ◌≢◌, ◌≤◌, ◌<◌, ℕ, inl, inr, List, [], ◌∷◌, length, Some, Ok, sym, ap, ◌∙◌, subst, arith}
-use Rattle.strat_crash.specs.Image.{Image, patch}
-use Rattle.strat_crash.specs.Moments.{DiskView, Images, Since, Passes, IsDurable}
+use Rattle.std.proofs.Common.{◌≡◌, ◌≢◌, ◌≤◌, ◌<◌, ℕ, false, inl, inr, List, [], ◌∷◌, length, Some, Ok, sym, ap, ◌∙◌, subst, arith}
+use Rattle.std.proofs.lemmas.List.{drop_all}
+use Rattle.strat_base.specs.Change.{Change}
+use Rattle.strat_crash.specs.Image.{Image, HoldsBytes, patch}
+use Rattle.strat_crash.specs.Moments.{DiskView, Images, Since, Passes, TearsOnly, IsDurable}
 use Rattle.strat_crash.proofs.MomentLemmas.{settled_at, now_since, now_since_start, since_earlier}
 use Rattle.strat_format.specs.Layout.{region_at, other_region}
 use Rattle.strat_format.specs.Records.{Logged, region_records, journal_of}
 use Rattle.strat_gate.specs.Gates.{EndsShut}
 use Rattle.strat_gate.proofs.RaisingLemmas.{patched_first}
-use Rattle.strat_journal.specs.Log.{Log, Stands, region_begun, IsRegionShut}
+use Rattle.strat_journal.specs.Log.{Log, Stands, KeepsShortJournal, region_begun, region_turned, IsRegionShut}
 use Rattle.strat_journal.specs.Records.{changes_in_order}
-use Rattle.strat_journal.proofs.LaidLemmas.{fully, full_false, closed_records}
+use Rattle.strat_journal.proofs.LaidLemmas.{fully, full_false, closed_records, journal_kept}
 
 -- a gate that was closed on a settled disk is closed in every image
 pub closed_shut : (old new : DiskView) (f : Image) (at : ℕ) → Passes old new → EndsShut f at old new → old.content ≡ Some f → IsDurable old → (c : Image) → Images new c → c at ≢ 0xa7
@@ -38,3 +40,14 @@ turned_stands old new log some few kept was passes shut =
       given = λ c left. ap changes_in_order (kept [] (omega (arith, some)) (λ d before. shut_journal d log.mem (other_region log.active) some (was d before)) c (now_since_start old new c passes left));
       shut = λ c left short. subst (λ (r : ℕ). c (region_at log.mem r) ≢ 0xa7) back (shut c left);
     }
+
+-- a call that tears a region's first gate alone keeps what the other region holds, wherever that has room
+pub keeps_short : (old new : DiskView) (mem active : ℕ) → 4 ≤ mem → active ≤ 1 → ((d : Image) → Images old d → HoldsBytes d) → TearsOnly old new (region_at mem active) 1
+    → (c : Image) → Since new old.moment c → KeepsShortJournal old mem (other_region active) c
+keeps_short old new mem active some one bytes tears c since =
+    let torn = tears.each c since in
+    (torn.0, torn.1, λ logged short e. journal_kept torn.0 c mem active logged (bytes torn.0 torn.1) one some short torn.2 e)
+
+-- where the list is no longer than a region nothing is left behind it
+pub begun_turned : (log : Log) → length log.list ≤ log.mem → region_begun log ≡ region_turned log
+begun_turned log few = ap (λ (list : List Change). record log { active = other_region log.active; stale = false; list = list }) (sym (drop_all log.mem log.list few))

@@ -6,4 +6,6 @@ pub mod TextLemmas
 pub mod RegionReaderLemmas
 pub mod ReadLemmas
 pub mod ClosingLemmas
-pub mod AloneLemmas
+pub mod BothRegionsLemmas
+pub mod TwoLemmas
+pub mod BehindLemmas

@@ -10,7 +10,7 @@ use Rattle.strat_base.specs.Change.{Change, change_bytes, change_in, is_lawful}
 use Rattle.strat_format.specs.Layout.{region_at, region_size, is_open}
 use Rattle.strat_journal.specs.declared.journal.Logged.{Logged as Owned}
 use Rattle.strat_format.specs.Damage.{put_first}
-use Rattle.strat_format.specs.Records.{Logged, records_bytes, block_of, record_then, records, region_records}
+use Rattle.strat_format.specs.Records.{Logged, records_bytes, block_of, record_then, records, first_records}
 use Rattle.strat_journal.specs.Records.{logged_of}
 use Rattle.strat_journal.proofs.LaidLemmas.{joined, records_bytes-append, all_lawful-append}
 use Rattle.strat_journal.specs.RegionReader.{ReadSoFar, MatchesImage, ReadsOn, EndsRecord, AreRecords, Stored, StoredNone}
@@ -23,8 +23,8 @@ left f mem region n at = records f (region_at mem region + region_size mem) n (r
 abbrev changes_of : List Owned → List Change
 changes_of items = map (λ (l : Owned). l.change) items
 
--- after n records of a region
-pub record SoFar (old now : DiskView) (before reads : ℕ) (mem region n at : ℕ) (part : ReadSoFar) (items : List Owned) : Type 0 where
+-- after n records of the first ones of a region
+pub record SoFar (old now : DiskView) (before reads : ℕ) (mem region most n at : ℕ) (part : ReadSoFar) (items : List Owned) : Type 0 where
   pub first : part.first ≡ region_at mem region
   pub size : part.size ≡ region_size mem
   pub near : at ≤ length part.bytes
@@ -33,7 +33,7 @@ pub record SoFar (old now : DiskView) (before reads : ℕ) (mem region n at : �
   pub count : length items ≡ n
   pub looks : OnlyReads old now
   pub shows : (f : Image) → old.content ≡ Some f → MatchesImage f part
-  pub found : (f : Image) → old.content ≡ Some f → region_records f mem region ≡ joined (map logged_of items) (left f mem region (mem - n) at)
+  pub found : (f : Image) → old.content ≡ Some f → first_records f mem region most ≡ joined (map logged_of items) (left f mem region (most - n) at)
   pub kept : AreRecords (take at part.bytes) items
   pub fewest : before ≤ reads
   pub each_once : 4096 * reads ≤ 4096 * before + length part.bytes
@@ -110,11 +110,11 @@ nothing_shown : (f : Image) (at : ℕ) → [] ≡ window f at 0
 unfolding window
 nothing_shown f at = refl
 
-pub begun : (v : DiskView) (reads mem region : ℕ) (part : ReadSoFar) (items : List Owned) → part ≡ record { first = region_at mem region; size = region_size mem; bytes = [] } → items ≡ []
-    → SoFar v v reads reads mem region 0 0 part items
-begun v reads mem region part items part_is none =
-    subst (λ (p : ReadSoFar). SoFar v v reads reads mem region 0 0 p items) (sym part_is)
-    (subst (λ (xs : List Owned). SoFar v v reads reads mem region 0 0 (record { first = region_at mem region; size = region_size mem; bytes = [] }) xs) (sym none) (record {
+pub begun : (v : DiskView) (reads mem region most : ℕ) (part : ReadSoFar) (items : List Owned) → part ≡ record { first = region_at mem region; size = region_size mem; bytes = [] } → items ≡ []
+    → SoFar v v reads reads mem region most 0 0 part items
+begun v reads mem region most part items part_is none =
+    subst (λ (p : ReadSoFar). SoFar v v reads reads mem region most 0 0 p items) (sym part_is)
+    (subst (λ (xs : List Owned). SoFar v v reads reads mem region most 0 0 (record { first = region_at mem region; size = region_size mem; bytes = [] }) xs) (sym none) (record {
       first = refl;
       size = refl;
       near = omega arith;
@@ -124,27 +124,27 @@ begun v reads mem region part items part_is none =
       looks = reads_refl v;
       shows = λ f exposed. nothing_shown f (region_at mem region);
       found = λ f exposed.
-          let all : mem ≡ mem - 0 = omega arith in
+          let all : most ≡ most - 0 = omega arith in
           let start : region_at mem region ≡ region_at mem region + 0 = omega arith in
-          (λ i. records f (region_at mem region + region_size mem) (all i) (start i)) ∙ sym (joined_none (left f mem region (mem - 0) 0));
+          (λ i. records f (region_at mem region + region_size mem) (all i) (start i)) ∙ sym (joined_none (left f mem region (most - 0) 0));
       kept = record { text = refl; lawful = refl };
       fewest = omega arith;
       each_once = omega arith;
     }))
 
-module _ (old mid new : DiskView) (before between reads : ℕ) (mem region n at : ℕ) (part next : ReadSoFar) (items : List Owned) (sofar : SoFar old mid before between mem region n at part items) where
+module _ (old mid new : DiskView) (before between reads : ℕ) (mem region most n at : ℕ) (part next : ReadSoFar) (items : List Owned) (sofar : SoFar old mid before between mem region most n at part items) where
   abbrev logged : List Logged
   logged = map logged_of items
 
   abbrev rest : Image → Result (List Logged) ℕ
-  rest f = left f mem region (suc (mem - (n + 1))) at
+  rest f = left f mem region (suc (most - (n + 1))) at
 
-  found_left : n < mem → (f : Image) → old.content ≡ Some f → region_records f mem region ≡ joined logged (rest f)
-  found_left few f exposed = let m : mem - n ≡ suc (mem - (n + 1)) = omega arith in sofar.found f exposed ∙ ap (λ (k : ℕ). joined logged (left f mem region k at)) m
+  found_left : n < most → (f : Image) → old.content ≡ Some f → first_records f mem region most ≡ joined logged (rest f)
+  found_left few f exposed = let m : most - n ≡ suc (most - (n + 1)) = omega arith in sofar.found f exposed ∙ ap (λ (k : ℕ). joined logged (left f mem region k at)) m
 
-  pub one_more : {T E : Type 0} (x : T) (l : Owned) (to : ℕ) → n < mem → ReadsOn {T = T} {E = E} mid new between reads part next (Ok x)
+  pub one_more : {T E : Type 0} (x : T) (l : Owned) (to : ℕ) → n < most → ReadsOn {T = T} {E = E} mid new between reads part next (Ok x)
       → ((f : Image) → mid.content ≡ Some f → MatchesImage f part → Stored f part at (Some (l, to))) → (to ≤ at + 1288) × (to ≤ length next.bytes)
-      → EndsRecord next.bytes at l.change to → (all : List Owned) → all ≡ items ++ l ∷ [] → SoFar old new before reads mem region (n + 1) to next all
+      → EndsRecord next.bytes at l.change to → (all : List Owned) → all ≡ items ++ l ∷ [] → SoFar old new before reads mem region most (n + 1) to next all
   one_more x l to few on there near ends all all_is = record {
     first = on.first ∙ sofar.first;
     size = on.size ∙ sofar.size;
@@ -156,28 +156,28 @@ module _ (old mid new : DiskView) (before between reads : ℕ) (mem region n at 
     shows = λ f exposed. on.shows f (sofar.looks.same ∙ exposed) (sofar.shows f exposed);
     found = λ f exposed.
         found_left few f exposed
-        ∙ ap (joined logged) (left_record f mem region part sofar.first sofar.size at (mem - (n + 1)) l to (there f (sofar.looks.same ∙ exposed) (sofar.shows f exposed)))
-        ∙ joined_first logged (logged_of l) (left f mem region (mem - (n + 1)) to)
-        ∙ ap (λ (xs : List Logged). joined xs (left f mem region (mem - (n + 1)) to)) (sym (map-append logged_of items (l ∷ [])) ∙ ap (map logged_of) (sym all_is));
+        ∙ ap (joined logged) (left_record f mem region part sofar.first sofar.size at (most - (n + 1)) l to (there f (sofar.looks.same ∙ exposed) (sofar.shows f exposed)))
+        ∙ joined_first logged (logged_of l) (left f mem region (most - (n + 1)) to)
+        ∙ ap (λ (xs : List Logged). joined xs (left f mem region (most - (n + 1)) to)) (sym (map-append logged_of items (l ∷ [])) ∙ ap (map logged_of) (sym all_is));
     kept = records_more (take at part.bytes) (take to next.bytes) items l (sofar.kept) (ends.text ∙ ap (λ (x : List ℕ). x ++ 0xa7 ∷ change_bytes l.change) (on.front at sofar.near)) ends.lawful all all_is;
     fewest = omega (arith, sofar.fewest, on.fewest);
     each_once = omega (arith, sofar.each_once, on.each_once);
   }
 
-  pub ends_shut : n < mem → ((f : Image) → mid.content ≡ Some f → MatchesImage f part → Stored f part at None) → (f : Image) → old.content ≡ Some f → region_records f mem region ≡ Ok logged
+  pub ends_shut : n < most → ((f : Image) → mid.content ≡ Some f → MatchesImage f part → Stored f part at None) → (f : Image) → old.content ≡ Some f → first_records f mem region most ≡ Ok logged
   ends_shut few there f exposed =
       found_left few f exposed
-      ∙ ap (joined logged) (left_shut f mem region part sofar.first sofar.size at (mem - (n + 1)) (there f (sofar.looks.same ∙ exposed) (sofar.shows f exposed)))
+      ∙ ap (joined logged) (left_shut f mem region part sofar.first sofar.size at (most - (n + 1)) (there f (sofar.looks.same ∙ exposed) (sofar.shows f exposed)))
       ∙ ap (λ (xs : List Logged). Ok xs) (append-nil logged)
 
-  pub ends_torn : (b : ℕ) → n < mem → ((f : Image) → mid.content ≡ Some f → MatchesImage f part → StoredNone f part at b) → (f : Image) → old.content ≡ Some f → region_records f mem region ≡ Err b
+  pub ends_torn : (b : ℕ) → n < most → ((f : Image) → mid.content ≡ Some f → MatchesImage f part → StoredNone f part at b) → (f : Image) → old.content ≡ Some f → first_records f mem region most ≡ Err b
   ends_torn b few there f exposed =
       found_left few f exposed
-      ∙ ap (joined logged) (left_torn f mem region part sofar.first sofar.size at (mem - (n + 1)) b (there f (sofar.looks.same ∙ exposed) (sofar.shows f exposed)))
+      ∙ ap (joined logged) (left_torn f mem region part sofar.first sofar.size at (most - (n + 1)) b (there f (sofar.looks.same ∙ exposed) (sofar.shows f exposed)))
 
-  pub ends_full : mem ≤ n → (f : Image) → old.content ≡ Some f → region_records f mem region ≡ Ok logged
+  pub ends_full : most ≤ n → (f : Image) → old.content ≡ Some f → first_records f mem region most ≡ Ok logged
   ends_full full f exposed =
-      let none : mem - n ≡ 0 = omega arith in
+      let none : most - n ≡ 0 = omega arith in
       sofar.found f exposed
       ∙ ap (λ (k : ℕ). joined logged (left f mem region k at)) none
       ∙ ap (joined logged) (left_none f mem region at)

@@ -1,12 +1,12 @@
 -- A journal in memory.
-use Rattle.std.specs.Prelude.{◌≡◌, ◌≢◌, ◌⊎◌, ◌≤◌, ◌<◌, ℕ, zero, suc, ◌+◌, ◌*◌, Bool, true, false, List, [], ◌∷◌, ◌++◌, length, map, drop, slice_index, Option, Some, None, Ok, IsTrue, ◌↔◌}
+use Rattle.std.specs.Prelude.{◌≡◌, ◌≢◌, ◌⊎◌, ◌≤◌, ◌<◌, ℕ, zero, suc, ◌+◌, ◌*◌, Bool, true, false, List, [], ◌∷◌, ◌++◌, length, map, drop, slice_index, nat_lt, if◌then◌else◌, Option, Some, None, Ok, IsTrue, ◌↔◌}
 use Rattle.std.specs.List.{list_all}
 use Rattle.strat_base.specs.Change.{Change, change_bytes, change_in, is_lawful}
 use Rattle.strat_crash.specs.Image.{Image, patch}
 use Rattle.strat_format.specs.Layout.{region_at, other_region, open_flag}
 use Rattle.strat_crash.specs.Moments.{DiskView, Exposes, Images, IsDurable}
 use Rattle.strat_journal.specs.declared.journal.Logged.{Logged}
-use Rattle.strat_format.specs.Records.{records_bytes, journal_in_one}
+use Rattle.strat_format.specs.Records.{Logged as Record, records_bytes, journal_of, journal_in_two}
 use Rattle.strat_journal.specs.Records.{logged_of, journal_changes}
 
 -- what a journal holds: how many changes a region takes, the active region, whether the other one's first
@@ -34,7 +34,19 @@ with_list list log = record log { list = list }
 abbrev pub empty_log : ℕ → ℕ → Log
 empty_log mem active = record { mem = mem; active = active; stale = false; list = []; batch = [] }
 
--- the journal goes on in the other region: nothing is in the list, and the batch is as it was
+-- the region that takes the next batch: the active one while it has room, and then the other
+abbrev pub batch_region : Log → ℕ
+batch_region log = if nat_lt (length log.list) log.mem then log.active else other_region log.active
+
+-- the journal goes on in the other region: what is there is its list, and the batch is as it was
+abbrev pub region_turned : Log → Log
+region_turned log = record log {
+  active = other_region log.active;
+  stale = false;
+  list = drop log.mem log.list;
+}
+
+-- the same where nothing is there
 abbrev pub region_begun : Log → Log
 region_begun log = record log { active = other_region log.active; stale = false; list = [] }
 
@@ -83,6 +95,12 @@ pub record Stands (v : DiskView) (log : Log) : Type 0 where
 abbrev pub IsRegionShut : DiskView → ℕ → ℕ → Type 0
 IsRegionShut v mem region = (c : Image) → Images v c → c (region_at mem region) ≢ open_flag
 
+-- an image gives the journal of one that a crash might have left before, wherever that leaves room in this region
+abbrev pub KeepsShortJournal : DiskView → ℕ → ℕ → Image → Type 0
+KeepsShortJournal v mem active c = (d : Image) × Images v d
+    × ((logged : List Record) → length logged < mem → journal_of d mem active ≡ Ok logged
+    → journal_of c mem active ≡ Ok logged)
+
 -- an image gives the list, or the list with the whole batch after it
 abbrev pub GivesAllOrNone : Log → Image → Type 0
 GivesAllOrNone log c =
@@ -109,6 +127,6 @@ IsStale f mem active count = (count < mem) × (f (region_at mem (other_region ac
 
 -- these records and this journal are what recovery reads of an image
 pub record RecoversTo (f : Image) (mem active : ℕ) (logged : List Logged) (log : Log) : Type 0 where
-  pub records : journal_in_one f mem active ≡ Ok (map logged_of logged)
+  pub records : journal_in_two f mem active ≡ Ok (map logged_of logged)
   pub changes : journal_changes f mem active ≡ Ok log.list
   pub stale : IsTrue log.stale ↔ IsStale f mem active (length log.list)

@@ -1,8 +1,8 @@
 -- What a journal holds of a disk's records.
-use Rattle.std.specs.Prelude.{ℕ, ◌+◌, ◌==◌, ◌&&◌, not, Bool, List, [], ◌∷◌, length, map, Ok}
+use Rattle.std.specs.Prelude.{ℕ, ◌+◌, List, [], ◌∷◌, length, map, Ok}
 use Rattle.strat_crash.specs.Image.{Image}
 use Rattle.strat_base.specs.Change.{Change, change_bytes}
-use Rattle.strat_format.specs.Damage.{Read, and_then, passed_or}
+use Rattle.strat_format.specs.Damage.{Read, and_then}
 use Rattle.strat_format.specs.Records.{Logged, block_of, journal_of}
 use Rattle.strat_journal.specs.declared.journal.Logged.{Logged as Owned}
 
@@ -24,8 +24,3 @@ changes_in_order read = and_then read (λ logged. Ok (map (λ l. l.change) logge
 -- the changes of the journal of these bytes
 abbrev pub journal_changes : Image → ℕ → ℕ → Read (List Change)
 journal_changes c mem active = changes_in_order (journal_of c mem active)
-
--- these records of the active region, of which that takes n, or the block of the other region's
--- first gate where they fill it and that gate is open
-abbrev pub alone_or : ℕ → Bool → ℕ → List Logged → Read (List Logged)
-alone_or n others block logged = passed_or block (not ((length logged == n) && others)) logged

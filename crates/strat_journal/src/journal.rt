@@ -9,7 +9,7 @@ ghost use Rattle.strat_format.specs.Layout as places;
 ghost use Rattle.strat_format.specs.Layout.{IsRegion};
 ghost use Rattle.strat_crash.specs.Moments.{Exposes, Since, Passes, TearsOnly, IsDurable};
 ghost use Rattle.strat_journal.specs.RegionReader.{AreRecords};
-ghost use Rattle.strat_journal.specs.Log.{Stands, GivesAllOrNone, HoldsBatch, batch_joined, region_begun, with_list, empty_log, IsRegionShut};
+ghost use Rattle.strat_journal.specs.Log.{Stands, GivesAllOrNone, HoldsBatch, KeepsShortJournal, batch_joined, batch_region, region_begun, region_turned, with_list, empty_log, IsRegionShut};
 
 use crate::closing::close_region;
 use crate::text::{behind_gate, move_to_front, put_record, put_records};
@@ -173,7 +173,8 @@ impl Journal {
         ensures err { OnErr result (self.new ≡ self.old) }
         ensures durable { OnOk result (HoldsBatch (D.view disk.old) (D.view disk.new) self.old) }
         ensures images { TearsOnly (D.view disk.old) (D.view disk.new)
-            (places.region_at self.old.mem self.old.active) (places.region_size self.old.mem) }
+            (places.region_at self.old.mem (batch_region self.old))
+            (places.region_size self.old.mem) }
         ensures time { Passes (D.view disk.old) (D.view disk.new) }
         ensures cause { CountsFaults (D.faults disk.old) (D.faults disk.new) result }
         ensures reads { D.reads disk.new ≡ D.reads disk.old }
@@ -198,10 +199,12 @@ impl Journal {
 
     /// The other region becomes active, with nothing in the list, and the region that was active is closed
     /// where its first gate reads open: at most one read, one write and one sync, and one copy of the batch,
-    /// which stays. What the list had should be in a manifest by then, and the other region closed. After an
-    /// error the journal is as it was, and nothing but another recovery is of use.
+    /// which stays. What the list had should be in a manifest by then, and the other region closed. Meanwhile each
+    /// image keeps what the other region holds, wherever that has room. After an error the journal is as it was, and
+    /// nothing but another recovery is of use.
     pub fn turn<D: Disk>(&mut self, disk: &mut D) -> Result<(), Failed>
-        ensures ok { OnOk result (self.new ≡ region_begun self.old) }
+        ensures ok { OnOk result (self.new ≡ region_turned self.old) }
+        ensures none { OnOk result (self.new ≡ region_begun self.old) }
         ensures err { OnErr result (self.new ≡ self.old) }
         ensures kept { OnOk result ((f : Image) → Exposes (D.view disk.old) f
             → IsDurable (D.view disk.old)
@@ -212,6 +215,9 @@ impl Journal {
             → IsRegionShut (D.view disk.new) self.old.mem self.old.active) }
         ensures images { TearsOnly (D.view disk.old) (D.view disk.new)
             (places.region_at self.old.mem self.old.active) 1 }
+        ensures same { (c : Image) → Since (D.view disk.new) (D.view disk.old).moment c
+            → KeepsShortJournal (D.view disk.old) self.old.mem
+            (places.other_region self.old.active) c }
         ensures time { Passes (D.view disk.old) (D.view disk.new) }
         ensures cause { CountsFaults (D.faults disk.old) (D.faults disk.new) result }
         ensures reads { ReadsAtMost 1 (D.reads disk.old) (D.reads disk.new) }

@@ -256,6 +256,33 @@ fn reads_blocks(alloc: Global, disk: &mut MemDisk, blocks: &[u32]) -> bool {
     }
 }
 
+/// Whether a journal has more changes than a region takes: want of memory, as long as no more are taken.
+fn wants_memory(alloc: Global, disk: &mut MemDisk) -> bool {
+    match Journal::read(alloc, disk, &block(5, 0)) {
+        Ok(_) => false,
+        Err(trouble) => trouble == Trouble::NoMemory,
+    }
+}
+
+/// Puts so many records of a byte each behind a full first region of five.
+fn put_behind(disk: &mut MemDisk, n: u8) -> Result<(), Failed> {
+    for i in 0..n {
+        let at = 16384 + 11 * u64::from(i);
+        disk.write_at(at, &[0xa7, 1, 0, 0, 0, 0, 1, 97, 0, 1, 49])?;
+    }
+    Ok(())
+}
+
+#[test]
+fn a_journal_goes_on_behind_a_full_region(rt: HostRuntime) -> Result<(), Fail> {
+    let mut disk = MemDisk::new(rt.alloc(), &[])?;
+    assert!(rt; takes_four(rt.alloc(), &mut disk));
+    assert!(rt; takes_a_fifth(rt.alloc(), &mut disk));
+    assert!(rt; put_behind(&mut disk, 3).is_ok() && wants_memory(rt.alloc(), &mut disk));
+    assert!(rt; put_behind(&mut disk, 4).is_ok() && reads(rt.alloc(), &mut disk, Err(4)));
+    Ok(())
+}
+
 #[test]
 fn a_region_takes_the_largest_records(rt: HostRuntime) -> Result<(), Fail> {
     let mut disk = MemDisk::new(rt.alloc(), &[])?;

@@ -9,7 +9,7 @@ ghost use Rattle.strat_level.specs.Places.{compared, IsPlaceOf, IsPlaceFor, IsSt
 
 use std::cmp::Ordering;
 use strat_arena::{ArenaPool, Item};
-use strat_base::Version;
+use strat_base::{Version, key_order};
 
 /// How an item compares with a key and a version, in the order of entries.
 fn item_order(pool: &ArenaPool, arena: u32, item: &Item, key: &[u8], version: Version) -> Ordering
@@ -18,9 +18,7 @@ fn item_order(pool: &ArenaPool, arena: u32, item: &Item, key: &[u8], version: Ve
     ensures ok { result
         ≡ compared (entry_of_item (arena_at pool.now arena).pairs item.now) key.now version }
 {
-    pool.key(arena, item.slot)
-        .cmp(key)
-        .then(version.cmp(&item.version))
+    key_order(pool.key(arena, item.slot), key).then(version.cmp(&item.version))
 }
 
 /// The place of the item of a key and a version, or else where it belongs. O(log items) comparisons.

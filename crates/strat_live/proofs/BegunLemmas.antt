@@ -10,7 +10,8 @@ use Rattle.strat_base.proofs.ListFacts.{Among}
 use Rattle.strat_arena.specs.declared.items.Item.{Item}
 use Rattle.strat_tree.specs.Preorder.{Numbering, IsPreorder}
 use Rattle.strat_live.specs.declared.tops.Interval.{Interval}
-use Rattle.strat_live.specs.Counting.{item_versions, are_below, AreAdded, descends, is_seen_above}
+use Rattle.strat_live.specs.Counting.{item_versions, are_below, AreAdded, is_seen_above}
+use Rattle.strat_base.specs.Order.{descends}
 use Rattle.strat_live.specs.Group.{is_descending}
 use Rattle.strat_live.specs.Tops.{interval_of, AreApart, IsCovered, IsAmong}
 use Rattle.strat_live.proofs.CountingLemmas.{one_if, descends_from, below_from}

@@ -15,7 +15,8 @@ use Rattle.strat_live.specs.CountFields.{AreSmall}
 use Rattle.strat_tree.specs.Preorder.{Numbering, IsPreorder}
 use Rattle.strat_tree.proofs.PreorderLemmas.{ancestors_same}
 use Rattle.strat_live.specs.Tallies.{Tallies}
-use Rattle.strat_live.specs.Counting.{item_versions, are_below, descends, is_seen_above, is_begun, begun_count, tallied, SameParents, IsTally, IsCount, AreAdded, AreSummed}
+use Rattle.strat_live.specs.Counting.{item_versions, are_below, is_seen_above, is_begun, begun_count, tallied, SameParents, IsTally, IsCount, AreAdded, AreSummed}
+use Rattle.strat_base.specs.Order.{descends}
 use Rattle.strat_state.specs.Counted.{sees_one, keys_at}
 use Rattle.strat_live.proofs.SeenLemmas.{seen_parts, seen_same, begun_same}
 

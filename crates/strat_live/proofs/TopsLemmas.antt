@@ -11,7 +11,8 @@ use Rattle.strat_base.proofs.TreeLemmas.{option_cases, parent_older, path_le, pa
 use Rattle.strat_tree.specs.Preorder.{Numbering, IsPreorder}
 use Rattle.strat_state.specs.Counted.{sees_one}
 use Rattle.strat_live.specs.declared.tops.Interval.{Interval}
-use Rattle.strat_live.specs.Counting.{descends, is_seen_above}
+use Rattle.strat_live.specs.Counting.{is_seen_above}
+use Rattle.strat_base.specs.Order.{descends}
 use Rattle.strat_live.specs.Tops.{top_at, interval_of, AreApart, IsCovered, IsPlaceAmong, IsAmong}
 
 -- the starts of intervals that are apart ascend

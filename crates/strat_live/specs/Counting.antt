@@ -3,6 +3,7 @@
 use Rattle.std.specs.Prelude.{◌≡◌, ℕ, ◌<◌, ◌+◌, nat_lt, ◌==◌, ◌&&◌, not, if◌then◌else◌, Bool, true, false, List, [], ◌∷◌, map, fold, length, count_by, slice_index, slice_set, IsTrue}
 use Rattle.std.specs.List.{list_any, list_all}
 use Rattle.std.specs.Option.{option_map_or}
+use Rattle.strat_base.specs.Order.{descends}
 use Rattle.strat_base.specs.Tree.{Parents, parent_of}
 use Rattle.strat_state.specs.Counted.{own_at, sees_one, keys_at}
 use Rattle.strat_arena.specs.declared.items.Item.{Item}
@@ -16,11 +17,6 @@ item_versions items = map (λ item. item.version) items
 -- the items' versions are below n
 abbrev pub are_below : ℕ → List Item → Bool
 are_below n items = list_all (λ item. nat_lt item.version n) items
-
--- numbers strictly descend
-abbrev pub descends : List ℕ → Bool
-descends [] = true
-descends (v ∷ versions) = list_all (λ u. nat_lt u v) versions && descends versions
 
 -- a version's parent sees an item of a key
 abbrev pub is_seen_above : Parents → ℕ → List ℕ → Bool

@@ -5,7 +5,7 @@ ghost use Rattle.std.specs.Prelude.{◌≡◌, ℕ, ◌+◌, ◌≤◌, List, ma
 ghost use Rattle.strat_arena.specs.declared.items.Item.{Item};
 ghost use Rattle.strat_base.specs.Entries.{Entry, is_of};
 ghost use Rattle.strat_base.specs.Tree.{Parents, parent_of, IsTree};
-ghost use Rattle.strat_live.specs.Counting.{descends};
+ghost use Rattle.strat_base.specs.Order.{descends};
 ghost use Rattle.strat_state.specs.Counted.{own_at, keys_at};
 ghost use Rattle.strat_live.specs.Group.{is_live_item};
 ghost use Rattle.strat_state.specs.Live.{is_live};

@@ -1,5 +1,5 @@
 -- Descriptors, superblocks and disks that stand exactly at a bound of the formats, or one past it.
-use Rattle.std.specs.Prelude.{ℕ, List, [], ◌∷◌, ◌++◌, map, replicate, Some}
+use Rattle.std.specs.Prelude.{ℕ, ◌+◌, List, [], ◌∷◌, ◌++◌, length, map, replicate, Some}
 use Rattle.strat_base.specs.Entries.{Entry}
 use Rattle.strat_base.specs.Change.{Change, Put}
 use Rattle.strat_base.specs.Numbers.{be}
@@ -8,6 +8,7 @@ use Rattle.strat_format.specs.Manifest.{Manifest}
 use Rattle.strat_base.specs.declared.descriptors.Extent.{Extent}
 use Rattle.strat_base.specs.declared.descriptors.ArrayDesc.{ArrayDesc}
 use Rattle.strat_base.specs.declared.descriptors.LevelDesc.{LevelDesc}
+use Rattle.strat_format.specs.Layout.{open_flag}
 use Rattle.strat_format.specs.Records.{records_bytes}
 use Rattle.strat_format.specs.SuperBlock.{Super, Slot}
 
@@ -153,6 +154,12 @@ abbrev pub with_puts : List ℕ → List ℕ → Image
 with_puts firsts seconds =
     patch (patch (λ i. 0) 8192 (records_bytes (map put_of firsts)))
     16384 (records_bytes (map put_of seconds))
+
+-- the same with an open gate behind those in region 1, and no change after it
+abbrev pub with_gate : List ℕ → List ℕ → Image
+with_gate firsts seconds =
+    patch (with_puts firsts seconds)
+    (16384 + length (records_bytes (map put_of seconds))) (open_flag ∷ [])
 
 -- a disk with these bytes from an offset on, and zeros everywhere else
 abbrev pub bytes_from : ℕ → List ℕ → Image

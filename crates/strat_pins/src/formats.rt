@@ -7,11 +7,11 @@ ghost use Rattle.std.specs.Prelude.{◌≡◌, [], ◌∷◌, ◌++◌, map, rep
 ghost use Rattle.strat_base.specs.Samples.{says, gone};
 ghost use Rattle.strat_format.specs.Block.{fits_block, block_bytes};
 ghost use Rattle.strat_format.specs.Manifest.{is_lawful_extent, is_lawful_array, is_lawful_level, is_lawful_manifest, manifest_bytes, manifest_in, new_manifest};
-ghost use Rattle.strat_pins.specs.Formats.{four_entries, from_block, two_leads, in_extents, for_versions, odd_level, with_arrays, second_extent_at, without_levels, two_arrays, two_arrays_bytes, least_super, greatest_super, slot_with, slot_of_generation, put_of, with_puts, bytes_from, chain_links};
+ghost use Rattle.strat_pins.specs.Formats.{four_entries, from_block, two_leads, in_extents, for_versions, odd_level, with_arrays, second_extent_at, without_levels, two_arrays, two_arrays_bytes, least_super, greatest_super, slot_with, slot_of_generation, put_of, with_puts, with_gate, bytes_from, chain_links};
 ghost use Rattle.strat_format.specs.Chain.{chain_length};
 ghost use Rattle.strat_format.specs.Chained.{may_follow, chain_from, manifest_filled, manifest_at};
 ghost use Rattle.strat_format.specs.Layout.{region_size};
-ghost use Rattle.strat_format.specs.Records.{records_bytes, records, journal_of, journal_in_one};
+ghost use Rattle.strat_format.specs.Records.{records_bytes, records, journal_of, journal_in_two};
 ghost use Rattle.strat_format.specs.SuperBlock.{in_range, newer, slot_of, body};
 ghost use Rattle.strat_recovery.specs.Disks.{new_super};
 
@@ -194,14 +194,27 @@ pub fn full_regions_lead_to_the_other()
         ≡ Ok (record { change = put_of 101; block = 4 } ∷ []) }
 {}
 
-/// While one region may hold the whole journal, an open gate at the head of the other is damage where the active one is
-/// full, whichever that is, and is not looked at where it is not.
-pub fn other_regions_stay_shut()
-    ensures first { journal_in_one (with_puts (97 ∷ 98 ∷ 99 ∷ 100 ∷ []) (101 ∷ [])) 4 0 ≡ Err 4 }
-    ensures second { journal_in_one (with_puts (101 ∷ []) (97 ∷ 98 ∷ 99 ∷ 100 ∷ [])) 4 1 ≡ Err 2 }
-    ensures room { journal_in_one (with_puts (97 ∷ []) (98 ∷ [])) 4 1
+/// Recovery takes up to two records fewer than both regions have room for: six of eight here. One more is damage of the
+/// other region's first block, also where no change follows the gate behind it; a gate without a change before that is damage of
+/// its own block.
+pub fn two_regions_hold_two_fewer()
+    ensures five { journal_in_two (with_puts (97 ∷ 98 ∷ 99 ∷ 100 ∷ []) (101 ∷ [])) 4 0
+        ≡ Ok (map (λ key. record { change = put_of key; block = 2 }) (97 ∷ 98 ∷ 99 ∷ 100 ∷ [])
+        ++ record { change = put_of 101; block = 4 } ∷ []) }
+    ensures six { journal_in_two (with_puts (97 ∷ 98 ∷ 99 ∷ 100 ∷ []) (101 ∷ 102 ∷ [])) 4 0
+        ≡ Ok (map (λ key. record { change = put_of key; block = 2 }) (97 ∷ 98 ∷ 99 ∷ 100 ∷ [])
+        ++ map (λ key. record { change = put_of key; block = 4 }) (101 ∷ 102 ∷ [])) }
+    ensures seven { journal_in_two
+        (with_puts (97 ∷ 98 ∷ 99 ∷ 100 ∷ []) (101 ∷ 102 ∷ 103 ∷ [])) 4 0 ≡ Err 4 }
+    ensures more { journal_in_two
+        (with_gate (97 ∷ 98 ∷ 99 ∷ 100 ∷ []) (101 ∷ 102 ∷ 103 ∷ [])) 4 0 ≡ Err 4 }
+    ensures second { journal_in_two
+        (with_puts (97 ∷ 98 ∷ 99 ∷ []) (101 ∷ 102 ∷ 103 ∷ 104 ∷ [])) 4 1 ≡ Err 2 }
+    ensures gate { journal_in_two
+        (with_gate (97 ∷ 98 ∷ 99 ∷ 100 ∷ []) (101 ∷ [])) 4 0 ≡ Err 4 }
+    ensures room { journal_in_two (with_puts (97 ∷ []) (98 ∷ [])) 4 1
         ≡ Ok (record { change = put_of 98; block = 4 } ∷ []) }
-    ensures shut { journal_in_one (with_puts [] (97 ∷ 98 ∷ 99 ∷ 100 ∷ [])) 4 1
+    ensures shut { journal_in_two (with_puts [] (97 ∷ 98 ∷ 99 ∷ 100 ∷ [])) 4 1
         ≡ Ok (map (λ key. record { change = put_of key; block = 4 }) (97 ∷ 98 ∷ 99 ∷ 100 ∷ [])) }
 {}
 

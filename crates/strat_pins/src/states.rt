@@ -47,10 +47,10 @@ pub fn leads_are_counted()
     ensures promised { (promised fan 3 ≡ 10) × (promised fan 1 ≡ 0) }
 {}
 
-/// A journal has as many changes as a region takes, and no more; levels begin with level 1.
+/// A journal has two changes fewer than both regions take, and no more: six for regions of four. Levels begin with level 1.
 pub fn states_are_formed_up_to_their_bounds()
-    ensures most { IsWellFormed (after_puts 4) }
-    ensures more { ¬ IsWellFormed (after_puts 5) }
+    ensures most { IsWellFormed (after_puts 6) }
+    ensures more { ¬ IsWellFormed (after_puts 7) }
     ensures level { ¬ IsWellFormed (eight_leads_in 4 0) }
     ensures rising { is_numbered_from 1
         ((eight_leads_in 4 2).levels ++ (eight_leads_in 4 2).levels) ≡ false }

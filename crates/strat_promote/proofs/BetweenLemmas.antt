@@ -56,6 +56,7 @@ module _ (f g : Image) (job : Job) (agree : AgreeOn (blocks_listed job.arrays) f
     groups = is.groups;
     runs = runs_stay f g input_seen input_law job is.groups c.merger.runs.items (consumed_of c.merger) agree is.runs;
     tallied = is.tallied;
+    least = is.least;
   }
 
   writing_stays : (first : ℕ) (w : Writing Input) → WritersAgree f g w.filling.writers.items → IsWriting input_seen f job first w → IsWriting input_seen g job first w

@@ -1,23 +1,27 @@
 -- How many entries the steps of a slice take.
-use Rattle.std.proofs.Common.{◌≡◌, ◌<◌, ◌≤◌, ◌+◌, ◌*◌, ◌-◌, ◌^◌, ◌&&◌, not, ℕ, zero, suc, inl, inr, ◌⊎◌, List, [], ◌∷◌, ◌++◌, length, map, filter, Option, IsSome, length-append, refl, sym, ap, ◌∙◌, subst, arith}
-use Rattle.std.specs.List.{slice_get}
+use Rattle.std.proofs.Common.{◌≡◌, ◌<◌, ◌≤◌, ◌+◌, ◌*◌, ◌-◌, ◌^◌, ◌&&◌, not, ℕ, zero, suc, inl, inr, ◌⊎◌, List, [], ◌∷◌, ◌++◌, length, map, filter, Option, Some, IsSome, length-append, refl, sym, ap, ◌∙◌, subst, arith}
+use Rattle.std.specs.List.{slice_get, find}
 use Rattle.std.proofs.Math.Nat.{min-eq_left}
 use Rattle.std.proofs.lemmas.Bool.{and_parts}
 use Rattle.std.proofs.lemmas.List.Elements.{filter-append}
 use Rattle.std.proofs.lemmas.List.Filters.{length-filter_both}
-use Rattle.strat_base.specs.Entries.{Entry, is_of}
+use Rattle.strat_base.specs.Entries.{Entry, is_at, is_of}
+use Rattle.strat_base.proofs.EntryLemmas.{at_key_version, is_of_key}
+use Rattle.strat_base.proofs.ListFacts.{all_at, among_filter, find_some}
+use Rattle.strat_state.proofs.LevelLemmas.{ascending_single}
+use Rattle.strat_promotion.proofs.UnionLemmas.{find_at, single_fits}
 use Rattle.strat_crash.specs.Image.{Image}
 use Rattle.strat_merge.specs.Gathered.{TakesNext, CountsTaken}
 use Rattle.strat_merge.specs.Runs.{RunView, head_at, lefts}
 use Rattle.strat_plan.specs.Groups.{grouped_entries}
 use Rattle.strat_plan.proofs.ListLemmas.{filter_both, filter_le}
-use Rattle.strat_promotion.specs.Merging.{MergesTo, rest_of}
-use Rattle.strat_promote.specs.Budget.{TakesOneKey, IsNearLimit}
+use Rattle.strat_promotion.specs.Merging.{IsNext, MergesTo, rest_of}
+use Rattle.strat_promote.specs.Budget.{TakesOneKey, TakesSome, IsNearLimit}
 use Rattle.strat_promote.specs.Counted.{AreRunsOf}
 use Rattle.strat_promote.specs.InputFields.{input_seen}
 use Rattle.strat_promote.specs.InputLaw.{input_law}
 use Rattle.strat_promote.specs.Job.{Job, runs_in, input_count}
-use Rattle.strat_promote.specs.Stages.{IsUnderway, HasLeft, IsTakenUp, stage_consumed}
+use Rattle.strat_promote.specs.Stages.{IsUnderway, HasLeft, IsTakenUp, stage_consumed, how_far}
 use Rattle.strat_promote.specs.declared.input.Input.{Input}
 use Rattle.strat_promote.specs.declared.stage.Stage.{Stage}
 use Rattle.strat_promote.specs.declared.stage.Stage.TheVariants as stage
@@ -58,7 +62,7 @@ goes_with key runs =
     omega (arith, both, size)
 
 -- a group that was taken from the runs of a job has entries of one key
-pub one_key : (f : Image) (job : Job) (groups : List (List Entry)) (old new : List RunView) (before now : ℕ) (group : List Entry) → AreRunsOf f job groups old before
+one_key : (f : Image) (job : Job) (groups : List (List Entry)) (old new : List RunView) (before now : ℕ) (group : List Entry) → AreRunsOf f job groups old before
     → TakesNext (lefts f old) (lefts f new) group → CountsTaken (lefts f old) (lefts f new) before now → TakesOneKey f job before now
 one_key f job groups old new before now group runs next counts =
     let few = runs.few in
@@ -70,6 +74,37 @@ one_key f job groups old new before now group runs next counts =
     let gone = goes_with next.0 (lefts f old) in
     let most = fewer_merged next.0 (runs_in f job) groups (lefts f old) runs.merged in
     record { key = next.0; most = omega (arith, same, less, left, gone, most) }
+
+-- the group of a key has no more entries than the runs have of it
+pub next_fits : (runs : List (List Entry)) (key : List ℕ) (group : List Entry) → IsNext runs key group → length group ≤ of_key key runs
+next_fits runs key group next =
+    let single = ascending_single group next.ascending in
+    single_fits group (filter (is_of key) (grouped_entries runs)) single (λ e among.
+    let of = all_at (is_of key) e group next.keyed among in
+    let found : find (is_at key e.version) group ≡ Some e = find_at group key e.version e single among (at_key_version key e.version e (is_of_key key e of) refl) in
+    let there = find_some (is_at key e.version) (grouped_entries runs) e (sym (next.newest e.version) ∙ found) in
+    among_filter (is_of key) (grouped_entries runs) e there.0 of)
+
+-- no more are kept of a group than were taken, and some were taken
+pub group_fits : (f : Image) (job : Job) (groups : List (List Entry)) (old new : List RunView) (before now : ℕ) (group : List Entry) → AreRunsOf f job groups old before
+    → TakesNext (lefts f old) (lefts f new) group → CountsTaken (lefts f old) (lefts f new) before now → (before + length group ≤ now) × (now ≤ 2 ^ 24)
+group_fits f job groups old new before now group runs next counts =
+    let few = runs.few in
+    let taken = runs.taken in
+    let less = counts.fewer in
+    let small : before + (length (grouped_entries (lefts f old)) - length (grouped_entries (lefts f new))) ≤ 2 ^ 64 - 1 = omega (arith, few, taken, less) in
+    let same : now ≡ before + (length (grouped_entries (lefts f old)) - length (grouped_entries (lefts f new))) = counts.counted ∙ min-eq_left small in
+    let left = ap (λ (ls : List (List Entry)). length (grouped_entries ls)) next.1.1 in
+    let gone = goes_with next.0 (lefts f old) in
+    let fits = next_fits (lefts f old) next.0 group next.1.0 in
+    (omega (arith, same, less, left, gone, fits), omega (arith, same, few, taken, less))
+
+pub takes_some : (f : Image) (job : Job) (groups : List (List Entry)) (old new : List RunView) (before now : ℕ) (group : List Entry) → AreRunsOf f job groups old before
+    → TakesNext (lefts f old) (lefts f new) group → CountsTaken (lefts f old) (lefts f new) before now → TakesSome f job before now
+takes_some f job groups old new before now group runs next counts =
+    let fits = (group_fits f job groups old new before now group runs next counts).0 in
+    let some = next.1.0.some in
+    record { some = omega (arith, fits, some); one = one_key f job groups old new before now group runs next counts }
 
 -- where a run begins with an entry, one is left
 left_some : (f : Image) (runs : List Input) (i : ℕ) → IsSome (head_at (map input_seen runs) i) → 0 < length (grouped_entries (lefts f (map input_seen runs)))
@@ -96,6 +131,12 @@ taken_most f job first (stage.Writing w before) under =
     let taken = under.0.runs.taken in
     let all = under.1 in
     (omega (arith, taken, all), omega (arith, few, taken, all))
+
+-- how far a stage of a job can be
+pub far_most : (f : Image) (job : Job) (first : ℕ) (s : Stage) → IsUnderway f job first s → how_far s ≤ 2 + 2 ^ 25
+far_most f job first stage.Begun under = omega arith
+far_most f job first (stage.Counting c) under = let most = (taken_most f job first (stage.Counting c) under).1 in omega (arith, most)
+far_most f job first (stage.Writing w before) under = let most = (taken_most f job first (stage.Writing w before) under).1 in omega (arith, most)
 
 -- where an entry is left, not all were taken
 pub entry_left : (f : Image) (job : Job) (first : ℕ) (s : Stage) → IsUnderway f job first s → HasLeft s → 0 < stage_consumed s → stage_consumed s < 2 * input_count f job

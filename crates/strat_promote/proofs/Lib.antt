@@ -1,4 +1,5 @@
 pub mod ZeroLemmas
+pub mod ObstacleLemmas
 pub mod LeadLemmas
 pub mod LeadRunLemmas
 pub mod TagLemmas

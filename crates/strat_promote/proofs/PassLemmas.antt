@@ -1,17 +1,18 @@
 -- One more group of a pass.
-use Rattle.std.proofs.Common.{◌≡◌, ◌<◌, ◌≤◌, ◌+◌, ◌-◌, ◌^◌, ◌||◌, ℕ, suc, Bool, true, false, leb, ltb, cond, is_some, inl, inr, List, [], ◌∷◌, ◌++◌, length, map, Option, None, option_and_then, refl, sym, ap, ◌∙◌, subst, arith}
+use Rattle.std.proofs.Common.{◌≡◌, ◌<◌, ◌≤◌, ◌+◌, ◌-◌, ◌^◌, ◌||◌, ℕ, suc, Bool, true, false, leb, ltb, cond, is_some, inl, inr, List, [], ◌∷◌, ◌++◌, length, map, filter, Option, None, option_and_then, refl, sym, ap, ◌∙◌, subst, arith}
 use Rattle.std.specs.List.{slice_get, find, Contains}
 use Rattle.std.specs.Option.{option_map_or}
 use Rattle.std.proofs.lemmas.Bool.{ltb-true, leb-true, le-leb}
-use Rattle.std.proofs.lemmas.List.{map-append}
+use Rattle.std.proofs.lemmas.List.{length-map, map-append}
 use Rattle.strat_crash.specs.Image.{Image}
 use Rattle.strat_base.specs.Tree.{Parents, parent_of, IsTree}
 use Rattle.strat_base.specs.Entries.{Entry, is_at}
+use Rattle.strat_base.specs.declared.descriptors.ArrayDesc.{ArrayDesc}
 use Rattle.strat_base.proofs.ListFacts.{Among, all_at, all_from}
 use Rattle.strat_base.proofs.TreeLemmas.{option_cases, parent_older}
 use Rattle.strat_state.specs.Live.{first_some}
 use Rattle.strat_arena.specs.ArenaView.{KeyValue}
-use Rattle.strat_arena.specs.Items.{entries_of}
+use Rattle.strat_arena.specs.Items.{entries_of, entry_of_item}
 use Rattle.strat_arena.specs.declared.items.Item.{Item}
 use Rattle.strat_live.specs.Counting.{SameParents, item_versions, IsTally}
 use Rattle.strat_live.specs.Tallies.{Tallies}
@@ -25,7 +26,7 @@ use Rattle.strat_merge.specs.Gathered.{are_under, TakesNext, CountsTaken}
 use Rattle.strat_merge.specs.Runs.{RunView, IsEntryRun, lefts, blocks_left, IsBadFor, NoneLeft}
 use Rattle.strat_promote.specs.Job.{Job, runs_in, input_count, groups_kept}
 use Rattle.strat_promotion.specs.Merging.{MergesTo, Merges}
-use Rattle.strat_promote.specs.Counted.{AreRunsOf}
+use Rattle.strat_promote.specs.Counted.{AreReadOf, AreRunsOf}
 use Rattle.strat_promote.specs.Taken.{group_kept, TakesKept}
 
 -- a greater number is above the versions of runs, too
@@ -88,6 +89,32 @@ pub versions_more : (job : Job) (groups : List (List Entry)) (group : List Entry
 versions_more job groups group =
     ap group_versions (kept_more job groups group) ∙ map-append (λ (g : List Entry). map (λ (e : Entry). e.version) g) (groups_kept job groups) (group_kept job.parents job.purges group ∷ [])
 
+-- runs of which some entries were taken
+pub read_fewer : (f : Image) (arrays : List ArrayDesc) (old new : List RunView) → ((b : ℕ) → Contains (blocks_left new) b → Contains (blocks_left old) b)
+    → ((b : ℕ) → IsBadFor new f b → IsBadFor old f b) → AreReadOf f arrays old → AreReadOf f arrays new
+read_fewer f arrays old new fewer blames read = record { within = λ b here. read.within b (fewer b here); blames = λ b is. read.blames b (blames b is) }
+
+filter_fewer : {X : Type 0} (p : X → Bool) (xs : List X) → length (filter p xs) ≤ length xs
+filter_fewer p [] = omega arith
+filter_fewer {X} p (x ∷ xs) = go (p x) (filter_fewer p xs)
+  where
+    go : (b : Bool) → length (filter p xs) ≤ length xs → length (cond b (x ∷ filter p xs) (filter p xs)) ≤ suc (length xs)
+    go true rest = omega (arith, rest)
+    go false rest = omega (arith, rest)
+
+-- no more is kept of a group than it has
+pub kept_fits : (tree : Parents) (purges : Bool) (n : ℕ) (old new : List (List Entry)) (pairs : List KeyValue) (items : List Item) → (taken : TakesKept tree purges n old new (entries_of pairs items))
+    → length items ≤ length taken.group
+kept_fits tree purges n old new pairs items taken =
+    let size : length (entries_of pairs items) ≡ length items = length-map items (entry_of_item pairs) in
+    let same = ap (λ (es : List Entry). length es) taken.kept in
+    let fewer = go purges taken.group in
+    omega (arith, size, same, fewer)
+  where
+    go : (b : Bool) (group : List Entry) → length (group_kept tree b group) ≤ length group
+    go false group = omega arith
+    go true group = filter_fewer (is_needed tree group) group
+
 -- one more group was taken from the runs of a job
 pub runs_more : (f : Image) (job : Job) (groups : List (List Entry)) (old new : List RunView) (before now : ℕ) (group : List Entry) → AreRunsOf f job groups old before
     → TakesNext (lefts f old) (lefts f new) group → CountsTaken (lefts f old) (lefts f new) before now
@@ -103,8 +130,7 @@ runs_more f job groups old new before now group runs next counts fewer blames =
       few = runs.few;
       merged = subst (MergesTo (runs_in f job) (groups ++ group ∷ [])) (sym next.1.1) (merged_more (runs_in f job) groups (lefts f old) runs.merged next.0 group next.1.0);
       taken = omega (arith, few, taken, less, same);
-      within = λ b here. runs.within b (fewer b here);
-      blames = λ b is. runs.blames b (blames b is);
+      read = read_fewer f job.arrays old new fewer blames runs.read;
     }
 
 -- where nothing is left, all groups of a job were taken

@@ -1,5 +1,5 @@
 -- Steps of a promotion, one after the other.
-use Rattle.std.proofs.Common.{◌≡◌, ◌<◌, ◌≤◌, ◌+◌, ◌-◌, ◌*◌, ◌^◌, ◌⊎◌, inl, inr, ◌++◌, ℕ, suc, List, [], ◌∷◌, Option, None, Some, unwrap_or, Result, Ok, Err, OnOk, IfOk, length, refl, sym, ap, ◌∙◌, subst, arith}
+use Rattle.std.proofs.Common.{◌≡◌, ◌<◌, ◌≤◌, ◌+◌, ◌-◌, ◌*◌, ◌^◌, ◌⊎◌, inl, inr, ◌++◌, ℕ, suc, List, [], ◌∷◌, Option, None, Some, unwrap_or, Result, Ok, Err, OnOk, length, refl, sym, ap, ◌∙◌, subst, arith}
 use Rattle.strat_base.specs.Entries.{Entry}
 use Rattle.strat_base.specs.declared.descriptors.ArrayDesc.{ArrayDesc}
 use Rattle.strat_base.specs.declared.descriptors.LevelDesc.{LevelDesc}
@@ -22,9 +22,9 @@ use Rattle.strat_promote.specs.Budget.{IsNearLimit, TakesOneKey}
 use Rattle.strat_promote.specs.Closing.{AreAllUsed, all_extents}
 use Rattle.strat_promote.specs.Job.{Job, IsBadInput, runs_in, input_count, arrays_to, blocks_listed}
 use Rattle.strat_promote.specs.Spaces.{TakesMore}
-use Rattle.strat_promote.specs.Stages.{IsSteady, IsUnderway, IsMade, IsReadFrom, ReadsOnce, HasLeft, IsTakenUp, stage_writers, stage_consumed, blocks_due}
+use Rattle.strat_promote.specs.Stages.{IsSteady, IsUnderway, IsMade, IsReadFrom, IsReadOf, ReadsOnce, HasLeft, IsTakenUp, stage_writers, stage_consumed, blocks_due, how_far}
 use Rattle.strat_promote.specs.Steps.{Inputs, IsTaskIn, StepsOn, SlicesOn}
-use Rattle.strat_promote.specs.Turning.{stage_after, AreAllNew, WritesOn}
+use Rattle.strat_promote.specs.Turning.{GoesFurther, stage_after, AreAllNew, WritesOn}
 use Rattle.strat_promote.specs.declared.counting.Counting.{Counting}
 use Rattle.strat_promote.specs.declared.input.Input.{Input}
 use Rattle.strat_promote.specs.declared.passing.Writing.{Writing}
@@ -33,7 +33,7 @@ use Rattle.strat_promote.specs.declared.stage.Stage.TheVariants as stage
 use Rattle.strat_promote.specs.declared.step.Step.{Step}
 use Rattle.strat_promote.specs.declared.step.Step.TheVariants as step
 use Rattle.strat_promote.specs.declared.step.Task.{Task}
-use Rattle.strat_promote.proofs.BudgetLemmas.{IsHeld, near_next, key_more, key_same, none_taken, taken_most, entry_left, none_left_in}
+use Rattle.strat_promote.proofs.BudgetLemmas.{IsHeld, far_most, near_next, key_more, key_same, none_taken, taken_most, entry_left, none_left_in}
 use Rattle.strat_promote.proofs.PushingLemmas.{still_told}
 use Rattle.strat_promote.proofs.SpacesLemmas.{takes_refl, takes_trans, torn_on}
 use Rattle.strat_promote.proofs.WrittenLemmas.{inputs_same, bad_input_same}
@@ -75,19 +75,21 @@ pub agree_back : (blocks : List ℕ) (f g : Image) → AgreeOn blocks f g → Ag
 agree_back blocks f g agree = λ b here. let same = agree b here in record { byte = λ i from to. sym (same.byte i from to) }
 
 -- some steps were taken, and there is more to do
-pub record IsSlicing (task : Task) (inputs : Inputs) (limit : ℕ) (start now : DiskView) (s t : SpaceView) (old new : Stage) (faults failed reads read : ℕ) : Type 0 where
+pub record IsSlicing (task : Task) (inputs : Inputs) (limit count : ℕ) (start now : DiskView) (s t : SpaceView) (old new : Stage) (faults failed reads read : ℕ) : Type 0 where
   pub steady : IsSteady task.horizon new
   pub used : AreAllUsed t (stage_writers new)
   pub takes : TakesMore s t (all_extents (stage_writers old)) (all_extents (stage_writers new))
   pub torn : TearsBlocks (is_free s) start now
   pub calm : failed ≡ faults
   pub goes : (f g : Image) (job : Job) → Exposes start f → Exposes now g → IsTaskIn f task inputs job → AreUsed s (blocks_listed job.arrays) → IsUnderway f job task.first old
-      → IsUnderway g job task.first new × IsHeld f job limit (stage_consumed new)
+      → IsUnderway g job task.first new × IsHeld f job limit (stage_consumed new) × (count ≤ how_far new)
+  pub readable : (f g : Image) → Exposes start f → Exposes now g → AreUsed s (blocks_listed (arrays_to inputs.levels task.target)) → IsReadOf f (arrays_to inputs.levels task.target) old
+      → IsReadOf g (arrays_to inputs.levels task.target) new
   pub due : read + blocks_due (arrays_to inputs.levels task.target) new ≤ reads + blocks_due (arrays_to inputs.levels task.target) old
   pub among : IsReadFrom (arrays_to inputs.levels task.target) old → IsReadFrom (arrays_to inputs.levels task.target) new
 
-module _ (task : Task) (inputs : Inputs) (limit : ℕ) (start mid now : DiskView) (s t u : SpaceView) (old stage new : Stage) (faults failed after reads read last : ℕ)
-    (slicing : IsSlicing task inputs limit start mid s t old stage faults failed reads read)
+module _ (task : Task) (inputs : Inputs) (limit count : ℕ) (start mid now : DiskView) (s t u : SpaceView) (old stage new : Stage) (faults failed after reads read last : ℕ)
+    (slicing : IsSlicing task inputs limit count start mid s t old stage faults failed reads read)
     (takes : TakesMore t u (all_extents (stage_writers stage)) (all_extents (stage_writers new))) (torn : TearsBlocks (is_free t) mid now) where
   pub slice_torn : TearsBlocks (is_free s) start now
   slice_torn = torn_on s t (all_extents (stage_writers old)) (all_extents (stage_writers stage)) start mid now slicing.takes slicing.torn torn
@@ -107,7 +109,7 @@ module _ (task : Task) (inputs : Inputs) (limit : ℕ) (start mid now : DiskView
   -- where a step does something of a stage, all steps do it of the first
   pub slice_goes : (r : Step)
       → ((f g : Image) (job : Job) → Exposes mid f → Exposes now g → IsTaskIn f task inputs job → AreUsed t (blocks_listed job.arrays) → IsUnderway f job task.first stage
-      → StepsOn f g task job (stage_consumed stage) new r)
+      → StepsOn f g task job (stage_consumed stage) new r × GoesFurther stage new r)
       → (f g : Image) (job : Job) → Exposes start f → Exposes now g → IsTaskIn f task inputs job → AreUsed s (blocks_listed job.arrays) → IsUnderway f job task.first old
       → WentOn f g job r
   slice_goes r does f g job told tells is used underway =
@@ -115,7 +117,7 @@ module _ (task : Task) (inputs : Inputs) (limit : ℕ) (start mid now : DiskView
       let agree = inputs_agree s (blocks_listed job.arrays) start mid f between.0 used slicing.torn told between.1 in
       let went = slicing.goes f between.0 job told between.1 is used underway in
       let done = does between.0 g job between.1 tells (task_stays f between.0 task inputs job agree is) (still_used (blocks_listed job.arrays) used) went.0 in
-      back r between.0 agree went.1 done
+      back r between.0 agree went.1 done.0
     where
       back : (p : Step) (h : Image) → AgreeOn (blocks_listed job.arrays) f h → IsHeld f job limit (stage_consumed stage) → StepsOn h g task job (stage_consumed stage) new p → WentOn f g job p
       back step.More h agree held done =
@@ -134,7 +136,7 @@ module _ (task : Task) (inputs : Inputs) (limit : ℕ) (start mid now : DiskView
   -- the same where the slice ends: an entry is left
   pub slice_pauses : HasLeft new → 0 < stage_consumed new
       → ((f g : Image) (job : Job) → Exposes mid f → Exposes now g → IsTaskIn f task inputs job → AreUsed t (blocks_listed job.arrays) → IsUnderway f job task.first stage
-      → StepsOn f g task job (stage_consumed stage) new step.More)
+      → StepsOn f g task job (stage_consumed stage) new step.More × GoesFurther stage new step.More)
       → (f g : Image) (job : Job) → Exposes start f → Exposes now g → IsTaskIn f task inputs job → AreUsed s (blocks_listed job.arrays) → IsUnderway f job task.first old
       → SlicesOn f g task job limit new step.More
   slice_pauses left some does f g job told tells is used underway =
@@ -144,24 +146,34 @@ module _ (task : Task) (inputs : Inputs) (limit : ℕ) (start mid now : DiskView
       (went.0, omega (arith, lt, same), went.1)
 
   -- a block that is bad after some steps was bad before
-  pub slice_blames : (b : ℕ)
-      → ((f : Image) (job : Job) → Exposes mid f → IsTaskIn f task inputs job → IsUnderway f job task.first stage → IsBadInput f job.arrays b)
-      → (f : Image) (job : Job) → Exposes start f → IsTaskIn f task inputs job → AreUsed s (blocks_listed job.arrays) → IsUnderway f job task.first old → IsBadInput f job.arrays b
-  slice_blames b blames f job told is used underway =
+  pub slice_blames : (b : ℕ) → ((f : Image) → Exposes mid f → IsReadOf f (arrays_to inputs.levels task.target) stage → IsBadInput f (arrays_to inputs.levels task.target) b)
+      → (f : Image) → Exposes start f → AreUsed s (blocks_listed (arrays_to inputs.levels task.target)) → IsReadOf f (arrays_to inputs.levels task.target) old
+      → IsBadInput f (arrays_to inputs.levels task.target) b
+  slice_blames b blames f told used read =
+      let arrays : List ArrayDesc = arrays_to inputs.levels task.target in
+      let between = still_told start mid f slicing.torn.time told in
+      let agree = inputs_agree s (blocks_listed arrays) start mid f between.0 used slicing.torn told between.1 in
+      bad_input_same between.0 f arrays b (agree_back (blocks_listed arrays) f between.0 agree) (blames between.0 between.1 (slicing.readable f between.0 told between.1 used read))
+
+  -- what a step finds unfit, no store has
+  pub slice_fits : ((f : Image) (job : Job) → Exposes mid f → IsTaskIn f task inputs job → IsUnderway f job task.first stage → ⊥)
+      → (f : Image) (job : Job) → Exposes start f → IsTaskIn f task inputs job → AreUsed s (blocks_listed job.arrays) → IsUnderway f job task.first old → ⊥
+  slice_fits fits f job told is used underway =
       let between = still_told start mid f slicing.torn.time told in
       let agree = inputs_agree s (blocks_listed job.arrays) start mid f between.0 used slicing.torn told between.1 in
-      bad_input_same between.0 f job.arrays b (agree_back (blocks_listed job.arrays) f between.0 agree)
-      (blames between.0 job between.1 (task_stays f between.0 task inputs job agree is) (slicing.goes f between.0 job told between.1 is used underway).0)
+      fits between.0 job between.1 (task_stays f between.0 task inputs job agree is) (slicing.goes f between.0 job told between.1 is used underway).0
 
   -- one more step
   pub slicing_next : IsSteady task.horizon new → AreAllUsed u (stage_writers new) → after ≡ failed
       → (stage_consumed new < 2 ^ 64 - 1 → (stage_consumed new < limit) ⊎ IsTakenUp new)
       → ((f g : Image) (job : Job) → Exposes mid f → Exposes now g → IsTaskIn f task inputs job → AreUsed t (blocks_listed job.arrays) → IsUnderway f job task.first stage
-      → StepsOn f g task job (stage_consumed stage) new step.More)
+      → StepsOn f g task job (stage_consumed stage) new step.More × GoesFurther stage new step.More)
+      → ((f g : Image) → Exposes mid f → Exposes now g → AreUsed t (blocks_listed (arrays_to inputs.levels task.target)) → IsReadOf f (arrays_to inputs.levels task.target) stage
+      → IsReadOf g (arrays_to inputs.levels task.target) new)
       → last + blocks_due (arrays_to inputs.levels task.target) new ≤ read + blocks_due (arrays_to inputs.levels task.target) stage
       → (IsReadFrom (arrays_to inputs.levels task.target) stage → IsReadFrom (arrays_to inputs.levels task.target) new)
-      → IsSlicing task inputs limit start now s u old new faults after reads last
-  slicing_next steady used calm ahead does due among =
+      → IsSlicing task inputs limit (count + 1) start now s u old new faults after reads last
+  slicing_next steady used calm ahead does stays due among =
       let before = slicing.due in
       record {
         steady = steady;
@@ -171,8 +183,14 @@ module _ (task : Task) (inputs : Inputs) (limit : ℕ) (start mid now : DiskView
         calm = calm ∙ slicing.calm;
         goes = λ f g job told tells is blocks underway.
             let went = slice_goes step.More does f g job told tells is blocks underway in
-            let same : input_count g job ≡ input_count f job = count_same f g job (inputs_agree s (blocks_listed job.arrays) start now f g blocks slice_torn told tells) in
-            (went.0, record { near = went.1; ahead = opens f g job went.0 same (ahead (let small = (taken_most g job task.first new went.0).1 in omega (arith, small))) });
+            let same : input_count g job ≡ input_count f job = count_same f g job (inputs_agree s (blocks_listed job.arrays) start now f g blocks slice_torn told tells) in (
+              went.0,
+              record { near = went.1; ahead = opens f g job went.0 same (ahead (let small = (taken_most g job task.first new went.0).1 in omega (arith, small))) },
+              further f g job told tells is blocks underway,
+            );
+        readable = λ f g told tells blocks reads.
+            let between = still_told start mid f slicing.torn.time told in
+            stays between.0 g between.1 tells (still_used (blocks_listed (arrays_to inputs.levels task.target)) blocks) (slicing.readable f between.0 told between.1 blocks reads);
         due = omega (arith, before, due);
         among = λ from. among (slicing.among from);
       }
@@ -181,6 +199,26 @@ module _ (task : Task) (inputs : Inputs) (limit : ℕ) (start mid now : DiskView
           → (stage_consumed new < limit) ⊎ (2 * input_count f job ≤ stage_consumed new)
       opens f g job under same (inl lt) = inl lt
       opens f g job under same (inr none) = inr (let all = none_left_in g job task.first new under none in omega (arith, all, same))
+
+      further : (f g : Image) (job : Job) → Exposes start f → Exposes now g → IsTaskIn f task inputs job → AreUsed s (blocks_listed job.arrays) → IsUnderway f job task.first old → count + 1 ≤ how_far new
+      further f g job told tells is blocks underway =
+          let between = still_told start mid f slicing.torn.time told in
+          let agree = inputs_agree s (blocks_listed job.arrays) start mid f between.0 blocks slicing.torn told between.1 in
+          let went = slicing.goes f between.0 job told between.1 is blocks underway in
+          let more = (does between.0 g job between.1 tells (task_stays f between.0 task inputs job agree is) (still_used (blocks_listed job.arrays) blocks) went.0).1 in
+          let far = went.2 in
+          omega (arith, more, far)
+
+-- no store takes so many steps
+pub steps_fit : (task : Task) (inputs : Inputs) (limit count : ℕ) (start now : DiskView) (s t : SpaceView) (old new : Stage) (faults failed reads read : ℕ)
+    → IsSlicing task inputs limit count start now s t old new faults failed reads read → 2 + 2 ^ 25 < count
+    → (f : Image) (job : Job) → Exposes start f → IsTaskIn f task inputs job → AreUsed s (blocks_listed job.arrays) → IsUnderway f job task.first old → ⊥
+steps_fit task inputs limit count start now s t old new faults failed reads read slicing many f job told is used underway =
+    let between = still_told start now f slicing.torn.time told in
+    let went = slicing.goes f between.0 job told between.1 is used underway in
+    let most = far_most between.0 job task.first new went.0 in
+    let far = went.2 in
+    omega (arith, most, far, many)
 
 -- arrays that are begun have no blocks
 pub new_used : (s : SpaceView) (writers : List ArrayProgress) → AreAllNew writers → AreAllUsed s writers
@@ -216,21 +254,25 @@ turned_takes s counting next old was is none turned new =
 -- what a step of the first pass does, said of the stage
 pub turned_on : (f g : Image) (task : Task) (job : Job) (counting new : Counting Input) (next : Option Stage) (old is : Stage) → f ≡ g → old ≡ stage.Counting counting → is ≡ stage_after new next
     → IsUnderway f job task.first (stage_after new next) × TakesOneKey f job counting.merger.consumed (stage_consumed (stage_after new next))
-    → StepsOn f g task job (stage_consumed old) is step.More
+    × (1 + counting.merger.consumed < how_far (stage_after new next))
+    → StepsOn f g task job (stage_consumed old) is step.More × GoesFurther old is step.More
 turned_on f g task job counting new next old is same before turned did =
-    let here = subst (λ (s : Stage). StepsOn f f task job counting.merger.consumed s step.More) (sym turned) did in
+    let here = subst (λ (s : Stage). StepsOn f f task job counting.merger.consumed s step.More) (sym turned) (did.0, did.1) in
     let there = subst (λ (s : Stage). StepsOn f f task job (stage_consumed s) is step.More) (sym before) here in
-    subst (λ (h : Image). StepsOn f h task job (stage_consumed old) is step.More) same there
+    let further = subst (λ (s : Stage). 1 + counting.merger.consumed < how_far s) (sym turned) did.2 in
+    (subst (λ (h : Image). StepsOn f h task job (stage_consumed old) is step.More) same there, subst (λ (s : Stage). GoesFurther s is step.More) (sym before) further)
 
 -- what a step of the second pass does, said of the stage
 pub writes_on : (f g : Image) (task : Task) (job : Job) (was : ℕ) (w : Writing Input) (before : ℕ) (r : Step) → AgreeOn (blocks_listed job.arrays) f g → before ≡ input_count f job
-    → WritesOn f g task job was w r → StepsOn f g task job (before + was) (stage.Writing w before) r
-writes_on f g task job was w before step.More agree is writing =
-    ((writing.0, is ∙ sym (count_same f g job agree)), key_more f job before was w.merger.consumed writing.1)
+    → WritesOn f g task job was w r → StepsOn f g task job (before + was) (stage.Writing w before) r × ((old : Writing Input) → was ≡ old.merger.consumed → GoesFurther (stage.Writing old before) (stage.Writing w before) r)
+writes_on f g task job was w before step.More agree is writing = (
+  ((writing.0, is ∙ sym (count_same f g job agree)), key_more f job before was w.merger.consumed writing.1.one),
+  λ old same. let some = writing.1.some in omega (arith, some, same),
+)
 writes_on f g task job was w before (step.Made level) agree is made =
     let all = made.1 in
     let still = made.2 in
-    (made.0, omega (arith, is, all), omega (arith, still))
+    ((made.0, omega (arith, is, all), omega (arith, still)), λ old same. tt)
 
 -- what holds where a result is Ok
 on_ok : {T E P : Type 0} (r : Result T E) → P → OnOk r P
@@ -244,8 +286,3 @@ wrote_once arrays before now old was w n r is left =
     let most = left.most in
     subst (λ (s : Stage). ReadsOnce arrays before now s (stage.Writing w n) r) (sym is)
     (record { most = omega (arith, most); rest = on_ok r (omega (arith, most)); among = λ from. on_ok r (λ b here. from b (left.fewer b here)) })
-
--- what holds of a result that is Ok, where it gives something else
-pub if_ok : {T E : Type 0} {P Q : T → Type 0} (r : Result T E) → IfOk r P → ((x : T) → P x → Q x) → IfOk r Q
-if_ok (Ok x) p more = more x p
-if_ok (Err e) p more = tt

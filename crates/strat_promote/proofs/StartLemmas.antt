@@ -15,7 +15,7 @@ use Rattle.strat_merge.specs.Runs.{RunView, lefts, blocks_left, IsBadFor}
 use Rattle.strat_plan.specs.Groups.{grouped_entries, group_versions}
 use Rattle.strat_plan.specs.Plan.{Plan}
 use Rattle.strat_promotion.specs.Purge.{purged}
-use Rattle.strat_promote.specs.Counted.{AreRunsOf}
+use Rattle.strat_promote.specs.Counted.{AreReadOf, AreRunsOf}
 use Rattle.strat_promote.specs.Filled.{AreReadyFor}
 use Rattle.strat_promote.specs.Job.{Job, runs_in, input_count, blocks_listed, groups_kept, part_content, IsBadInput}
 use Rattle.strat_promote.specs.Leads.{leads_in}
@@ -31,6 +31,15 @@ nothing_kept job = go job.purges
     go true = refl
     go false = refl
 
+-- the runs that were opened are read of their arrays
+pub read_begun : {R : Type 0} (view : R → RunView) (f : Image) (arrays : List ArrayDesc) (runs opened : List R) → runs ≡ opened
+    → ((b : ℕ) → Contains (blocks_left (map view opened)) b → Contains (blocks_listed arrays) b) → ((b : ℕ) → IsBadFor (map view opened) f b → IsBadInput f arrays b)
+    → AreReadOf f arrays (map view runs)
+read_begun view f arrays runs opened same within blames = record {
+  within = λ b here. within b (subst (λ (rs : List _). Contains (blocks_left (map view rs)) b) same here);
+  blames = λ b bad. blames b (subst (λ (rs : List _). IsBadFor (map view rs) f b) same bad);
+}
+
 -- the runs that were opened are those of a job, of which no group was taken
 pub runs_begun : {R : Type 0} (view : R → RunView) (f : Image) (zero : List Entry) (arrays : List ArrayDesc) (job : Job) (runs opened : List R) (consumed : ℕ)
     → IsJobOver f zero arrays job → runs ≡ opened → consumed ≡ 0 → lefts f (map view opened) ≡ zero ∷ map (leads_in f) arrays
@@ -45,10 +54,7 @@ runs_begun view f entries arrays job runs opened consumed over same none left wi
       few = over.few;
       merged = all;
       taken = omega (arith, none, count);
-      within = λ b here.
-          subst (λ (xs : List ArrayDesc). Contains (blocks_listed xs) b) (sym over.arrays_are) (within b (subst (λ (rs : List _). Contains (blocks_left (map view rs)) b) same here));
-      blames = λ b bad.
-          subst (λ (xs : List ArrayDesc). IsBadInput f xs b) (sym over.arrays_are) (blames b (subst (λ (rs : List _). IsBadFor (map view rs) f b) same bad));
+      read = subst (λ (xs : List ArrayDesc). AreReadOf f xs (map view runs)) (sym over.arrays_are) (read_begun view f arrays runs opened same within blames);
     }
 
 -- where no group was taken, a new tally has counted what is kept

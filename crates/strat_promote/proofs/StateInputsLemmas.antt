@@ -34,7 +34,7 @@ use Rattle.strat_state.specs.Sound.{IsSound}
 use Rattle.strat_state.specs.State.{State, journal_updates, IsPaid}
 use Rattle.strat_state.proofs.SoundLemmas.{sound_tree}
 use Rattle.strat_promote.specs.Closing.{AreAllUsed}
-use Rattle.strat_promote.specs.Job.{Job, blocks_listed, arrays_to}
+use Rattle.strat_promote.specs.Job.{runs_in, Job, blocks_listed, arrays_to}
 use Rattle.strat_promote.specs.Promotions.{IsBegun, IsOpen, HasBegun, IsItsJob, leads_listed, target_of, writers_of, SamePromotion}
 use Rattle.strat_promote.specs.Replacing.{IsJobOf, LeavesTheSame}
 use Rattle.strat_promote.specs.Stages.{IsSteady, IsUnderway, IsMade, stage_writers}
@@ -174,6 +174,14 @@ module _ (f : Image) (s : State) (inputs : Inputs) (p : Promotion) (sound : IsSo
         horizon = sym over.begun.horizon;
         purges = sym begun_purges;
       }
+
+  -- the leads that descriptors count are the entries of the job
+  pub begun_sum : leads_down_to (leads_listed inputs.zero inputs.levels) (target_of p) ≡ length (grouped_entries (runs_in f (job_of_state s inputs.levels (target_of p))))
+  begun_sum =
+      let total = leads_down f s inputs sound over.holds (target_of p) over.begun.fits in
+      let runs = ap (λ (rs : List (List Entry)). length (grouped_entries rs)) begun_job.runs in
+      let size = runs_size s (levels_to (target_of p) s.levels) in
+      omega (arith, total, runs, size)
 
   module _ (h g : Image) (q : Promotion) (first : ℕ) (made : Option LevelDesc) (same : SamePromotion p q) (agree : AgreeOn (blocks_listed (arrays_to inputs.levels (target_of p))) f h)
       (m : IsMade h g (job_of_state s inputs.levels (target_of p)) (target_of q) first made) where

@@ -37,7 +37,7 @@ use Rattle.strat_split.specs.PlanSeen.{plan_seen}
 use Rattle.strat_split.specs.declared.parts.Plan.{Plan}
 use Rattle.strat_split.proofs.KeyedLemmas.{group_taken}
 use Rattle.strat_state.specs.Counted.{own_at, sees_one, keys_at}
-use Rattle.strat_promote.specs.Counted.{AreRunsOf}
+use Rattle.strat_promote.specs.Counted.{AreReadOf, AreRunsOf}
 use Rattle.strat_promote.specs.Filled.{DealsOut, SameFilling}
 use Rattle.strat_promote.specs.Job.{Job, runs_in, input_count, blocks_listed, IsBadInput, IsJobIn, groups_kept, part_content}
 use Rattle.strat_promote.specs.Leads.{leads_in}
@@ -94,19 +94,25 @@ module _ (f g : Image) where
           says = is.fits f g (λ q here. agree q (contains_at (λ (run : RunView). run.blocks) (map view runs) bad.at bad.run q bad.there here)) ∙ bad.says;
         }
 
+    -- what is bad for runs is bad still
+    pub read_stays : (arrays : List ArrayDesc) (runs : List R) → AgreeOn (blocks_listed arrays) f g → AreReadOf f arrays (map view runs) → AreReadOf g arrays (map view runs)
+    read_stays arrays runs agree read = record {
+      within = read.within;
+      blames = λ b bad. bad_input_same arrays b agree (read.blames b (bad_same runs b (λ q here. agree q (read.within q here)) bad));
+    }
+
     -- so a pass stands where it did
     pub runs_stay : (job : Job) (groups : List (List Entry)) (runs : List R) (n : ℕ) → AgreeOn (blocks_listed job.arrays) f g → AreRunsOf f job groups (map view runs) n → AreRunsOf g job groups (map view runs) n
     runs_stay job groups runs n agree are =
         let all = inputs_same job agree in
-        let near : AgreeOn (blocks_left (map view runs)) f g = λ b here. agree b (are.within b here) in
+        let near : AgreeOn (blocks_left (map view runs)) f g = λ b here. agree b (are.read.within b here) in
         let left = lefts_same runs near in
         let size : input_count g job ≡ input_count f job = ap (λ (rs : List (List Entry)). length (grouped_entries rs)) all in
         record {
           few = subst (λ (k : ℕ). k ≤ 2 ^ 24) (sym size) are.few;
           merged = subst (λ (rs : List (List Entry)). MergesTo rs groups (lefts g (map view runs))) (sym all) (subst (λ (ls : List (List Entry)). MergesTo (runs_in f job) groups ls) (sym left) are.merged);
           taken = ap (λ (ls : List (List Entry)). n + length (grouped_entries ls)) left ∙ are.taken ∙ sym size;
-          within = are.within;
-          blames = λ b bad. bad_input_same job.arrays b agree (are.blames b (bad_same runs b near bad));
+          read = read_stays job.arrays runs agree are.read;
         }
 
 -- The group that was taken is the next of all.

@@ -14,6 +14,11 @@ pub record TakesOneKey (f : Image) (job : Job) (before now : ℕ) : Type 0 where
   pub key : List ℕ
   pub most : now ≤ before + count_of_key f job key
 
+-- entries were taken, and none but those of one key
+pub record TakesSome (f : Image) (job : Job) (before now : ℕ) : Type 0 where
+  pub some : before < now
+  pub one : TakesOneKey f job before now
+
 -- fewer entries than a limit were taken, and those of one key
 pub record IsNearLimit (f : Image) (job : Job) (limit taken : ℕ) : Type 0 where
   pub last : List ℕ

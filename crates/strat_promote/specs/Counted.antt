@@ -1,6 +1,7 @@
 -- The first pass of a promotion.
 use Rattle.std.specs.Prelude.{◌≡◌, ◌≤◌, ℕ, ◌+◌, ◌^◌, List, length, Contains, IsTrue}
 use Rattle.strat_base.specs.Entries.{Entry}
+use Rattle.strat_base.specs.declared.descriptors.ArrayDesc.{ArrayDesc}
 use Rattle.strat_crash.specs.Image.{Image}
 use Rattle.strat_live.specs.Counting.{IsTally}
 use Rattle.strat_live.specs.Tallies.{items_counted}
@@ -20,14 +21,18 @@ pub record IsCounter {R : Type 0} (view : R → RunView) (n : ℕ) (c : Counting
   pub few : c.counted ≤ 16777216
   pub under : IsTrue (are_under n (views_of view c.merger))
 
+-- runs have only blocks of some arrays still to read, and what is bad for one of them is bad in one of the arrays
+pub record AreReadOf (f : Image) (arrays : List ArrayDesc) (runs : List RunView) : Type 0 where
+  pub within : (b : ℕ) → Contains (blocks_left runs) b → Contains (blocks_listed arrays) b
+  pub blames : (b : ℕ) → IsBadFor runs f b → IsBadInput f arrays b
+
 -- runs of which a job's groups were taken up to some, in an image
 pub record AreRunsOf (f : Image) (job : Job) (groups : List (List Entry)) (runs : List RunView)
     (consumed : ℕ) : Type 0 where
   pub few : input_count f job ≤ 2 ^ 24
   pub merged : MergesTo (runs_in f job) groups (lefts f runs)
   pub taken : consumed + length (grouped_entries (lefts f runs)) ≡ input_count f job
-  pub within : (b : ℕ) → Contains (blocks_left runs) b → Contains (blocks_listed job.arrays) b
-  pub blames : (b : ℕ) → IsBadFor runs f b → IsBadInput f job.arrays b
+  pub read : AreReadOf f job.arrays runs
 
 -- some groups of a job were counted
 pub record IsCounting {R : Type 0} (view : R → RunView) (f : Image) (job : Job)
@@ -35,6 +40,8 @@ pub record IsCounting {R : Type 0} (view : R → RunView) (f : Image) (job : Job
   pub groups : List (List Entry)
   pub runs : AreRunsOf f job groups (views_of view c.merger) (consumed_of c.merger)
   pub tallied : IsTally job.parents (group_versions (groups_kept job groups)) c.counts
+  -- no more items were counted than were taken
+  pub least : c.counted ≤ consumed_of c.merger
 
 -- all groups of a job were counted
 pub record IsCounted {R : Type 0} (view : R → RunView) (f : Image) (job : Job)

@@ -1,4 +1,5 @@
 pub mod Job
+pub mod Obstacles
 pub mod LastFields
 pub mod LeadFields
 pub mod EntryRunProp

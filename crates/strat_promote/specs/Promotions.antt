@@ -14,7 +14,7 @@ use Rattle.strat_level.specs.Target.{IsTarget}
 use Rattle.strat_promote.specs.Budget.{IsNearLimit}
 use Rattle.strat_promote.specs.Closing.{all_extents}
 use Rattle.strat_promote.specs.Job.{Job, input_count}
-use Rattle.strat_promote.specs.Stages.{IsSteady, IsUnderway, IsMade, IsReadFrom, stage_writers, stage_consumed, blocks_due}
+use Rattle.strat_promote.specs.Stages.{IsSteady, IsUnderway, IsMade, IsReadFrom, IsReadOf, stage_writers, stage_consumed, blocks_due}
 use Rattle.strat_promote.specs.Steps.{Inputs, IsReadySource, IsTaskIn}
 use Rattle.strat_promote.specs.declared.promotion.Progress.{Progress}
 use Rattle.strat_promote.specs.declared.promotion.Progress.TheVariants as progress
@@ -84,6 +84,11 @@ blocks_to_read arrays p = blocks_due arrays p.stage
 -- slice over the same arrays
 abbrev pub ReadsFrom : List ArrayDesc → Promotion → Type 0
 ReadsFrom arrays p = IsReadFrom arrays p.stage
+
+-- what is bad for the runs of its pass is bad in one of some arrays, and these have the blocks that it has still to read: true
+-- before anything is read, and after each slice over the same arrays
+abbrev pub ReadsOf : Image → List ArrayDesc → Promotion → Type 0
+ReadsOf f arrays p = IsReadOf f arrays p.stage
 
 -- what a slice reads of arrays: no more than was to be read, also where it fails; where it succeeds no more is left than was
 -- not read, and blocks of the arrays alone if it was so before

@@ -14,7 +14,7 @@ use Rattle.strat_plan.specs.Plan.{Plan, horizon_of}
 use Rattle.strat_promotion.specs.Merging.{Merges}
 use Rattle.strat_state.specs.Counted.{own_at, keys_at}
 use Rattle.strat_state.specs.Level.{TaggedArray}
-use Rattle.strat_promote.specs.Counted.{IsCounter, IsCounting}
+use Rattle.strat_promote.specs.Counted.{AreReadOf, IsCounter, IsCounting}
 use Rattle.strat_promote.specs.InputFields.{input_seen}
 use Rattle.strat_promote.specs.Job.{Job, runs_in, input_count, blocks_listed, groups_kept}
 use Rattle.strat_promote.specs.Written.{IsWriterOf, IsWriting}
@@ -56,6 +56,19 @@ abbrev pub IsReadFrom : List ArrayDesc → Stage → Type 0
 IsReadFrom arrays stage.Begun = Unit {0}
 IsReadFrom arrays (stage.Counting c) = AreReadFrom arrays (views_of input_seen c.merger)
 IsReadFrom arrays (stage.Writing w before) = AreReadFrom arrays (views_of input_seen w.merger)
+
+-- the runs of a stage have only blocks of some arrays still to read, and what is bad for one of them is bad in one of the
+-- arrays
+abbrev pub IsReadOf : Image → List ArrayDesc → Stage → Type 0
+IsReadOf f arrays stage.Begun = Unit {0}
+IsReadOf f arrays (stage.Counting c) = AreReadOf f arrays (views_of input_seen c.merger)
+IsReadOf f arrays (stage.Writing w before) = AreReadOf f arrays (views_of input_seen w.merger)
+
+-- how far a stage is: how many entries were taken in both passes, and one more for each pass that was begun
+abbrev pub how_far : Stage → ℕ
+how_far stage.Begun = 0
+how_far (stage.Counting c) = 1 + consumed_of c.merger
+how_far (stage.Writing w before) = 2 + (before + consumed_of w.merger)
 
 -- what steps read of arrays: a count of reads rose by no more than was to be read, also where they failed; where they
 -- succeeded no more is left than was not read, and blocks of the arrays alone if it was so before

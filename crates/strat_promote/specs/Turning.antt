@@ -1,14 +1,14 @@
 -- How one stage of a promotion becomes the next.
-use Rattle.std.specs.Prelude.{◌≡◌, ℕ, List, [], Option, None, Some}
+use Rattle.std.specs.Prelude.{◌≡◌, ◌<◌, ℕ, List, [], Option, None, Some}
 use Rattle.std.specs.List.{slice_get}
 use Rattle.strat_array.specs.Progress.{ArrayProgress}
 use Rattle.strat_base.specs.declared.descriptors.LevelDesc.{LevelDesc}
 use Rattle.strat_crash.specs.Image.{Image}
 use Rattle.strat_merge.specs.MergerFields.{consumed_of}
-use Rattle.strat_promote.specs.Budget.{TakesOneKey}
+use Rattle.strat_promote.specs.Budget.{TakesSome}
 use Rattle.strat_promote.specs.InputFields.{input_seen}
 use Rattle.strat_promote.specs.Job.{Job, input_count}
-use Rattle.strat_promote.specs.Stages.{IsMade}
+use Rattle.strat_promote.specs.Stages.{IsMade, how_far}
 use Rattle.strat_promote.specs.Written.{IsWriting}
 use Rattle.strat_promote.specs.declared.counting.Counting.{Counting}
 use Rattle.strat_promote.specs.declared.input.Input.{Input}
@@ -33,12 +33,17 @@ abbrev pub MatchStep : Step → Type 0 → (Option LevelDesc → Type 0) → Typ
 MatchStep step.More more made = more
 MatchStep (step.Made level) more made = made level
 
+-- a step after which there is more to do brings a stage further
+abbrev pub GoesFurther : Stage → Stage → Step → Type 0
+GoesFurther old new step.More = how_far old < how_far new
+GoesFurther old new (step.Made level) = Unit {0}
+
 -- after a step of the second pass, before which so many entries were taken in it, there is more to write; or nothing was
 -- left, and the level is made
 abbrev pub WritesOn : Image → Image → Task → Job → ℕ → Writing Input → Step → Type 0
 WritesOn f g task job before writing step.More =
     IsWriting input_seen g job task.first writing
-    × TakesOneKey f job before (consumed_of writing.merger)
+    × TakesSome f job before (consumed_of writing.merger)
 WritesOn f g task job before writing (step.Made level) =
     IsMade f g job task.target task.first level
     × (consumed_of writing.merger ≡ input_count f job)

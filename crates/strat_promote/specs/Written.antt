@@ -61,7 +61,7 @@ pub record IsAllWritten {R : Type 0} (view : R → RunView) (f : Image) (job : J
   pub taken : consumed_of w.merger ≡ input_count f job
 
 -- the runs of a pass were read: the device's error has its cause, another names a block that was still to be read and
--- is bad for one of them; no block was read twice
+-- is bad for one of them, as what is bad for those that are left was; no block was read twice
 pub record TakesInput {R T E : Type 0} (view : R → RunView) (device : E) (damaged : ℕ → E)
     (disk : DiskView) (faults failed reads read : ℕ) (old new : Writing R)
     (result : Result T E) : Type 0 where
@@ -69,5 +69,7 @@ pub record TakesInput {R T E : Type 0} (view : R → RunView) (device : E) (dama
   pub named : (b : ℕ) → IsErrOf result (damaged b)
       → Contains (blocks_left (views_of view old.merger)) b
   pub blamed : (b : ℕ) → IsErrOf result (damaged b) → (c : Image) → Exposes disk c
+      → IsBadFor (views_of view old.merger) c b
+  pub fewer : (c : Image) (b : ℕ) → Exposes disk c → IsBadFor (views_of view new.merger) c b
       → IsBadFor (views_of view old.merger) c b
   pub left : ReadsLeft (views_of view old.merger) (views_of view new.merger) reads read

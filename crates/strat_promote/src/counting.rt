@@ -1,18 +1,19 @@
 //! The first pass: the groups are counted.
 
-ghost use Rattle.std.specs.Prelude.{◌≡◌, ◌≤◌, ◌+◌, ℕ, List, length, true, false, IfOk, OnOk, IsTrue};
-ghost use Rattle.strat_base.specs.declared.failures.Trouble.TheVariants.{Damaged, Device};
+ghost use Rattle.std.specs.Prelude.{◌≡◌, ◌<◌, ◌≤◌, ◌+◌, ℕ, List, length, true, false, IfOk, OnOk, OnErr, IsErrOf, IsTrue};
 ghost use Rattle.strat_crash.specs.Image.{Image};
 ghost use Rattle.strat_crash.specs.Moments.{Exposes};
 ghost use Rattle.strat_merge.specs.MergerFields.{runs_merged, consumed_of};
 ghost use Rattle.strat_merge.specs.Reading.{ReadsRuns};
-ghost use Rattle.strat_promote.specs.Budget.{TakesOneKey};
+ghost use Rattle.strat_promote.specs.Budget.{TakesSome};
 ghost use Rattle.strat_promote.specs.Counted.{IsCounter, IsCounting, IsCounted};
 ghost use Rattle.strat_promote.specs.Job.{Job, IsJobIn};
+ghost use Rattle.strat_promote.specs.declared.obstacle.Obstacle.TheVariants as obstacle;
+ghost use Rattle.strat_promote.specs.declared.obstacle.Obstacle.TheVariants.{Damaged, Device};
 
+use crate::obstacle::{Obstacle, Unfit};
 use crate::taking::take_group;
 use strat_arena::Arena;
-use strat_base::{NoMemory, Trouble};
 use strat_disk::Disk;
 use strat_live::Counts;
 use strat_merge::{GroupBuf, Merger, Run};
@@ -30,12 +31,13 @@ pub(crate) struct Counting<R> {
 }
 
 /// So many items and some more, unless these are more than any store has.
-fn counted_with(counted: u32, more: usize) -> Result<u32, NoMemory>
+fn counted_with(counted: u32, more: usize) -> Result<u32, Unfit>
     requires { counted ≤ 16777216 }
     ensures ok { IfOk result (λ n. (n ≡ counted + more) × (n ≤ 16777216)) }
+    ensures cause { OnErr result (16777216 < counted + more) }
 {
     if more > (COUNTED_MAX - counted) as usize {
-        return Err(NoMemory);
+        return Err(Unfit);
     }
     Ok(counted + more as u32)
 }
@@ -48,7 +50,7 @@ pub(crate) fn count_group<D: Disk, R: Run<D>>(
     tree: &Tree,
     purges: bool,
     disk: &mut D,
-) -> Result<bool, Trouble>
+) -> Result<bool, Obstacle>
     requires kept { IsCounter R.view (length counting.old.counts.own) counting.old }
     requires fits { length counting.old.counts.own ≤ length tree.now.parents }
     ensures kept { OnOk result (IsCounter R.view (length counting.old.counts.own) counting.new) }
@@ -56,11 +58,15 @@ pub(crate) fn count_group<D: Disk, R: Run<D>>(
         → Exposes (D.view disk.old) f → IsJobIn tree.now.parents job → job.purges ≡ purges
         → job.horizon ≡ length counting.old.counts.own
         → IsCounting R.view f job counting.old → IsCounting R.view f job counting.new
-        × TakesOneKey f job (consumed_of counting.old.merger) (consumed_of counting.new.merger)) }
+        × TakesSome f job (consumed_of counting.old.merger) (consumed_of counting.new.merger)) }
     ensures none { IfOk result (λ more. more ≡ false → (f : Image) (job : Job)
         → Exposes (D.view disk.old) f → IsCounting R.view f job counting.old
         → IsCounted R.view f job counting.new
         × (consumed_of counting.new.merger ≡ consumed_of counting.old.merger)) }
+    ensures fits { IsErrOf result obstacle.Unfit → (f : Image) (job : Job)
+        → Exposes (D.view disk.old) f → IsJobIn tree.now.parents job → job.purges ≡ purges
+        → job.horizon ≡ length counting.old.counts.own
+        → IsCounting R.view f job counting.old → ⊥ }
     ensures reads { ReadsRuns R.view Device Damaged (D.view disk.old) (D.view disk.new)
         (D.faults disk.old) (D.faults disk.new) (D.reads disk.old) (D.reads disk.new)
         (runs_merged counting.old.merger) (runs_merged counting.new.merger) result }

@@ -11,6 +11,7 @@ mod last_read;
 pub mod laws;
 mod lead_blocks;
 pub mod lead_run;
+pub mod obstacle;
 mod opening;
 mod passing;
 mod planning;

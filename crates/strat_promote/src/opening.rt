@@ -7,7 +7,7 @@ ghost use Rattle.strat_crash.specs.Image.{Image};
 ghost use Rattle.strat_crash.specs.Moments.{Exposes};
 ghost use Rattle.strat_level.specs.Memtable.{entries_held, ListStands};
 ghost use Rattle.strat_merge.specs.MergerFields.{views_of, consumed_of};
-ghost use Rattle.strat_promote.specs.Counted.{IsCounter, IsCounting, IsCounted};
+ghost use Rattle.strat_promote.specs.Counted.{AreReadOf, IsCounter, IsCounting, IsCounted};
 ghost use Rattle.strat_promote.specs.InputFields.{input_seen};
 ghost use Rattle.strat_promote.specs.Job.{Job, IsJobIn, AreReadable, arrays_to};
 ghost use Rattle.strat_promote.specs.Passes.{OpensInputs, LeavesBlocks, IsJobOver};
@@ -50,6 +50,8 @@ pub(crate) fn begin_counting<D: Disk>(
     ensures found { OpensInputs Device Damaged (D.view disk.old) (D.view disk.new)
         (arrays_to levels.now target) (D.faults disk.old) (D.faults disk.new)
         (D.reads disk.old) (D.reads disk.new) result }
+    ensures damaged { IfOk result (λ c. (f : Image) → Exposes (D.view disk.old) f
+        → AreReadOf f (arrays_to levels.now target) (views_of input_seen c.merger)) }
     ensures reads { IfOk result (λ c. LeavesBlocks (arrays_to levels.now target)
         (views_of input_seen c.merger) (D.reads disk.old) (D.reads disk.new)) }
 {
@@ -93,6 +95,8 @@ pub(crate) fn begin_writing<D: Disk>(
     ensures found { OpensInputs Device Damaged (D.view disk.old) (D.view disk.new)
         (arrays_to levels.now target) (D.faults disk.old) (D.faults disk.new)
         (D.reads disk.old) (D.reads disk.new) result }
+    ensures damaged { IfOk result (λ w. (f : Image) → Exposes (D.view disk.old) f
+        → AreReadOf f (arrays_to levels.now target) (views_of input_seen w.merger)) }
     ensures reads { IfOk result (λ w. LeavesBlocks (arrays_to levels.now target)
         (views_of input_seen w.merger) (D.reads disk.old) (D.reads disk.new)) }
 {

@@ -8,7 +8,7 @@ ghost use Rattle.strat_crash.specs.Moments.{Exposes};
 ghost use Rattle.strat_extent.specs.Blocks.{is_free};
 ghost use Rattle.strat_array.specs.Taking.{AreUsed};
 ghost use Rattle.strat_merge.specs.MergerFields.{consumed_of};
-ghost use Rattle.strat_promote.specs.Budget.{TakesOneKey};
+ghost use Rattle.strat_promote.specs.Budget.{TakesSome};
 ghost use Rattle.strat_promote.specs.Closing.{AreAllUsed, all_extents};
 ghost use Rattle.strat_promote.specs.Job.{Job, IsJobIn, blocks_listed};
 ghost use Rattle.strat_promote.specs.Spaces.{TakesMore};
@@ -51,7 +51,7 @@ pub(crate) fn write_group<D: Disk, R: Run<D>>(
         → job.horizon ≡ length writing.old.filling.plan.part_of
         → AreUsed space.old (blocks_listed job.arrays)
         → IsWriting R.view f job first writing.old → IsWriting R.view g job first writing.new
-        × TakesOneKey f job (consumed_of writing.old.merger) (consumed_of writing.new.merger)) }
+        × TakesSome f job (consumed_of writing.old.merger) (consumed_of writing.new.merger)) }
     ensures none { IfOk result (λ more. more ≡ false → (f g : Image) (job : Job) (first : ℕ)
         → Exposes (D.view disk.old) f → Exposes (D.view disk.new) g
         → IsWriting R.view f job first writing.old → IsAllWritten R.view g job first writing.new

@@ -3,21 +3,22 @@
 ghost use Rattle.std.specs.List.{sum};
 ghost use Rattle.std.specs.Prelude.{◌≡◌, ◌<◌, ◌≤◌, ◌+◌, ◌*◌, ◌^◌, ℕ, List, [], length, true, IfOk, OnOk, IsErrOf, IsTrue, Contains};
 ghost use Rattle.strat_array.specs.Taking.{AreUsed};
-ghost use Rattle.strat_base.specs.declared.failures.Trouble.TheVariants.{Damaged, Device};
 ghost use Rattle.strat_crash.specs.Blocks.{TearsBlocks};
 ghost use Rattle.strat_crash.specs.Faults.{HasCause};
 ghost use Rattle.strat_crash.specs.Image.{Image};
 ghost use Rattle.strat_crash.specs.Moments.{Exposes};
 ghost use Rattle.strat_extent.specs.Blocks.{is_free};
+ghost use Rattle.strat_promote.specs.declared.obstacle.Obstacle.TheVariants.{Damaged, Device, Unfit};
 
 use crate::edges::{count_entries, give_all, is_deepest, leads_of};
+use crate::obstacle::Obstacle;
 use crate::slicing::{take_steps, taken_in};
 use crate::stage::Stage;
 use crate::step::{Desk, Sources, Step, Task};
 use std::alloc::Global;
 use strat_arena::{Arena, ArenaPool};
 use strat_base::limits::LEVELS;
-use strat_base::{LevelDesc, NoMemory, Trouble};
+use strat_base::{LevelDesc, NoMemory};
 use strat_disk::Disk;
 use strat_extent::Space;
 use strat_level::{Levels, Zero, target};
@@ -50,7 +51,7 @@ impl Promotion {
     ghost use Rattle.strat_extent.specs.Change.{IsMarked, CanGive};
     ghost use Rattle.strat_promote.specs.Closing.{AreAllUsed};
     ghost use Rattle.strat_promote.specs.Job.{Job, IsBadInput, arrays_to, blocks_listed};
-    ghost use Rattle.strat_promote.specs.Promotions.{IsBegun, IsOpen, IsFed, IsItsJob, HasBegun, IsSliced, MatchProgress, SamePromotion, inputs_given, writers_of, ReadsFrom, ReadsItsBlocks, leads_listed, entries_taken, entries_if_any, extents_taken, has_ended, target_of, level_of};
+    ghost use Rattle.strat_promote.specs.Promotions.{IsBegun, IsOpen, IsFed, IsItsJob, HasBegun, IsSliced, MatchProgress, SamePromotion, inputs_given, writers_of, ReadsFrom, ReadsOf, ReadsItsBlocks, leads_listed, entries_taken, entries_if_any, extents_taken, has_ended, target_of, level_of};
     ghost use Rattle.strat_promote.specs.Owned.{OwnsItsBlocks};
     ghost use Rattle.strat_promote.specs.Spaces.{TakesMore};
 
@@ -103,7 +104,7 @@ impl Promotion {
     ///
     /// `Device` comes only where the disk failed; `Damaged` names a block of an array that holds no entries, or none that
     /// come after those before it. After an error it is good for nothing but `abandon`. `NoMemory` also stands for a disk on
-    /// which no block is free, and for arrays that are not as their descriptors say.
+    /// which no block is free. `Unfit`: arrays have more leads than their descriptors say, or than any store has.
     pub fn slice<D: Disk>(
         &mut self,
         zero: &Zero,
@@ -113,12 +114,11 @@ impl Promotion {
         space: &mut Space,
         disk: &mut D,
         budget: u64,
-    ) -> Result<Progress, Trouble>
+    ) -> Result<Progress, Obstacle>
         requires kept { IsOpen self.old }
         requires fits { IsFed self.old
-            (inputs_given zero.now.list pool.now levels.now tree.now.parents) }
+            (inputs_given zero.now.list pool.now levels.now tree.now.parents) × (1 ≤ budget) }
         requires found { AreAllUsed space.old (writers_of self.old) }
-        requires room { 1 ≤ budget }
         ensures kept { IfOk result (λ p. MatchProgress p (IsOpen self.new
             × (entries_taken self.old + budget ≤ entries_taken self.new))
             ((has_ended self.new ≡ true)
@@ -137,11 +137,14 @@ impl Promotion {
         ensures damaged { (b : ℕ) → IsErrOf result (Damaged b)
             → (ReadsFrom (arrays_to levels.now (target_of self.old)) self.old
             → Contains (blocks_listed (arrays_to levels.now (target_of self.old))) b)
-            × ((f : Image) (job : Job)
+            × ((f : Image) → Exposes (D.view disk.old) f
+            → AreUsed space.old (blocks_listed (arrays_to levels.now (target_of self.old)))
+            → ReadsOf f (arrays_to levels.now (target_of self.old)) self.old
+            → IsBadInput f (arrays_to levels.now (target_of self.old)) b) }
+        ensures fits { IsErrOf result Unfit → (f : Image) (job : Job)
             → Exposes (D.view disk.old) f → IsItsJob f self.old
             (inputs_given zero.now.list pool.now levels.now tree.now.parents) job
-            → AreUsed space.old (blocks_listed job.arrays) → HasBegun f job self.old
-            → IsBadInput f job.arrays b) }
+            → AreUsed space.old (blocks_listed job.arrays) → HasBegun f job self.old → ⊥ }
         ensures reads { ReadsItsBlocks (arrays_to levels.now (target_of self.old))
             (D.reads disk.old) (D.reads disk.new) self.old self.new result }
     {

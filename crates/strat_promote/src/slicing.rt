@@ -2,7 +2,6 @@
 
 ghost use Rattle.std.specs.Prelude.{◌≡◌, ◌<◌, ◌≤◌, ◌+◌, ◌-◌, ◌*◌, ◌^◌, ℕ, List, length, min, true, false, ◌⊎◌, IfOk, OnOk, IsErrOf, IsSome, IsTrue, Contains};
 ghost use Rattle.strat_array.specs.Taking.{AreUsed};
-ghost use Rattle.strat_base.specs.declared.failures.Trouble.TheVariants.{Damaged, Device};
 ghost use Rattle.strat_crash.specs.Blocks.{TearsBlocks};
 ghost use Rattle.strat_crash.specs.Faults.{HasCause};
 ghost use Rattle.strat_crash.specs.Image.{Image};
@@ -12,13 +11,14 @@ ghost use Rattle.strat_promote.specs.Closing.{AreAllUsed, all_extents};
 ghost use Rattle.strat_promote.specs.Job.{Job, IsBadInput, arrays_to, blocks_listed};
 ghost use Rattle.strat_promote.specs.Owned.{OwnsItsBlocks};
 ghost use Rattle.strat_promote.specs.Spaces.{TakesMore};
-ghost use Rattle.strat_promote.specs.Stages.{IsSteady, IsUnderway, HasLeft, IsTakenUp, IsReadFrom, ReadsOnce, stage_writers, stage_consumed};
+ghost use Rattle.strat_promote.specs.Stages.{IsSteady, IsUnderway, HasLeft, IsTakenUp, IsReadFrom, IsReadOf, ReadsOnce, stage_writers, stage_consumed};
 ghost use Rattle.strat_promote.specs.Steps.{inputs_of, IsReadySource, IsTaskIn, SlicesOn};
 ghost use Rattle.strat_promote.specs.Turning.{MatchStep};
+ghost use Rattle.strat_promote.specs.declared.obstacle.Obstacle.TheVariants.{Damaged, Device, Unfit};
 
+use crate::obstacle::Obstacle;
 use crate::stage::Stage;
 use crate::step::{Desk, Sources, Step, Task, take_step};
-use strat_base::Trouble;
 use strat_disk::Disk;
 use strat_extent::Space;
 
@@ -80,11 +80,10 @@ pub(crate) fn take_steps<D: Disk>(
     space: &mut Space,
     disk: &mut D,
     budget: u64,
-) -> Result<Step, Trouble>
+) -> Result<Step, Obstacle>
     requires kept { IsSteady task.now.horizon stage.old }
-    requires fits { IsReadySource task.now (inputs_of sources.now) }
+    requires fits { IsReadySource task.now (inputs_of sources.now) × (1 ≤ budget) }
     requires found { AreAllUsed space.old (stage_writers stage.old) }
-    requires room { 1 ≤ budget }
     ensures kept { IfOk result (λ step. MatchStep step (IsSteady task.now.horizon stage.new
         × (stage_consumed stage.old + budget ≤ stage_consumed stage.new))
         (λ level. OwnsItsBlocks (stage_writers stage.new) level)) }
@@ -101,10 +100,14 @@ pub(crate) fn take_steps<D: Disk>(
     ensures damaged { (b : ℕ) → IsErrOf result (Damaged b)
         → (IsReadFrom (arrays_to sources.now.levels.now task.now.target) stage.old
         → Contains (blocks_listed (arrays_to sources.now.levels.now task.now.target)) b)
-        × ((f : Image) (job : Job)
-        → Exposes (D.view disk.old) f → IsTaskIn f task.now (inputs_of sources.now) job
+        × ((f : Image) → Exposes (D.view disk.old) f
+        → AreUsed space.old (blocks_listed (arrays_to sources.now.levels.now task.now.target))
+        → IsReadOf f (arrays_to sources.now.levels.now task.now.target) stage.old
+        → IsBadInput f (arrays_to sources.now.levels.now task.now.target) b) }
+    ensures fits { IsErrOf result Unfit → (f : Image) (job : Job) → Exposes (D.view disk.old) f
+        → IsTaskIn f task.now (inputs_of sources.now) job
         → AreUsed space.old (blocks_listed job.arrays)
-        → IsUnderway f job task.now.first stage.old → IsBadInput f job.arrays b) }
+        → IsUnderway f job task.now.first stage.old → ⊥ }
     ensures reads { ReadsOnce (arrays_to sources.now.levels.now task.now.target)
         (D.reads disk.old) (D.reads disk.new) stage.old stage.new result }
 {
@@ -119,5 +122,5 @@ pub(crate) fn take_steps<D: Disk>(
             }
         }
     }
-    Err(Trouble::NoMemory)
+    Err(Obstacle::Unfit)
 }

@@ -3,7 +3,8 @@
 ghost use Rattle.std.specs.List.{list_all};
 ghost use Rattle.std.specs.Prelude.{◌≡◌, ◌<◌, ◌≤◌, ◌+◌, ◌*◌, ◌^◌, ℕ, List, [], length, nat_lt, unwrap_or, IfOk, OnOk, OnErr, IsErrOf, IsTrue, MatchResult, Contains};
 ghost use Rattle.strat_array.specs.Taking.{AreUsed};
-ghost use Rattle.strat_base.specs.declared.failures.Trouble.TheVariants.{Damaged, Device};
+ghost use Rattle.strat_base.specs.declared.descriptors.ArrayDesc.{ArrayDesc};
+ghost use Rattle.strat_base.specs.declared.failures.Trouble.TheVariants as trouble;
 ghost use Rattle.strat_crash.specs.Blocks.{TearsBlocks};
 ghost use Rattle.strat_crash.specs.Faults.{HasCause};
 ghost use Rattle.strat_crash.specs.Image.{Image};
@@ -16,22 +17,24 @@ ghost use Rattle.strat_merge.specs.MergerFields.{views_of, consumed_of};
 ghost use Rattle.strat_merge.specs.Runs.{blocks_left, ReadsLeft};
 ghost use Rattle.strat_promote.specs.Budget.{TakesOneKey};
 ghost use Rattle.strat_promote.specs.Closing.{AreAllUsed, all_extents};
-ghost use Rattle.strat_promote.specs.Counted.{IsCounter, IsCounting};
+ghost use Rattle.strat_promote.specs.Counted.{AreReadOf, IsCounter, IsCounting};
 ghost use Rattle.strat_promote.specs.Filled.{IsFilling};
 ghost use Rattle.strat_promote.specs.Passes.{OpensInputs};
 ghost use Rattle.strat_promote.specs.Written.{IsWriterOf, IsWriting, IsAllWritten};
-ghost use Rattle.strat_promote.specs.Turning.{stage_after, AreAllNew, MatchStep, WritesOn};
+ghost use Rattle.strat_promote.specs.Turning.{GoesFurther, stage_after, AreAllNew, MatchStep, WritesOn};
 ghost use Rattle.strat_promote.specs.InputFields.{input_seen};
 ghost use Rattle.strat_promote.specs.Job.{Job, IsBadInput, IsJobIn, AreReadable, arrays_to, blocks_listed};
 ghost use Rattle.strat_promote.specs.Owned.{OwnsItsBlocks};
 ghost use Rattle.strat_promote.specs.Passes.{IsJobOver};
 ghost use Rattle.strat_promote.specs.Spaces.{TakesMore};
-ghost use Rattle.strat_promote.specs.Stages.{IsSteady, IsUnderway, IsMade, AreReadFrom, IsReadFrom, ReadsOnce, stage_writers, stage_consumed, blocks_due};
+ghost use Rattle.strat_promote.specs.Stages.{IsSteady, IsUnderway, IsMade, AreReadFrom, IsReadFrom, IsReadOf, ReadsOnce, stage_writers, stage_consumed, blocks_due, how_far};
 ghost use Rattle.strat_promote.specs.Steps.{Inputs, inputs_of, IsReadySource, IsTaskIn, StepsOn};
+ghost use Rattle.strat_promote.specs.declared.obstacle.Obstacle.TheVariants.{Damaged, Device, Unfit};
 
 use crate::closing::{describe_all, seal_all};
 use crate::counting::{Counting, count_group};
 use crate::input::Input;
+use crate::obstacle::Obstacle;
 use crate::opening::{begin_counting, begin_writing};
 use crate::passing::{Writing, write_group};
 use crate::stage::Stage;
@@ -93,7 +96,10 @@ fn begin<D: Disk>(
     ensures len { IfOk result (λ stage. stage_consumed stage ≡ 0) }
     ensures end { IfOk result (λ stage. IsReadFrom
         (arrays_to sources.now.levels.now task.now.target) stage) }
-    ensures found { OpensInputs Device Damaged (D.view disk.old) (D.view disk.new)
+    ensures damaged { IfOk result (λ stage. (f : Image) → Exposes (D.view disk.old) f
+        → IsReadOf f (arrays_to sources.now.levels.now task.now.target) stage) }
+    ensures time { IfOk result (λ stage. 0 < how_far stage) }
+    ensures found { OpensInputs trouble.Device trouble.Damaged (D.view disk.old) (D.view disk.new)
         (arrays_to sources.now.levels.now task.now.target) (D.faults disk.old)
         (D.faults disk.new) (D.reads disk.old) (D.reads disk.new) result }
     ensures reads { IfOk result (λ stage. D.reads disk.new
@@ -121,7 +127,7 @@ fn count<D: Disk>(
     desk: &mut Desk,
     sources: &Sources<'_>,
     disk: &mut D,
-) -> Result<Option<Stage>, Trouble>
+) -> Result<Option<Stage>, Obstacle>
     requires kept { IsCounter input_seen task.now.horizon counting.old }
     requires fits { IsReadySource task.now (inputs_of sources.now) }
     ensures kept { IfOk result (λ next. IsSteady task.now.horizon (stage_after counting.new next)) }
@@ -129,7 +135,11 @@ fn count<D: Disk>(
         → IsTaskIn f task.now (inputs_of sources.now) job → IsCounting input_seen f job counting.old
         → IsUnderway f job task.now.first (stage_after counting.new next)
         × TakesOneKey f job (consumed_of counting.old.merger)
-        (stage_consumed (stage_after counting.new next))) }
+        (stage_consumed (stage_after counting.new next))
+        × (1 + consumed_of counting.old.merger < how_far (stage_after counting.new next))) }
+    ensures fits { IsErrOf result Unfit → (f : Image) (job : Job) → Exposes (D.view disk.old) f
+        → IsTaskIn f task.now (inputs_of sources.now) job
+        → IsCounting input_seen f job counting.old → ⊥ }
     ensures none { IfOk result (λ next. AreAllNew (stage_writers (stage_after counting.new next))) }
     ensures same { OnlyReads (D.view disk.old) (D.view disk.new) }
     ensures cause { HasCause Device (D.faults disk.old) (D.faults disk.new) result }
@@ -137,13 +147,19 @@ fn count<D: Disk>(
         → (AreReadFrom (arrays_to sources.now.levels.now task.now.target)
         (views_of input_seen counting.old.merger)
         → Contains (blocks_listed (arrays_to sources.now.levels.now task.now.target)) b)
-        × ((f : Image) (job : Job)
-        → Exposes (D.view disk.old) f → IsTaskIn f task.now (inputs_of sources.now) job
-        → IsCounting input_seen f job counting.old → IsBadInput f job.arrays b) }
-    ensures found { IfOk result (λ next. AreReadFrom
+        × ((f : Image) → Exposes (D.view disk.old) f
+        → AreReadOf f (arrays_to sources.now.levels.now task.now.target)
+        (views_of input_seen counting.old.merger)
+        → IsBadInput f (arrays_to sources.now.levels.now task.now.target) b) }
+    ensures found { IfOk result (λ next. (AreReadFrom
         (arrays_to sources.now.levels.now task.now.target)
         (views_of input_seen counting.old.merger) → IsReadFrom
-        (arrays_to sources.now.levels.now task.now.target) (stage_after counting.new next)) }
+        (arrays_to sources.now.levels.now task.now.target) (stage_after counting.new next))
+        × ((f : Image) → Exposes (D.view disk.old) f
+        → AreReadOf f (arrays_to sources.now.levels.now task.now.target)
+        (views_of input_seen counting.old.merger)
+        → IsReadOf f (arrays_to sources.now.levels.now task.now.target)
+        (stage_after counting.new next))) }
     ensures reads { IfOk result (λ next. D.reads disk.new
         + blocks_due (arrays_to sources.now.levels.now task.now.target)
         (stage_after counting.new next)
@@ -234,12 +250,17 @@ fn write<D: Disk>(
     ensures room { TakesMore space.old space.new (all_extents writing.old.filling.writers.items)
         (all_extents writing.new.filling.writers.items) }
     ensures same { TearsBlocks (is_free space.old) (D.view disk.old) (D.view disk.new) }
-    ensures cause { HasCause Device (D.faults disk.old) (D.faults disk.new) result }
-    ensures damaged { (b : ℕ) → IsErrOf result (Damaged b)
+    ensures cause { HasCause trouble.Device (D.faults disk.old) (D.faults disk.new) result }
+    ensures damaged { ((b : ℕ) → IsErrOf result (trouble.Damaged b)
         → Contains (blocks_left (views_of input_seen writing.old.merger)) b
-        × ((f : Image) (job : Job)
-        → Exposes (D.view disk.old) f → IsTaskIn f task.now (inputs_of sources.now) job
-        → IsWriting input_seen f job task.now.first writing.old → IsBadInput f job.arrays b) }
+        × ((f : Image) (arrays : List ArrayDesc) → Exposes (D.view disk.old) f
+        → AreReadOf f arrays (views_of input_seen writing.old.merger) → IsBadInput f arrays b))
+        × IfOk result (λ step. (f g : Image)
+        (arrays : List ArrayDesc) → Exposes (D.view disk.old) f → Exposes (D.view disk.new) g
+        → AreUsed space.old (blocks_listed arrays)
+        → AreReadOf f arrays (views_of input_seen writing.old.merger)
+        → MatchStep step (AreReadOf g arrays (views_of input_seen writing.new.merger))
+        (λ level. Unit {0})) }
     ensures reads { ReadsLeft (views_of input_seen writing.old.merger)
         (views_of input_seen writing.new.merger) (D.reads disk.old) (D.reads disk.new) }
 {
@@ -276,7 +297,7 @@ pub(crate) fn take_step<D: Disk>(
     sources: &Sources<'_>,
     space: &mut Space,
     disk: &mut D,
-) -> Result<Step, Trouble>
+) -> Result<Step, Obstacle>
     requires kept { IsSteady task.now.horizon stage.old }
     requires fits { IsReadySource task.now (inputs_of sources.now) }
     requires found { AreAllUsed space.old (stage_writers stage.old) }
@@ -285,18 +306,29 @@ pub(crate) fn take_step<D: Disk>(
     ensures ok { IfOk result (λ step. (f g : Image) (job : Job) → Exposes (D.view disk.old) f
         → Exposes (D.view disk.new) g → IsTaskIn f task.now (inputs_of sources.now) job
         → AreUsed space.old (blocks_listed job.arrays) → IsUnderway f job task.now.first stage.old
-        → StepsOn f g task.now job (stage_consumed stage.old) stage.new step) }
+        → StepsOn f g task.now job (stage_consumed stage.old) stage.new step
+        × GoesFurther stage.old stage.new step) }
     ensures found { AreAllUsed space.new (stage_writers stage.new) }
     ensures room { TakesMore space.old space.new (all_extents (stage_writers stage.old))
         (all_extents (stage_writers stage.new)) }
     ensures same { TearsBlocks (is_free space.old) (D.view disk.old) (D.view disk.new) }
     ensures cause { HasCause Device (D.faults disk.old) (D.faults disk.new) result }
-    ensures damaged { (b : ℕ) → IsErrOf result (Damaged b)
+    ensures damaged { ((b : ℕ) → IsErrOf result (Damaged b)
         → (IsReadFrom (arrays_to sources.now.levels.now task.now.target) stage.old
         → Contains (blocks_listed (arrays_to sources.now.levels.now task.now.target)) b)
-        × ((f : Image) (job : Job)
-        → Exposes (D.view disk.old) f → IsTaskIn f task.now (inputs_of sources.now) job
-        → IsUnderway f job task.now.first stage.old → IsBadInput f job.arrays b) }
+        × ((f : Image) → Exposes (D.view disk.old) f
+        → IsReadOf f (arrays_to sources.now.levels.now task.now.target) stage.old
+        → IsBadInput f (arrays_to sources.now.levels.now task.now.target) b))
+        × IfOk result (λ step. (f g : Image) → Exposes (D.view disk.old) f
+        → Exposes (D.view disk.new) g
+        → AreUsed space.old (blocks_listed (arrays_to sources.now.levels.now task.now.target))
+        → IsReadOf f (arrays_to sources.now.levels.now task.now.target) stage.old
+        → MatchStep step
+        (IsReadOf g (arrays_to sources.now.levels.now task.now.target) stage.new)
+        (λ level. Unit {0})) }
+    ensures fits { IsErrOf result Unfit → (f : Image) (job : Job) → Exposes (D.view disk.old) f
+        → IsTaskIn f task.now (inputs_of sources.now) job
+        → IsUnderway f job task.now.first stage.old → ⊥ }
     ensures reads { ReadsOnce (arrays_to sources.now.levels.now task.now.target)
         (D.reads disk.old) (D.reads disk.new) stage.old stage.new result }
 {
@@ -310,6 +342,9 @@ pub(crate) fn take_step<D: Disk>(
             turn(stage, next);
             Ok(Step::More)
         }
-        Stage::Writing(writing, _) => write(task, writing, desk, sources, space, disk),
+        Stage::Writing(writing, _) => {
+            let step = write(task, writing, desk, sources, space, disk)?;
+            Ok(step)
+        }
     }
 }

@@ -11,7 +11,7 @@ use Rattle.strat_base.specs.Entries.{Entry, is_at, latest}
 use Rattle.strat_state.specs.Level.{TaggedArray, Level, own_leads, level_leads, least_live, is_led}
 use Rattle.strat_state.specs.Reading.{level_zero}
 use Rattle.strat_state.specs.State.{State, versions_of, journal_updates, update_of, updates_of, changes_of, deep, IsPaid}
-use Rattle.strat_state.specs.Sound.{is_described, IsSound}
+use Rattle.strat_state.specs.Sound.{is_described, journal_max, IsSound}
 use Rattle.strat_base.proofs.ListFacts.{Among, all_at, all_from, among_split}
 use Rattle.strat_state.proofs.SpaceLemmas.{deep_least}
 use Rattle.strat_plan.proofs.ListLemmas.{filter_none}
@@ -27,6 +27,10 @@ use Rattle.strat_promotion.proofs.PromotedLemmas.{union_small}
 power_some : (n : ℕ) → 1 ≤ 2 ^ n
 power_some zero = omega arith
 power_some (suc n) = let ih = power_some n in rw (pow-suc 2 n) (omega arith)
+
+power_two : (n : ℕ) → 1 ≤ n → 2 ≤ 2 ^ n
+power_two zero some = absurd (omega (arith, some))
+power_two (suc n) some = let one = power_some n in rw (pow-suc 2 n) (omega (arith, one))
 
 power_up : (n k : ℕ) → 2 ^ n ≤ 2 ^ (k + n)
 power_up n zero = let same : 2 ^ (0 + n) ≡ 2 ^ n = ap (λ (e : ℕ). 2 ^ e) (omega arith) in omega (arith, same)
@@ -193,9 +197,9 @@ module _ (s : State) (sound : IsSound s) (some : 0 < s.mem) (honest : s.updates 
       let after = deep_least s.mem (changes_of s) some in
       let first = before.1 in
       let last = after.1 in
-      let fits = leb-true (length s.journal) s.mem sound.formed.fits in
+      let fits = leb-true (length s.journal) (journal_max s.mem) sound.formed.fits in
       let double : s.mem * 2 ^ suc depth ≡ s.mem * (2 ^ depth * 2) = ap (λ (p : ℕ). s.mem * p) (pow-suc 2 depth) in
-      let ample = mul-le-mul_left {m = 1} {n = 2 ^ depth} s.mem (power_some depth) in
+      let ample = mul-le-mul_left {m = 2} {n = 2 ^ depth} s.mem (power_two depth before.0) in
       let next : s.mem * 2 ^ (depth + 1) ≡ s.mem * 2 ^ suc depth = ap (λ (e : ℕ). s.mem * 2 ^ e) (omega arith) in
       (before.2 depth_after after.0 (omega (arith, last)), after.2 (depth + 1) (omega arith) (omega (arith, first, fits, double, ample, next)))
 

@@ -11,7 +11,7 @@ use Rattle.strat_base.specs.Entries.{Entry, is_at, is_single}
 use Rattle.strat_state.specs.Maps.{value_over}
 use Rattle.strat_state.specs.Level.{Level, level_leads, IsStratified}
 use Rattle.strat_state.specs.State.{State, versions_of, journal_updates, sources, updates_of}
-use Rattle.strat_state.specs.Sound.{has_child_below, shallower, has_room, has_old_horizon, is_above_frozen, is_described, has_ascending_entries, is_numbered_from, IsSound}
+use Rattle.strat_state.specs.Sound.{has_child_below, shallower, has_room, has_old_horizon, is_above_frozen, is_described, has_ascending_entries, is_numbered_from, journal_max, IsSound}
 use Rattle.strat_base.proofs.ListFacts.{Among, all_at, all_from, each_of, each_from, among_left, among_right, among_split, among_flat, among_in_flat, among_filter, filter_among}
 use Rattle.strat_state.proofs.LevelLemmas.{ascending_single}
 use Rattle.strat_state.proofs.SoundLemmas.{sound_tree, among_back}
@@ -237,7 +237,7 @@ module _ (s : State) (sound : IsSound s) (j : ℕ) (taken kept fresh : List Leve
         tree = tree_test parents tree;
         numbered = numbered;
         accepted = refl;
-        fits = le-leb 0 s.mem (omega arith);
+        fits = le-leb 0 (journal_max s.mem) (omega arith);
       };
       stratified = each_from (IsStratified parents) (fresh ++ kept) (λ level among.
           elim (among_split fresh kept level among) [

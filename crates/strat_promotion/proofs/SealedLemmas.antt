@@ -14,7 +14,7 @@ use Rattle.strat_base.specs.Entries.{Entry, is_of, are_same}
 use Rattle.strat_state.specs.Live.{live}
 use Rattle.strat_state.specs.Level.{TaggedArray, Level, own_leads, level_leads, tagged_versions, least, least_live, agrees, is_dense, IsStratified}
 use Rattle.strat_state.specs.State.{State, versions_of, tree_after, update_of, is_living, journal_updates, map_at, changes_of, appended}
-use Rattle.strat_state.specs.Sound.{has_child_below, shallower, has_old_horizon, is_above_frozen, is_described, is_accepted, are_accepted, accepts_change, IsSound, Takes}
+use Rattle.strat_state.specs.Sound.{has_child_below, shallower, has_old_horizon, is_above_frozen, is_described, is_accepted, are_accepted, accepts_change, journal_max, IsSound, Takes}
 use Rattle.strat_base.proofs.ListFacts.{Among, all_at, all_from, among_split, among_left, among_right, among_in_flat, range_among, any_same, all_same, map_same, each_of, each_from, filter_map-append}
 use Rattle.strat_base.proofs.TreeLemmas.{tree_grown, path_kept, parent_kept}
 use Rattle.strat_state.proofs.LevelLemmas.{tagged_below}
@@ -137,8 +137,8 @@ module _ (s : State) (sound : IsSound s) (sealed rest : List Change) (parts : s.
       fits =
           let whole = ap (λ (journal : List Change). length journal) parts in
           let sum = length-append sealed rest in
-          let fits = leb-true (length s.journal) s.mem sound.formed.fits in
-          le-leb (length sealed) s.mem (omega (arith, whole, sum, fits));
+          let fits = leb-true (length s.journal) (journal_max s.mem) sound.formed.fits in
+          le-leb (length sealed) (journal_max s.mem) (omega (arith, whole, sum, fits));
     };
     stratified = each_from (IsStratified (versions_of before)) s.levels (λ level here.
         stratified_over (versions_of s) (versions_of before) (length s.parents) path_before level (sound_tree s sound) (each_of (IsStratified (versions_of s)) s.levels level sound.stratified here) (horizon_old level here));
@@ -236,7 +236,7 @@ grown_none s = ap (λ (journal : List Change). record s { journal = journal }) (
 
 -- changes that one of two states takes in turn lead both to sound states that say the same
 pub replayed : (rest : List Change) (a b : State) → IsSound a → IsSound b → SaysTheSame a b → are_accepted a.changes_max a.versions_max (versions_of a) (changes_of a) rest ≡ true
-    → length a.journal + length rest ≤ a.mem → length b.journal + length rest ≤ b.mem → IsSound (grown_by b rest) × SaysTheSame (grown_by a rest) (grown_by b rest)
+    → length a.journal + length rest ≤ journal_max a.mem → length b.journal + length rest ≤ journal_max b.mem → IsSound (grown_by b rest) × SaysTheSame (grown_by a rest) (grown_by b rest)
 replayed [] a b one two same accepts left right = (
   subst (λ (s : State). IsSound s) (sym (grown_none b)) two,
   (subst (λ (s : State). SaysTheSame s (grown_by b [])) (sym (grown_none a)) (subst (λ (s : State). SaysTheSame a s) (sym (grown_none b)) same)),
@@ -263,7 +263,7 @@ module _ (s : State) (sound : IsSound s) (sealed rest : List Change) (parts : s.
   sealed_follows =
       let whole = ap (λ (journal : List Change). length journal) parts in
       let sum = length-append sealed rest in
-      let fits = leb-true (length s.journal) s.mem sound.formed.fits in
+      let fits = leb-true (length s.journal) (journal_max s.mem) sound.formed.fits in
       let nothing = ap (λ (journal : List Change). length journal) empty in
       let mem = same.mem in
       let later = replayed rest (sealed_at s sealed) new (before_sound s sound sealed rest parts) kept same
@@ -273,3 +273,10 @@ module _ (s : State) (sound : IsSound s) (sealed rest : List Change) (parts : s.
         later.0,
         subst (λ (x : State). SaysTheSame x (grown_by new rest)) (ap (λ (journal : List Change). record s { journal = journal }) (sym parts)) later.1,
       )
+
+pub says_itself : (s : State) → SaysTheSame s s
+says_itself s = record { mem = refl; changes_max = refl; versions_max = refl; versions = refl; maps = λ v lt. refl; updates = refl; changes = refl }
+
+pub sound_after : (rest : List Change) (s : State) → IsSound s → are_accepted s.changes_max s.versions_max (versions_of s) (changes_of s) rest ≡ true → length s.journal + length rest ≤ journal_max s.mem
+    → IsSound (grown_by s rest)
+sound_after rest s sound accepts room = (replayed rest s s sound sound (says_itself s) accepts room room).0

@@ -8,7 +8,7 @@ ghost use Rattle.strat_plan.specs.Plan.{Plan};
 ghost use Rattle.strat_promotion.specs.Promoted.{SaysTheSame, promoted, PromotesGroups, levels_of_groups};
 ghost use Rattle.strat_promotion.specs.Sealed.{sealed_at, grown_by};
 ghost use Rattle.strat_state.specs.Level.{Level};
-ghost use Rattle.strat_state.specs.Sound.{are_accepted, IsSound};
+ghost use Rattle.strat_state.specs.Sound.{are_accepted, journal_max, IsSound};
 ghost use Rattle.strat_state.specs.State.{State, versions_of, changes_of};
 
 /// A sound state was sound before the last changes in its journal.
@@ -22,7 +22,8 @@ pub fn the_same_changes_keep_states_the_same()
     ensures { (rest : List Change) (a b : State) → IsSound a → IsSound b → SaysTheSame a b
         → IsTrue
         (are_accepted a.changes_max a.versions_max (versions_of a) (changes_of a) rest)
-        → length a.journal + length rest ≤ a.mem → length b.journal + length rest ≤ b.mem
+        → length a.journal + length rest ≤ journal_max a.mem
+        → length b.journal + length rest ≤ journal_max b.mem
         → IsSound (grown_by b rest) × SaysTheSame (grown_by a rest) (grown_by b rest) }
 {}
 
@@ -49,4 +50,12 @@ pub fn a_promotion_lets_later_changes_follow()
         (levels_of_groups (sealed_at s sealed) j kept groups plan first)
         written next_array)
         rest) }
+{}
+
+/// Changes that a sound state accepts one after the other, and that its journal has room for, leave it sound.
+pub fn accepted_changes_keep_a_state_sound()
+    ensures { (rest : List Change) (s : State) → IsSound s
+        → IsTrue
+        (are_accepted s.changes_max s.versions_max (versions_of s) (changes_of s) rest)
+        → length s.journal + length rest ≤ journal_max s.mem → IsSound (grown_by s rest) }
 {}

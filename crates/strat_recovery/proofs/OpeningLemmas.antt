@@ -1,5 +1,5 @@
 -- What an opening reads has what an opening tests.
-use Rattle.std.proofs.Common.{◌≡◌, ◌≤◌, ◌<◌, ◌+◌, ◌-◌, ◌^◌, ℕ, suc, Bool, true, false, cond, eqb, leb, ltb, not, ◌&&◌, List, [], ◌∷◌, length, take, drop, map, Option, Some, None, Ok, Err, refl, sym, ap, ◌∙◌, subst, arith}
+use Rattle.std.proofs.Common.{◌≡◌, ◌≤◌, ◌<◌, ◌-◌, ◌^◌, ℕ, suc, Bool, true, false, cond, eqb, leb, ltb, ◌&&◌, List, [], ◌∷◌, length, take, drop, map, Option, Some, None, Ok, Err, refl, sym, ap, ◌∙◌, subst, arith}
 use Rattle.std.specs.Prelude.{option_map, option_and_then}
 use Rattle.std.specs.List.{list_all}
 use Rattle.std.proofs.lemmas.Bool.{and_parts, leb-true, le-leb, ltb-true, lt-ltb}
@@ -13,16 +13,15 @@ use Rattle.strat_base.specs.declared.descriptors.LevelDesc.{LevelDesc}
 use Rattle.strat_format.specs.Arrays.{all_some}
 use Rattle.strat_recovery.specs.Opened.{array_on, level_on, parents_in}
 use Rattle.strat_state.specs.State.{State, tree_after}
-use Rattle.strat_state.specs.Sound.{is_tree, is_tree_from, is_numbered_from, is_accepted, are_accepted, IsWellFormed}
+use Rattle.strat_state.specs.Sound.{is_tree, is_tree_from, is_numbered_from, is_accepted, are_accepted, journal_max, IsWellFormed}
 use Rattle.strat_format.specs.SuperBlock.{Super, newest_in}
 use Rattle.strat_format.specs.Damage.{Read, and_then, passed_or, put_first}
 use Rattle.strat_format.specs.Chained.{Chained, chain_from, chained_bytes, manifest_filled, manifest_in_chain, manifest_at}
-use Rattle.strat_format.specs.Records.{Logged, region_records, is_other_open, journal_in_one}
-use Rattle.strat_format.specs.Layout.{region_first, region_at, region_size, other_region}
+use Rattle.strat_format.specs.Records.{Logged, journal_in_two}
 use Rattle.strat_format.specs.Chain.{chain_length}
 use Rattle.strat_format.proofs.DamageLemmas.{and_then_ok, passed_ok, found_ok, put_first_ok}
 use Rattle.strat_format.proofs.ManifestLemmas.{pass_at, manifest_in-some}
-use Rattle.strat_format.proofs.RegionLemmas.{records_few}
+use Rattle.strat_format.proofs.TwoRegionsLemmas.{length-two}
 use Rattle.strat_recovery.specs.Head.{Head}
 use Rattle.strat_recovery.specs.Opening.{belongs, recover_manifest, accepted_in, recover_journal, recover_head, recover_slot, recover, opened, state_of, reads_as}
 
@@ -165,16 +164,12 @@ module _ (c : Image) (sb : Super) (m : Manifest) (journal : List Change) (found 
       let P : Manifest → Type 0 = λ x. is_lawful_manifest x ≡ true in
       subst P here.1 (lawful_read c sb.manifest sb.length blocks.0 chained.0 blocks.2)
 
-  pub journal_tests : (are_accepted sb.changes_max sb.versions_max (parents_in m) m.changes journal ≡ true) × (length journal ≤ sb.mem)
+  pub journal_tests : (are_accepted sb.changes_max sb.versions_max (parents_in m) m.changes journal ≡ true) × (length journal ≤ journal_max sb.mem)
   journal_tests =
-      let read = and_then_ok (journal_in_one c sb.mem sb.region) (accepted_in sb.changes_max sb.versions_max (parents_in m) m.changes) journal changes in
+      let read = and_then_ok (journal_in_two c sb.mem sb.region) (accepted_in sb.changes_max sb.versions_max (parents_in m) m.changes) journal changes in
       let accepted = accepted_all sb.changes_max sb.versions_max (parents_in m) m.changes read.0 journal read.2 in
-      let alone : List Logged → Bool = λ logged. not (eqb (length logged) sb.mem && is_other_open c sb.mem sb.region) in
-      let test : List Logged → Read (List Logged) = λ logged. passed_or (region_first sb.mem (other_region sb.region)) (alone logged) logged in
-      let region = and_then_ok (region_records c sb.mem sb.region) test read.0 read.1 in
-      let same : region.0 ≡ read.0 = (passed_ok (region_first sb.mem (other_region sb.region)) (alone region.0) region.0 read.0 region.2).1 in
-      let few : length region.0 ≤ sb.mem = records_few c (region_at sb.mem sb.region + region_size sb.mem) sb.mem (region_at sb.mem sb.region) region.0 region.1 in
-      (accepted.0, omega (arith, accepted.1, ap length same))
+      let few = length-two c sb.mem sb.region read.0 read.1 in
+      (accepted.0, omega (arith, accepted.1, few))
 
   openable : (s : State) → state_of c (record { sb = sb; manifest = m; journal = journal }) ≡ Some s → IsWellFormed s
   openable s e =
@@ -197,7 +192,7 @@ module _ (c : Image) (sb : Super) (m : Manifest) (journal : List Change) (found 
         tree = lawful_tree m lawful_found;
         numbered = numbered c (versions_in m) m.next_array m.levels made.0 1 made.1 laws (pass_at (manifest_tests m) 9 lawful_found) (begins_lawful (versions_in m) m.next_array m.levels laws);
         accepted = tests.0;
-        fits = le-leb (length journal) sb.mem tests.1;
+        fits = le-leb (length journal) (journal_max sb.mem) tests.1;
       })
 
 opened_ok : (r : Read (Option Head)) (h : Head) → opened r ≡ Some h → r ≡ Ok (Some h)

@@ -26,11 +26,12 @@ use Rattle.strat_format.specs.Layout.{region_first, region_at, region_size, othe
 use Rattle.strat_format.specs.Manifest.{Manifest, versions_in, is_rising, are_apart, is_counted, is_lawful_extent, is_lawful_array, is_lawful_level, is_lawful_manifest, first_version}
 use Rattle.strat_base.specs.declared.descriptors.ArrayDesc.{ArrayDesc}
 use Rattle.strat_base.specs.declared.descriptors.LevelDesc.{LevelDesc}
-use Rattle.strat_format.specs.Records.{Logged, block_of, record_then, records, region_records, is_other_open, journal_in_one}
+use Rattle.strat_format.specs.Records.{Logged, block_of, record_then, records, first_records, records_behind, journal_in_two}
 use Rattle.strat_format.specs.SuperBlock.{Super, Slot, AreLimits, in_range, chosen_in, verdict}
 use Rattle.strat_format.proofs.BlockLemmas.{block_in-some}
 use Rattle.strat_format.proofs.DamageLemmas.{and_then_ok, passed_ok, put_first_ok}
 use Rattle.strat_format.proofs.ManifestLemmas.{pass_at}
+use Rattle.strat_format.proofs.TwoRegionsLemmas.{journal_cut}
 use Rattle.strat_state.specs.Level.{TaggedArray, Level, is_distinct}
 use Rattle.strat_state.specs.State.{State, tree_after, update_of}
 use Rattle.strat_state.specs.Sound.{is_accepted, are_accepted}
@@ -268,15 +269,31 @@ updates_sized (Delete v key ∷ journal) all' =
     and_from (is_sized_change (Delete v key)) (list_all is_sized (filter_map update_of journal)) parts.0 (updates_sized journal parts.1)
 updates_sized (Clone v ∷ journal) all' = updates_sized journal (and_parts true (list_all is_sized_change journal) all').1
 
+region_sized : (c : Image) (mem region n : ℕ) (logged : List Logged) → first_records c mem region n ≡ Ok logged → list_all is_sized_record logged ≡ true
+region_sized c mem region n logged e = records_sized c (region_at mem region + region_size mem) n (region_at mem region) logged e
+
+all_joined : (xs ys : List Logged) → list_all is_sized_record xs ≡ true → list_all is_sized_record ys ≡ true → list_all is_sized_record (xs ++ ys) ≡ true
+all_joined [] ys one two = two
+all_joined (x ∷ xs) ys one two =
+    let parts = and_parts (is_sized_record x) (list_all is_sized_record xs) one in
+    and_from (is_sized_record x) (list_all is_sized_record (xs ++ ys)) parts.0 (all_joined xs ys parts.1 two)
+
+-- the records of both regions have sizes as they may
+two_sized : (c : Image) (mem active : ℕ) (logged : List Logged) → journal_in_two c mem active ≡ Ok logged → list_all is_sized_record logged ≡ true
+two_sized c mem active logged e = elim (journal_cut c mem active (records_behind c mem (other_region active)) logged e) [
+  | inl short ↦ region_sized c mem active mem logged short.0
+  | inr both ↦
+      let behind = and_then_ok (first_records c mem (other_region active) (mem - 1)) (λ l. passed_or (region_first mem (other_region active)) (ltb (length l) (mem - 1)) l) both.1 both.4 in
+      let passed = passed_ok (region_first mem (other_region active)) (ltb (length behind.0) (mem - 1)) behind.0 both.1 behind.2 in
+      let later : list_all is_sized_record both.1 ≡ true = subst (λ (x : List Logged). list_all is_sized_record x ≡ true) passed.1 (region_sized c mem (other_region active) (mem - 1) behind.0 behind.1) in
+      subst (λ (x : List Logged). list_all is_sized_record x ≡ true) both.5 (all_joined both.0 both.1 (region_sized c mem active mem both.0 both.2) later)
+]
+
 journal_sized : (c : Image) (sb : Super) (m : Manifest) (journal : List Change) → recover_journal c sb m ≡ Ok journal → list_all is_sized (filter_map update_of journal) ≡ true
 journal_sized c sb m journal e =
-    let read = and_then_ok (journal_in_one c sb.mem sb.region) (accepted_in sb.changes_max sb.versions_max (parents_in m) m.changes) journal e in
-    let alone : List Logged → Bool = λ logged. not (eqb (length logged) sb.mem && is_other_open c sb.mem sb.region) in
-    let test : List Logged → Read (List Logged) = λ logged. passed_or (region_first sb.mem (other_region sb.region)) (alone logged) logged in
-    let region = and_then_ok (region_records c sb.mem sb.region) test read.0 read.1 in
-    let same : region.0 ≡ read.0 = (passed_ok (region_first sb.mem (other_region sb.region)) (alone region.0) region.0 read.0 region.2).1 in
-    let sized = records_sized c (region_at sb.mem sb.region + region_size sb.mem) sb.mem (region_at sb.mem sb.region) region.0 region.1 in
-    updates_sized journal (accepted_sized sb.changes_max sb.versions_max (parents_in m) m.changes read.0 journal read.2 (subst (λ (x : List Logged). list_all is_sized_record x ≡ true) same sized))
+    let read = and_then_ok (journal_in_two c sb.mem sb.region) (accepted_in sb.changes_max sb.versions_max (parents_in m) m.changes) journal e in
+    let sized = two_sized c sb.mem sb.region read.0 read.1 in
+    updates_sized journal (accepted_sized sb.changes_max sb.versions_max (parents_in m) m.changes read.0 journal read.2 sized)
 
 -- the limits in a superblock that was chosen
 limits_from : (s : Slot) → in_range s ≡ true → AreLimits s.sb.mem s.sb.changes_max s.sb.versions_max

@@ -15,7 +15,7 @@ use Rattle.strat_format.specs.SuperBlock.{Super, newest_in}
 use Rattle.strat_base.specs.Change.{Change}
 use Rattle.strat_format.specs.Damage.{Read, and_then, passed_or, put_first}
 use Rattle.strat_format.specs.Chained.{Chained, manifest_at}
-use Rattle.strat_format.specs.Records.{Logged, journal_in_one}
+use Rattle.strat_format.specs.Records.{Logged, journal_in_two}
 use Rattle.strat_recovery.specs.Head.{Head, descriptors}
 use Rattle.strat_format.specs.Layout.{first_free}
 
@@ -80,7 +80,7 @@ accepted_in changes_max versions_max parents changes (l ∷ logged) =
 -- the journal of a superblock and a manifest, or the block that is damaged
 abbrev pub recover_journal : Image → Super → Manifest → Read (List Change)
 recover_journal c sb m =
-    and_then (journal_in_one c sb.mem sb.region)
+    and_then (journal_in_two c sb.mem sb.region)
     (accepted_in sb.changes_max sb.versions_max (parents_in m) m.changes)
 
 -- the head of a store with this superblock, or the block that is damaged

@@ -1,5 +1,6 @@
 pub mod TotalLemmas
 pub mod DensityLemmas
+pub mod FractionLemmas
 pub mod RunLemmas
 pub mod LineLemmas
 pub mod ReportingLemmas

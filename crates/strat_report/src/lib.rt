@@ -2,6 +2,7 @@
 #![tactic(auto)]
 
 mod density;
+pub mod laws;
 mod levels;
 mod reporting;
 mod summary;

@@ -62,7 +62,7 @@ fn say_levels<D: Disk>(alloc: Global, disk: &mut D) -> Result<(String, Ended), E
     ensures err { IfErr result (λ how. GivesUp (D.view disk.old) how) }
     ensures same { OnlyReads (D.view disk.old) (D.view disk.new) }
     ensures cause { HasCause ended.Device (D.faults disk.old) (D.faults disk.new) result }
-    ensures reads { ReadsAtMost 1050894 (D.reads disk.old) (D.reads disk.new) }
+    ensures reads { ReadsAtMost 1052183 (D.reads disk.old) (D.reads disk.new) }
 {
     let store = match read_store(alloc, disk) {
         Ok(store) => store,
@@ -92,7 +92,7 @@ fn say_summary<D: Disk>(
     ensures err { IfErr result (λ how. GivesUp (D.view disk.old) how) }
     ensures same { OnlyReads (D.view disk.old) (D.view disk.new) }
     ensures cause { HasCause ended.Device (D.faults disk.old) (D.faults disk.new) result }
-    ensures reads { ReadsAtMost 1050894 (D.reads disk.old) (D.reads disk.new) }
+    ensures reads { ReadsAtMost 1052183 (D.reads disk.old) (D.reads disk.new) }
 {
     let store = match read_store(alloc, disk) {
         Ok(store) => store,
@@ -123,7 +123,7 @@ pub fn write_levels<K: Sink, D: Disk>(alloc: Global, disk: &mut D, sink: &mut K)
     ensures same { OnlyReads (D.view disk.old) (D.view disk.new) }
     ensures cause { ReportHasCause result (D.faults disk.old) (D.faults disk.new)
         (K.faults sink.old) (K.faults sink.new) }
-    ensures reads { ReadsAtMost 1050894 (D.reads disk.old) (D.reads disk.new) }
+    ensures reads { ReadsAtMost 1052183 (D.reads disk.old) (D.reads disk.new) }
 {
     let (text, how) = match say_levels(alloc, disk) {
         Ok(said) => said,
@@ -156,7 +156,7 @@ pub fn write_summary<K: Sink, D: Disk>(
     ensures same { OnlyReads (D.view disk.old) (D.view disk.new) }
     ensures cause { ReportHasCause result (D.faults disk.old) (D.faults disk.new)
         (K.faults sink.old) (K.faults sink.new) }
-    ensures reads { ReadsAtMost 1050894 (D.reads disk.old) (D.reads disk.new) }
+    ensures reads { ReadsAtMost 1052183 (D.reads disk.old) (D.reads disk.new) }
 {
     let (text, how) = match say_summary(alloc, disk, seed, count) {
         Ok(said) => said,

@@ -12,3 +12,4 @@ pub mod SendLemmas
 pub mod SessionLemmas
 pub mod StreamLemmas
 pub mod StreamedLemmas
+pub mod TableLemmas

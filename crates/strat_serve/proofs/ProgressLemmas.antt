@@ -1,9 +1,9 @@
 -- A serving run while it goes on.
-use Rattle.std.proofs.Common.{◌≡◌, ◌≢◌, ◌≤◌, ◌<◌, ℕ, ◌+◌, false, List, [], ◌∷◌, ◌++◌, length, take, drop, map, Option, Some, None, refl, sym, ap, subst, ◌∙◌, ◌⊎◌, inl, inr, append_assoc, length-append, arith}
+use Rattle.std.proofs.Common.{◌≡◌, ◌≢◌, ◌≤◌, ◌<◌, ℕ, ◌+◌, true, false, List, [], ◌∷◌, ◌++◌, length, take, drop, map, Option, Some, None, refl, sym, ap, subst, ◌∙◌, ◌⊎◌, inl, inr, append_assoc, length-append, arith}
 use Rattle.std.specs.Prelude.{Contains, IfSome, Ok, is_some}
 use Rattle.std.specs.List.{flat_map, AllByRecursion}
 use Rattle.std.proofs.lemmas.Bool.{and_right}
-use Rattle.std.proofs.lemmas.List.{append-nil, length-map, map-append, take-append-drop, take-append-le}
+use Rattle.std.proofs.lemmas.List.{append-nil, length-map, map-append, take_all, take-append-drop, take-append-le}
 use Rattle.std.proofs.lemmas.List.Concat.{flat_map-append}
 use Rattle.std.proofs.lemmas.List.Elements.{Contains-append_right}
 use Rattle.strat_base.specs.declared.descriptors.ArrayDesc.{ArrayDesc}
@@ -24,7 +24,7 @@ use Rattle.strat_model.specs.declared.replies.Refusal.TheVariants as why
 use Rattle.strat_model.specs.declared.replies.Reply.{Reply}
 use Rattle.strat_model.specs.declared.replies.Reply.TheVariants as reply
 use Rattle.strat_model.specs.Answer.{Answer}
-use Rattle.strat_model.specs.Stream.{frame, IsBody}
+use Rattle.strat_model.specs.Stream.{frame, IsBody, is_partial}
 use Rattle.strat_model.specs.Table.{Cursor, Table, bare}
 use Rattle.strat_model.specs.Run.{Position, Response, response_bytes, Exchange, Answers, IsRun, is_change, sent_bytes}
 use Rattle.strat_promote.specs.Job.{blocks_listed}
@@ -40,7 +40,7 @@ use Rattle.strat_state.specs.State.{IsPaid}
 use Rattle.strat_store.specs.Paying.{IsPaidIn, ArePaidSince}
 use Rattle.strat_store.proofs.OnDiskLemmas.{kept_on, read_on}
 use Rattle.strat_store.proofs.PayingLemmas.{paid_now, paid_reads, paid_then, stored_since}
-use Rattle.strat_serve.specs.Session.{Took, IsAtEnd, Begins, RespondsTo, AreAnsweredBy, AreCalm, WritesNothing, IsAnswered, ContinuesWith, StopsWith, FailsAsMet, WasPublished, fault_told}
+use Rattle.strat_serve.specs.Session.{Took, IsAtEnd, Begins, RespondsTo, AreAnsweredBy, AreCalm, WritesNothing, IsAnswered, ContinuesWith, StopsWith, FailsAsMet, WaitsForNone, WasPublished, fault_told}
 use Rattle.strat_serve.specs.World.{World}
 use Rattle.strat_serve.proofs.AnswerLemmas.{told_damaged}
 use Rattle.strat_serve.proofs.BeginLemmas.{opens_begins, stands_bare}
@@ -76,6 +76,7 @@ pub record Progress (start current : Held) (count : ℕ) (held : List ℕ) (befo
   pub quiet : AllByRecursion (λ (r : Response). fault_told r.answer.reply ≡ None) answers
   pub parts : taken ≡ flat_map frame bodies ++ held
   pub each : AllByRecursion IsBody bodies
+  pub ahead : WaitsForNone taken bodies (length bodies)
   pub sent : Appends before.held now.held (sent_bytes answers)
   pub found : (f : Image) → before.disk.content ≡ Some f → recover f ≡ Ok (Some (head_held start))
   pub mem : current.log.mem ≡ start.log.mem
@@ -163,6 +164,7 @@ begins s held before disk faults empty calm opened time lawful leaves = record {
   quiet = tt;
   parts = sym empty;
   each = tt;
+  ahead = record { read = 0; few = omega arith; held = []; part = refl; piece = []; short = omega arith; parts = refl };
   sent = sent_none before.held;
   found = opened.found;
   mem = refl;
@@ -191,11 +193,48 @@ begins s held before disk faults empty calm opened time lawful leaves = record {
       };
 }
 
+-- a piece was read when less than a frame was held behind those that were answered
+ahead_read : (taken held piece : List ℕ) (bodies : List (List ℕ)) → taken ≡ flat_map frame bodies ++ held → is_partial held ≡ true → length piece ≤ 4096 → WaitsForNone (taken ++ piece) bodies (length bodies)
+ahead_read taken held piece bodies parts part short = record {
+  read = length bodies;
+  few = omega arith;
+  held = held;
+  part = part;
+  piece = piece;
+  short = short;
+  parts = ap (λ (x : List ℕ). x ++ piece) parts ∙ append_assoc (flat_map frame bodies) held piece
+      ∙ ap (λ (xs : List (List ℕ)). flat_map frame xs ++ (held ++ piece)) (sym (take_all (length bodies) bodies (omega arith)));
+}
+
+-- the same behind bodies that were read later
+pub ahead_more : (taken : List ℕ) (bodies others : List (List ℕ)) (n : ℕ) → n ≤ length bodies → WaitsForNone taken bodies n → WaitsForNone taken (bodies ++ others) n
+ahead_more taken bodies others n most ahead = record {
+  read = ahead.read;
+  few = ahead.few;
+  held = ahead.held;
+  part = ahead.part;
+  piece = ahead.piece;
+  short = ahead.short;
+  parts = ahead.parts ∙ ap (λ (xs : List (List ℕ)). flat_map frame xs ++ (ahead.held ++ ahead.piece)) (sym (take-append-le ahead.read bodies others (omega (arith, ahead.few, most))));
+}
+
+-- and where more bodies were answered
+pub ahead_within : (taken : List ℕ) (bodies : List (List ℕ)) (n m : ℕ) → n ≤ m → WaitsForNone taken bodies n → WaitsForNone taken bodies m
+ahead_within taken bodies n m le ahead = record {
+  read = ahead.read;
+  few = omega (arith, ahead.few, le);
+  held = ahead.held;
+  part = ahead.part;
+  piece = ahead.piece;
+  short = ahead.short;
+  parts = ahead.parts;
+}
+
 -- more bytes were taken and are held
 pub reads : (start current : Held) (count n : ℕ) (held piece fed : List ℕ) (before now : World) (left : Option (List ℕ)) (faults : ℕ)
-    → Progress start current count held before now → Took now.left left piece → length piece ≡ n → fed ≡ held ++ piece
+    → Progress start current count held before now → Took now.left left piece → length piece ≡ n → fed ≡ held ++ piece → is_partial held ≡ true → n ≤ 4096
     → Progress start current (count + n) fed before (record now { left = left; source_faults = faults })
-reads start current count n held piece fed before now left faults p took len feeds = record {
+reads start current count n held piece fed before now left faults p took len feeds part short = record {
   taken = p.taken ++ piece;
   counted = length-append p.taken piece ∙ omega (arith, p.counted);
   took = took_then before.left now.left left p.taken piece p.took took;
@@ -205,6 +244,7 @@ reads start current count n held piece fed before now left faults p took len fee
   quiet = p.quiet;
   parts = ap (λ (x : List ℕ). x ++ piece) p.parts ∙ append_assoc (flat_map frame p.bodies) held piece ∙ ap (λ (x : List ℕ). flat_map frame p.bodies ++ x) (sym feeds);
   each = p.each;
+  ahead = ahead_read p.taken held piece p.bodies p.parts part (omega (arith, len, short));
   sent = p.sent;
   found = p.found;
   mem = p.mem;
@@ -231,6 +271,7 @@ reads_none start current count held before now left faults p took = record {
   quiet = p.quiet;
   parts = p.parts;
   each = p.each;
+  ahead = p.ahead;
   sent = p.sent;
   found = p.found;
   mem = p.mem;
@@ -433,8 +474,9 @@ module _ (start old new : Held) (count : ℕ) (held rest body : List ℕ) (met :
 
   -- one more body was answered, sent and kept, and is the last of those answered
   pub answers : held ≡ frame body ++ rest → IsBody body → Appends mid.held now.held (response_bytes response)
-      → (q : Progress start new count rest before now) × (q.answers ≡ p.answers ++ response ∷ [])
+      → (q : Progress start new count rest before now) × (q.answers ≡ p.answers ++ response ∷ []) × WaitsForNone q.taken q.bodies (length p.bodies)
   answers front fits sent =
+      let ahead = ahead_more p.taken p.bodies (body ∷ []) (length p.bodies) (omega arith) p.ahead in
       let lawful : IsConsistent new = done.kept none in
       let not_device : met ≢ Some fault.Device = λ e. let f : ◌≡◌ {A = Option Fault} None (Some fault.Device) = sym none ∙ e in cc in (
         record {
@@ -447,6 +489,7 @@ module _ (start old new : Held) (count : ℕ) (held rest body : List ℕ) (met :
           quiet = quiet_more p.answers response p.quiet (sym done.is.tells ∙ none);
           parts = parts_more front;
           each = each_more p.bodies body p.each fits;
+          ahead = ahead_within p.taken (p.bodies ++ body ∷ []) (length p.bodies) (length (p.bodies ++ body ∷ [])) (omega (arith, length-append p.bodies (body ∷ []))) ahead;
           sent = subst (λ (x : List ℕ). Appends before.held now.held x) (sym text_more) (appends_then before.held mid.held now.held (sent_bytes p.answers) (response_bytes response) p.sent sent);
           found = p.found;
           mem = lawful.log.mem ∙ done.same ∙ sym p.lawful.log.mem ∙ p.mem;
@@ -466,4 +509,5 @@ module _ (start old new : Held) (count : ℕ) (held rest body : List ℕ) (met :
           runs = λ f t e shows. let so_far = p.runs f t e shows in run_on f t so_far (done.is.run so_far.contents so_far.rows so_far.stands);
         },
         refl,
+        ahead,
       )

@@ -3,7 +3,7 @@ use Rattle.std.proofs.Common.{◌≡◌, ◌≢◌, ℕ, ◌+◌, ◌<◌, ◌�
 use Rattle.std.specs.Prelude.{IsSome, is_some}
 use Rattle.std.specs.List.{flat_map, AllByRecursion}
 use Rattle.std.proofs.lemmas.Bool.{and_right, or_left, or_right, eq-eqb, ne_eqb, cases_eq}
-use Rattle.std.proofs.lemmas.List.{append-nil, take-append-drop, take_at}
+use Rattle.std.proofs.lemmas.List.{append-nil, take_all, take_at}
 use Rattle.std.proofs.lemmas.List.Concat.{flat_map-append}
 use Rattle.strat_base.specs.declared.failures.Fault.{Fault}
 use Rattle.strat_base.specs.declared.failures.Fault.TheVariants as fault
@@ -24,9 +24,9 @@ use Rattle.strat_standing.specs.Standing.{ShowsTable}
 use Rattle.strat_store.specs.Following.{FollowsFrom}
 use Rattle.strat_store.specs.Held.{Held, IsConsistent, IsOnDisk, head_held, position_at}
 use Rattle.strat_store.proofs.PayingLemmas.{paid_now}
-use Rattle.strat_serve.specs.Session.{Took, IsAtEnd, SendsPrefix, too_long_bytes, AreAnsweredBy, AreCalm, ContinuesWith, StopsWith, fault_told, broken_by, Session, IsSession, AnswersAll, all_responses, output, last_output, earlier_bytes, Sends, EndsFor, FollowsRun, Served}
+use Rattle.strat_serve.specs.Session.{Took, IsAtEnd, SendsPrefix, too_long_bytes, AreAnsweredBy, AreCalm, ContinuesWith, StopsWith, fault_told, broken_by, Session, IsSession, AnswersAll, all_responses, output, last_output, Sends, EndsFor, FollowsRun, Served, WaitsForNone}
 use Rattle.strat_serve.specs.World.{World}
-use Rattle.strat_serve.proofs.ProgressLemmas.{Progress, RunSoFar, Answered, tables_before, follows_more, text_more, answered_more, step_responds, step_damaged, step_paid, step_reads, gate_still, calm_front, calm_parts, answers}
+use Rattle.strat_serve.proofs.ProgressLemmas.{Progress, RunSoFar, Answered, tables_before, follows_more, text_more, ahead_more, ahead_within, answered_more, step_responds, step_damaged, step_paid, step_reads, gate_still, calm_front, calm_parts, answers}
 use Rattle.strat_serve.proofs.PublishedLemmas.{published_still}
 use Rattle.strat_serve.proofs.StreamLemmas.{partial_not_long, frames_of}
 
@@ -49,14 +49,6 @@ as_many [] (r ∷ rs) all = absurd all
 as_many (b ∷ bs) [] all = absurd all
 as_many (b ∷ bs) (r ∷ rs) all = ap suc (as_many bs rs all.1)
 
--- the replies to all bodies but the last are the first of those to all
-earlier_first : (xs : List Response) → (rest : List ℕ) × (sent_bytes xs ≡ sent_bytes (take (length xs - 1) xs) ++ rest)
-earlier_first xs =
-    let n = length xs - 1 in (
-      sent_bytes (drop n xs),
-      ap sent_bytes (sym (take-append-drop n xs)) ∙ flat_map-append response_bytes (take n xs) (drop n xs),
-    )
-
 -- all but the last of a list with one more
 all_but_last : (xs : List Response) (x : Response) → take (length (xs ++ x ∷ []) - 1) (xs ++ x ∷ []) ≡ xs
 all_but_last xs x = take_at xs (x ∷ []) (length (xs ++ x ∷ []) - 1) (omega (arith, length-append xs (x ∷ [])))
@@ -68,20 +60,19 @@ whole_taken taken held rest bodies others front back =
     ∙ sym (append_assoc (flat_map frame bodies) (flat_map frame others) rest)
     ∙ ap (λ (x : List ℕ). x ++ rest) (sym (flat_map-append frame bodies others))
 
--- what is behind the frames of the bodies that were answered
-few_ahead : (taken held : List ℕ) (bodies others : List (List ℕ)) (n : ℕ) → taken ≡ flat_map frame bodies ++ held → length bodies ≡ n → length held ≤ 6148
-    → length taken ≤ length (flat_map frame (take n (bodies ++ others))) + 6148
-few_ahead taken held bodies others n parts many few =
-    subst (λ (xs : List (List ℕ)). length taken ≤ length (flat_map frame xs) + 6148) (sym (take_at bodies others n many))
-    (omega (arith, ap length parts, length-append (flat_map frame bodies) held))
-
 -- a run that was not broken, over the bodies answered and others behind them
-module _ (start current : Held) (count budget : ℕ) (held : List ℕ) (before now : World) (p : Progress start current count held before now) (within : (count ≤ budget) × (length held ≤ 6148)) where
+module _ (start current : Held) (count budget : ℕ) (held : List ℕ) (before now : World) (p : Progress start current count held before now) (within : count ≤ budget) where
   abbrev session : List (List ℕ) → List ℕ → Session
   session others rest = record { taken = p.taken; bodies = p.bodies ++ others; rest = rest; answers = p.answers; broken = None }
 
   tolds_all : all_responses (session [] held) ≡ p.answers
   tolds_all = append-nil p.answers
+
+  -- the last piece was read when all that waited had been answered
+  ahead_all : (others : List (List ℕ)) → WaitsForNone p.taken (p.bodies ++ others) (length p.answers)
+  ahead_all others =
+      subst (λ (n : ℕ). WaitsForNone p.taken (p.bodies ++ others) n) (sym (as_many p.bodies p.answers p.answered))
+      (ahead_more p.taken p.bodies others (length p.bodies) (omega arith) p.ahead)
 
   is_session : (others : List (List ℕ)) (rest : List ℕ) → Splits held others rest → IsSession budget (session others rest)
   is_session others rest splits = record {
@@ -93,9 +84,8 @@ module _ (start current : Held) (count budget : ℕ) (held : List ℕ) (before n
     answered = subst (λ (l : List Response). AreAnsweredBy (take (length l) (p.bodies ++ others)) l) (sym tolds_all) (answered_front p.bodies others p.answers p.answered);
     calm = p.quiet;
     fault = tt;
-    within = omega (arith, p.counted, within.0);
-    ahead = few_ahead p.taken held p.bodies others (length (all_responses (session others rest))) p.parts
-        (sym (as_many p.bodies p.answers p.answered) ∙ ap length (sym (append-nil p.answers))) within.1;
+    within = omega (arith, p.counted, within);
+    ahead = ahead_all others;
   }
 
   is_whole : AnswersAll (session [] held)
@@ -147,9 +137,9 @@ module _ (start current : Held) (count budget : ℕ) (held : List ℕ) (before n
 
   -- the sink failed at the reply that went before
   pub ends_cut : (sent : Option (List ℕ)) (faults : ℕ) → AreBytes held → (front : SendsPrefix before.held sent (sent_bytes p.answers))
-      → ((part : List ℕ) × (front.sent ≡ sent_bytes (take (length p.answers - 1) p.answers) ++ part))
+      → ((part : List ℕ) × (front.sent ≡ sent_bytes (take (length p.answers - 1) p.answers) ++ part)) → WaitsForNone p.taken p.bodies (length p.answers - 1)
       → Served budget ended.Sink before (record now { held = sent; sink_faults = faults })
-  ends_cut sent faults fits front replied =
+  ends_cut sent faults fits front replied ahead =
       let f = frames_of held fits in
       let last = last_output None (eqb (length p.answers) (length (session f.bodies f.rest).bodies)) (is_too_long f.rest) in
       served ended.Sink f.bodies f.rest f.splits sent faults
@@ -161,8 +151,11 @@ module _ (start current : Held) (count budget : ℕ) (held : List ℕ) (before n
           some = omega (arith, front.some, length-append front.later last);
           appends = front.appends;
         };
+        whole = length p.answers - 1;
+        last = omega (arith, ap length tolds_all);
         part = replied.0;
-        replied = replied.1;
+        replied = replied.1 ∙ ap (λ (xs : List Response). sent_bytes (take (length p.answers - 1) xs) ++ replied.0) (sym tolds_all);
+        ahead = ahead_more p.taken p.bodies f.bodies (length p.answers - 1) (omega (arith, as_many p.bodies p.answers p.answered)) ahead;
       })
       tt
 
@@ -183,7 +176,7 @@ module _ (start current : Held) (count budget : ℕ) (held : List ℕ) (before n
     pub ends_long_cut : (sent : Option (List ℕ)) (faults : ℕ) → SendsPrefix now.held sent too_long_bytes → Served budget ended.Sink before (record now { held = sent; sink_faults = faults })
     ends_long_cut sent faults front =
         served ended.Sink [] held splits_long sent faults
-        (let first = earlier_first p.answers in record {
+        (record {
           cut = record {
             sent = sent_bytes (all_responses (session [] held)) ++ front.sent;
             later = front.later;
@@ -191,8 +184,11 @@ module _ (start current : Held) (count budget : ℕ) (held : List ℕ) (before n
             some = front.some;
             appends = appends_then before.held now.held sent (sent_bytes (all_responses (session [] held))) front.sent sent_so_far front.appends;
           };
-          part = first.0 ++ front.sent;
-          replied = ap (λ (x : List ℕ). x ++ front.sent) (ap sent_bytes tolds_all ∙ first.1) ∙ append_assoc (earlier_bytes (session [] held)) first.0 front.sent;
+          whole = length p.answers;
+          last = omega (arith, ap length tolds_all);
+          part = front.sent;
+          replied = ap (λ (xs : List Response). sent_bytes xs ++ front.sent) (sym (take_all (length p.answers) (all_responses (session [] held)) (omega (arith, ap length tolds_all))));
+          ahead = ahead_all [];
         })
         tt
 
@@ -258,13 +254,10 @@ still_some before mid f passes e = go mid.content refl (passes.exposed (some bef
 
 -- the next body was answered
 module _ (start old new : Held) (count budget : ℕ) (held rest body : List ℕ) (met : Option Fault) (out : List ℕ) (before mid now : World)
-    (p : Progress start old count held before mid) (within : (count ≤ budget) × (length held ≤ 6148)) (done : Answered old new mid now body met out)
+    (p : Progress start old count held before mid) (within : count ≤ budget) (done : Answered old new mid now body met out)
     (front : held ≡ frame body ++ rest) (fits : IsBody body) (bytes : AreBytes rest) where
   abbrev response : Response
   response = done.is.response
-
-  few : length rest ≤ 6148
-  few = omega (arith, ap length front, length-append (frame body) rest, within.1)
 
   -- it met no fault, and its reply was sent
   pub goes_on : met ≡ None → Appends mid.held now.held out → Progress start new count rest before now
@@ -289,7 +282,7 @@ module _ (start old new : Held) (count budget : ℕ) (held rest body : List ℕ)
       } in
       let q = answers start old new count held rest body met out before mid sent p told none front fits (took_all mid.held (response_bytes response)) in
       let earlier = sent_bytes p.answers in
-      ends_cut start new count budget rest before sent q.0 (within.0, few) now.held now.sink_faults bytes (record {
+      ends_cut start new count budget rest before sent q.0 within now.held now.sink_faults bytes (record {
         sent = earlier ++ cut.sent;
         later = cut.later;
         parts = ap sent_bytes q.1
@@ -301,6 +294,7 @@ module _ (start old new : Held) (count budget : ℕ) (held rest body : List ℕ)
         cut.sent,
         ap (λ (xs : List Response). sent_bytes xs ++ cut.sent) (sym (ap (λ (xs : List Response). take (length xs - 1) xs) q.1 ∙ all_but_last p.answers response)),
       )
+      (ahead_within q.0.taken q.0.bodies (length p.bodies) (length q.0.answers - 1) (omega (arith, ap length q.1, length-append p.answers (response ∷ []), as_many p.bodies p.answers p.answered)) q.2)
 
   -- it met a fault
   module _ (f : Fault) (some : met ≡ Some f) where
@@ -311,6 +305,14 @@ module _ (start old new : Held) (count budget : ℕ) (held rest body : List ℕ)
     broken =
         let s = frames_of rest bytes in
         record { taken = p.taken; bodies = (p.bodies ++ body ∷ []) ++ s.bodies; rest = s.rest; answers = p.answers; broken = Some response }
+
+    -- the last piece was read when all that waited had been answered otherwise
+    ahead_broken : WaitsForNone p.taken broken.bodies (length p.answers)
+    ahead_broken =
+        let s = frames_of rest bytes in
+        let most : length p.answers ≡ length p.bodies = as_many p.bodies p.answers p.answered in
+        ahead_more p.taken (p.bodies ++ body ∷ []) s.bodies (length p.answers) (omega (arith, most, length-append p.bodies (body ∷ [])))
+        (subst (λ (n : ℕ). WaitsForNone p.taken (p.bodies ++ body ∷ []) n) (sym most) (ahead_more p.taken p.bodies (body ∷ []) (length p.bodies) (omega arith) p.ahead))
 
     is_broken : IsSession budget broken
     is_broken =
@@ -325,11 +327,8 @@ module _ (start old new : Held) (count budget : ℕ) (held rest body : List ℕ)
           answered = answered_front (p.bodies ++ body ∷ []) s.bodies (p.answers ++ response ∷ []) (answered_more p.bodies p.answers body response p.answered (step_responds mid.disk now.disk old body met new out done.is));
           calm = p.quiet;
           fault = let there : IsSome (Some f) = refl in subst (λ (o : Option Fault). IsSome o) (sym tells) there;
-          within = omega (arith, p.counted, within.0);
-          ahead = few_ahead p.taken rest (p.bodies ++ body ∷ []) s.bodies (length (p.answers ++ response ∷ []))
-              (whole_taken p.taken held rest p.bodies (body ∷ []) p.parts one)
-              (sym (as_many (p.bodies ++ body ∷ []) (p.answers ++ response ∷ []) (answered_more p.bodies p.answers body response p.answered (step_responds mid.disk now.disk old body met new out done.is))))
-              few;
+          within = omega (arith, p.counted, within);
+          ahead = ahead_broken;
         }
 
     output_broken : output broken ≡ sent_bytes p.answers ++ response_bytes response
@@ -421,8 +420,11 @@ module _ (start old new : Held) (count budget : ℕ) (held rest body : List ℕ)
             some = cut.some;
             appends = appends_then before.held mid.held now.held (sent_bytes p.answers) cut.sent p.sent cut.appends;
           };
+          whole = length p.answers;
+          last = omega (arith, length-append p.answers (response ∷ []));
           part = cut.sent;
-          replied = refl;
+          replied = ap (λ (xs : List Response). sent_bytes xs ++ cut.sent) (sym (take_at p.answers (response ∷ []) (length p.answers) refl));
+          ahead = ahead_broken;
         })
         tt
 

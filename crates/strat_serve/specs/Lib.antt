@@ -1,3 +1,4 @@
 pub mod Generated
 pub mod Session
 pub mod World
+pub mod Tables

@@ -22,7 +22,7 @@ use Rattle.strat_model.specs.declared.replies.Reply.TheVariants as reply
 use Rattle.strat_model.specs.Answer.{refusal}
 use Rattle.strat_model.specs.Request.{Request}
 use Rattle.strat_model.specs.Spelling.{Spells, IsRefusedAs, reply_body}
-use Rattle.strat_model.specs.Stream.{frame, Splits, Whole, Rest, Long, ending_of, is_too_long}
+use Rattle.strat_model.specs.Stream.{frame, Splits, Whole, Rest, Long, ending_of, is_partial, is_too_long}
 use Rattle.strat_model.specs.Table.{Cursor, Table, bare}
 use Rattle.strat_model.specs.Run.{is_change, reaches_disk, takes_memory, Position, Response, response_bytes, Answers, AnswersFault, Transcript, IsTranscript, bodies_of, tables_of, sent_bytes}
 use Rattle.strat_promote.specs.Job.{blocks_listed}
@@ -225,16 +225,28 @@ listed_response (Some response) = response ∷ []
 abbrev pub all_responses : Session → List Response
 all_responses s = s.answers ++ listed_response s.broken
 
--- the first bodies of the bytes taken were answered, one response for each, and a fault is told in
--- the last response alone; at most 6,148 bytes were taken behind the frames of these bodies
+-- when the last piece of these bytes was read, of at most 4,096 bytes, the frames of so many of the first
+-- bodies stood in front of it, and behind them less than a frame: so no frame waited but these, of which
+-- there are n at most
+pub record WaitsForNone (taken : List ℕ) (bodies : List (List ℕ)) (n : ℕ) : Type 0 where
+  pub read : ℕ
+  pub few : read ≤ n
+  pub held : List ℕ
+  pub part : is_partial held ≡ true
+  pub piece : List ℕ
+  pub short : length piece ≤ 4096
+  pub parts : taken ≡ flat_map frame (take read bodies) ++ (held ++ piece)
+
+-- the first bodies of the bytes taken were answered, one response for each, and a fault is told in the
+-- last response alone; the last piece was read when each frame that stood whole in front of it had been
+-- answered, and by no fault
 pub record IsSession (budget : ℕ) (s : Session) : Type 0 where
   pub splits : Splits s.taken s.bodies s.rest
   pub answered : AreAnsweredBy (take (length (all_responses s)) s.bodies) (all_responses s)
   pub calm : AllByRecursion (λ r. fault_told r.answer.reply ≡ None) s.answers
   pub fault : IfSome s.broken (λ r. IsSome (fault_told r.answer.reply))
   pub within : length s.taken ≤ budget
-  pub ahead : length s.taken
-      ≤ length (flat_map frame (take (length (all_responses s)) s.bodies)) + 6148
+  pub ahead : WaitsForNone s.taken s.bodies (length s.answers)
 
 -- every body was answered, and none of them met a fault
 pub record AnswersAll (s : Session) : Type 0 where
@@ -252,21 +264,16 @@ abbrev pub output : Session → List ℕ
 output s = sent_bytes (all_responses s)
     ++ last_output s.broken (length s.answers == length s.bodies) (is_too_long s.rest)
 
--- the answers before the last one
-abbrev pub before_last : Option Response → List Response → List Response
-before_last None answers = take (length answers - 1) answers
-before_last (Some response) answers = answers
-
--- the replies to all bodies that were answered but the last
-abbrev pub earlier_bytes : Session → List ℕ
-earlier_bytes s = sent_bytes (before_last s.broken s.answers)
-
--- a sink that failed took a prefix of what a session sends, with all replies but the last whole:
--- so at most one command was carried out that no reply tells of
+-- a sink that failed took a prefix of what a session sends: so many replies whole, and at most one body
+-- was answered that none of these replies to; the last piece was read when each frame that stood whole in
+-- front of it had its reply among these
 pub record SendsAllButLast (before now : Option (List ℕ)) (s : Session) : Type 0 where
   pub cut : SendsPrefix before now (output s)
+  pub whole : ℕ
+  pub last : length (all_responses s) ≤ whole + 1
   pub part : List ℕ
-  pub replied : cut.sent ≡ earlier_bytes s ++ part
+  pub replied : cut.sent ≡ sent_bytes (take whole (all_responses s)) ++ part
+  pub ahead : WaitsForNone s.taken s.bodies whole
 
 -- what the sink took of what a session sends: all of it, where it did not fail
 abbrev pub Sends : Ended → Option (List ℕ) → Option (List ℕ) → Session → Type 0

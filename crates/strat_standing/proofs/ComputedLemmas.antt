@@ -1,5 +1,5 @@
 -- The next contents, from what a promotion leaves to what a publication asks.
-use Rattle.std.proofs.Common.{◌≡◌, ◌<◌, ◌^◌, ◌-◌, List, length, Option, Some, sym, ap, ◌∙◌, subst, arith}
+use Rattle.std.proofs.Common.{◌≡◌, ◌≤◌, ◌<◌, ◌^◌, ◌-◌, List, length, Option, Some, sym, ap, ◌∙◌, subst, arith}
 use Rattle.std.specs.Option.{option_to_list}
 use Rattle.strat_base.specs.declared.descriptors.Extent.{Extent}
 use Rattle.strat_base.specs.declared.descriptors.LevelDesc.{LevelDesc}
@@ -8,11 +8,11 @@ use Rattle.strat_crash.specs.Moments.{DiskView, OnlyReads, IsDurable}
 use Rattle.strat_extent.specs.Blocks.{SpaceView}
 use Rattle.strat_format.specs.Arrays.{all_some}
 use Rattle.strat_format.specs.Manifest.{manifest_bytes}
-use Rattle.strat_promotion.specs.Promoted.{SaysTheSame, promoted}
+use Rattle.strat_promotion.specs.Promoted.{SaysTheSame}
 use Rattle.strat_recovery.specs.Opened.{level_on}
 use Rattle.strat_state.specs.Sound.{IsSound}
 use Rattle.strat_standing.specs.Contents.{Contents, contents_state}
-use Rattle.strat_standing.specs.Next.{arrays_made, AreNewArrays, IsNextOf, MayBeNext, HasManifest, IsPromotion}
+use Rattle.strat_standing.specs.Next.{state_after, arrays_made, AreNewArrays, IsNextOf, MayBeNext, HasManifest, IsPromotion}
 use Rattle.strat_standing.specs.Occupied.{IsSpaceOf}
 use Rattle.strat_standing.specs.Publication.{Succeeds, IsPrepared}
 use Rattle.strat_standing.specs.Standing.{LiesIn, ReadsAs, LeavesContent, ContentsStand}
@@ -25,13 +25,13 @@ use Rattle.strat_standing.proofs.PublishLemmas.{synced_prepares}
 
 module _ (f g : Image) (old new : Contents) (made : Option LevelDesc) (taken kept : List LevelDesc) where
   -- what a promotion leaves may be the next contents
-  pub promotion_next : ReadsAs f old → 0 < length old.journal → IsSound (contents_state old) → IsNextOf old new made taken kept → AreNewArrays old.chained.manifest.next_array (arrays_made made)
+  pub promotion_next : ReadsAs f old → old.sb.mem ≤ length old.journal → IsSound (contents_state old) → IsNextOf old new made taken kept → AreNewArrays old.chained.manifest.next_array (arrays_made made)
       → IsPromotion g old new made taken → MayBeNext f g old new made taken kept × SaysTheSame (contents_state old) (contents_state new)
-  promotion_next reads logged sound next fresh p =
-      let state : promoted (contents_state old) new.levels new.chained.manifest.written new.chained.manifest.next_array ≡ contents_state new = sym (promoted_state old new sound next.promoted) in (
+  promotion_next reads full sound next fresh p =
+      let state : state_after old new ≡ contents_state new = sym (promoted_state old new sound next.promoted) in (
         record {
           reads = reads;
-          logged = logged;
+          full = full;
           next = next;
           arrays = ap (all_some (level_on g)) next.levels_are ∙ levels_replaced g old taken kept (option_to_list made) p.fresh p.lies next.levels_were p.read ∙ ap (λ (ls : List _). Some ls) (sym p.levels);
           was_sound = sound;

@@ -85,10 +85,10 @@ module _ (free : ℕ → Bool) (x : Contents) (are_free : AreFree free x) where
             left = t.left;
             reads = reads;
             slots = λ c left. record { byte = λ i low high. (slots_kept c left).byte i low high ∙ sym ((slots_kept t.content t.left).byte i low high) };
-            shut = λ c left up.
+            shut = λ c left few up.
                 let one = torn.images c (now_since_start old new c torn.time left) in
                 let front = front_kept one.0 c one.2 in
-                s.shut one.0 one.1 (sym (front.byte (region_at x.sb.mem (other_region x.sb.region)) (omega arith) (omega (arith, p.gate_within))) ∙ up);
+                s.shut one.0 one.1 few (sym (front.byte (region_at x.sb.mem (other_region x.sb.region)) (omega arith) (omega (arith, p.gate_within))) ∙ up);
             sound = s.sound;
           }
 

@@ -1,5 +1,5 @@
 -- The first gate of the region that is not active may be shut, and contents that were opened stand.
-use Rattle.std.proofs.Common.{◌≡◌, ◌≢◌, ◌≤◌, ◌<◌, true, false, eqb, ◌&&◌, not, inl, inr, List, [], ◌∷◌, length, sym, ap, ◌∙◌, subst, arith}
+use Rattle.std.proofs.Common.{◌≡◌, ◌≢◌, ◌<◌, ℕ, true, false, inl, inr, List, [], ◌∷◌, length, sym, ap, ◌∙◌, subst, arith}
 use Rattle.std.proofs.lemmas.Bool.{cases_lt, eq-eqb, true≢false}
 use Rattle.std.proofs.lemmas.List.{length-map}
 use Rattle.strat_base.specs.Change.{Change}
@@ -17,7 +17,8 @@ use Rattle.strat_standing.specs.Contents.{Contents, contents_state}
 use Rattle.strat_standing.specs.Standing.{IsLogged, ReadsAs, ShowsTable, LeavesContent, ContentsStand}
 use Rattle.strat_standing.proofs.AcceptedLemmas.{accepted_changes}
 use Rattle.strat_standing.proofs.FreeLemmas.{still_told, shows_contents}
-use Rattle.strat_standing.proofs.JournalLemmas.{journal_kept, journal_parts, length-journal}
+use Rattle.strat_format.proofs.TwoRegionsLemmas.{full_closed}
+use Rattle.strat_standing.proofs.JournalLemmas.{journal_kept}
 use Rattle.strat_standing.proofs.LocalLemmas.{lies_local}
 use Rattle.strat_standing.proofs.PlaceLemmas.{places, newest_fits, newest_local, named_behind}
 
@@ -50,14 +51,26 @@ gate_reads d c x r few out =
       };
     }
 
+-- a call that tears one gate alone leaves each image the contents of one of before, whatever the others show
+pub each_keeps : (old new : DiskView) (mem gate : ℕ) → TearsOnly old new (region_at mem gate) 1 → (c : Image) → Since new old.moment c
+    → (d : Image) × Images old d × ((x : Contents) → ReadsAs d x → x.sb.mem ≡ mem → other_region x.sb.region ≡ gate → length x.journal < mem → ReadsAs c x)
+each_keeps old new mem gate torn c since =
+    let one = torn.each c since in (
+      one.0,
+      one.1,
+      λ x reads mem_is gate_is few.
+          let at : region_at mem gate ≡ region_at x.sb.mem (other_region x.sb.region) = λ i. region_at (sym mem_is i) (sym gate_is i) in
+          gate_reads one.0 c x reads (omega (arith, few, mem_is)) (subst (λ (n : ℕ). Outside n 1 one.0 c) at one.2),
+    )
+
 -- a journal that fills its region was read where the other region's first gate is shut
 pub full_shut : (c : Image) (x : Contents) → ReadsAs c x → length x.journal ≡ x.sb.mem → c (region_at x.sb.mem (other_region x.sb.region)) ≢ 0xa7
 full_shut c x r full up =
-    let test = (journal_parts c x.sb.mem x.sb.region r.logged.logged r.logged.read).1 in
-    let long : eqb (length r.logged.logged) x.sb.mem ≡ true = eq-eqb (length r.logged.logged) x.sb.mem (length-logged c x r.logged ∙ full) in
+    let fits = newest_fits c x.slot x.sb r.newest in
+    let closed : is_open (c (region_at x.sb.mem (other_region x.sb.region))) ≡ false =
+    full_closed c x.sb.mem x.sb.region r.logged.logged (omega (arith, fits.mem_least)) r.logged.read (length-logged c x r.logged ∙ full) in
     let opened : is_open (c (region_at x.sb.mem (other_region x.sb.region))) ≡ true = eq-eqb (c (region_at x.sb.mem (other_region x.sb.region))) 0xa7 up in
-    let bad : false ≡ true = (λ i. not (sym long i && sym opened i)) ∙ test in
-    true≢false (sym bad)
+    true≢false (sym opened ∙ closed)
 
 -- the gate is shut by a call that tears it alone
 module _ (old new : DiskView) (x : Contents) (few : length x.journal < x.sb.mem) (reads : (c : Image) → Images old c → ReadsAs c x)
@@ -88,7 +101,7 @@ module _ (old new : DiskView) (x : Contents) (few : length x.journal < x.sb.mem)
             left = t.left;
             reads = λ c left. gate_kept c (now_since_start old new c time left);
             slots = λ c left. record { byte = λ i low high. (slots_kept c left).byte i low high ∙ sym ((slots_kept t.content t.left).byte i low high) };
-            shut = shut;
+            shut = λ c left fits. shut c left;
             sound = sound;
           }
 
@@ -96,7 +109,6 @@ module _ (old new : DiskView) (x : Contents) (few : length x.journal < x.sb.mem)
 pub opened_stands : (v : DiskView) (f : Image) (x : Contents) → Exposes v f → IsDurable v → LeavesContent v → ReadsAs f x → IsSound (contents_state x)
     → (length x.journal < x.sb.mem → f (region_at x.sb.mem (other_region x.sb.region)) ≢ 0xa7) → ContentsStand v x
 opened_stands v f x exposed durable leaves r sound shut =
-    let few : length x.journal ≤ x.sb.mem = omega (arith, length-logged f x r.logged, length-journal f x.sb.mem x.sb.region r.logged.logged r.logged.read) in
     let whole : (c : Image) → Images v c → c ≡ f = settled_at v f exposed durable in
     record {
       content = f;
@@ -104,7 +116,7 @@ opened_stands v f x exposed durable leaves r sound shut =
       left = at_told v.content (Images v) f exposed leaves;
       reads = λ c left. subst (λ (d : Image). ReadsAs d x) (sym (whole c left)) r;
       slots = λ c left. record { byte = λ i low high. λ j. whole c left j i };
-      shut = λ c left up.
+      shut = λ c left few up.
           let here : f (region_at x.sb.mem (other_region x.sb.region)) ≡ 0xa7 = (λ j. sym (whole c left) j (region_at x.sb.mem (other_region x.sb.region))) ∙ up in
           elim (cases_lt (length x.journal) x.sb.mem) [
             | inl part ↦ shut part here

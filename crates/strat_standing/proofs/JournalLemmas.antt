@@ -1,7 +1,7 @@
 -- The records of a journal stay while the bytes of their region do.
-use Rattle.std.proofs.Common.{◌≡◌, ◌≤◌, ◌<◌, ◌+◌, ◌-◌, ◌*◌, inl, inr, ℕ, zero, suc, Bool, true, false, cond, eqb, leb, ◌&&◌, not, List, [], ◌∷◌, length, drop, take, Option, Some, None, Ok, refl, sym, ap, ◌∙◌, subst, arith}
+use Rattle.std.proofs.Common.{◌≡◌, ◌≤◌, ◌<◌, ◌+◌, ◌-◌, ◌*◌, inl, inr, ℕ, zero, suc, Bool, true, false, cond, eqb, leb, ltb, ◌&&◌, List, [], ◌∷◌, ◌++◌, length-append, length, drop, take, Option, Some, None, Ok, refl, sym, ap, ◌∙◌, subst, arith}
 use Rattle.std.specs.Prelude.{option_map, option_and_then}
-use Rattle.std.proofs.lemmas.Bool.{and_parts, eqb-true, cases_Bool}
+use Rattle.std.proofs.lemmas.Bool.{and_parts}
 use Rattle.std.proofs.lemmas.Option.{cond_some}
 use Rattle.strat_base.specs.Numbers.{number}
 use Rattle.strat_base.specs.Sizes.{is_value}
@@ -13,9 +13,8 @@ use Rattle.strat_crash.specs.Image.{Image, SameIn, window}
 use Rattle.strat_crash.proofs.ImageLemmas.{window_same}
 use Rattle.strat_format.specs.Damage.{Read, and_then, passed_or, put_first}
 use Rattle.strat_format.specs.Layout.{region_first, region_at, region_size, other_region, is_open}
-use Rattle.strat_format.specs.Records.{Logged, block_of, record_then, records, region_records, is_other_open, journal_in_one}
-use Rattle.strat_format.proofs.DamageLemmas.{and_then_ok, passed_ok}
-use Rattle.strat_format.proofs.RegionLemmas.{records_few}
+use Rattle.strat_format.specs.Records.{Logged, block_of, record_then, records, region_records, full_then, first_records, records_behind, journal_in_two}
+use Rattle.strat_format.proofs.TwoRegionsLemmas.{journal_cut, join_short, behind_whole}
 use Rattle.strat_journal.proofs.LaidLemmas.{region_takes}
 use Rattle.strat_recovery.proofs.OpeningLemmas.{map_some, next_some}
 
@@ -81,35 +80,35 @@ pub region_local : (f c : Image) (mem region : ℕ) → SameIn (region_at mem re
 region_local f c mem region same =
     records_local f c (region_at mem region) (region_at mem region + region_size mem) mem (region_at mem region) (omega arith) (omega (arith, region_takes mem)) (record { byte = λ i low high. same.byte i low (omega arith) })
 
--- the journal of one region is read from that region and the first gate of the other
-pub journal_local : (f c : Image) (mem active : ℕ) → SameIn (region_at mem active) (region_size mem) f c → c (region_at mem (other_region active)) ≡ f (region_at mem (other_region active))
-    → journal_in_one c mem active ≡ journal_in_one f mem active
-journal_local f c mem active same gate =
-    λ i. and_then (region_local f c mem active same i) (λ logged. passed_or (region_first mem (other_region active)) (not (eqb (length logged) mem && is_open (gate i))) logged)
+-- the same of the first records of a region
+pub first_local : (f c : Image) (mem region n : ℕ) → n ≤ mem → SameIn (region_at mem region) (region_size mem) f c → first_records c mem region n ≡ first_records f mem region n
+first_local f c mem region n few same =
+    records_local f c (region_at mem region) (region_at mem region + region_size mem) n (region_at mem region) (omega arith) (omega (arith, few, region_takes mem)) (record { byte = λ i low high. same.byte i low (omega arith) })
 
--- what a journal's records are, and the test of the other gate
-pub journal_parts : (c : Image) (mem active : ℕ) (logged : List Logged) → journal_in_one c mem active ≡ Ok logged
-    → (region_records c mem active ≡ Ok logged) × (not (eqb (length logged) mem && is_other_open c mem active) ≡ true)
-journal_parts c mem active logged e =
-    let shut : List Logged → Bool = λ l. not (eqb (length l) mem && is_other_open c mem active) in
-    let found = and_then_ok (region_records c mem active) (λ l. passed_or (region_first mem (other_region active)) (shut l) l) logged e in
-    let passed = passed_ok (region_first mem (other_region active)) (shut found.0) found.0 logged found.2 in
-    (found.1 ∙ ap (λ (l : List Logged). Ok l) passed.1, ap shut (sym passed.1) ∙ passed.0)
+behind_local : (f c : Image) (mem region : ℕ) → SameIn (region_at mem region) (region_size mem) f c → records_behind c mem region ≡ records_behind f mem region
+behind_local f c mem region same =
+    ap (λ (r : Read (List Logged)). and_then r (λ later. passed_or (region_first mem region) (ltb (length later) (mem - 1)) later)) (first_local f c mem region (mem - 1) (omega arith) same)
 
-pub length-journal : (c : Image) (mem active : ℕ) (logged : List Logged) → journal_in_one c mem active ≡ Ok logged → length logged ≤ mem
-length-journal c mem active logged e =
-    records_few c (region_at mem active + region_size mem) mem (region_at mem active) logged (journal_parts c mem active logged e).0
+-- the journal is read from both regions
+pub journal_local : (f c : Image) (mem active : ℕ) → SameIn (region_at mem active) (region_size mem) f c → SameIn (region_at mem (other_region active)) (region_size mem) f c
+    → journal_in_two c mem active ≡ journal_in_two f mem active
+journal_local f c mem active same other =
+    λ i. and_then (region_local f c mem active same i) (full_then mem (behind_local f c mem (other_region active) other i))
 
-not_full : (n mem : ℕ) (others : Bool) → n < mem → not (eqb n mem && others) ≡ true
-not_full n mem others few = elim (cases_Bool (eqb n mem)) [
-  | inl full ↦ absurd (omega (arith, few, eqb-true n mem full))
-  | inr part ↦ ap (λ (t : Bool). not (t && others)) part
+-- a journal that leaves room in the active region doesn't look at the other one
+pub journal_kept : (f c : Image) (mem active : ℕ) (logged : List Logged) → SameIn (region_at mem active) (region_size mem) f c → length logged < mem → journal_in_two f mem active ≡ Ok logged
+    → journal_in_two c mem active ≡ Ok logged
+journal_kept f c mem active logged same few e = elim (journal_cut f mem active (records_behind f mem (other_region active)) logged e) [
+  | inl short ↦ join_short c mem active (records_behind c mem (other_region active)) logged (region_local f c mem active same ∙ short.0) few
+  | inr both ↦ absurd (omega (arith, few, both.3, length-append both.0 both.1, ap length both.5))
 ]
 
--- a journal that leaves room doesn't look at the other region
-pub journal_kept : (f c : Image) (mem active : ℕ) (logged : List Logged) → SameIn (region_at mem active) (region_size mem) f c → length logged < mem → journal_in_one f mem active ≡ Ok logged
-    → journal_in_one c mem active ≡ Ok logged
-journal_kept f c mem active logged same few e =
-    ap (λ (r : Read (List Logged)). and_then r (λ l. passed_or (region_first mem (other_region active)) (not (eqb (length l) mem && is_other_open c mem active)) l))
-    (region_local f c mem active same ∙ (journal_parts f mem active logged e).0)
-    ∙ ap (λ (t : Bool). passed_or (region_first mem (other_region active)) t logged) (not_full (length logged) mem (is_other_open c mem active) few)
+-- once it is full the journal of the other region is what is behind it, and few
+pub journal_turned : (c : Image) (mem active : ℕ) (logged : List Logged) → 0 < mem → active ≤ 1 → journal_in_two c mem active ≡ Ok logged → mem ≤ length logged
+    → (later : List Logged) × (front : List Logged) × (length front ≡ mem) × (front ++ later ≡ logged) × (length later < mem) × (region_records c mem (other_region active) ≡ Ok later)
+journal_turned c mem active logged some few e full = elim (journal_cut c mem active (records_behind c mem (other_region active)) logged e) [
+  | inl short ↦ absurd (omega (arith, full, short.1))
+  | inr both ↦
+      let whole = behind_whole c mem (other_region active) some both.1 both.4 in
+      (both.1, both.0, both.3, both.5, omega (arith, whole.1), whole.0)
+]

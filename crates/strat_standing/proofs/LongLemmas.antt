@@ -208,6 +208,7 @@ module _ (f g : Image) (old new : Contents) (made : Option LevelDesc) (taken kep
       slot = m.next.slot;
       later = omega (arith, m.next.generation);
       region = m.next.region;
+      full = m.full;
       journal = m.next.promoted.journal;
       sound = m.is_sound;
       says = says;

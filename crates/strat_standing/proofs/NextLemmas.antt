@@ -1,15 +1,16 @@
 -- The manifest of next contents has a spelling.
 use Rattle.std.proofs.Common.{◌≡◌, ◌≤◌, ◌<◌, ◌+◌, ◌-◌, ◌*◌, ◌^◌, ℕ, suc, Bool, true, leb, ltb, get_or, ◌&&◌, inl, inr, List, [], ◌∷◌, ◌++◌, length, map, Option, Some, None, refl, sym, ap, ◌∙◌, subst, arith}
-use Rattle.std.specs.List.{list_all, flat_map, sum_by, range_with_len}
+use Rattle.std.specs.List.{list_all, flat_map, sum_by, fold, range_with_len}
 use Rattle.std.specs.Option.{option_to_list}
 use Rattle.std.proofs.lemmas.Bool.{and_parts, and_from, leb-true, ltb-true, le-leb, lt-ltb}
-use Rattle.std.proofs.lemmas.List.{length-map}
-use Rattle.std.proofs.lemmas.List.Sums.{sum_by-cons, sum_by-append}
+use Rattle.std.proofs.lemmas.List.{length-map, length-take-le, take-append-drop}
+use Rattle.std.proofs.lemmas.List.Sums.{fold-append, sum_by-cons, sum_by-append}
 use Rattle.strat_base.specs.declared.descriptors.ArrayDesc.{ArrayDesc}
 use Rattle.strat_base.specs.declared.descriptors.LevelDesc.{LevelDesc}
 use Rattle.strat_base.specs.declared.descriptors.Extent.{Extent}
 use Rattle.strat_base.specs.declared.limits.TheConstants.{LEVELS}
 use Rattle.strat_base.proofs.ListFacts.{Among, all_at, all_from, each_of, among_flat, among_in_flat, among_left, among_right, among_split, range_among}
+use Rattle.strat_base.specs.Change.{Change}
 use Rattle.strat_crash.specs.Image.{Image}
 use Rattle.strat_format.specs.Arrays.{all_some, blocks_of}
 use Rattle.strat_format.specs.Chain.{chain_length}
@@ -26,11 +27,11 @@ use Rattle.strat_recovery.proofs.OpeningLemmas.{map_some, length-all_some, older
 use Rattle.strat_recovery.proofs.PassedLemmas.{kept_in_order, array_tests, read_passes}
 use Rattle.strat_state.specs.Level.{TaggedArray, Level, level_leads, tagged_versions, IsStratified}
 use Rattle.strat_state.specs.Sound.{is_tree_from, is_numbered_from, has_old_horizon, shallower}
-use Rattle.strat_state.specs.State.{State, versions_of}
+use Rattle.strat_state.specs.State.{State, versions_of, tree_after}
 use Rattle.strat_state.proofs.AppendedLemmas.{length-grown}
 use Rattle.strat_state.proofs.LevelLemmas.{tagged_below}
 use Rattle.strat_state.proofs.SoundLemmas.{sound_tree}
-use Rattle.strat_standing.specs.Contents.{Contents, contents_state}
+use Rattle.strat_standing.specs.Contents.{Contents, contents_state, sealed_state, sealed_part, later_part}
 use Rattle.strat_standing.specs.Next.{arrays_made, IsNewArray, MayBeNext}
 use Rattle.strat_standing.proofs.DescribedLemmas.{blocks_counted, StandsAsLevel, StandsAsArray, level_there, array_there, leads_counted}
 use Rattle.strat_standing.proofs.PartsLemmas.{reads_state}
@@ -177,29 +178,40 @@ module _ (f g : Image) (old new : Contents) (made : Option LevelDesc) (taken kep
       lawful_read f old.sb.manifest old.sb.length blocks.0 old.chained blocks.2
 
   -- the counts
-  pub versions_same : versions_in now ≡ length (versions_of (contents_state old))
+  -- what was sealed fills a region, and the versions of then are there still
+  sealed_length : length (sealed_part old) ≡ old.sb.mem
+  sealed_length = length-take-le old.sb.mem old.journal m.full
+
+  sealed_versions : length (versions_of (sealed_state old)) ≤ length (versions_of (contents_state old))
+  sealed_versions =
+      let more = length-grown (versions_of (sealed_state old)) (later_part old) in
+      let whole : versions_of (contents_state old) ≡ fold tree_after (versions_of (sealed_state old)) (later_part old) =
+      ap (λ (j : List Change). fold tree_after (parents_in was) j) (sym (take-append-drop old.sb.mem old.journal)) ∙ fold-append tree_after (parents_in was) (sealed_part old) (later_part old) in
+      omega (arith, more, ap length whole)
+
+  pub versions_same : versions_in now ≡ length (versions_of (sealed_state old))
   versions_same = omega (arith, length-map now.parents (λ p. Some p), ap (λ (x : State). length x.parents) (promoted_state old new m.was_sound m.next.promoted))
 
   pub versions_most : versions_in now ≤ new.sb.versions_max
-  versions_most = omega (arith, versions_same, passed.few_versions, m.next.promoted.versions_max)
+  versions_most = omega (arith, versions_same, sealed_versions, passed.few_versions, m.next.promoted.versions_max)
 
   pub versions_more : versions_in was ≤ versions_in now
-  versions_more = omega (arith, versions_same, length-grown (parents_in was) old.journal, length-map was.parents (λ p. Some p))
+  versions_more = omega (arith, versions_same, length-grown (parents_in was) (sealed_part old), length-map was.parents (λ p. Some p))
 
   pub changes_more : was.changes + 1 ≤ now.changes
-  changes_more = omega (arith, m.next.promoted.changes, m.logged)
+  changes_more = omega (arith, m.next.promoted.changes, sealed_length, passed.limits.mem_least)
 
   pub changes_most : now.changes ≤ new.sb.changes_max
-  changes_most = omega (arith, m.next.promoted.changes, m.next.promoted.changes_max, passed.few_changes)
+  changes_most = omega (arith, m.next.promoted.changes, m.next.promoted.changes_max, sealed_length, m.full, passed.few_changes)
 
   pub changes_bound : now.changes ≤ 16777216
-  changes_bound = omega (arith, m.next.promoted.changes, passed.few_changes, passed.limits.changes_most)
+  changes_bound = omega (arith, m.next.promoted.changes, sealed_length, m.full, passed.few_changes, passed.limits.changes_most)
 
   pub versions_bound : versions_in now ≤ 16384
-  versions_bound = omega (arith, versions_same, passed.few_versions, passed.limits.versions_most)
+  versions_bound = omega (arith, versions_same, sealed_versions, passed.few_versions, passed.limits.versions_most)
 
   pub updates_within : now.updates ≤ now.changes
-  updates_within = omega (arith, m.next.promoted.updates, m.next.promoted.changes, passed.few_updates, updates_few old.journal)
+  updates_within = omega (arith, m.next.promoted.updates, m.next.promoted.changes, passed.few_updates, updates_few (sealed_part old))
 
   -- the arrays
   pub arrays_are : descriptors now ≡ arrays_made made ++ flat_map (λ l. l.arrays) kept

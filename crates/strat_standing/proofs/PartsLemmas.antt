@@ -9,9 +9,9 @@ use Rattle.strat_state.specs.State.{State}
 use Rattle.strat_format.specs.Arrays.{all_some}
 use Rattle.strat_format.specs.Chained.{Chained, manifest_at}
 use Rattle.strat_format.specs.Damage.{Read, and_then, passed_or}
-use Rattle.strat_format.specs.Layout.{region_at, other_region, first_free}
+use Rattle.strat_format.specs.Layout.{other_region, first_free}
 use Rattle.strat_format.specs.Manifest.{Manifest}
-use Rattle.strat_format.specs.Records.{Logged, journal_in_one}
+use Rattle.strat_format.specs.Records.{Logged, journal_in_two}
 use Rattle.strat_format.specs.SuperBlock.{Super}
 use Rattle.strat_format.proofs.DamageLemmas.{and_then_ok, passed_ok}
 use Rattle.strat_recovery.specs.Head.{Head}
@@ -68,7 +68,7 @@ state_parts c s e =
     let sb : Super = found.slot.1 in
     let chained = and_then_ok (manifest_at c sb.manifest sb.length) (λ y. passed_or sb.manifest (belongs sb y) y.manifest) found.manifest found.chained in
     let passed = passed_ok sb.manifest (belongs sb chained.0) chained.0.manifest found.manifest chained.2 in
-    let logged = and_then_ok (journal_in_one c sb.mem sb.region) (accepted_in sb.changes_max sb.versions_max (parents_in found.manifest) found.manifest.changes) found.journal found.logged in
+    let logged = and_then_ok (journal_in_two c sb.mem sb.region) (accepted_in sb.changes_max sb.versions_max (parents_in found.manifest) found.manifest.changes) found.journal found.logged in
     let levels = map_some (HeadLemmas.state_with (record { sb = sb; manifest = found.manifest; journal = found.journal })) (all_some (level_on c) found.manifest.levels) s found.state in
     record {
       contents = record { slot = found.slot.0; sb = sb; chained = chained.0; journal = found.journal; levels = levels.0 };
@@ -93,13 +93,14 @@ pub reads_same : (f c : Image) (x : Contents) → ReadsAs f x → SameIn 0 (4096
 reads_same f c x r front agree =
     let fits = newest_fits f x.slot x.sb r.newest in
     let p = places x.sb.mem x.sb.region fits.region in
+    let q = places x.sb.mem (other_region x.sb.region) (omega arith) in
     record {
       newest = newest_local f c (record { byte = λ i low high. front.byte i low (omega arith) }) ∙ r.newest;
       lies = lies_local f c x r.lies (same_on f c (named_blocks x) agree);
       logged = record {
         logged = r.logged.logged;
         read = journal_local f c x.sb.mem x.sb.region (record { byte = λ i low high. front.byte i (omega arith) (omega (arith, p.in_front)) })
-            (front.byte (region_at x.sb.mem (other_region x.sb.region)) (omega arith) (omega (arith, p.gate_within)))
+            (record { byte = λ i low high. front.byte i (omega arith) (omega (arith, q.in_front)) })
             ∙ r.logged.read;
         accepted = r.logged.accepted;
       };

@@ -1,5 +1,5 @@
 -- The next contents of a promotion, and where they lie.
-use Rattle.std.proofs.Common.{◌≡◌, ℕ, suc, true, eqb, ltb, List, [], ◌∷◌, ◌++◌, length, drop, map, Option, Some, None, Ok, refl, sym, ap, ◌∙◌, arith}
+use Rattle.std.proofs.Common.{◌≡◌, ◌≤◌, ℕ, suc, true, eqb, ltb, List, [], ◌∷◌, ◌++◌, length, drop, map, Option, Some, None, Ok, refl, sym, ap, ◌∙◌, arith}
 use Rattle.std.specs.Prelude.{option_map, option_and_then}
 use Rattle.std.proofs.lemmas.Bool.{and_parts, eqb-true, ltb-true}
 use Rattle.strat_base.specs.Tree.{Parents}
@@ -11,6 +11,9 @@ use Rattle.strat_format.specs.Chained.{manifest_at}
 use Rattle.strat_format.specs.Manifest.{SpellsManifest}
 use Rattle.strat_format.proofs.ChainLemmas.{chain_read}
 use Rattle.strat_promotion.specs.Promoted.{promoted}
+use Rattle.strat_promotion.specs.Sealed.{sealed_at, grown_by}
+use Rattle.strat_promotion.proofs.SealedLemmas.{before_sound}
+use Rattle.std.proofs.lemmas.List.{take_all, drop_all, take-append-drop}
 use Rattle.strat_promotion.proofs.LevelsLemmas.{tree_test}
 use Rattle.strat_recovery.specs.Head.{parent_numbers}
 use Rattle.strat_recovery.specs.Opened.{parents_in, level_on}
@@ -20,7 +23,8 @@ use Rattle.strat_state.specs.Level.{Level}
 use Rattle.strat_state.specs.Sound.{is_tree, is_tree_from, IsSound}
 use Rattle.strat_state.specs.State.{versions_of}
 use Rattle.strat_state.proofs.SoundLemmas.{sound_tree}
-use Rattle.strat_standing.specs.Contents.{Contents, contents_state}
+use Rattle.strat_standing.specs.Contents.{Contents, contents_state, sealed_state, sealed_part, later_part}
+use Rattle.strat_standing.specs.Next.{state_after}
 use Rattle.strat_standing.specs.Standing.{LiesIn}
 use Rattle.strat_standing.specs.Publication.{IsPromotedFrom}
 
@@ -40,12 +44,28 @@ parents_back (Some p ∷ parents) tree =
     let rest = (and_parts (ltb 0 (length (Some p ∷ parents))) (is_tree_from 0 (Some p ∷ parents)) tree).1 in
     absurd (omega (arith, ltb-true p 0 (and_parts (ltb p 0) (is_tree_from 1 parents) rest).0))
 
+pub sealed_sound : (x : Contents) → IsSound (contents_state x) → IsSound (sealed_state x)
+sealed_sound x sound = before_sound (contents_state x) sound (sealed_part x) (later_part x) (sym (take-append-drop x.sb.mem x.journal))
+
+-- where a journal has no more changes than a region takes, all of it is sealed and nothing is behind it
+pub none_later : (x : Contents) → length x.journal ≤ x.sb.mem → later_part x ≡ []
+none_later x few = drop_all x.sb.mem x.journal few
+
+pub sealed_whole : (x : Contents) → length x.journal ≤ x.sb.mem → sealed_state x ≡ contents_state x
+sealed_whole x few = ap (sealed_at (contents_state x)) (take_all x.sb.mem x.journal few)
+
+-- so the state after a promotion is what was promoted
+pub promoted_whole : (old new : Contents) → length old.journal ≤ old.sb.mem
+    → state_after old new ≡ promoted (contents_state old) new.levels new.chained.manifest.written new.chained.manifest.next_array
+promoted_whole old new few = λ i. grown_by (promoted (sealed_whole old few i) new.levels new.chained.manifest.written new.chained.manifest.next_array) (none_later old few i)
+
 pub promoted_state : (old new : Contents) → IsSound (contents_state old) → IsPromotedFrom old new
-    → contents_state new ≡ promoted (contents_state old) new.levels new.chained.manifest.written new.chained.manifest.next_array
+    → contents_state new ≡ state_after old new
 promoted_state old new sound is =
-    let versions : Parents = versions_of (contents_state old) in
+    let versions : Parents = versions_of (sealed_state old) in
+    let before : IsSound (sealed_state old) = sealed_sound old sound in
     let parents : parents_in new.chained.manifest ≡ versions =
-    ap (λ (numbers : List ℕ). None ∷ map (λ p. Some p) numbers) is.parents ∙ parents_back versions (tree_test versions (sound_tree (contents_state old) sound)) in
+    ap (λ (numbers : List ℕ). None ∷ map (λ p. Some p) numbers) is.parents ∙ parents_back versions (tree_test versions (sound_tree (sealed_state old) before)) in
     λ i. record {
       mem = is.mem i;
       changes_max = is.changes_max i;

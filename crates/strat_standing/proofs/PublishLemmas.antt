@@ -1,5 +1,7 @@
 -- A publication, phase by phase: the next contents are prepared, their superblock is laid, the old region is shut.
-use Rattle.std.proofs.Common.{◌≡◌, ◌≢◌, ◌≤◌, ◌<◌, ◌*◌, ℕ, Bool, inl, inr, ◌⊎◌, List, [], ◌∷◌, length, Option, Some, IfSome, Ok, sym, ap, ◌∙◌, subst, arith}
+use Rattle.std.proofs.Common.{◌≡◌, ◌≢◌, ◌≤◌, ◌<◌, ◌*◌, ℕ, Bool, true, inl, inr, ◌⊎◌, List, [], ◌∷◌, ◌++◌, length, drop, Option, Some, IfSome, Ok, sym, ap, ◌∙◌, subst, arith}
+use Rattle.std.proofs.lemmas.Bool.{leb-true}
+use Rattle.std.proofs.lemmas.List.{length-map, map-append, length-drop, drop_at}
 use Rattle.strat_base.specs.Change.{Change}
 use Rattle.strat_crash.specs.Blocks.{TearsBlocks}
 use Rattle.strat_crash.specs.Image.{Image}
@@ -8,17 +10,21 @@ use Rattle.strat_crash.specs.Trail.{Trail}
 use Rattle.strat_crash.proofs.MomentLemmas.{now_since_start, each_then, settled_at}
 use Rattle.strat_crash.proofs.TrailLemmas.{trail_of_one}
 use Rattle.strat_format.specs.Layout.{region_at, other_region, first_free}
+use Rattle.strat_format.specs.Records.{Logged, region_records, records_behind}
 use Rattle.strat_format.specs.SuperBlock.{Slot, newest_in}
+use Rattle.strat_format.proofs.TwoRegionsLemmas.{join_short}
 use Rattle.strat_gate.specs.Laying.{LaysOver}
-use Rattle.strat_journal.proofs.AloneLemmas.{empty}
+use Rattle.strat_recovery.specs.Opened.{parents_in}
 use Rattle.strat_recovery.specs.StateTable.{table_of}
+use Rattle.strat_state.specs.Sound.{are_accepted, journal_max}
 use Rattle.strat_model.specs.Table.{Table}
 use Rattle.strat_standing.specs.Contents.{Contents, contents_state}
 use Rattle.strat_standing.specs.Standing.{LiesIn, IsLogged, ReadsAs, ShowsTable, AreFree, LeavesContent, ContentsStand}
 use Rattle.strat_standing.specs.Publication.{Succeeds, IsPrepared, LaysSuper, HasLaid}
 use Rattle.strat_standing.proofs.FreeLemmas.{still_told, shows_contents, free_reads, read_stands}
-use Rattle.strat_standing.proofs.GateLemmas.{gate_kept, gate_stands}
-use Rattle.strat_standing.proofs.JournalLemmas.{journal_local}
+use Rattle.strat_standing.proofs.AcceptedLemmas.{changes_logged, accepted_changes, accepted_logged}
+use Rattle.strat_standing.proofs.GateLemmas.{length-logged, gate_kept, gate_stands}
+use Rattle.strat_standing.proofs.JournalLemmas.{journal_local, journal_turned}
 use Rattle.strat_standing.proofs.LocalLemmas.{lies_local}
 use Rattle.strat_standing.proofs.PlaceLemmas.{places, newest_chosen, newest_fits, named_behind}
 use Rattle.strat_standing.proofs.TableLemmas.{same_table}
@@ -41,7 +47,7 @@ logged_behind_slots d c x same region l =
     record {
       logged = l.logged;
       read = journal_local d c x.sb.mem x.sb.region (record { byte = λ i low high. same i (omega (arith, low, p.behind_slots)) })
-          (same (region_at x.sb.mem (other_region x.sb.region)) p.gate_behind)
+          (record { byte = λ i low high. same i (omega (arith, low, p.gate_behind)) })
           ∙ l.read;
       accepted = l.accepted;
     }
@@ -76,16 +82,27 @@ module _ (v1 : DiskView) (x y : Contents) (p : IsPrepared v1 x y) where
   new_reads : (d c : Image) → Images v1 d → BehindSlots d c → newest_in c ≡ Ok (Some (y.slot, y.sb)) → ReadsAs c y
   new_reads d c was same newest =
       let active : region_at y.sb.mem y.sb.region ≡ region_at x.sb.mem (other_region x.sb.region) = λ i. region_at (same_mem i) (p.next.region i) in
-      let place = places x.sb.mem x.sb.region region_few in
-      let gate : c (region_at x.sb.mem (other_region x.sb.region)) ≡ d (region_at x.sb.mem (other_region x.sb.region)) = same (region_at x.sb.mem (other_region x.sb.region)) place.gate_behind in
-      let shut : c (region_at y.sb.mem y.sb.region) ≢ 0xa7 = λ up. p.stands.shut d was (sym gate ∙ sym (ap c active) ∙ up) in
+      let r = p.stands.reads d was in
+      let old_logged = logged_behind_slots d c x same region_few r.logged in
+      let fits = newest_fits d x.slot x.sb r.newest in
+      let long : x.sb.mem ≤ length old_logged.logged = omega (arith, p.next.full, length-logged c x old_logged) in
+      let turned = journal_turned c x.sb.mem x.sb.region old_logged.logged (omega (arith, fits.mem_least)) region_few old_logged.read long in
+      let here : region_records c y.sb.mem y.sb.region ≡ Ok turned.0 = (λ i. region_records c (same_mem i) (p.next.region i)) ∙ turned.5 in
+      let few : length turned.0 < y.sb.mem = omega (arith, turned.4, same_mem) in
+      let mapped : changes_logged old_logged.logged ≡ x.journal = accepted_changes x.sb.changes_max x.sb.versions_max (parents_in x.chained.manifest) x.chained.manifest.changes old_logged.logged x.journal old_logged.accepted in
+      let both : changes_logged turned.1 ++ changes_logged turned.0 ≡ x.journal = sym (map-append (λ (l : Logged). l.change) turned.1 turned.0) ∙ ap changes_logged turned.3 ∙ mapped in
+      let long_front : length (changes_logged turned.1) ≡ x.sb.mem = length-map turned.1 (λ (l : Logged). l.change) ∙ turned.2 in
+      let changes_are : changes_logged turned.0 ≡ y.journal =
+      sym (drop_at (changes_logged turned.1) (changes_logged turned.0) x.sb.mem long_front) ∙ ap (λ (j : List Change). drop x.sb.mem j) both ∙ sym p.next.journal in
+      let accepted : are_accepted y.sb.changes_max y.sb.versions_max (parents_in y.chained.manifest) y.chained.manifest.changes (changes_logged turned.0) ≡ true =
+      ap (are_accepted y.sb.changes_max y.sb.versions_max (parents_in y.chained.manifest) y.chained.manifest.changes) changes_are ∙ p.next.sound.formed.accepted in
       record {
         newest = newest;
         lies = lies_behind_slots d c y same (p.lies d was);
         logged = record {
-          logged = [];
-          read = empty c y.sb.mem y.sb.region (omega (arith, p.next.lawful.mem_least)) shut;
-          accepted = ap (λ (j : List Change). Ok j) (sym p.next.journal);
+          logged = turned.0;
+          read = join_short c y.sb.mem y.sb.region (records_behind c y.sb.mem (other_region y.sb.region)) turned.0 here few;
+          accepted = accepted_logged y.sb.changes_max y.sb.versions_max (parents_in y.chained.manifest) y.chained.manifest.changes turned.0 accepted ∙ ap (λ (j : List Change). Ok j) changes_are;
         };
       }
 
@@ -138,7 +155,14 @@ module _ (v1 : DiskView) (x y : Contents) (p : IsPrepared v1 x y) where
 
       module _ (v3 : DiskView) (torn : TearsOnly v2 v3 (region_at x.sb.mem x.sb.region) 1) (time : Passes v2 v3) where
         none_left : length y.journal < y.sb.mem
-        none_left = omega (arith, ap (λ (j : List Change). length j) p.next.journal, p.next.lawful.mem_least)
+        none_left = omega (
+          arith,
+          ap (λ (j : List Change). length j) p.next.journal,
+          length-drop x.sb.mem x.journal,
+          leb-true (length x.journal) (journal_max x.sb.mem) p.stands.sound.formed.fits,
+          same_mem,
+          p.next.lawful.mem_least,
+        )
 
         torn_gate : TearsOnly v2 v3 (region_at y.sb.mem (other_region y.sb.region)) 1
         torn_gate = subst (λ (at : ℕ). TearsOnly v2 v3 at 1) (sym old_gate) torn

@@ -1,10 +1,10 @@
 -- A journal that turns at the end of a publication.
-use Rattle.std.proofs.Common.{◌≡◌, ℕ, Bool, [], ◌∷◌, sym, ap, ◌∙◌, subst}
+use Rattle.std.proofs.Common.{◌≡◌, ℕ, Bool, [], ◌∷◌, drop, sym, ap, ◌∙◌, subst}
 use Rattle.strat_crash.specs.Blocks.{TearsBlocks}
 use Rattle.strat_crash.specs.Moments.{DiskView, Passes, TearsOnly}
 use Rattle.strat_crash.specs.Trail.{Trail}
 use Rattle.strat_format.specs.Layout.{region_at, other_region}
-use Rattle.strat_journal.specs.Log.{Log, region_begun, IsRegionShut}
+use Rattle.strat_journal.specs.Log.{Log, IsRegionShut, region_turned}
 use Rattle.strat_recovery.specs.StateTable.{table_of}
 use Rattle.strat_standing.specs.Appending.{IsLogOf}
 use Rattle.strat_standing.specs.Contents.{Contents, contents_state}
@@ -12,11 +12,11 @@ use Rattle.strat_standing.specs.Publication.{Succeeds, IsPrepared, LaysSuper, Ha
 use Rattle.strat_standing.specs.Standing.{ShowsTable, AreFree, LeavesContent, ContentsStand}
 use Rattle.strat_standing.proofs.PublishLemmas.{published_stands, whole_trail}
 
-pub turned_log : (x y : Contents) (log : Log) → Succeeds x y → IsLogOf x log → IsLogOf y (region_begun log)
+pub turned_log : (x y : Contents) (log : Log) → Succeeds x y → IsLogOf x log → IsLogOf y (region_turned log)
 turned_log x y log next is = record {
   mem = is.mem ∙ sym next.says.mem;
   active = ap other_region is.active ∙ sym next.region;
-  list = sym next.journal;
+  list = (λ i. drop (is.mem i) (is.list i)) ∙ sym next.journal;
 }
 
 module _ (v1 v2 v3 : DiskView) (x y : Contents) (log : Log) (p : IsPrepared v1 x y) (lays : LaysSuper v1 v2 y.slot y.sb) (laid : HasLaid v1 v2 y.slot y.sb) (is : IsLogOf x log)

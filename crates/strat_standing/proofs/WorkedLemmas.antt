@@ -116,6 +116,7 @@ next_succeeds generation later most = record {
   slot = refl;
   later = later;
   region = refl;
+  full = omega arith;
   journal = refl;
   sound = next_sound;
   says = next_says;
@@ -128,7 +129,7 @@ new_stands = record {
   left = refl;
   reads = λ c is. subst (λ f. ReadsAs f new_contents) (sym is) formatted_reads;
   slots = λ c is. record { byte = λ i low high. λ j. is j i };
-  shut = λ c is up. formatted_shut ((λ j. sym is j 16384) ∙ up);
+  shut = λ c is few up. formatted_shut ((λ j. sym is j 16384) ∙ up);
   sound = new_sound;
 }
 
@@ -139,7 +140,7 @@ logged_stands = record {
   left = refl;
   reads = λ c is. subst (λ f. ReadsAs f chain_logged) (sym is) prepared_reads;
   slots = λ c is. record { byte = λ i low high. λ j. is j i };
-  shut = λ c is up. prepared_shut ((λ j. sym is j 16384) ∙ up);
+  shut = λ c is few up. prepared_shut ((λ j. sym is j 16384) ∙ up);
   sound = logged_sound;
 }
 
@@ -177,7 +178,7 @@ free_after = record {
 pub next_computed : MayBeNext prepared_disk prepared_disk chain_logged chain_next chain_made [] []
 next_computed = record {
   reads = prepared_reads;
-  logged = omega arith;
+  full = omega arith;
   next = record {
     slot = refl;
     generation = refl;

@@ -1,7 +1,8 @@
 -- What a store has on its disk, as values: where each part lies is in it, the bytes are not.
-use Rattle.std.specs.Prelude.{ℕ, List, ◌++◌, flat_map}
+use Rattle.std.specs.Prelude.{ℕ, List, ◌++◌, take, drop, flat_map}
 use Rattle.strat_base.specs.Change.{Change}
 use Rattle.strat_state.specs.Level.{Level}
+use Rattle.strat_promotion.specs.Sealed.{sealed_at}
 use Rattle.strat_state.specs.State.{State}
 use Rattle.strat_format.specs.Arrays.{blocks_of}
 use Rattle.strat_format.specs.Chained.{Chained}
@@ -45,3 +46,14 @@ named_blocks x =
 -- the same contents with another journal
 abbrev pub with_journal : Contents → List Change → Contents
 with_journal x journal = record x { journal = journal }
+
+-- the changes that fill the active region or part of it, and those behind them in the other region
+abbrev pub sealed_part : Contents → List Change
+sealed_part x = take x.sb.mem x.journal
+
+abbrev pub later_part : Contents → List Change
+later_part x = drop x.sb.mem x.journal
+
+-- the state of contents when their journal held what is in the active region
+abbrev pub sealed_state : Contents → State
+sealed_state x = sealed_at (contents_state x) (sealed_part x)

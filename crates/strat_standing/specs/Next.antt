@@ -1,5 +1,5 @@
 -- The next contents of a store: what it computes of them, and what it is told of the level that was made.
-use Rattle.std.specs.Prelude.{◌≡◌, ◌≤◌, ◌<◌, ℕ, ◌+◌, ◌-◌, List, [], ◌++◌, length, map, sum_by, Option, None, Some, IsTrue, drop, ◌∷◌}
+use Rattle.std.specs.Prelude.{◌≡◌, ◌≤◌, ℕ, ◌+◌, ◌-◌, List, [], ◌++◌, length, map, sum_by, Option, None, Some, IsTrue, drop, ◌∷◌}
 use Rattle.std.specs.List.{list_all, range_with_len, slice_get, AllByRecursion}
 use Rattle.std.specs.Option.{option_to_list}
 use Rattle.strat_base.specs.declared.descriptors.ArrayDesc.{ArrayDesc}
@@ -11,10 +11,12 @@ use Rattle.strat_format.specs.Layout.{other_region}
 use Rattle.strat_format.specs.Manifest.{is_rising, is_lawful_extent, are_apart, first_version, manifest_bytes}
 use Rattle.strat_plan.specs.Plan.{Plan, part_at, members}
 use Rattle.strat_promotion.specs.Promoted.{SaysTheSame, promoted}
+use Rattle.strat_promotion.specs.Sealed.{grown_by}
 use Rattle.strat_recovery.specs.Opened.{level_on}
 use Rattle.strat_state.specs.Level.{Level}
 use Rattle.strat_state.specs.Sound.{IsSound}
-use Rattle.strat_standing.specs.Contents.{Contents, contents_state}
+use Rattle.strat_state.specs.State.{State}
+use Rattle.strat_standing.specs.Contents.{Contents, contents_state, sealed_state, later_part}
 use Rattle.strat_standing.specs.Publication.{IsPromotedFrom}
 use Rattle.strat_standing.specs.Standing.{LiesIn, ReadsAs}
 
@@ -65,12 +67,12 @@ pub record IsNextOf (old new : Contents) (made : Option LevelDesc) (taken kept :
   pub levels_were : old.chained.manifest.levels ≡ taken ++ kept
   pub levels_are : new.chained.manifest.levels ≡ option_to_list made ++ kept
 
--- they may follow: an image reads as the old contents, whose journal has a change, another image has the levels of
+-- they may follow: an image reads as the old contents, whose active region is full, another image has the levels of
 -- the next ones, both are sound, and the arrays that were made are numbered from the old next number on
 pub record MayBeNext (f g : Image) (old new : Contents) (made : Option LevelDesc)
     (taken kept : List LevelDesc) : Type 0 where
   pub reads : ReadsAs f old
-  pub logged : 0 < length old.journal
+  pub full : old.sb.mem ≤ length old.journal
   pub next : IsNextOf old new made taken kept
   pub arrays : all_some (level_on g) new.chained.manifest.levels ≡ Some new.levels
   pub was_sound : IsSound (contents_state old)
@@ -84,6 +86,12 @@ pub record HasManifest (c : Image) (x : Contents) : Type 0 where
   pub size : x.sb.length ≡ length (manifest_bytes x.chained.manifest)
   pub chain : IsChain c (x.sb.manifest ∷ others) (manifest_bytes x.chained.manifest)
 
+-- the state after a promotion of what contents sealed, with the levels and the counts of others, and what came since
+abbrev pub state_after : Contents → Contents → State
+state_after old new =
+    grown_by (promoted (sealed_state old) new.levels
+    new.chained.manifest.written new.chained.manifest.next_array) (later_part old)
+
 -- what a promotion leaves: the old contents lie in an image still, which has the level that was made, and in the
 -- next contents its array is in front of the levels that are kept; their state is sound and says the same
 pub record IsPromotion (g : Image) (old new : Contents) (made : Option LevelDesc)
@@ -92,7 +100,5 @@ pub record IsPromotion (g : Image) (old new : Contents) (made : Option LevelDesc
   pub lies : LiesIn g old
   pub read : all_some (level_on g) (option_to_list made) ≡ Some fresh
   pub levels : new.levels ≡ fresh ++ drop (length taken) old.levels
-  pub sound : IsSound (promoted (contents_state old) new.levels
-      new.chained.manifest.written new.chained.manifest.next_array)
-  pub says : SaysTheSame (contents_state old) (promoted (contents_state old) new.levels
-      new.chained.manifest.written new.chained.manifest.next_array)
+  pub sound : IsSound (state_after old new)
+  pub says : SaysTheSame (contents_state old) (state_after old new)

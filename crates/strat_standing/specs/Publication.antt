@@ -1,5 +1,5 @@
 -- A publication: contents take the place of others that mean the same table.
-use Rattle.std.specs.Prelude.{◌≡◌, ◌<◌, ℕ, ◌-◌, ◌*◌, [], Some, Ok}
+use Rattle.std.specs.Prelude.{◌≡◌, ◌≤◌, ◌<◌, ℕ, ◌-◌, ◌*◌, length, Some, Ok}
 use Rattle.strat_crash.specs.Image.{Image}
 use Rattle.strat_crash.specs.Moments.{DiskView, Images, Since, Passes, TearsOnly, IsDurable}
 use Rattle.strat_format.specs.Layout.{other_region}
@@ -9,17 +9,18 @@ use Rattle.strat_promotion.specs.Promoted.{SaysTheSame}
 use Rattle.strat_recovery.specs.Head.{parent_numbers}
 use Rattle.strat_state.specs.Sound.{IsSound}
 use Rattle.strat_state.specs.State.{versions_of, updates_of, changes_of}
-use Rattle.strat_standing.specs.Contents.{Contents, contents_state}
+use Rattle.strat_standing.specs.Contents.{Contents, contents_state, sealed_state, later_part}
 use Rattle.strat_standing.specs.Standing.{LiesIn, ContentsStand}
 
 -- contents may take the place of others: a lawful superblock of a greater generation for the other slot,
--- an empty journal in the other region, and a sound state that says the same
+-- the journal that is in the other region once the active one is full, and a sound state that says the same
 pub record Succeeds (old new : Contents) : Type 0 where
   pub lawful : IsLawful new.sb
   pub slot : new.slot ≡ 1 - old.slot
   pub later : old.sb.generation < new.sb.generation
   pub region : new.sb.region ≡ other_region old.sb.region
-  pub journal : new.journal ≡ []
+  pub full : old.sb.mem ≤ length old.journal
+  pub journal : new.journal ≡ later_part old
   pub sound : IsSound (contents_state new)
   pub says : SaysTheSame (contents_state old) (contents_state new)
 
@@ -45,13 +46,13 @@ pub record HasLaid (old new : DiskView) (slot : ℕ) (sb : Super) : Type 0 where
   pub found : (f : Image) → LaysOver old f slot sb
       → (c : Image) → Images new c → newest_in c ≡ Ok (Some (slot, sb))
 
--- the manifest, the limits and the journal of contents are those that a promotion of others leaves,
+-- the manifest, the limits and the journal of contents are those that a promotion of what others sealed leaves,
 -- whatever its levels are
 pub record IsPromotedFrom (old new : Contents) : Type 0 where
   pub mem : new.sb.mem ≡ old.sb.mem
   pub changes_max : new.sb.changes_max ≡ old.sb.changes_max
   pub versions_max : new.sb.versions_max ≡ old.sb.versions_max
-  pub parents : new.chained.manifest.parents ≡ parent_numbers (versions_of (contents_state old))
-  pub updates : new.chained.manifest.updates ≡ updates_of (contents_state old)
-  pub changes : new.chained.manifest.changes ≡ changes_of (contents_state old)
-  pub journal : new.journal ≡ []
+  pub parents : new.chained.manifest.parents ≡ parent_numbers (versions_of (sealed_state old))
+  pub updates : new.chained.manifest.updates ≡ updates_of (sealed_state old)
+  pub changes : new.chained.manifest.changes ≡ changes_of (sealed_state old)
+  pub journal : new.journal ≡ later_part old

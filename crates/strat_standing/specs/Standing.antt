@@ -1,6 +1,6 @@
 -- What a store stands on: the contents that every image of its disk has. The images may differ in blocks that
 -- nothing names.
-use Rattle.std.specs.Prelude.{◌≡◌, ◌≢◌, ◌<◌, ℕ, Bool, false, List, Some, IfSome, Ok, IsTrue}
+use Rattle.std.specs.Prelude.{◌≡◌, ◌≢◌, ◌≤◌, ◌<◌, ℕ, Bool, false, List, length, Some, IfSome, Ok, IsTrue}
 use Rattle.std.specs.List.{Contains}
 use Rattle.strat_crash.specs.Image.{Image, SameIn}
 use Rattle.strat_crash.specs.Moments.{DiskView, Exposes, Images}
@@ -9,7 +9,7 @@ use Rattle.strat_state.specs.State.{State}
 use Rattle.strat_format.specs.Arrays.{all_some}
 use Rattle.strat_format.specs.Chained.{manifest_at}
 use Rattle.strat_format.specs.Layout.{region_at, other_region, first_free, open_flag}
-use Rattle.strat_format.specs.Records.{Logged, journal_in_one}
+use Rattle.strat_format.specs.Records.{Logged, journal_in_two}
 use Rattle.strat_format.specs.SuperBlock.{newest_in}
 use Rattle.strat_model.specs.Table.{Table}
 use Rattle.strat_recovery.specs.Opened.{parents_in, level_on}
@@ -24,10 +24,11 @@ pub record LiesIn (c : Image) (x : Contents) : Type 0 where
   pub belonging : IsTrue (belongs x.sb x.chained)
   pub arrays : all_some (level_on c) x.chained.manifest.levels ≡ Some x.levels
 
--- an image has the journal of these contents in their active region, each change accepted in its turn
+-- an image has the journal of these contents, in their active region and, once it is full, in the other one too, each
+-- change accepted in its turn
 pub record IsLogged (c : Image) (x : Contents) : Type 0 where
   pub logged : List Logged
-  pub read : journal_in_one c x.sb.mem x.sb.region ≡ Ok logged
+  pub read : journal_in_two c x.sb.mem x.sb.region ≡ Ok logged
   pub accepted :
       accepted_in x.sb.changes_max x.sb.versions_max (parents_in x.chained.manifest)
       x.chained.manifest.changes logged
@@ -56,13 +57,13 @@ abbrev pub LeavesContent : DiskView → Type 0
 LeavesContent v = IfSome v.content (Images v)
 
 -- contents stand on a disk: a read and every crash give them, with the same slots, they are sound, and
--- the first gate of the region that is not active is shut
+-- where nothing is in it, the first gate of the region that is not active is shut
 pub record ContentsStand (v : DiskView) (x : Contents) : Type 0 where
   pub content : Image
   pub exposed : Exposes v content
   pub left : Images v content
   pub reads : (c : Image) → Images v c → ReadsAs c x
   pub slots : (c : Image) → Images v c → SameIn 0 8192 content c
-  pub shut : (c : Image) → Images v c
+  pub shut : (c : Image) → Images v c → length x.journal ≤ x.sb.mem
       → c (region_at x.sb.mem (other_region x.sb.region)) ≢ open_flag
   pub sound : IsSound (contents_state x)

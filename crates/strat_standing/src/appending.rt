@@ -6,7 +6,7 @@ ghost use Rattle.strat_crash.specs.Image.{Image};
 ghost use Rattle.strat_crash.specs.Moments.{Exposes, Since, Passes, TearsOnly};
 ghost use Rattle.strat_crash.specs.Trail.{Trail};
 ghost use Rattle.strat_format.specs.Layout.{region_at, region_size};
-ghost use Rattle.strat_journal.specs.Log.{Log, Stands, GivesAllOrNone, batch_joined};
+ghost use Rattle.strat_journal.specs.Log.{Log, Stands, GivesAllOrNone, batch_joined, batch_region};
 ghost use Rattle.strat_recovery.specs.StateTable.{table_of};
 ghost use Rattle.strat_state.specs.Sound.{IsSound, Takes};
 ghost use Rattle.strat_state.specs.State.{appended};
@@ -30,7 +30,8 @@ pub fn contents_hold_their_journal<D: Viewed>()
 /// The clauses of `append` say just this.
 pub fn appending_is_what_append_does<D: Viewed>()
     ensures { (old new : D) (log : Log)
-        → TearsOnly (D.view old) (D.view new) (region_at log.mem log.active) (region_size log.mem)
+        → TearsOnly (D.view old) (D.view new)
+        (region_at log.mem (batch_region log)) (region_size log.mem)
         → Passes (D.view old) (D.view new)
         → ((f : Image) → Exposes (D.view old) f → Stands (D.view old) log
         → (c : Image) → Since (D.view new) (D.view old).moment c → GivesAllOrNone log c)

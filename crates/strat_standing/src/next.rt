@@ -57,7 +57,7 @@ pub fn the_next_manifest_belongs()
 /// What a promotion leaves may be the next contents, and says the same.
 pub fn promoted_contents_may_be_next()
     ensures ok { (f g : Image) (old new : Contents) (made : Option LevelDesc)
-        (taken kept : List LevelDesc) → ReadsAs f old → 0 < length old.journal
+        (taken kept : List LevelDesc) → ReadsAs f old → old.sb.mem ≤ length old.journal
         → IsSound (contents_state old) → IsNextOf old new made taken kept
         → AreNewArrays old.chained.manifest.next_array (arrays_made made)
         → IsPromotion g old new made taken

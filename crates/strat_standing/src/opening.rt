@@ -25,6 +25,17 @@ pub fn contents_that_were_read_stand<D: Viewed>()
         → c (region_at x.sb.mem (other_region x.sb.region)) ≢ open_flag }
 {}
 
+/// A call that tears one region's first gate alone, as `turn` does, changes no image's contents, and so no image's table: each
+/// image since then has those of one of before in which the other region is active and has room, whatever other images show.
+pub fn each_image_keeps_its_contents<D: Viewed>()
+    ensures { (old new : D) (mem gate : ℕ)
+        → TearsOnly (D.view old) (D.view new) (region_at mem gate) 1
+        → (c : Image) → Since (D.view new) (D.view old).moment c
+        → (d : Image) × Images (D.view old) d
+        × ((x : Contents) → ReadsAs d x → x.sb.mem ≡ mem → other_region x.sb.region ≡ gate
+        → length x.journal < mem → ReadsAs c x) }
+{}
+
 /// Where the journal leaves room the first gate of the other region may be shut: meanwhile each image
 /// reads as before and shows the one table, and once it is shut the contents stand.
 pub fn shutting_the_other_region_keeps_contents<D: Viewed>()

@@ -1,6 +1,6 @@
 //! Laws of the contents that a promotion leaves. Each is the contract of a function that does nothing.
 
-ghost use Rattle.std.specs.Prelude.{◌≡◌, ℕ, List, ◌∷◌, ◌++◌, length, drop, Some, IsTrue};
+ghost use Rattle.std.specs.Prelude.{◌≡◌, ◌≤◌, ℕ, List, ◌∷◌, ◌++◌, length, drop, Some, IsTrue};
 ghost use Rattle.strat_base.specs.declared.descriptors.LevelDesc.{LevelDesc};
 ghost use Rattle.strat_crash.specs.Image.{Image};
 ghost use Rattle.strat_format.specs.Arrays.{all_some};
@@ -14,6 +14,7 @@ ghost use Rattle.strat_state.specs.Level.{Level};
 ghost use Rattle.strat_state.specs.Sound.{IsSound};
 ghost use Rattle.strat_state.specs.State.{State};
 ghost use Rattle.strat_standing.specs.Contents.{Contents, contents_state};
+ghost use Rattle.strat_standing.specs.Next.{state_after};
 ghost use Rattle.strat_standing.specs.Publication.{IsPromotedFrom};
 ghost use Rattle.strat_standing.specs.Standing.{LiesIn};
 
@@ -27,8 +28,14 @@ pub fn states_that_say_the_same_mean_one_table()
 #[tactic(auto, using(crate::proofs::PromotedLemmas::promoted_state))]
 pub fn promoted_contents_have_the_promoted_state()
     ensures { (old new : Contents) → IsSound (contents_state old) → IsPromotedFrom old new
-        → contents_state new
-        ≡ promoted (contents_state old) new.levels
+        → contents_state new ≡ state_after old new }
+{}
+
+/// Where a journal has no more changes than a region takes, nothing comes behind what is promoted.
+#[tactic(auto, using(crate::proofs::PromotedLemmas::promoted_whole))]
+pub fn short_journals_are_promoted_whole()
+    ensures { (old new : Contents) → length old.journal ≤ old.sb.mem
+        → state_after old new ≡ promoted (contents_state old) new.levels
         new.chained.manifest.written new.chained.manifest.next_array }
 {}
 

@@ -8,7 +8,7 @@ ghost use Rattle.strat_crash.specs.Trail.{Trail};
 ghost use Rattle.strat_format.specs.Layout.{region_at, open_flag};
 ghost use Rattle.strat_format.specs.SuperBlock.{Super, IsLawful, newest_in};
 ghost use Rattle.strat_gate.specs.Laying.{LaysOver, OldOrNew};
-ghost use Rattle.strat_journal.specs.Log.{Log, region_begun, IsRegionShut};
+ghost use Rattle.strat_journal.specs.Log.{Log, IsRegionShut, region_turned};
 ghost use Rattle.strat_recovery.specs.StateTable.{table_of};
 ghost use Rattle.strat_standing.specs.Appending.{IsLogOf};
 ghost use Rattle.strat_standing.specs.Contents.{Contents, contents_state};
@@ -107,5 +107,5 @@ pub fn a_turn_ends_a_publication<D: Viewed>()
         → Passes (D.view lay) (D.view end) → LeavesContent (D.view lay) → LeavesContent (D.view end)
         → IsRegionShut (D.view end) log.mem log.active → ContentsStand (D.view end) y }
     ensures log { (x y : Contents) (log : Log) → Succeeds x y → IsLogOf x log
-        → IsLogOf y (region_begun log) }
+        → IsLogOf y (region_turned log) }
 {}

@@ -5,7 +5,7 @@ ghost use Rattle.strat_base.specs.Change.{Change, change_bytes, change_in};
 ghost use Rattle.strat_crash.specs.Blocks.{AgreeOn};
 ghost use Rattle.strat_crash.specs.Image.{Image, SameIn};
 ghost use Rattle.strat_format.specs.Layout.{region_at, region_size, other_region, first_free};
-ghost use Rattle.strat_format.specs.Records.{Logged, region_records, journal_in_one};
+ghost use Rattle.strat_format.specs.Records.{Logged, region_records, journal_in_two};
 ghost use Rattle.strat_format.specs.SuperBlock.{newest_in};
 ghost use Rattle.strat_model.specs.Table.{Table};
 ghost use Rattle.strat_recovery.specs.Opening.{recover, reads_as};
@@ -48,7 +48,7 @@ pub fn contents_are_read_from_their_blocks()
 {}
 
 /// A journal is read from the bytes of its region, since a change that is read has at most 1,287 bytes,
-/// whatever bytes it is read from. The first gate of the other region counts only where it is full.
+/// whatever bytes it is read from. The other region counts only where it is full.
 pub fn journals_are_read_from_their_region()
     ensures change { (bytes : List ℕ) (c : Change) → change_in bytes ≡ Some c
         → length (change_bytes c) ≤ 1287 }
@@ -57,9 +57,9 @@ pub fn journals_are_read_from_their_region()
         → region_records c mem region ≡ region_records f mem region }
     ensures same { (f c : Image) (mem active : ℕ)
         → SameIn (region_at mem active) (region_size mem) f c
-        → c (region_at mem (other_region active)) ≡ f (region_at mem (other_region active))
-        → journal_in_one c mem active ≡ journal_in_one f mem active }
+        → SameIn (region_at mem (other_region active)) (region_size mem) f c
+        → journal_in_two c mem active ≡ journal_in_two f mem active }
     ensures room { (f c : Image) (mem active : ℕ) (logged : List Logged)
         → SameIn (region_at mem active) (region_size mem) f c → length logged < mem
-        → journal_in_one f mem active ≡ Ok logged → journal_in_one c mem active ≡ Ok logged }
+        → journal_in_two f mem active ≡ Ok logged → journal_in_two c mem active ≡ Ok logged }
 {}

@@ -9,7 +9,7 @@ use Rattle.strat_base.specs.Change.{Change, Put, Delete, Clone}
 use Rattle.strat_state.specs.Live.{live}
 use Rattle.strat_state.specs.Level.{TaggedArray, Level, own_leads, level_leads, tagged_versions, least, least_live, agrees, is_dense, IsStratified}
 use Rattle.strat_state.specs.State.{State, versions_of, tree_after, is_living, journal_updates, appended}
-use Rattle.strat_state.specs.Sound.{has_child_below, shallower, has_old_horizon, is_above_frozen, is_described, is_accepted, are_accepted, accepts_change, IsSound}
+use Rattle.strat_state.specs.Sound.{has_child_below, shallower, has_old_horizon, is_above_frozen, is_described, is_accepted, are_accepted, accepts_change, journal_max, IsSound}
 use Rattle.strat_base.proofs.ListFacts.{Among, any_among, any_from, all_at, all_from, among_split, among_left, among_right, among_in_flat, range_among, any_same, all_same, map_same, each_of, each_from, get_among}
 use Rattle.strat_state.proofs.LevelLemmas.{tagged_below}
 use Rattle.strat_state.proofs.SoundLemmas.{sound_tree}
@@ -64,7 +64,7 @@ module _ (old new : Parents) (bound : ℕ) (same : (v : ℕ) → v < bound → p
     least_kept : (a : TaggedArray) → Among a level.arrays → least_live new a ≡ least_live old a
     least_kept a here = ap least (map_same (λ v. length (live new a.content v)) (λ v. length (live old a.content v)) a.tag (λ v among. ap (λ (x : List Entry). length x) (live_kept a.content v (tag_below a here v among))))
 
-module _ (s : State) (sound : IsSound s) (c : Change) (accepted : accepts_change s c ≡ true) (room : length s.journal < s.mem) where
+module _ (s : State) (sound : IsSound s) (c : Change) (accepted : accepts_change s c ≡ true) (room : length s.journal < journal_max s.mem) where
   horizon_low : (level : Level) → Among level s.levels → level.horizon ≤ length (versions_of s)
   horizon_low level here =
       let old = and_parts (leb level.horizon (length s.parents)) (list_all (λ other. leb level.horizon other.horizon) (shallower s level)) (all_at (has_old_horizon s) level s.levels sound.old here) in
@@ -98,7 +98,7 @@ module _ (s : State) (sound : IsSound s) (c : Change) (accepted : accepts_change
         tree = sound.formed.tree;
         numbered = sound.formed.numbered;
         accepted = accepted-push s.changes_max s.versions_max s.parents s.changes s.journal c sound.formed.accepted accepted;
-        fits = le-leb (length (s.journal ++ c ∷ [])) s.mem (omega (arith, length-append s.journal (c ∷ [])));
+        fits = le-leb (length (s.journal ++ c ∷ [])) (journal_max s.mem) (omega (arith, length-append s.journal (c ∷ [])));
       };
       stratified = each_from (IsStratified (versions_of (appended s c))) s.levels (λ level here.
           stratified_kept (versions_of s) (versions_of (appended s c)) (length (versions_of s)) same level (sound_tree s sound) (each_of (IsStratified (versions_of s)) s.levels level sound.stratified here) (horizon_low level here));

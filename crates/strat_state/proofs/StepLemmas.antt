@@ -8,7 +8,7 @@ use Rattle.strat_base.specs.Change.{Change}
 use Rattle.strat_state.specs.Maps.{map_over}
 use Rattle.strat_state.specs.Level.{level_leads}
 use Rattle.strat_state.specs.State.{State, versions_of, tree_after, update_of, journal_updates, sources, map_at, appended}
-use Rattle.strat_state.specs.Sound.{accepts_change, IsSound}
+use Rattle.strat_state.specs.Sound.{accepts_change, journal_max, IsSound}
 use Rattle.strat_base.proofs.ListFacts.{Among, among_split, fold-push, filter_map-append}
 use Rattle.strat_state.proofs.AppendedLemmas.{sound_appended}
 
@@ -27,7 +27,7 @@ module _ (s : State) (c : Change) where
 
 -- a change that writes an entry
 module _ (s : State) (sound : IsSound s) (c : Change) (e : Entry) (writes : filter_map update_of (c ∷ []) ≡ e ∷ []) (stays : tree_after (versions_of s) c ≡ versions_of s)
-    (accepted : accepts_change s c ≡ true) (childless : has_child (versions_of s) e.version ≡ false) (room : length s.journal < s.mem) where
+    (accepted : accepts_change s c ≡ true) (childless : has_child (versions_of s) e.version ≡ false) (room : length s.journal < journal_max s.mem) where
   pub update_versions : versions_of (appended s c) ≡ versions_of s
   update_versions = versions-appended s c ∙ stays
 

@@ -12,7 +12,7 @@ use Rattle.strat_base.specs.Change.{Change, Put, Delete, Clone}
 use Rattle.strat_state.specs.Maps.{map_over}
 use Rattle.strat_state.specs.Level.{level_leads, IsStratified}
 use Rattle.strat_state.specs.State.{State, versions_of, tree_after, update_of, journal_updates, sources, map_at, changes_of, appended}
-use Rattle.strat_state.specs.Sound.{has_old_horizon, shallower, is_accepted, are_accepted, accepts_change, IsSound}
+use Rattle.strat_state.specs.Sound.{has_old_horizon, shallower, is_accepted, are_accepted, accepts_change, journal_max, IsSound}
 use Rattle.strat_base.proofs.ListFacts.{Among, all_at, among_split, among_flat, each_of}
 use Rattle.strat_base.proofs.TreeLemmas.{path_kept, parent_kept}
 use Rattle.strat_state.proofs.LevelLemmas.{lead_below}
@@ -59,7 +59,7 @@ module _ (s : State) (sound : IsSound s) where
       ]
 
 -- a put
-module _ (s : State) (sound : IsSound s) (v : ℕ) (key value : List ℕ) (accepted : accepts_change s (Put v key value) ≡ true) (room : length s.journal < s.mem) where
+module _ (s : State) (sound : IsSound s) (v : ℕ) (key value : List ℕ) (accepted : accepts_change s (Put v key value) ≡ true) (room : length s.journal < journal_max s.mem) where
   put_entry : Entry
   put_entry = record { key = key; version = v; value = Some value }
 
@@ -82,7 +82,7 @@ module _ (s : State) (sound : IsSound s) (v : ℕ) (key value : List ℕ) (accep
       ∙ map_put (versions_of s) (sound_tree s sound) (sources s) v key put_childless u value
 
 -- a deletion
-module _ (s : State) (sound : IsSound s) (v : ℕ) (key : List ℕ) (accepted : accepts_change s (Delete v key) ≡ true) (room : length s.journal < s.mem) where
+module _ (s : State) (sound : IsSound s) (v : ℕ) (key : List ℕ) (accepted : accepts_change s (Delete v key) ≡ true) (room : length s.journal < journal_max s.mem) where
   delete_entry : Entry
   delete_entry = record { key = key; version = v; value = None }
 
@@ -105,7 +105,7 @@ module _ (s : State) (sound : IsSound s) (v : ℕ) (key : List ℕ) (accepted : 
       ∙ map_delete (versions_of s) (sound_tree s sound) (sources s) v key delete_childless u
 
 -- a clone
-module _ (s : State) (sound : IsSound s) (p : ℕ) (accepted : accepts_change s (Clone p) ≡ true) (room : length s.journal < s.mem) where
+module _ (s : State) (sound : IsSound s) (p : ℕ) (accepted : accepts_change s (Clone p) ≡ true) (room : length s.journal < journal_max s.mem) where
   clone_parent : p < length (versions_of s)
   clone_parent = clone_known s.changes_max s.versions_max (versions_of s) (changes_of s) p accepted
 

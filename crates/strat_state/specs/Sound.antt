@@ -1,5 +1,5 @@
 -- When a state is sound.
-use Rattle.std.specs.Prelude.{◌<◌, ℕ, suc, ◌*◌, ◌^◌, ◌==◌, nat_lt, nat_le, ◌&&◌, not, Bool, true, false, List, [], ◌∷◌, ◌++◌, length, sum_by, filter, flat_map, Some, None, IsTrue}
+use Rattle.std.specs.Prelude.{◌<◌, ℕ, suc, ◌-◌, ◌*◌, ◌^◌, ◌==◌, nat_lt, nat_le, ◌&&◌, not, Bool, true, false, List, [], ◌∷◌, ◌++◌, length, sum_by, filter, flat_map, Some, None, IsTrue}
 use Rattle.std.specs.Option.{option_map_or}
 use Rattle.std.specs.List.{list_any, list_all, range_with_len, AllByRecursion}
 use Rattle.strat_base.specs.declared.limits.TheConstants.{LEVELS}
@@ -88,12 +88,16 @@ abbrev pub accepts_change : State → Change → Bool
 accepts_change s change =
     is_accepted s.changes_max s.versions_max (versions_of s) (changes_of s) change
 
+-- how many changes a journal has at most: what one region takes, and two fewer in the other
+abbrev pub journal_max : ℕ → ℕ
+journal_max mem = 2 * mem - 2
+
 -- a state is well formed: a tree, levels in order, and a journal that was accepted in turn and fits
 pub record IsWellFormed (s : State) : Type 0 where
   pub tree : IsTrue (is_tree s.parents)
   pub numbered : IsTrue (is_numbered_from 1 s.levels)
   pub accepted : IsTrue (are_accepted s.changes_max s.versions_max s.parents s.changes s.journal)
-  pub fits : IsTrue (nat_le (length s.journal) s.mem)
+  pub fits : IsTrue (nat_le (length s.journal) (journal_max s.mem))
 
 -- a state is sound
 pub record IsSound (s : State) : Type 0 where
@@ -111,4 +115,4 @@ pub record IsSound (s : State) : Type 0 where
 pub record Takes (s : State) (change : Change) : Type 0 where
   pub sound : IsSound s
   pub accepted : IsTrue (accepts_change s change)
-  pub room : length s.journal < s.mem
+  pub room : length s.journal < journal_max s.mem

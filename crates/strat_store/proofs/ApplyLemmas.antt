@@ -14,10 +14,11 @@ use Rattle.strat_crash.specs.Moments.{DiskView, Exposes, Since, OnlyReads}
 use Rattle.strat_crash.specs.Trail.{Trail}
 use Rattle.strat_crash.proofs.MomentLemmas.{now_since_start}
 use Rattle.strat_crash.proofs.TrailLemmas.{trail_of_one, trail_of_two}
+use Rattle.strat_base.specs.declared.descriptors.ArrayDesc.{ArrayDesc}
 use Rattle.strat_cursor.proofs.TableRows.{rows_length}
 use Rattle.strat_cursor.specs.Cursors.{is_opened}
 use Rattle.strat_format.specs.Arrays.{block_on}
-use Rattle.strat_cursor.specs.Looking.{AreOfOldArrays, LooksThrough, arrays_there}
+use Rattle.strat_cursor.specs.Looking.{AreOfOldArrays, LooksThrough, ReadsArrays, arrays_there}
 use Rattle.strat_format.specs.Damage.{Read}
 use Rattle.strat_model.specs.declared.replies.Reply.{Reply}
 use Rattle.strat_model.specs.declared.replies.Reply.TheVariants as reply
@@ -47,7 +48,7 @@ use Rattle.strat_store.proofs.CursoringLemmas.{looks_wider, stands_now, stands_s
 use Rattle.strat_store.specs.Applying.{IsLookedUp, IsUntouched, FailsAsTold, FollowsStep, TellsTroubleOf, change_wanted, refusal_of_look, is_fault, ran_short, table_left}
 use Rattle.strat_store.specs.Cursoring.{IsAppliedAt, is_of_cursor}
 use Rattle.strat_store.specs.Getting.{MayTellOfKey}
-use Rattle.strat_store.specs.Ranging.{HasPairs, HasPairsFor, MayTellOfRange, TellsFrom, TellsOfVersion}
+use Rattle.strat_store.specs.Ranging.{HasPairs, HasPairsFor, MayTellOfRange, ReadsForLook, TellsFrom, TellsOfVersion}
 use Rattle.strat_store.specs.Held.{Held, arrays_held, position_at, table_at, IsConsistent, StandsAt, StandsWith}
 use Rattle.strat_store.specs.Memory.{Memory, info_told, stat_told, IsMemoryOf}
 use Rattle.strat_store.specs.Settling.{LeavesPublished}
@@ -65,6 +66,19 @@ tells_from_wanted f s (Put v key value) c answer wanted = tt
 tells_from_wanted f s (Delete v key) c answer wanted = tt
 tells_from_wanted f s (Clone v) c answer wanted = tt
 tells_from_wanted f s _ c answer wanted = absurd (cc)
+
+-- nothing was read
+pub reads_still : (arrays : List ArrayDesc) (n : ℕ) → ReadsArrays arrays n n
+reads_still arrays n = λ k few. record { later = omega arith; bound = omega arith }
+
+-- arrays are read for a version that is there, and none for one that is not
+pub reads_known : (there : Bool) (arrays : List ArrayDesc) (before now : ℕ) → ReadsArrays arrays before now → (there ≡ false → now ≡ before) → ReadsArrays (if there then arrays else []) before now
+reads_known true arrays before now reads none = reads
+reads_known false arrays before now reads none = λ k few. let still = none refl in record { later = omega (arith, still); bound = omega (arith, still) }
+
+-- a change is no look-up
+pub reads_no_look : (s : Held) (r : Request) (c : Change) (before now : ℕ) → change_wanted r ≡ Some c → ReadsForLook s r before now
+reads_no_look s r c before now wanted none = absurd (let e : Some c ≡ None = sym wanted ∙ none in cc)
 
 -- a command that asks for no change and is about no cursor is a get, a scan, or asks what is in memory
 pub none_left : (asked : Command) → change_wanted (request_of asked) ≡ None → is_of_cursor (request_of asked) ≡ false → ((v : ℕ) (key : Bor (List ℕ)) → asked ≡ command.Get v key → ⊥)
@@ -519,3 +533,15 @@ spent_tells f s b Stat answer tells = tells
 spent_tells f s b (Put v key value) answer tells = tt
 spent_tells f s b (Delete v key) answer tells = tt
 spent_tells f s b (Clone v) answer tells = tt
+
+pub spent_reads : (s : Held) (b : Bool) (r : Request) (before now : ℕ) → ReadsForLook s r before now → ReadsForLook (record s { spent = b }) r before now
+spent_reads s b (Get v key) before now reads = reads
+spent_reads s b (Scan v lo hi limit) before now reads = reads
+spent_reads s b (Info v) before now reads = reads
+spent_reads s b (OpenCursor v lo hi) before now reads = reads
+spent_reads s b (NextPairs n limit) before now reads = reads
+spent_reads s b (CloseCursor n) before now reads = reads
+spent_reads s b Stat before now reads = reads
+spent_reads s b (Put v key value) before now reads = reads
+spent_reads s b (Delete v key) before now reads = reads
+spent_reads s b (Clone v) before now reads = reads

@@ -187,7 +187,7 @@ module _ (r : Recovered) (cached : Blocks) (kept : IsConsistent (held_of r cache
         takes = record {
           sound = stands.stands.sound;
           accepted = taken;
-          room = omega (arith, room, ap (λ (y : Contents). length y.journal) stands.held, ap (λ (y : Contents). y.sb.mem) stands.held);
+          room = omega (arith, room, kept.lawful.mem_least, ap (λ (y : Contents). length y.journal) stands.held, ap (λ (y : Contents). y.sb.mem) stands.held);
         }
 
         steps : table_of (contents_state (with_batch x (c ∷ []))) ≡ bare (step (table_of (contents_state x)) (request_for c)).table

@@ -25,7 +25,7 @@ use Rattle.strat_recovery.specs.Opened.{level_on}
 use Rattle.strat_standing.proofs.FreeLemmas.{Told, still_told}
 use Rattle.strat_standing.proofs.ListLemmas.{contained_among}
 use Rattle.strat_standing.proofs.OccupiedLemmas.{named_used, taken_beside}
-use Rattle.strat_standing.proofs.PromotedLemmas.{promoted_state}
+use Rattle.strat_standing.proofs.PromotedLemmas.{promoted_state, promoted_whole}
 use Rattle.strat_standing.specs.Contents.{Contents, contents_state, named_blocks}
 use Rattle.strat_standing.specs.Next.{IsNextOf, HasManifest, arrays_made}
 use Rattle.strat_standing.specs.Occupied.{IsSpaceOf, UsesMore, extents_of, arrays_in}
@@ -109,7 +109,7 @@ module _ (v w u : DiskView) (s t r : SpaceView) (m : Memory) (levels : List (Opt
     rising = numbers_rise x.chained.manifest may.lawful
 
     next : IsNextOf x new made (descs_to target x.chained.manifest.levels) (descs_behind target x.chained.manifest.levels)
-    next = after_next x m target made (made_here.says.fresh ++ levels_behind target x.levels) first size (blocks_of chain) may.memory rising
+    next = after_next x m target made (made_here.says.fresh ++ levels_behind target x.levels) first size (blocks_of chain) may.memory (omega (arith, may.full)) rising
 
     used_after : (gone : List Extent) → blocks_of gone ≡ x.chained.blocks → IsSpaceOf r new (gone ++ (extents_of (arrays_in (descs_to target x.chained.manifest.levels)) ++ others))
     used_after gone gone_is =
@@ -119,7 +119,7 @@ module _ (v w u : DiskView) (s t r : SpaceView) (m : Memory) (levels : List (Opt
     beside : IsWrittenBeside v w u s t r x new target made others (may.chain ++ (extents_of (arrays_in (descs_to target x.chained.manifest.levels)) ++ others))
     beside = record {
       stands = may.stands;
-      logged = may.logged;
+      full = may.full;
       space = may.space;
       promoting = promoting;
       taken = taken;
@@ -153,7 +153,7 @@ module _ (v w u : DiskView) (s t r : SpaceView) (m : Memory) (levels : List (Opt
           let both : Some p.fresh ≡ Some made_here.says.fresh = sym p.read ∙ made_here.says.read in
           let same : p.fresh ≡ made_here.says.fresh = cc in
           let sum = entries_counted made in
-          let state = promoted_state x new may.stands.sound next.promoted in
+          let state = promoted_state x new may.stands.sound next.promoted ∙ promoted_whole x new (omega (arith, may.full)) in
           subst IsPaid
           ((λ i. promoted (contents_state x) (same i ++ levels_behind target x.levels) (x.chained.manifest.written + sum i) new.chained.manifest.next_array) ∙ sym state)
           (p.paid new.chained.manifest.next_array);

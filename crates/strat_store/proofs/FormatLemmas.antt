@@ -13,9 +13,9 @@ use Rattle.strat_crash.proofs.ImageLemmas.{over_below, outside_same_above, windo
 use Rattle.strat_crash.proofs.MomentLemmas.{now_since_start, at_told, settled_at}
 use Rattle.strat_format.proofs.SuperBlockLemmas.{slot_closed}
 use Rattle.strat_gate.specs.Laying.{LaysOver, OldOrNew}
-use Rattle.strat_journal.proofs.AloneLemmas.{empty}
-use Rattle.strat_format.specs.Records.{journal_in_one}
-use Rattle.strat_state.specs.Sound.{IsSound}
+use Rattle.strat_format.proofs.TwoRegionsLemmas.{journal_none}
+use Rattle.strat_format.specs.Records.{journal_in_two}
+use Rattle.strat_state.specs.Sound.{journal_max, IsSound}
 use Rattle.strat_state.specs.State.{deep, fresh_state, IsPaid}
 use Rattle.strat_store.specs.Format.{new_block, IsNewDisk, IsShut, IsNewStore, IsNoneOrNew, super_for}
 use Rattle.strat_store.proofs.NewStoreLemmas.{head_found, state_found}
@@ -81,7 +81,7 @@ lays_over mem v p sb =
 -- the state of a new store is sound
 fresh_sound : (mem changes_max versions_max : ℕ) → IsSound (fresh_state mem changes_max versions_max)
 fresh_sound mem changes_max versions_max = record {
-  formed = record { tree = refl; numbered = refl; accepted = refl; fits = le-leb 0 mem (omega arith) };
+  formed = record { tree = refl; numbered = refl; accepted = refl; fits = le-leb 0 (journal_max mem) (omega arith) };
   stratified = tt;
   roomy = refl;
   old = refl;
@@ -102,7 +102,7 @@ module _ (mem changes_max versions_max : ℕ) (some : 0 < mem) (v : DiskView) (p
       let sb : Super = super_for mem changes_max versions_max in
       let same : SameIn (4096 * first_free mem) 4096 p.content c = outside_same_above 0 4096 (4096 * first_free mem) 4096 (omega arith) out in
       let block : window c (4096 * first_free mem) 4096 ≡ new_block = window_same p.content c (4096 * first_free mem) 4096 same ∙ p.block in
-      let none : journal_in_one c mem 0 ≡ Ok [] = empty c mem 0 some (λ up. p.active (sym (out.above (region_at mem 0) (omega arith)) ∙ up)) in
+      let none : journal_in_two c mem 0 ≡ Ok [] = journal_none c mem 0 some (λ up. p.active (sym (out.above (region_at mem 0) (omega arith)) ∙ up)) in
       record {
         found = head_found c sb refl refl block 0 newest none;
         reads = state_found c sb refl refl block 0 newest none;

@@ -48,8 +48,9 @@ use Rattle.strat_store.proofs.WholeLemmas.{whole_promotes}
 use Rattle.strat_store.specs.Applying.{is_fault, IsLookedUp, IsDamagedIn}
 use Rattle.strat_store.specs.Getting.{reply_of_get}
 use Rattle.strat_store.specs.Held.{Held, IsConsistent, StandsWith, arrays_held, contents_held, head_held}
-use Rattle.strat_cursor.specs.Looking.{levels_there, arrays_there, MayBeFound, AreInOrder, AreCachedFrom, LooksThrough, NamesNoBlock, HaveOwnIds}
+use Rattle.strat_cursor.specs.Looking.{levels_there, arrays_asked, arrays_there, MayBeFound, AreInOrder, AreCachedFrom, LooksThrough, NamesNoBlock, HaveOwnIds}
 use Rattle.strat_store.specs.Memory.{Memory}
+use Rattle.strat_cursor.proofs.HoldingLemmas.{asked_cached, asked_ordered}
 use Rattle.strat_cursor.proofs.ThroughLemmas.{still_cached}
 
 -- what is told of what was found is the answer
@@ -67,13 +68,13 @@ answer_of e key out seen.None tells =
 -- what a look-up through level 0 and levels says of what it found
 abbrev pub FindsIt : Option Image → Parents → List Entry → List (Option LevelDesc) → ℕ → List ℕ → Blocks → TheirPairs → Seen → Type 0
 FindsIt content parents entries levels n key c out told =
-    (f : Image) (next : ℕ) → content ≡ Some f → AreInOrder f (arrays_there levels) → HaveOwnIds (arrays_there levels) → AreCachedFrom f next (arrays_there levels) c
+    (f : Image) (next : ℕ) → content ≡ Some f → AreInOrder f (arrays_asked parents levels n) → HaveOwnIds (arrays_there levels) → AreCachedFrom f next (arrays_asked parents levels n) c
     → TellsFound (looked_up (on_disk f) parents (entries ∷ []) (levels_there levels) n key) key [] out told
 
 -- unless a fault ended the look-up it is so
 pub answer_told : (content : Option Image) (parents : Parents) (entries : List Entry) (levels : List (Option LevelDesc)) (n : ℕ) (key : List ℕ) (c : Blocks) (out : TheirPairs) (r : Result Seen Fault)
     → IfOk r (FindsIt content parents entries levels n key c out) → is_fault (reply_of_get r) ≡ false
-    → (f : Image) (next : ℕ) → content ≡ Some f → AreInOrder f (arrays_there levels) → HaveOwnIds (arrays_there levels) → AreCachedFrom f next (arrays_there levels) c
+    → (f : Image) (next : ℕ) → content ≡ Some f → AreInOrder f (arrays_asked parents levels n) → HaveOwnIds (arrays_there levels) → AreCachedFrom f next (arrays_asked parents levels n) c
     → as_told (reply_of_get r) out ≡ found key (asked f parents (entries ∷ []) (levels_there levels) n key)
 answer_told content parents entries levels n key c out (Ok told) tells none f next exposed ordered own cached =
     answer_of (looked_up (on_disk f) parents (entries ∷ []) (levels_there levels) n key) key out told (tells f next exposed ordered own cached)
@@ -90,7 +91,7 @@ blamed content m levels arrays b there is =
     record {
       listed = among_contained (blocks_listed all) b
           (among_in_flat (λ (a : ArrayDesc). blocks_of a.extents) all is.array b (contained_among all is.array (there is.array is.one)) (subst (λ (n : ℕ). Among n (blocks_of is.array.extents)) here at.1));
-      bad = λ f exposed few. inl (is.none.1 f exposed);
+      bad = λ f exposed. inl (is.none.1 f exposed);
     }
 
 -- a block that is told of is one of the arrays'
@@ -226,7 +227,7 @@ module _ (v : DiskView) (s : Held) (levels : List Level) (whole : IsConsistent s
         let may = whole_read s whole in
         inl (
           answer_of (looked_up (on_disk w.stands.content) s.memory.parents (s.memory.entries ∷ []) (levels_there s.levels) n key) key out told
-              (tells w.stands.content s.chained.manifest.next_array w.stands.exposed ordered may.own cached)
+              (tells w.stands.content s.chained.manifest.next_array w.stands.exposed (asked_ordered s.memory.parents s.levels n w.stands.content ordered) may.own (asked_cached s.memory.parents s.levels n w.stands.content s.chained.manifest.next_array s.cached cached))
               ∙ ap (found key) (asked_is n key is) ∙ sym (stepped n key is),
           stays,
         )

@@ -14,8 +14,7 @@ use Rattle.strat_cursor.proofs.PinLemmas.{asked_there}
 use Rattle.strat_cursor.proofs.RetiredLemmas.{closed_from, closed_ids, closed_keeps_named}
 use Rattle.strat_cursor.specs.Cursors.{are_named, arrays_named, closed_at, moved_at, without_cursor}
 use Rattle.strat_cursor.specs.Held.{HeldCursor, HeldCursors, no_cursors}
-use Rattle.strat_cursor.specs.Looking.{HaveOwnIds, arrays_there}
-use Rattle.strat_cursor.specs.Pins.{arrays_asked}
+use Rattle.strat_cursor.specs.Looking.{HaveOwnIds, arrays_there, arrays_asked}
 use Rattle.strat_format.proofs.ManifestLemmas.{pass_at}
 use Rattle.strat_format.specs.Chained.{Chained}
 use Rattle.strat_format.specs.Manifest.{is_lawful_manifest, versions_in}

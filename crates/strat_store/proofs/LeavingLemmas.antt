@@ -29,14 +29,14 @@ use Rattle.strat_model.specs.declared.replies.Refusal.{Refusal}
 use Rattle.strat_model.specs.declared.replies.Refusal.TheVariants as why
 use Rattle.strat_model.specs.declared.replies.Reply.{Reply}
 use Rattle.strat_model.specs.declared.replies.Reply.TheVariants as reply
-use Rattle.strat_store.specs.Applying.{IsUntouched, change_wanted, is_fault, may_write, refusal_of_trouble}
+use Rattle.strat_store.specs.Applying.{HoldsTheSame, IsUntouched, change_wanted, is_fault, may_write, refusal_of_trouble}
 use Rattle.strat_promote.specs.Job.{blocks_listed}
 use Rattle.strat_recovery.specs.StateTable.{request_for}
 use Rattle.strat_standing.specs.Contents.{Contents, contents_state}
 use Rattle.strat_state.specs.State.{IsPaid}
 use Rattle.strat_store.specs.Cursoring.{LeavesCursors}
 use Rattle.strat_store.specs.Held.{Held, ArePlaced, IsConsistent, IsOnDisk, StandsWith, arrays_held}
-use Rattle.strat_store.specs.Memory.{KeepsRows, Memory, refusal_of_change, reply_to}
+use Rattle.strat_store.specs.Memory.{KeepsRows, Memory, prepared, refusal_of_change, reply_to}
 use Rattle.strat_store.specs.Paying.{ArePaidSince, CountsWritten}
 use Rattle.strat_store.specs.Recovering.{held_of, held_after}
 use Rattle.strat_store.specs.Publishing.{is_in_front}
@@ -76,11 +76,26 @@ wanted_change (Delete v key) c wanted = refl
 wanted_change (Clone v) c wanted = refl
 wanted_change _ c wanted = absurd (cc)
 
+-- a store that keeps what is published, its journal and its memory, but for what stands ready, holds the same
+pub holds_the_same : (r new : Recovered) (cached : Blocks) (told : Reply) → KeepsPublished (held_of r cached) (held_of new cached) → new.journal ≡ r.journal
+    → new.memory ≡ prepared r.memory new.memory.ready new.memory.cursors.room → HoldsTheSame (held_of r cached) (held_after new cached told)
+holds_the_same r new cached told keeps journal memory = λ i. record {
+  slot = keeps.slot i;
+  sb = keeps.sb i;
+  chained = keeps.chained i;
+  log = journal i;
+  memory = memory i;
+  levels = keeps.levels i;
+  cached = cached;
+  spent = is_fault told;
+}
+
 -- a change that is refused leaves the disk as it was
 pub untouched_by : (v w : DiskView) (request : Request) (c : Change) (r new : Recovered) (cached : Blocks) (told : Reply) → change_wanted request ≡ Some c
     → ((q : Refusal) → refusal_of_change r.memory c ≡ Some q → (told ≡ reply.Refused q) × (new ≡ r) × OnlyReads v w) → (refusal_of_change r.memory c ≡ None → may_write told ≡ true)
+    → (told ≡ reply.Refused why.NoMemory → HoldsTheSame (held_of r cached) (held_after new cached told))
     → IsUntouched v w request (held_of r cached) told (held_after new cached told)
-untouched_by v w request c r new cached told wanted refuses writes = record {
+untouched_by v w request c r new cached told wanted refuses writes same = record {
   looks = λ none. absurd (let x : Some c ≡ None = sym wanted ∙ none in cc);
   refused = λ d q asks e.
       let both : Some c ≡ Some d = sym wanted ∙ asks in
@@ -91,6 +106,7 @@ untouched_by v w request c r new cached told wanted refuses writes = record {
       let both : Some c ≡ Some d = sym wanted ∙ asks in
       let same : c ≡ d = cc in
       writes (subst (λ (x : Change). refusal_of_change r.memory x ≡ None) (sym same) e);
+  short = λ d asks short. same short;
   cached = λ d asks. refl;
   calm = λ may. by_refusal (refusal_of_change r.memory c) refl (may (wanted_change request c wanted));
 }

@@ -1,3 +1,4 @@
+pub mod BadLemmas
 pub mod BelongingLemmas
 pub mod FormatLemmas
 pub mod MemoryLawLemmas

@@ -1,9 +1,9 @@
 -- A look-up goes through the levels, and asks an array in each.
-use Rattle.std.proofs.Common.{◌≡◌, ◌≤◌, ◌<◌, ◌+◌, ℕ, true, false, get_or, drop, List, [], ◌∷◌, length, Option, Some, None, IsTrue, refl, sym, ap, ◌∙◌, subst, true≢false, Result, Ok, Err}
+use Rattle.std.proofs.Common.{◌≡◌, ◌≤◌, ◌<◌, ◌+◌, ℕ, true, false, get_or, drop, List, [], ◌∷◌, length, Option, Some, None, IsTrue, refl, sym, ap, ◌∙◌, subst, arith, true≢false, Result, Ok, Err}
 use Rattle.std.proofs.lemmas.List.{drop_all, drop_more}
-use Rattle.std.specs.List.{filter_map, cons_option}
+use Rattle.std.specs.List.{Contains, filter_map, cons_option}
 use Rattle.std.specs.Prelude.{IfOk}
-use Rattle.std.specs.Option.{option_and_then, option_map, option_or, unwrap_or}
+use Rattle.std.specs.Option.{option_and_then, option_map, option_or, option_to_list, unwrap_or}
 use Rattle.strat_array.specs.Kept.{Blocks, ArrayStands}
 use Rattle.strat_array.specs.Left.{all_in}
 use Rattle.strat_array.specs.Told.{TheirPairs, TellsFound, AddsPair}
@@ -15,6 +15,7 @@ use Rattle.strat_base.specs.Tree.{Parents}
 use Rattle.strat_base.specs.declared.descriptors.ArrayDesc.{ArrayDesc}
 use Rattle.strat_base.specs.declared.descriptors.LevelDesc.{LevelDesc}
 use Rattle.strat_base.specs.declared.failures.Fault.{Fault}
+use Rattle.strat_crash.specs.Faults.{ReadsAtMost}
 use Rattle.strat_crash.specs.Image.{Image}
 use Rattle.strat_crash.specs.Moments.{DiskView}
 use Rattle.strat_format.specs.Arrays.{blocks_of, entries_on}
@@ -22,9 +23,9 @@ use Rattle.strat_level.specs.Levels.{desc_for}
 use Rattle.strat_recovery.specs.Asked.{on_disk}
 use Rattle.strat_state.specs.LookUp.{looked_up, first_live}
 use Rattle.strat_state.specs.Reading.{live_of}
-use Rattle.strat_cursor.specs.Looking.{levels_there, arrays_there, AreInOrder, AreCachedFrom, LooksThrough, HaveOwnIds, MayBeAsked, asked_of_level, array_says, decides, reads_of_array, reads_in}
-use Rattle.strat_cursor.proofs.ThroughLemmas.{still_same, through_trans}
-use Rattle.strat_cursor.proofs.PickLemmas.{level_next, asked_there}
+use Rattle.strat_cursor.specs.Looking.{levels_there, arrays_asked, arrays_there, AreInOrder, AreCachedFrom, LooksThrough, HaveFewBlocks, HaveOwnIds, MayBeAsked, asked_of_level, array_says, decides, reads_of_arrays}
+use Rattle.strat_cursor.proofs.ThroughLemmas.{still_one, through_trans}
+use Rattle.strat_cursor.proofs.PickLemmas.{asked_among, asked_there, level_next, only}
 
 -- what an array says, as it was found in the lists of its blocks
 pub tell_one : (content : Option Image) (f : Image) (a : ArrayDesc) (c : Blocks) (parents : Parents) (key : List ℕ) (v : ℕ) (old new : TheirPairs) (told : Seen) → content ≡ Some f → MayBeAsked f c a
@@ -65,7 +66,7 @@ adds_none old new seen.Put adds none = absurd (true≢false none)
 -- a look-up so far: the levels that were asked say nothing
 pub record Passing (old now : DiskView) (levels : List (Option LevelDesc)) (parents : Parents) (key : List ℕ) (v above : ℕ) (c d : Blocks) : Type 0 where
   pub looks : LooksThrough old now (arrays_there levels) c d
-  pub silent : (f : Image) (next : ℕ) → old.content ≡ Some f → AreInOrder f (arrays_there levels) → HaveOwnIds (arrays_there levels) → AreCachedFrom f next (arrays_there levels) c
+  pub silent : (f : Image) (next : ℕ) → old.content ≡ Some f → AreInOrder f (arrays_asked parents levels v) → HaveOwnIds (arrays_there levels) → AreCachedFrom f next (arrays_asked parents levels v) c
       → looked_up (on_disk f) parents [] (levels_there (drop above levels)) v key ≡ looked_up (on_disk f) parents [] (levels_there levels) v key
 
 module _ (old mid : DiskView) (levels : List (Option LevelDesc)) (parents : Parents) (key : List ℕ) (v above : ℕ) (c d : Blocks) where
@@ -73,16 +74,16 @@ module _ (old mid : DiskView) (levels : List (Option LevelDesc)) (parents : Pare
   asks = asked_of_level parents levels (above + 1) v
 
   -- an array that is asked after others
-  pub may_be_asked : Passing old mid levels parents key v above c d → (f : Image) (next : ℕ) → old.content ≡ Some f → AreInOrder f (arrays_there levels) → HaveOwnIds (arrays_there levels) → AreCachedFrom f next (arrays_there levels) c
+  pub may_be_asked : Passing old mid levels parents key v above c d → (f : Image) (next : ℕ) → old.content ≡ Some f → AreInOrder f (arrays_asked parents levels v) → HaveOwnIds (arrays_there levels) → AreCachedFrom f next (arrays_asked parents levels v) c
       → (a : ArrayDesc) → asks ≡ Some a → MayBeAsked f d a
   may_be_asked passing f next exposed ordered own cached a is =
-      let of = asked_there parents levels (above + 1) v a is in
+      let of = asked_among parents levels (above + 1) v a is in
       let entries = ordered.each a of in
       record {
         entries = entries.0;
         read = entries.1;
         ordered = entries.2;
-        cached = λ index block x there at. still_same old.content f (arrays_there levels) c d exposed own passing.looks.cached cached.same a index block x of there at;
+        cached = still_one old.content f (arrays_there levels) c d exposed own passing.looks.cached a (asked_there parents levels (above + 1) v a is) (λ index block x there at. cached.same a index block x of there at);
       }
 
   left_first : (f : Image) → above < length levels → looked_up (on_disk f) parents [] (levels_there (drop above levels)) v key ≡ option_or (array_says f parents v key asks) (looked_up (on_disk f) parents [] (levels_there (drop (above + 1) levels)) v key)
@@ -105,7 +106,7 @@ module _ (old mid : DiskView) (levels : List (Option LevelDesc)) (parents : Pare
     }
 
     pub passing_answers : above < length levels → Passing old mid levels parents key v above c d → Asked → decides told ≡ true
-        → (f : Image) (next : ℕ) → old.content ≡ Some f → AreInOrder f (arrays_there levels) → HaveOwnIds (arrays_there levels) → AreCachedFrom f next (arrays_there levels) c
+        → (f : Image) (next : ℕ) → old.content ≡ Some f → AreInOrder f (arrays_asked parents levels v) → HaveOwnIds (arrays_there levels) → AreCachedFrom f next (arrays_asked parents levels v) c
         → TellsFound (looked_up (on_disk f) parents [] (levels_there levels) v key) key before after told
     passing_answers within passing answers some f next exposed ordered own cached =
         let tells = answers f (passing.looks.disk.same ∙ exposed) (may_be_asked passing f next exposed ordered own cached) in
@@ -113,15 +114,37 @@ module _ (old mid : DiskView) (levels : List (Option LevelDesc)) (parents : Pare
         (tells_on _ (looked_up (on_disk f) parents [] (levels_there (drop (above + 1) levels)) v key) key before after told tells some)
 
 -- how many reads are left
+reads_first : (n : ℕ) (parents : Parents) (v : ℕ) (level : Option LevelDesc) (levels : List (Option LevelDesc))
+    → reads_of_arrays n (arrays_asked parents (level ∷ levels) v) ≡ reads_of_arrays n (option_to_list (option_and_then (λ l. desc_for parents l v) level)) + reads_of_arrays n (arrays_asked parents levels v)
+reads_first n parents v None levels = omega arith
+reads_first n parents v (Some level) levels =
+    elim (desc_for parents level v) as (λ (o : Option ArrayDesc). reads_of_arrays n (cons_option o (arrays_asked parents levels v)) ≡ reads_of_arrays n (option_to_list o) + reads_of_arrays n (arrays_asked parents levels v)) [
+      | None ↦ omega arith
+      | Some a ↦ omega arith
+    ]
+
 pub reads_left : (n : ℕ) (parents : Parents) (v above : ℕ) (levels : List (Option LevelDesc)) → above < length levels
-    → reads_in n parents v (drop above levels) ≡ reads_of_array n (asked_of_level parents levels (above + 1) v) + reads_in n parents v (drop (above + 1) levels)
+    → reads_of_arrays n (arrays_asked parents (drop above levels) v) ≡ reads_of_arrays n (option_to_list (asked_of_level parents levels (above + 1) v)) + reads_of_arrays n (arrays_asked parents (drop (above + 1) levels) v)
 reads_left n parents v above levels within =
-    ap (reads_in n parents v) (drop_more levels above None within)
-    ∙ ap (λ (o : Option LevelDesc). reads_of_array n (option_and_then (λ l. desc_for parents l v) o) + reads_in n parents v (drop (above + 1) levels)) (sym (level_next levels above))
+    ap (λ (ls : List (Option LevelDesc)). reads_of_arrays n (arrays_asked parents ls v)) (drop_more levels above None within)
+    ∙ reads_first n parents v (get_or levels above None) (drop (above + 1) levels)
+    ∙ ap (λ (o : Option LevelDesc). reads_of_arrays n (option_to_list (option_and_then (λ l. desc_for parents l v) o)) + reads_of_arrays n (arrays_asked parents (drop (above + 1) levels) v)) (sym (level_next levels above))
+
+-- an array that is asked in a level has few blocks where all that are asked have
+pub few_asked : (n : ℕ) (parents : Parents) (levels : List (Option LevelDesc)) (number v : ℕ) → HaveFewBlocks n (arrays_asked parents levels v) → HaveFewBlocks n (option_to_list (asked_of_level parents levels number v))
+few_asked n parents levels number v few = by (asked_of_level parents levels number v) refl
+  where
+    by : (o : Option ArrayDesc) → asked_of_level parents levels number v ≡ o → HaveFewBlocks n (option_to_list o)
+    by None is a there = absurd (omega (arith, there.1))
+    by (Some b) is a there = few a (subst (λ (x : ArrayDesc). Contains (arrays_asked parents levels v) x) (sym (only b a there)) (asked_among parents levels number v b is))
+
+-- and is read no more than it may be
+pub one_read : (n : ℕ) (a : ArrayDesc) (before now : ℕ) → ReadsAtMost (n + 1 + length (blocks_of a.extents)) before now → ReadsAtMost (reads_of_arrays n (a ∷ [])) before now
+one_read n a before now reads = record { later = reads.later; bound = omega (arith, reads.bound) }
 
 -- where the whole of the levels was passed, nothing is found
 pub passed_all : (old now : DiskView) (levels : List (Option LevelDesc)) (parents : Parents) (key : List ℕ) (v above : ℕ) (c d : Blocks) → length levels ≤ above → Passing old now levels parents key v above c d
-    → (f : Image) (next : ℕ) → old.content ≡ Some f → AreInOrder f (arrays_there levels) → HaveOwnIds (arrays_there levels) → AreCachedFrom f next (arrays_there levels) c
+    → (f : Image) (next : ℕ) → old.content ≡ Some f → AreInOrder f (arrays_asked parents levels v) → HaveOwnIds (arrays_there levels) → AreCachedFrom f next (arrays_asked parents levels v) c
     → looked_up (on_disk f) parents [] (levels_there levels) v key ≡ None
 passed_all old now levels parents key v above c d past passing f next exposed ordered own cached =
     sym (passing.silent f next exposed ordered own cached)
@@ -130,13 +153,13 @@ passed_all old now levels parents key v above c d past passing f next exposed or
 -- what level 0 says nothing of is what the levels say
 pub looks_on : (content : Option Image) (parents ps : Parents) (entries : List Entry) (levels : List (Option LevelDesc)) (n : ℕ) (key : List ℕ) (c : Blocks) (mid out : TheirPairs) (r : Result Seen Fault)
     → ps ≡ parents → live_of parents entries n key ≡ None → mid ≡ []
-    → IfOk r (λ seen. (f : Image) (next : ℕ) → content ≡ Some f → AreInOrder f (arrays_there levels) → HaveOwnIds (arrays_there levels) → AreCachedFrom f next (arrays_there levels) c
+    → IfOk r (λ seen. (f : Image) (next : ℕ) → content ≡ Some f → AreInOrder f (arrays_asked ps levels n) → HaveOwnIds (arrays_there levels) → AreCachedFrom f next (arrays_asked ps levels n) c
     → TellsFound (looked_up (on_disk f) ps [] (levels_there levels) n key) key mid out seen)
-    → IfOk r (λ seen. (f : Image) (next : ℕ) → content ≡ Some f → AreInOrder f (arrays_there levels) → HaveOwnIds (arrays_there levels) → AreCachedFrom f next (arrays_there levels) c
+    → IfOk r (λ seen. (f : Image) (next : ℕ) → content ≡ Some f → AreInOrder f (arrays_asked parents levels n) → HaveOwnIds (arrays_there levels) → AreCachedFrom f next (arrays_asked parents levels n) c
     → TellsFound (looked_up (on_disk f) parents (entries ∷ []) (levels_there levels) n key) key [] out seen)
 looks_on content parents ps entries levels n key c mid out (Err e) same none empty tells = tt
 looks_on content parents ps entries levels n key c mid out (Ok seen) same none empty tells = λ f next exposed ordered own cached.
     let rest : Parents → Option Entry = λ (qs : Parents). looked_up (on_disk f) qs [] (levels_there levels) n key in
     subst (λ (o : Option Entry). TellsFound (option_or o (rest parents)) key [] out seen) (sym none)
     (subst (λ (p : TheirPairs). TellsFound (rest parents) key p out seen) empty
-    (subst (λ (qs : Parents). TellsFound (rest qs) key mid out seen) same (tells f next exposed ordered own cached)))
+    (subst (λ (qs : Parents). TellsFound (rest qs) key mid out seen) same (tells f next exposed (subst (λ (qs : Parents). AreInOrder f (arrays_asked qs levels n)) (sym same) ordered) own (subst (λ (qs : Parents). AreCachedFrom f next (arrays_asked qs levels n) c) (sym same) cached))))

@@ -12,7 +12,7 @@ use Rattle.strat_format.specs.Chained.{Chained, manifest_at}
 use Rattle.strat_format.specs.Damage.{Read, and_then, passed_or}
 use Rattle.strat_format.specs.Layout.{first_free}
 use Rattle.strat_format.specs.Manifest.{Manifest, manifest_bytes, all_pass, SpellsManifest, new_manifest}
-use Rattle.strat_format.specs.Records.{Logged, journal_in_one}
+use Rattle.strat_format.specs.Records.{Logged, journal_in_two}
 use Rattle.strat_format.specs.SuperBlock.{Super, Slot, in_range, chosen_in, verdict, newest_in}
 use Rattle.strat_format.proofs.ChainLemmas.{chain_read}
 use Rattle.strat_recovery.specs.Head.{Head}
@@ -122,7 +122,7 @@ module _ (c : Image) (sb : Super) (once : sb.generation ≡ 1) (size : sb.length
         ∙ ap (λ (test : Bool). passed_or sb.manifest test new_manifest) it_belongs
 
   -- an opening finds the head, and the image reads as the state of a new store
-  module _ (slot : ℕ) (newest : newest_in c ≡ Ok (Some (slot, sb))) (empty : journal_in_one c sb.mem sb.region ≡ Ok []) where
+  module _ (slot : ℕ) (newest : newest_in c ≡ Ok (Some (slot, sb))) (empty : journal_in_two c sb.mem sb.region ≡ Ok []) where
     journal_found : recover_journal c sb new_manifest ≡ Ok []
     journal_found = ap (λ (r : Read (List Logged)). and_then r (accepted_in sb.changes_max sb.versions_max (parents_in new_manifest) new_manifest.changes)) empty
 

@@ -1,5 +1,5 @@
 -- The contents that a promotion and the next manifest make.
-use Rattle.std.proofs.Common.{◌≡◌, ◌<◌, ℕ, suc, Bool, true, false, cond, leb, ltb, inl, inr, List, [], ◌∷◌, ◌++◌, length, map, filter, drop, Option, Some, refl, sym, ap, ◌∙◌, subst, arith}
+use Rattle.std.proofs.Common.{◌≡◌, ◌≤◌, ◌<◌, ℕ, suc, Bool, true, false, cond, leb, ltb, inl, inr, List, [], ◌∷◌, ◌++◌, length, map, filter, drop, Option, Some, refl, sym, ap, ◌∙◌, subst, arith}
 use Rattle.std.specs.Option.{option_to_list}
 use Rattle.std.proofs.Math.Seq.{drop-append_seam}
 use Rattle.std.proofs.lemmas.Bool.{and_parts, cases_lt, lt-leb, le-leb, lt-ltb, le-ltb, ltb-true}
@@ -19,14 +19,16 @@ use Rattle.strat_recovery.specs.Opened.{array_on, level_on}
 use Rattle.strat_standing.proofs.ComputedLemmas.{promotion_next}
 use Rattle.strat_standing.proofs.FreeLemmas.{free_stands}
 use Rattle.strat_standing.proofs.LocalLemmas.{levels_local}
+use Rattle.strat_standing.proofs.PromotedLemmas.{none_later, promoted_whole, sealed_whole}
 use Rattle.strat_standing.proofs.OccupiedLemmas.{array_blocks_used, taken_beside, free_beside}
 use Rattle.strat_standing.specs.Appending.{IsLogOf}
 use Rattle.strat_standing.specs.Contents.{Contents, contents_head, contents_state}
-use Rattle.strat_standing.specs.Next.{IsNextOf, IsPromotion, arrays_made}
+use Rattle.strat_standing.specs.Next.{IsNextOf, IsPromotion, arrays_made, state_after}
 use Rattle.strat_standing.specs.Occupied.{IsSpaceOf, extents_of}
 use Rattle.strat_standing.specs.Standing.{ContentsStand}
 use Rattle.strat_state.specs.Level.{Level}
 use Rattle.strat_state.specs.Sound.{IsSound}
+use Rattle.strat_state.specs.State.{changes_of, updates_of, versions_of}
 use Rattle.strat_store.specs.Memory.{Memory, IsMemoryOf}
 use Rattle.strat_store.specs.Publishing.{IsComputed, IsWrittenBeside, contents_after, descs_to, descs_behind}
 
@@ -99,10 +101,10 @@ behind_dropped f ds levels t read rising =
     ∙ ap (drop (length (descs_to t ds))) (sym two)
 
 -- the next manifest makes the next contents
-pub after_next : (old : Contents) (m : Memory) (target : ℕ) (made : Option LevelDesc) (levels : List Level) (first size : ℕ) (blocks : List ℕ) → IsMemoryOf (contents_head old) m
+pub after_next : (old : Contents) (m : Memory) (target : ℕ) (made : Option LevelDesc) (levels : List Level) (first size : ℕ) (blocks : List ℕ) → IsMemoryOf (contents_head old) m → length old.journal ≤ old.sb.mem
     → is_rising (map (λ (d : LevelDesc). d.number) old.chained.manifest.levels) ≡ true
     → IsNextOf old (contents_after old m target made levels first size blocks) made (descs_to target old.chained.manifest.levels) (descs_behind target old.chained.manifest.levels)
-after_next old m target made levels first size blocks of rising = record {
+after_next old m target made levels first size blocks of few rising = record {
   slot = refl;
   generation = refl;
   region = refl;
@@ -110,10 +112,10 @@ after_next old m target made levels first size blocks of rising = record {
     mem = refl;
     changes_max = refl;
     versions_max = refl;
-    parents = ap parent_numbers of.parents;
-    updates = of.updates;
-    changes = of.changes;
-    journal = refl;
+    parents = ap parent_numbers (of.parents ∙ ap versions_of (sym (sealed_whole old few)));
+    updates = of.updates ∙ ap updates_of (sym (sealed_whole old few));
+    changes = of.changes ∙ ap changes_of (sym (sealed_whole old few));
+    journal = sym (none_later old few);
   };
   written = refl;
   next_array = refl;
@@ -142,9 +144,9 @@ module _ (v w u : DiskView) (s t r : SpaceView) (old new : Contents) (target : �
   promotion : IsPromotion at_end.content old new made (descs_to target old.chained.manifest.levels)
   promotion =
       let lies = (at_end.reads at_end.content at_end.left).lies in
-      let same : promoted (contents_state old) (b.promoted.says.fresh ++ levels_behind target old.levels) new.chained.manifest.written new.chained.manifest.next_array
-      ≡ promoted (contents_state old) new.levels new.chained.manifest.written new.chained.manifest.next_array =
-      ap (λ (ls : List Level). promoted (contents_state old) ls new.chained.manifest.written new.chained.manifest.next_array) (sym b.levels) in
+      let same : promoted (contents_state old) (b.promoted.says.fresh ++ levels_behind target old.levels) new.chained.manifest.written new.chained.manifest.next_array ≡ state_after old new =
+      ap (λ (ls : List Level). promoted (contents_state old) ls new.chained.manifest.written new.chained.manifest.next_array) (sym b.levels)
+      ∙ sym (promoted_whole old new (omega (arith, b.full))) in
       record {
         fresh = b.promoted.says.fresh;
         lies = lies;
@@ -157,7 +159,7 @@ module _ (v w u : DiskView) (s t r : SpaceView) (old new : Contents) (target : �
   pub computed : IsComputed u new.slot new.sb log old new
   computed =
       let may = promotion_next at_end.content at_end.content old new made (descs_to target old.chained.manifest.levels) (descs_behind target old.chained.manifest.levels)
-      (at_end.reads at_end.content at_end.left) b.logged at_end.sound b.next b.promoted.fresh promotion in
+      (at_end.reads at_end.content at_end.left) (omega (arith, b.full)) at_end.sound b.next b.promoted.fresh promotion in
       record {
         stands = at_end;
         log_is = is_log;

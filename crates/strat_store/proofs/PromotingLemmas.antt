@@ -28,10 +28,10 @@ use Rattle.strat_promote.proofs.ReplacingLemmas.{made_arrays, made_promotes}
 use Rattle.strat_promote.proofs.StateInputsLemmas.{begun_nothing, begun_takes, begun_job, begun_its_job, begun_leaves, begun_paid}
 use Rattle.strat_promote.specs.Job.{Job, IsBadInput, arrays_to, blocks_listed}
 use Rattle.strat_promote.specs.Owned.{OwnsItsBlocks, extents_made}
-use Rattle.strat_promote.specs.Promotions.{IsBegun, IsFed, IsItsJob, HasBegun, ReadsFrom, ReadsItsBlocks, SamePromotion, inputs_given, target_of, extents_taken, blocks_to_read, writers_of}
+use Rattle.strat_promote.specs.Promotions.{IsBegun, IsFed, IsItsJob, HasBegun, ReadsFrom, ReadsOf, ReadsItsBlocks, SamePromotion, inputs_given, target_of, extents_taken, blocks_to_read, writers_of}
 use Rattle.strat_promote.specs.Closing.{all_extents}
 use Rattle.strat_promote.specs.Spaces.{TakesMore}
-use Rattle.strat_promote.specs.Stages.{IsMade, IsPlanMade, IsReadFrom, stage_writers, blocks_due}
+use Rattle.strat_promote.specs.Stages.{IsMade, IsPlanMade, IsReadFrom, IsReadOf, stage_writers, blocks_due}
 use Rattle.strat_promote.specs.StateInputs.{IsBegunOver, job_of_state}
 use Rattle.strat_promote.specs.Steps.{Inputs}
 use Rattle.strat_promote.specs.declared.promotion.Promotion.{Promotion}
@@ -45,7 +45,7 @@ use Rattle.strat_state.specs.Sound.{IsSound}
 use Rattle.strat_state.specs.State.{State, versions_of}
 use Rattle.strat_cursor.specs.Looking.{arrays_there}
 use Rattle.strat_store.specs.Memory.{Memory}
-use Rattle.strat_store.specs.Promoting.{MayPromote, HoldInMemory, HaveFewLeads, IsPromotedTo}
+use Rattle.strat_store.specs.Promoting.{MayPromote, HoldInMemory, IsPromotedTo}
 
 -- the arrays of the levels down to a number stand in front of the others
 pub to_front : (levels : List (Option LevelDesc)) (j : ℕ) → (rest : List ArrayDesc) × (arrays_there levels ≡ arrays_to levels j ++ rest)
@@ -212,20 +212,14 @@ module _ (m : Memory) (levels : List (Option LevelDesc)) (mem id versions : ℕ)
   -- the block that is blamed
   pub blamed : (content : Image → Type 0) (space : SpaceView) (b : ℕ)
       → (ReadsFrom (arrays_to levels (target_of p)) p → Contains (blocks_listed (arrays_to levels (target_of p))) b)
-      × ((f : Image) (job : Job) → content f → IsItsJob f p (inputs_given list pool levels parents) job → AreUsed space (blocks_listed job.arrays) → HasBegun f job p → IsBadInput f job.arrays b)
+      × ((f : Image) → content f → AreUsed space (blocks_listed (arrays_to levels (target_of p))) → ReadsOf f (arrays_to levels (target_of p)) p → IsBadInput f (arrays_to levels (target_of p)) b)
       → Contains (blocks_listed (arrays_there levels)) b
-      × ((f : Image) → content f → AreUsed space (blocks_listed (arrays_there levels)) → HaveFewLeads f m levels → IsBadInput f (arrays_there levels) b)
+      × ((f : Image) → content f → AreUsed space (blocks_listed (arrays_there levels)) → IsBadInput f (arrays_there levels) b)
   blamed content space b told = (
     block_there levels (target_of p) b (told.0 (subst (λ (st : Stage). IsReadFrom (arrays_to levels (target_of p)) st) (sym begun.stage) tt)),
-    λ f exposed used few.
-        let job : Job = record { parents = m.parents; horizon = length m.parents; purges = p.task.purges; zero = m.entries; arrays = arrays_to levels (target_of p) } in
-        let its : IsItsJob f p (inputs_given list pool levels parents) job = record {
-          over = record { zero_is = sym entries_are; arrays_are = refl; few = few (target_of p) };
-          tree = record { rooted = subst IsTree parents_are rooted; same = λ v lt. ap (λ (ps : Parents). parent_of ps v) (sym parents_are) };
-          horizon = sym horizon_is;
-          purges = refl;
-        } in
-        let bad = told.1 f job exposed its (λ d of. used d (block_there levels (target_of p) d of)) (begun_nothing list levels mem versions id p begun f job) in
+    λ f exposed used.
+        let bad =
+        told.1 f exposed (λ d of. used d (block_there levels (target_of p) d of)) (subst (λ (st : Stage). IsReadOf f (arrays_to levels (target_of p)) st) (sym begun.stage) tt) in
         record { array = bad.array; one = array_there levels (target_of p) bad.array bad.one; misfit = bad.misfit },
   )
 

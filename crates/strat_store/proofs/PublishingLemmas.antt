@@ -10,7 +10,7 @@ use Rattle.strat_crash.proofs.MomentLemmas.{now_since_start, settled_at, at_told
 use Rattle.strat_format.specs.Layout.{region_at, first_free}
 use Rattle.strat_format.specs.SuperBlock.{Super, newest_in}
 use Rattle.strat_gate.specs.Laying.{LaysOver, OldOrNew}
-use Rattle.strat_journal.specs.Log.{Log, region_begun, IsRegionShut}
+use Rattle.strat_journal.specs.Log.{Log, region_turned, IsRegionShut}
 use Rattle.strat_recovery.specs.StateTable.{table_of}
 use Rattle.strat_standing.specs.Appending.{IsLogOf}
 use Rattle.strat_standing.specs.Contents.{Contents, contents_state}
@@ -61,7 +61,7 @@ module _ (v0 v1 : DiskView) (slot : ℕ) (sb : Super) (log : Log) (x y : Content
     ready = computed_prepared v0 v1 x y c.made c.taken c.kept c.space c.others c.stands c.was c.next c.says c.used c.manifest reads durable leaves1
 
     -- a journal that turned is that of the next contents
-    pub next_of : (turned : Log) → turned ≡ region_begun log → IsLogOf y turned
+    pub next_of : (turned : Log) → turned ≡ region_turned log → IsLogOf y turned
     next_of turned is = subst (IsLogOf y) (sym is) (turned_log x y log ready.next c.log_is)
 
     module _ (v2 : DiskView) (torn : TearsOnly v1 v2 (4096 * slot) 4096) (time : Passes v1 v2)

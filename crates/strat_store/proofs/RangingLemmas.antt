@@ -17,9 +17,11 @@ use Rattle.strat_base.specs.declared.failures.Fault.{Fault}
 use Rattle.strat_base.specs.declared.failures.Fault.TheVariants as fault
 use Rattle.strat_crash.specs.Image.{Image}
 use Rattle.strat_crash.specs.Moments.{DiskView}
-use Rattle.strat_cursor.specs.Looking.{levels_there, arrays_there, AreInOrder, AreCachedFrom, LooksThrough, NamesNoBlock, HaveOwnIds}
-use Rattle.strat_cursor.specs.Ranges.{content_on, seen_in, arrays_in_view, arrays_picked, FillsPage, IsMapSeen, IsPageOf}
-use Rattle.strat_cursor.specs.Views.{zeros_in, IsReadable, TellsPage}
+use Rattle.strat_cursor.proofs.MapFound.{map_found}
+use Rattle.strat_cursor.proofs.HoldingLemmas.{asked_cached, asked_ordered, asked_own}
+use Rattle.strat_cursor.specs.Looking.{levels_there, arrays_asked, arrays_there, AreInOrder, AreCachedFrom, LooksThrough, NamesNoBlock, HaveOwnIds}
+use Rattle.strat_cursor.specs.Ranges.{content_on, seen_in, arrays_picked, FillsPage, IsMapSeen, IsPageOf}
+use Rattle.strat_cursor.specs.Views.{arrays_read, zeros_in, IsReadable, TellsPage}
 use Rattle.strat_cursor.specs.declared.view.View.{View}
 use Rattle.strat_format.specs.Arrays.{block_on}
 use Rattle.strat_level.specs.Levels.{desc_for}
@@ -65,49 +67,57 @@ few_picked h (x ∷ xs) =
       | Some a ↦ omega (arith, rest)
     ]
 
--- the arrays of levels that are for a version
-abbrev pub picked_of : Parents → List (Option LevelDesc) → ℕ → List ArrayDesc
-picked_of parents levels v = filter_map (λ level. desc_for parents level v) (levels_there levels)
-
-pub few_arrays : (parents : Parents) (levels : List (Option LevelDesc)) (v : ℕ) → length levels ≡ 22 → length (picked_of parents levels v) ≤ 22
+-- no more arrays are asked than there are levels
+pub few_arrays : (parents : Parents) (levels : List (Option LevelDesc)) (v : ℕ) → length levels ≡ 22 → length (arrays_asked parents levels v) ≤ 22
 few_arrays parents levels v count = omega (arith, count, few_picked (λ level. desc_for parents level v) (levels_there levels), few_picked (λ (level : Option LevelDesc). level) levels)
 
 -- what is seen through the arrays that are picked is what is looked up through the levels
 seen_is : (f : Image) (parents : Parents) (entries : List Entry) (levels : List (Option LevelDesc)) (v : ℕ) (key : List ℕ)
-    → seen_in f parents (entries ∷ []) (picked_of parents levels v) v key ≡ looked_up (on_disk f) parents (entries ∷ []) (levels_there levels) v key
+    → seen_in f parents (entries ∷ []) (arrays_asked parents levels v) v key ≡ looked_up (on_disk f) parents (entries ∷ []) (levels_there levels) v key
 seen_is f parents entries levels v key =
     ap (λ (lists : List (List Entry)). first_live parents (entries ∷ lists) v key) (map_picked (content_on f) (λ level. desc_for parents level v) (levels_there levels))
 
-pub map_seen : (f : Image) (parents : Parents) (entries : List Entry) (levels : List (Option LevelDesc)) (v : ℕ) (m : Pairs) → IsMapAsked f parents entries levels v m → IsMapSeen f parents (entries ∷ []) (picked_of parents levels v) v m
+pub map_seen : (f : Image) (parents : Parents) (entries : List Entry) (levels : List (Option LevelDesc)) (v : ℕ) (m : Pairs) → IsMapAsked f parents entries levels v m → IsMapSeen f parents (entries ∷ []) (arrays_asked parents levels v) v m
 map_seen f parents entries levels v m is = record {
   ordered = is.ordered;
   each = λ key. is.each key ∙ ap (λ (o : Option Entry). option_and_then (λ e. e.value) o) (sym (seen_is f parents entries levels v key));
 }
 
+pub map_asked : (f : Image) (parents : Parents) (entries : List Entry) (levels : List (Option LevelDesc)) (v : ℕ) → (m : Pairs) × IsMapAsked f parents entries levels v m
+map_asked f parents entries levels v =
+    let seen = map_found f parents (entries ∷ []) (arrays_asked parents levels v) v in (
+      seen.0,
+      record {
+        ordered = seen.1.ordered;
+        each = λ key. seen.1.each key ∙ ap (λ (o : Option Entry). option_and_then (λ e. e.value) o) (seen_is f parents entries levels v key);
+      },
+    )
+
 -- what a scan through level 0 and levels says
 abbrev pub FindsRange : Option Image → Parents → List Entry → List (Option LevelDesc) → ℕ → List ℕ → List ℕ → ℕ → Blocks → TheirPairs → Bool → Type 0
 FindsRange content parents entries levels n lo hi limit c out more =
-    (f : Image) (next : ℕ) → content ≡ Some f → AreInOrder f (arrays_there levels) → HaveOwnIds (arrays_there levels) → AreCachedFrom f next (arrays_there levels) c
-    → (m : Pairs) → IsMapSeen f parents (entries ∷ []) (picked_of parents levels n) n m → IsPageOf (range m lo hi) limit out more
+    (f : Image) (next : ℕ) → content ≡ Some f → AreInOrder f (arrays_asked parents levels n) → HaveOwnIds (arrays_there levels) → AreCachedFrom f next (arrays_asked parents levels n) c
+    → (m : Pairs) → IsMapSeen f parents (entries ∷ []) (arrays_asked parents levels n) n m → IsPageOf (range m lo hi) limit out more
 
 -- a scan through a view of level 0 and levels says so
 pub finds_range : (content : Option Image) (view : View) (parents : Parents) (entries : List Entry) (levels : List (Option LevelDesc)) (n : ℕ) (lo hi : List ℕ) (limit : ℕ) (c : Blocks) (out : TheirPairs) (r : Result Bool Fault)
-    → view.tree.now.parents ≡ parents → zeros_in view ≡ entries ∷ [] → arrays_in_view view.levels ≡ arrays_there levels
-    → ((ps : Parents) → arrays_picked ps view.levels n ≡ picked_of ps levels n)
-    → IfOk r (λ more. (f : Image) (next : ℕ) → content ≡ Some f → IsReadable f next view c → TellsPage f view n lo hi limit out more)
+    → view.tree.now.parents ≡ parents → zeros_in view ≡ entries ∷ []
+    → ((ps : Parents) → arrays_picked ps view.levels n ≡ arrays_asked ps levels n)
+    → IfOk r (λ more. (f : Image) (next : ℕ) → content ≡ Some f → IsReadable f next view n c → TellsPage f view n lo hi limit out more)
     → IfOk r (FindsRange content parents entries levels n lo hi limit c out)
-finds_range content view parents entries levels n lo hi limit c out (Err e) tree zeros there picked tells = tt
-finds_range content view parents entries levels n lo hi limit c out (Ok more) tree zeros there picked tells = λ f next exposed ordered own cached m seen.
+finds_range content view parents entries levels n lo hi limit c out (Err e) tree zeros picked tells = tt
+finds_range content view parents entries levels n lo hi limit c out (Ok more) tree zeros picked tells = λ f next exposed ordered own cached m seen.
+    let read : arrays_read view n ≡ arrays_asked parents levels n = picked view.tree.now.parents ∙ ap (λ (ps : Parents). arrays_asked ps levels n) tree in
     tells f next exposed
     (record {
-      ordered = subst (λ (rs : List ArrayDesc). AreInOrder f rs) (sym there) ordered;
-      ids = subst (λ (rs : List ArrayDesc). HaveOwnIds rs) (sym there) own;
-      cached = subst (λ (rs : List ArrayDesc). AreCachedFrom f next rs c) (sym there) cached;
+      ordered = subst (λ (rs : List ArrayDesc). AreInOrder f rs) (sym read) ordered;
+      ids = subst (λ (rs : List ArrayDesc). HaveOwnIds rs) (sym read) (asked_own parents levels n own);
+      cached = subst (λ (rs : List ArrayDesc). AreCachedFrom f next rs c) (sym read) cached;
     })
     m
     (subst (λ (rs : List ArrayDesc). IsMapSeen f view.tree.now.parents (zeros_in view) rs n m) (sym (picked view.tree.now.parents))
-    (subst (λ (ls : List (List Entry)). IsMapSeen f view.tree.now.parents ls (picked_of view.tree.now.parents levels n) n m) (sym zeros)
-    (subst (λ (ps : Parents). IsMapSeen f ps (entries ∷ []) (picked_of ps levels n) n m) (sym tree) seen)))
+    (subst (λ (ls : List (List Entry)). IsMapSeen f view.tree.now.parents ls (arrays_asked view.tree.now.parents levels n) n m) (sym zeros)
+    (subst (λ (ps : Parents). IsMapSeen f ps (entries ∷ []) (arrays_asked ps levels n) n m) (sym tree) seen)))
 
 -- a page that is told is the answer
 pub page_told : (pairs : Pairs) (limit : ℕ) (out : TheirPairs) (more : Bool) → IsPageOf pairs limit out more → as_told (reply_of_scan (Ok more)) out ≡ page pairs limit
@@ -116,7 +126,7 @@ page_told pairs limit out more is = λ j. record { reply = reply.Pairs (is.more_
 -- unless a fault ended the scan it is so
 pub range_told : (content : Option Image) (parents : Parents) (entries : List Entry) (levels : List (Option LevelDesc)) (n : ℕ) (lo hi : List ℕ) (limit : ℕ) (c : Blocks) (out : TheirPairs) (r : Result Bool Fault)
     → IfOk r (FindsRange content parents entries levels n lo hi limit c out) → is_fault (reply_of_scan r) ≡ false
-    → (f : Image) (next : ℕ) (m : Pairs) → content ≡ Some f → AreInOrder f (arrays_there levels) → HaveOwnIds (arrays_there levels) → AreCachedFrom f next (arrays_there levels) c
+    → (f : Image) (next : ℕ) (m : Pairs) → content ≡ Some f → AreInOrder f (arrays_asked parents levels n) → HaveOwnIds (arrays_there levels) → AreCachedFrom f next (arrays_asked parents levels n) c
     → IsMapAsked f parents entries levels n m → as_told (reply_of_scan r) out ≡ page (range m lo hi) limit
 range_told content parents entries levels n lo hi limit c out (Ok more) tells none f next m exposed ordered own cached is =
     page_told (range m lo hi) limit out more (tells f next exposed ordered own cached m (map_seen f parents entries levels n m is))
@@ -196,7 +206,8 @@ module _ (v : DiskView) (s : Held) (levels : List Level) (whole : IsConsistent s
     there n lo hi limit out (Ok more) is tells none names =
         let may = whole_read s whole in
         let told : IsPageOf (range (table_pairs n) lo hi) limit out more =
-        tells w.stands.content s.chained.manifest.next_array w.stands.exposed (ordered v s levels whole w) may.own (cached v s levels whole w) (table_pairs n)
+        tells w.stands.content s.chained.manifest.next_array w.stands.exposed (asked_ordered s.memory.parents s.levels n w.stands.content (ordered v s levels whole w)) may.own
+        (asked_cached s.memory.parents s.levels n w.stands.content s.chained.manifest.next_array s.cached (cached v s levels whole w)) (table_pairs n)
         (map_seen w.stands.content s.memory.parents s.memory.entries s.levels n (table_pairs n) (table_asked n is)) in
         inl (page_told (range (table_pairs n) lo hi) limit out more told ∙ sym (stepped n lo hi limit is), stays v s levels whole w now d looks leaves)
     there n lo hi limit out (Err fault.Device) is tells none names =

@@ -16,7 +16,7 @@ use Rattle.strat_format.specs.Manifest.{Manifest, are_older, versions_in}
 use Rattle.strat_format.proofs.DamageLemmas.{and_then_ok, passed_ok, found_ok, put_first_ok}
 use Rattle.strat_base.specs.Change.{Change}
 use Rattle.strat_base.specs.Tree.{Parents}
-use Rattle.strat_format.specs.Records.{Logged, journal_in_one}
+use Rattle.strat_format.specs.Records.{Logged, journal_in_two}
 use Rattle.strat_recovery.specs.Head.{Head}
 use Rattle.strat_recovery.specs.Opened.{parents_in}
 use Rattle.strat_recovery.specs.Opening.{belongs, recover_manifest, accepted_in, recover_journal, recover_head, recover_slot, recover}
@@ -130,7 +130,7 @@ accepted_in_turn changes_max versions_max parents n (l ∷ logged) journal e =
         (and_from (is_accepted changes_max versions_max parents n l.change) (are_accepted changes_max versions_max (tree_after parents l.change) (suc n) parts.0) is (rest parts.0 parts.1))
 
 -- a journal that was read and accepted is what recovery finds, and so is one that is damaged
-pub journal_recovered : (c : Image) (sb : Super) (m : Manifest) (logged : List Logged) (r : Read (List Change)) → journal_in_one c sb.mem sb.region ≡ Ok logged
+pub journal_recovered : (c : Image) (sb : Super) (m : Manifest) (logged : List Logged) (r : Read (List Change)) → journal_in_two c sb.mem sb.region ≡ Ok logged
     → accepted_in sb.changes_max sb.versions_max (parents_in m) m.changes logged ≡ r → recover_journal c sb m ≡ r
 journal_recovered c sb m logged r read accepted =
     ap (λ (x : Read (List Logged)). and_then x (accepted_in sb.changes_max sb.versions_max (parents_in m) m.changes)) read ∙ accepted

@@ -80,6 +80,12 @@ calm_short trouble.NoMemory told is calm = refl
 calm_short trouble.Device told is calm = let fault : true ≡ false = sym (ap tells_fault is) ∙ calm in absurd (cc)
 calm_short (trouble.Damaged b) told is calm = let fault : true ≡ false = sym (ap tells_fault is) ∙ calm in absurd (cc)
 
+-- a trouble that is told as want of memory is want of memory
+pub short_of : (t : Trouble) (told : Refusal) → told ≡ refusal_of_trouble t → reply.Refused told ≡ reply.Refused why.NoMemory → t ≡ trouble.NoMemory
+short_of trouble.NoMemory told is short = refl
+short_of trouble.Device told is short = absurd (let e : reply.Refused why.DeviceFault ≡ reply.Refused why.NoMemory = sym (ap reply.Refused is) ∙ short in cc)
+short_of (trouble.Damaged b) told is short = absurd (let e : reply.Refused (why.Damaged b) ≡ reply.Refused why.NoMemory = sym (ap reply.Refused is) ∙ short in cc)
+
 -- a journal that has room for none begins anew, and so does an empty one
 begun : (mem n : ℕ) → n ≡ 0 → fill_after mem n ≡ 1
 begun mem n none = ap (fill_after mem) none ∙ by_test (ltb 0 mem)

@@ -58,7 +58,6 @@ use Rattle.strat_cursor.specs.Cursors.{retired_all}
 use Rattle.strat_cursor.specs.Held.{HeldCursors}
 use Rattle.strat_cursor.specs.Looking.{AreCachedFrom, arrays_there}
 use Rattle.strat_store.specs.Memory.{Memory, IsMemoryOf, emptied, prepared, renewed}
-use Rattle.strat_store.specs.Promoting.{HaveFewLeads}
 use Rattle.strat_store.specs.Publishing.{is_in_front, manifest_after}
 use Rattle.strat_store.specs.Settling.{held_next, contents_next, MayFollow, WritesBeside, IsReadied, ArePublishedAfter, ArePublishedTo, arrays_taken}
 
@@ -99,7 +98,7 @@ stands_ready v s x m w = record { stands = w.stands; held = w.held; cached = w.c
 pub damaged_ready : (content : Option Image) (m k : Memory) (o : Option ℕ) (n : ℕ) (levels : List (Option LevelDesc)) (b : ℕ) → k ≡ prepared m o n → IsDamagedIn content k levels b → IsDamagedIn content m levels b
 damaged_ready content m k o n levels b is bad =
     let here : IsDamagedIn content (prepared m o n) levels b = subst (λ (n : Memory). IsDamagedIn content n levels b) is bad in
-    record { listed = here.listed; bad = λ f exposed few. here.bad f exposed few }
+    record { listed = here.listed; bad = here.bad }
 
 -- memory that is prepared has the versions and the cursors of before, and room where there was room beside these
 pub still_ready : (m k now : Memory) (o : Option ℕ) (n : ℕ) → now ≡ k → k ≡ prepared m o n → (now.parents ≡ m.parents) × (now.cursors ≡ record m.cursors { room = now.cursors.room })
@@ -374,23 +373,8 @@ module _ (f : Image) (levels : List LevelDesc) (s : State) (read : all_some (lev
         ap (λ (y : TaggedArray). length (own_leads y)) entries.2 ∙ sym count ∙ ap (λ (y : TaggedArray). y.leads) (sym entries.2),
       )
 
-  leads_counted : length (leads_in f a) ≡ a.leads
-  leads_counted =
-      let one = whole_array in
-      ap (λ (es : List Entry). length (lead_entries a.versions es)) (read_whole f None (blocks_of a.extents) one.0 one.1 one.2).0 ∙ one.3
-
   no_misfit_in : misfit_in f a ≡ None
   no_misfit_in = let one = whole_array in (read_whole f None (blocks_of a.extents) one.0 one.1 one.2).1
-
-leads_summed_up : (f : Image) (arrays : List ArrayDesc) → ((a : ArrayDesc) → Among a arrays → length (leads_in f a) ≡ a.leads)
-    → length (grouped_entries (map (leads_in f) arrays)) ≡ sum_by (λ (a : ArrayDesc). a.leads) arrays
-leads_summed_up f [] each = refl
-leads_summed_up f (a ∷ arrays) each =
-    let rest = leads_summed_up f arrays (λ d among. each d (inr among)) in
-    let here = each a (inl refl) in
-    let both = length-append (leads_in f a) (grouped_entries (map (leads_in f) arrays)) in
-    let cons = sum_by-cons (λ (d : ArrayDesc). d.leads) a arrays in
-    omega (arith, rest, here, both, cons)
 
 -- so none of their blocks is bad for a promotion
 none_bad : (f : Image) (levels : List LevelDesc) (s : State) (b : ℕ) (arrays : List ArrayDesc) → all_some (level_on f) levels ≡ Some s.levels → IsSound s
@@ -400,7 +384,7 @@ none_bad f levels s b arrays read sound at input =
     cc
 
 -- no store that stands on its disk has such a block
-pub none_damaged : (v : DiskView) (s : Held) (x : Contents) (b : ℕ) → IsConsistent s → StandsWith v s x → ((f : Image) → Exposes v f → HaveFewLeads f s.memory s.levels → IsBadInput f (arrays_there s.levels) b) → ⊥
+pub none_damaged : (v : DiskView) (s : Held) (x : Contents) (b : ℕ) → IsConsistent s → StandsWith v s x → ((f : Image) → Exposes v f → IsBadInput f (arrays_there s.levels) b) → ⊥
 none_damaged v s x b whole stands bad =
     let f : Image = stands.stands.content in
     let read = (stands.stands.reads f stands.stands.left).lies.arrays in
@@ -409,17 +393,7 @@ none_damaged v s x b whole stands bad =
     let at : (a : ArrayDesc) → Among a arrays → Among a (descriptors x.chained.manifest) = λ a of. subst (λ (rs : List ArrayDesc). Among a rs) same of in
     let levels : List LevelDesc = x.chained.manifest.levels in
     let st : State = contents_state x in
-    let few : HaveFewLeads f s.memory s.levels = λ j.
-    let front = to_front s.levels j in
-    let part : List ArrayDesc = arrays_to s.levels j in
-    let leads = leads_summed_up f part (λ a of. leads_counted f levels st read stands.stands.sound a (at a (contained_among arrays a (array_there s.levels j a (among_contained part a of))))) in
-    let both = length-append s.memory.entries (grouped_entries (map (leads_in f) part)) in
-    let two = sum_by-append (λ (d : ArrayDesc). d.leads) part front.0 in
-    let all = ap (λ (rs : List ArrayDesc). sum_by (λ (d : ArrayDesc). d.leads) rs) front.1 in
-    let sums = leads_summed s.levels (length s.memory.entries) whole.placed.count in
-    let most = (whole_promotes s whole).few in
-    omega (arith, leads, both, two, all, sums, most) in
-    none_bad f levels st b arrays read stands.stands.sound at (bad f stands.stands.exposed few)
+    none_bad f levels st b arrays read stands.stands.sound at (bad f stands.stands.exposed)
 
 -- what was emptied
 emptied_next : (mem : ℕ) (gone : List ArrayDesc) (m k now : Memory) (o : Option ℕ) (n : ℕ) → now ≡ renewed mem gone k → k ≡ prepared m o n → now ≡ record (emptied mem m) { cursors = now.cursors }

@@ -34,7 +34,6 @@ use Rattle.strat_state.specs.State.{IsPaid}
 use Rattle.strat_store.specs.Applying.{IsDamagedIn}
 use Rattle.strat_store.specs.Held.{Held, ArePlaced, IsConsistent, StandsWith, contents_held}
 use Rattle.strat_cursor.specs.Looking.{arrays_there}
-use Rattle.strat_store.specs.Promoting.{HaveFewLeads}
 use Rattle.strat_store.specs.Publishing.{IsComputed, IsComputedBy, MayCompute, contents_after, manifest_after}
 use Rattle.strat_store.specs.Settling.{super_after, contents_next, WritesBeside, IsReadied}
 use Rattle.strat_store.proofs.WholeLemmas.{whole_computes}
@@ -106,23 +105,23 @@ used_held s space others own placed b of =
 -- the block that a promotion blames is damaged
 pub blames_held : (v : DiskView) (s : Held) (space : SpaceView) (others : List Extent) (b : ℕ) → IsSpaceOf space (contents_held s []) others → ArePlaced s.chained.manifest.levels s.levels
     → Contains (blocks_listed (arrays_there s.levels)) b
-    × ((f : Image) → Exposes v f → AreUsed space (blocks_listed (arrays_there s.levels)) → HaveFewLeads f s.memory s.levels → IsBadInput f (arrays_there s.levels) b)
+    × ((f : Image) → Exposes v f → AreUsed space (blocks_listed (arrays_there s.levels)) → IsBadInput f (arrays_there s.levels) b)
     → IsDamagedIn v.content s.memory s.levels b
 blames_held v s space others b own placed told = record {
   listed = listed_left (arrays_there s.levels) s.memory.cursors.retired b told.0;
-  bad = λ f exposed few. inr (told.1 f exposed (used_held s space others own placed) few);
+  bad = λ f exposed. inr (told.1 f exposed (used_held s space others own placed));
 }
 
 -- the next contents are computed where a store stands, and are those of the next superblock and manifest
 pub readied : (v w : DiskView) (s : Held) (x : Contents) (space after : SpaceView) (old_chain others : List Extent) (target : ℕ) (made : Option LevelDesc) (first size : ℕ) (chain : List Extent) (m : Manifest)
-    → IsConsistent s → StandsWith v s x → 0 < length s.log.list → blocks_of old_chain ≡ s.chained.blocks → ((levels : List Level) → IsSpaceOf space (contents_held s levels) others)
+    → IsConsistent s → StandsWith v s x → length s.log.list ≡ s.sb.mem → blocks_of old_chain ≡ s.chained.blocks → ((levels : List Level) → IsSpaceOf space (contents_held s levels) others)
     → ((y : Contents) (log : Log) (besides : List Extent) → MayCompute v space s.memory s.levels log y besides → y.chained.manifest ≡ s.chained.manifest → y.sb.mem ≡ s.sb.mem
     → IsComputedBy w after y s.memory log target made first size chain besides)
     → m ≡ manifest_after s.chained.manifest s.memory target made
     → IsReadied w s x (super_after s.sb first size) (record { manifest = m; blocks = blocks_of chain })
-readied v w s x space after old_chain others target made first size chain m whole stands logged chain_is own by m_is =
+readied v w s x space after old_chain others target made first size chain m whole stands full chain_is own by m_is =
     let here : IsSpaceOf space x others = subst (λ (y : Contents). IsSpaceOf space y others) (sym stands.held) (own x.levels) in
-    let c = by x s.log others (whole_computes v s x old_chain others space whole stands logged chain_is here) (ap (λ (y : Contents). y.chained.manifest) stands.held) (ap (λ (y : Contents). y.sb.mem) stands.held) in
+    let c = by x s.log others (whole_computes v s x old_chain others space whole stands full chain_is here) (ap (λ (y : Contents). y.chained.manifest) stands.held) (ap (λ (y : Contents). y.sb.mem) stands.held) in
     let new : Contents = contents_after x s.memory target made c.levels first size (blocks_of chain) in
     let sb = super_after s.sb first size in
     let same : new ≡ contents_next s sb (record { manifest = m; blocks = blocks_of chain }) c.levels =
@@ -132,11 +131,11 @@ readied v w s x space after old_chain others target made first size chain m whol
     record {
       levels = c.levels;
       computed = subst (λ (n : Contents). IsComputed w (1 - s.slot) n.sb s.log x n) same (subst (λ (k : ℕ). IsComputed w k new.sb s.log x new) slot c.computed);
-      paid = λ paid full.
+      paid = λ paid long.
           let f = stands.stands.content in
           let passed = read_passes f (contents_state x) (reads_state f x (stands.stands.reads f stands.stands.left)) in
           subst (λ (n : Contents). IsPaid (contents_state n)) same
-          (c.paid paid passed.few_updates (omega (arith, full, ap (λ (y : Contents). y.sb.mem) stands.held, ap (λ (y : Contents). length y.journal) stands.held)));
+          (c.paid paid passed.few_updates (omega (arith, long, ap (λ (y : Contents). y.sb.mem) stands.held, ap (λ (y : Contents). length y.journal) stands.held)));
     }
 
 -- the same of a superblock and a manifest that are these

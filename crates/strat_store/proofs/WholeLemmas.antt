@@ -198,13 +198,13 @@ whole_promotes s whole =
     }
 
 -- a whole store that stands may compute its next contents
-pub whole_computes : (v : DiskView) (s : Held) (x : Contents) (chain others : List Extent) (space : SpaceView) → IsConsistent s → StandsWith v s x → 0 < length s.log.list → blocks_of chain ≡ s.chained.blocks
+pub whole_computes : (v : DiskView) (s : Held) (x : Contents) (chain others : List Extent) (space : SpaceView) → IsConsistent s → StandsWith v s x → length s.log.list ≡ s.sb.mem → blocks_of chain ≡ s.chained.blocks
     → IsSpaceOf space x others → MayCompute v space s.memory s.levels s.log x others
-whole_computes v s x chain others space whole w logged chain_is own =
+whole_computes v s x chain others space whole w full chain_is own =
     let y : Contents = contents_held s x.levels in
     let held : MayCompute v space s.memory s.levels s.log y others = record {
       stands = subst (ContentsStand v) w.held w.stands;
-      logged = logged;
+      full = full;
       space = subst (λ (z : Contents). IsSpaceOf space z others) w.held own;
       memory = whole.memory;
       placed = whole.placed;

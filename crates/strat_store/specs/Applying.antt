@@ -27,8 +27,7 @@ use Rattle.strat_standing.specs.Standing.{ShowsTable}
 use Rattle.strat_store.specs.Held.{Held, StandsWith, arrays_held, position_with}
 use Rattle.strat_cursor.specs.Cursors.{is_opened}
 use Rattle.strat_cursor.specs.Looking.{LooksThrough, arrays_there}
-use Rattle.strat_store.specs.Memory.{Memory, refusal_of_change}
-use Rattle.strat_store.specs.Promoting.{HaveFewLeads}
+use Rattle.strat_store.specs.Memory.{Memory, prepared, refusal_of_change}
 
 -- the change that a command asks for, if it asks for one
 abbrev pub change_wanted : Request → Option Change
@@ -148,7 +147,7 @@ pub record TellsTroubleOf (before : DiskView) (old : Held) (request : Request) (
 pub record IsDamagedIn (content : Option Image) (m : Memory) (levels : List (Option LevelDesc))
     (b : ℕ) : Type 0 where
   pub listed : Contains (blocks_listed (arrays_held m levels)) b
-  pub bad : (f : Image) → content ≡ Some f → HaveFewLeads f m levels
+  pub bad : (f : Image) → content ≡ Some f
       → (block_on f b ≡ None) ⊎ IsBadInput f (arrays_there levels) b
 
 -- a look-up was answered as the table says, and the store stands as it did; or the device failed
@@ -158,9 +157,16 @@ IsLookedUp now new x request answer =
     ⊎ ((answer ≡ refusal why.DeviceFault) × (reaches_disk request ≡ true)
     × (accepts (step (table_of (contents_state x)) request).answer.reply ≡ true))
 
+-- a store holds what it held, but for the memory that stands ready for the next time, and may be spent
+abbrev pub HoldsTheSame : Held → Held → Type 0
+HoldsTheSame old new = new ≡ record old {
+  memory = prepared old.memory new.memory.ready new.memory.cursors.room;
+  spent = new.spent;
+}
+
 -- a command that asks for no change leaves the disk as it was, and the cache but for blocks that it adds as they
 -- stand there; a change that memory refuses leaves all as it was, and one that it takes is told that it is done, or of want of
--- memory or a fault; no change caches a block or lets go of one, and one with any reply but those after which a store may have
+-- memory, which leaves all that is held, or of a fault; no change caches a block or lets go of one, and one with any reply but those after which a store may have
 -- written leaves the disk as it was
 pub record IsUntouched (before now : DiskView) (request : Request) (old : Held) (told : Reply)
     (new : Held) : Type 0 where
@@ -172,6 +178,8 @@ pub record IsUntouched (before now : DiskView) (request : Request) (old : Held) 
       × OnlyReads before now
   pub taken : (c : Change) → change_wanted request ≡ Some c
       → refusal_of_change old.memory c ≡ None → may_write told ≡ true
+  pub short : (c : Change) → change_wanted request ≡ Some c → told ≡ reply.Refused why.NoMemory
+      → HoldsTheSame old new
   pub cached : (c : Change) → change_wanted request ≡ Some c → new.cached ≡ old.cached
   pub calm : (is_change request ≡ true → may_write told ≡ false) → OnlyReads before now
 

@@ -8,7 +8,6 @@ use Rattle.strat_base.specs.declared.descriptors.ArrayDesc.{ArrayDesc}
 use Rattle.strat_cursor.specs.Cursors.{retired_all}
 use Rattle.strat_crash.specs.Image.{Image}
 use Rattle.strat_cursor.specs.Held.{AreRowsOf, HeldCursor, HeldCursors, no_cursors}
-use Rattle.strat_cursor.specs.Pins.{arrays_asked}
 use Rattle.strat_model.specs.Table.{Cursor, Table}
 use Rattle.strat_model.specs.declared.replies.Refusal.{Refusal}
 use Rattle.strat_model.specs.declared.replies.Refusal.TheVariants as why
@@ -18,6 +17,7 @@ use Rattle.strat_recovery.specs.Head.{Head, head_versions, head_updates, head_ch
 use Rattle.strat_state.specs.Setting.{set_entry, set_all}
 use Rattle.strat_recovery.specs.StateTable.{table_of}
 use Rattle.strat_state.specs.State.{State, update_of}
+use Rattle.strat_cursor.specs.Looking.{arrays_asked}
 
 -- the limits of a store, its versions, what it accepted, the entries of level 0 in their order, for how
 -- many more updates level 0 has room, for how many the next level 0 has, where one stands ready, and the

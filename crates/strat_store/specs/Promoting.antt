@@ -5,9 +5,7 @@ use Rattle.strat_base.specs.declared.descriptors.LevelDesc.{LevelDesc}
 use Rattle.strat_crash.specs.Image.{Image}
 use Rattle.strat_format.specs.Arrays.{all_some}
 use Rattle.strat_level.specs.Levels.{level_numbered, leads_if_any}
-use Rattle.strat_plan.specs.Groups.{grouped_entries}
-use Rattle.strat_promote.specs.Job.{AreReadable, arrays_to}
-use Rattle.strat_promote.specs.Leads.{leads_in}
+use Rattle.strat_promote.specs.Job.{AreReadable}
 use Rattle.strat_promote.specs.Replacing.{LeavesTheSame}
 use Rattle.strat_promote.specs.StateInputs.{LeavesPaid}
 use Rattle.strat_promotion.specs.Promoted.{promoted, levels_behind}
@@ -41,11 +39,6 @@ pub record HoldInMemory (f : Image) (s : State) (m : Memory) (levels : List (Opt
   pub numbered : (n : ℕ) (level : LevelDesc) → level_numbered levels n ≡ Some level
       → level.number ≡ n
   pub parents : m.parents ≡ versions_of s
-
--- in an image level 0 and the arrays down to each level have no more leads than any store
-abbrev pub HaveFewLeads : Image → Memory → List (Option LevelDesc) → Type 0
-HaveFewLeads f m levels = (j : ℕ)
-    → length (grouped_entries (m.entries ∷ map (leads_in f) (arrays_to levels j))) ≤ 2 ^ 24
 
 -- the level that was made of a state and of its levels down to a target stands in an image, in new arrays. In their place it leaves
 -- a sound state that says the same, and that is paid for

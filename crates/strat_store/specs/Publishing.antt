@@ -109,12 +109,12 @@ contents_after old m target made levels first size blocks = record {
   levels = levels;
 }
 
--- a level was promoted and then a manifest was written, in blocks that were free, and the old contents stood before: the
--- space before, the one between and the one after. Some blocks that contents do not name were used before, and some are after
+-- a level was promoted and then a manifest was written, in blocks that were free, and the old contents stood before, whose
+-- journal just filled its region: the space before, the one between and the one after. Some blocks that contents do not name were used before, and some are after
 pub record IsWrittenBeside (v w u : DiskView) (s t r : SpaceView) (old new : Contents)
     (target : ℕ) (made : Option LevelDesc) (besides others : List Extent) : Type 0 where
   pub stands : ContentsStand v old
-  pub logged : 0 < length old.journal
+  pub full : length old.journal ≡ old.sb.mem
   pub space : IsSpaceOf s old besides
   pub promoting : TearsBlocks (is_free s) v w
   pub taken : UsesMore s (extents_of (arrays_made made)) t
@@ -131,12 +131,12 @@ pub record IsWrittenBeside (v w u : DiskView) (s t r : SpaceView) (old new : Con
       old.chained.manifest.next_array target made
   pub levels : new.levels ≡ promoted.says.fresh ++ levels_behind target old.levels
 
--- a store may compute its next contents: its contents stand, memory is theirs, the space has their blocks and some others
+-- a store may compute its next contents: its contents stand, their journal just fills its region, memory is theirs, the space has their blocks and some others
 -- used, and their chain is of these extents
 pub record MayCompute (v : DiskView) (s : SpaceView) (m : Memory) (levels : List (Option LevelDesc))
     (log : Log) (x : Contents) (others : List Extent) : Type 0 where
   pub stands : ContentsStand v x
-  pub logged : 0 < length x.journal
+  pub full : length x.journal ≡ x.sb.mem
   pub space : IsSpaceOf s x others
   pub memory : IsMemoryOf (contents_head x) m
   pub placed : ArePlaced x.chained.manifest.levels levels

@@ -1,15 +1,16 @@
 -- What a store says of a range, and of any look-up.
-use Rattle.std.specs.Prelude.{◌≡◌, ◌≢◌, ◌⊎◌, ℕ, Bool, true, false, if◌then◌else◌, List, [], ◌∷◌, length, Contains, Option, Result, Ok, Err}
+use Rattle.std.specs.Prelude.{◌≡◌, ◌≢◌, ◌⊎◌, ℕ, Bool, true, false, if◌then◌else◌, List, [], ◌∷◌, length, Contains, Option, None, Result, Ok, Err}
 use Rattle.strat_base.specs.declared.limits.TheConstants.{CURSORS_MAX}
 use Rattle.strat_base.specs.Entries.{Entry}
 use Rattle.strat_base.specs.Tree.{Parents, is_known}
+use Rattle.strat_base.specs.declared.descriptors.ArrayDesc.{ArrayDesc}
 use Rattle.strat_base.specs.declared.descriptors.LevelDesc.{LevelDesc}
 use Rattle.strat_base.specs.declared.failures.Fault.{Fault}
 use Rattle.strat_base.specs.declared.failures.Fault.TheVariants as fault
 use Rattle.strat_crash.specs.Image.{Image}
-use Rattle.strat_cursor.specs.Cursors.{MayGoOn, is_opened, pairs_left}
+use Rattle.strat_cursor.specs.Cursors.{MayGoOn, arrays_of_number, is_opened, pairs_left}
 use Rattle.strat_cursor.specs.Held.{HeldCursor, HeldCursors, IsMapHeld}
-use Rattle.strat_cursor.specs.Looking.{AreCachedAs, AreInOrder, arrays_there, levels_there}
+use Rattle.strat_cursor.specs.Looking.{AreCachedAs, AreInOrder, ReadsArrays, arrays_asked, levels_there}
 use Rattle.strat_cursor.specs.Ranges.{FillsPage}
 use Rattle.strat_model.specs.Answer.{Answer, plain, refusal}
 use Rattle.strat_model.specs.Kept.{IsMap}
@@ -20,6 +21,7 @@ use Rattle.strat_model.specs.declared.replies.Refusal.TheVariants as why
 use Rattle.strat_model.specs.declared.replies.Reply.{Reply}
 use Rattle.strat_model.specs.declared.replies.Reply.TheVariants as reply
 use Rattle.strat_recovery.specs.Asked.{asked}
+use Rattle.strat_store.specs.Applying.{change_wanted}
 use Rattle.strat_store.specs.Getting.{MayTellOfKey}
 use Rattle.strat_store.specs.Held.{Held}
 use Rattle.strat_store.specs.Memory.{Memory, info_told, stat_told}
@@ -83,20 +85,38 @@ TellsOfCursor f s number limit answer =
     → MayGoOn f s.chained.manifest.next_array c s.cached
     → IsMapHeld f s.memory.parents c pairs → answer ≡ page (pairs_left pairs c) limit)
 
--- in an image the arrays of a store's levels have entries in order, and their cached blocks are as they stand there
-pub record AreReadAs (f : Image) (s : Held) : Type 0 where
-  pub ordered : AreInOrder f (arrays_there s.levels)
-  pub cached : AreCachedAs f (arrays_there s.levels) s.cached
+-- in an image the arrays that are asked at a version have entries in order, and their cached blocks are as they stand there;
+-- of each level one is asked at most
+pub record AreReadAs (f : Image) (s : Held) (v : ℕ) : Type 0 where
+  pub ordered : AreInOrder f (arrays_asked s.memory.parents s.levels v)
+  pub cached : AreCachedAs f (arrays_asked s.memory.parents s.levels v) s.cached
 
--- a command that asks for no change was answered as what is in memory says, and the arrays where they are read as an image
--- has them
+-- the arrays that are asked at a version, and none where it is not there
+abbrev pub arrays_of_version : Held → ℕ → List ArrayDesc
+arrays_of_version s version =
+    if is_known s.memory.parents version then arrays_asked s.memory.parents s.levels version else []
+
+-- the arrays that a look-up may read: those of its version, or of its cursor. No other command reads any
+abbrev pub arrays_wanted : Held → Request → List ArrayDesc
+arrays_wanted s (Get version key) = arrays_of_version s version
+arrays_wanted s (Scan version lo hi limit) = arrays_of_version s version
+arrays_wanted s (NextPairs number limit) = arrays_of_number number s.memory.cursors.opened
+arrays_wanted s _ = []
+
+-- a command that asks for no change reads no more of its arrays than a search in each and each block once more
+abbrev pub ReadsForLook : Held → Request → ℕ → ℕ → Type 0
+ReadsForLook s request before now =
+    change_wanted request ≡ None → ReadsArrays (arrays_wanted s request) before now
+
+-- a command that asks for no change was answered as what is in memory says, and the arrays of its version or of its cursor where
+-- they are read as an image has them, whatever is bad in others
 abbrev pub TellsFrom : Image → Held → Request → Answer → Type 0
 TellsFrom f s (Get version key) answer = TellsOfVersion s.memory version answer
-    (MayTellOfKey answer.reply × (AreReadAs f s
+    (MayTellOfKey answer.reply × (AreReadAs f s version
     → answer ≡ found key (asked f s.memory.parents (s.memory.entries ∷ [])
     (levels_there s.levels) version key)))
 TellsFrom f s (Scan version lo hi limit) answer = TellsOfVersion s.memory version answer
-    (MayTellOfRange answer.reply × (AreReadAs f s → (pairs : Pairs)
+    (MayTellOfRange answer.reply × (AreReadAs f s version → (pairs : Pairs)
     → IsMapAsked f s.memory.parents s.memory.entries s.levels version pairs
     → answer ≡ page (range pairs lo hi) limit))
 TellsFrom f s (Info version) answer =

@@ -21,7 +21,7 @@ ghost use Rattle.strat_standing.specs.Contents.{Contents, contents_state};
 ghost use Rattle.strat_standing.specs.Standing.{ShowsTable, ContentsStand};
 ghost use Rattle.strat_state.specs.Sound.{Takes};
 ghost use Rattle.strat_state.specs.State.{IsPaid};
-ghost use Rattle.strat_store.specs.Applying.{IsAppliedTo, FollowsStep, FailsAsTold, IsDamagedIn, is_fault, may_write, refusal_of_trouble};
+ghost use Rattle.strat_store.specs.Applying.{IsAppliedTo, FollowsStep, FailsAsTold, HoldsTheSame, IsDamagedIn, is_fault, may_write, refusal_of_trouble};
 ghost use Rattle.strat_store.specs.Cursoring.{LeavesCursors};
 ghost use Rattle.strat_store.specs.Held.{IsConsistent, IsOnDisk, StandsWith};
 ghost use Rattle.strat_store.specs.Memory.{KeepsRows, refusal_of_change};
@@ -152,7 +152,9 @@ fn carry_out_anew<D: Disk>(
     ensures damaged { (b : ℕ) → result ≡ reply.Refused (why.Damaged b)
         → IsDamagedIn (D.view disk.old).content held.old.memory held.old.published.levels b }
     ensures same { (held.new.sb.mem ≡ held.old.sb.mem) × (result ≢ reply.Found)
-        × (may_write result ≡ true) × KeepsRows held.old.memory held.new.memory }
+        × (may_write result ≡ true) × KeepsRows held.old.memory held.new.memory
+        × (result ≡ reply.Refused why.NoMemory → (cached : Blocks)
+        → HoldsTheSame (held_of held.old cached) (held_after held.new cached result)) }
     ensures time { Passes (D.view disk.old) (D.view disk.new) }
     ensures cause { FailsAsTold (D.faults disk.old) (D.faults disk.new) result }
 {
@@ -193,7 +195,8 @@ pub(crate) fn change<D: Disk>(
         → (result ≡ reply.Refused r) × (held.new ≡ held.old) × (disk.new ≡ disk.old) }
     ensures none { (refusal_of_change held.old.memory (change_of change.now) ≡ None
         → may_write result ≡ true) × (result ≡ reply.Refused why.NoMemory
-        → held.old.journal.mem ≤ length held.old.journal.list) }
+        → (held.old.journal.mem ≤ length held.old.journal.list) × ((cached : Blocks)
+        → HoldsTheSame (held_of held.old cached) (held_after held.new cached result))) }
     ensures damaged { (b : ℕ) → result ≡ reply.Refused (why.Damaged b)
         → IsDamagedIn (D.view disk.old).content held.old.memory held.old.published.levels b
         × (held.old.journal.mem ≤ length held.old.journal.list) }

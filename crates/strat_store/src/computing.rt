@@ -22,7 +22,7 @@ ghost use Rattle.strat_standing.specs.Contents.{Contents};
 ghost use Rattle.strat_standing.specs.Next.{HasManifest, arrays_made};
 ghost use Rattle.strat_standing.specs.Occupied.{UsesMore, extents_of};
 ghost use Rattle.strat_cursor.specs.Looking.{arrays_there};
-ghost use Rattle.strat_store.specs.Promoting.{MayPromote, HaveFewLeads};
+ghost use Rattle.strat_store.specs.Promoting.{MayPromote};
 ghost use Rattle.strat_store.specs.Publishing.{IsWrittenTo, MayCompute, IsComputedBy, WritesManifest, manifest_after};
 
 use crate::memory::Memory;
@@ -261,7 +261,7 @@ pub(crate) fn compute_next<D: Disk>(
         → Contains (blocks_listed (arrays_there levels.now)) b
         × ((f : Image) → Exposes (D.view disk.old) f
         → AreUsed space.old (blocks_listed (arrays_there levels.now))
-        → HaveFewLeads f memory.now levels.now → IsBadInput f (arrays_there levels.now) b) }
+        → IsBadInput f (arrays_there levels.now) b) }
     ensures reads { D.reads disk.new
         ≤ D.reads disk.old + 2 * length (blocks_listed (arrays_there levels.now)) }
 {

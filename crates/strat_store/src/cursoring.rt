@@ -4,8 +4,8 @@ ghost use Rattle.std.specs.Prelude.{◌≡◌, ◌≢◌, ◌≤◌, ℕ, List, 
 ghost use Rattle.strat_array.specs.Kept.{Blocks};
 ghost use Rattle.strat_crash.specs.Image.{Image};
 ghost use Rattle.strat_crash.specs.Moments.{Exposes};
-ghost use Rattle.strat_cursor.specs.Cursors.{arrays_named, is_opened};
-ghost use Rattle.strat_cursor.specs.Looking.{LooksThrough};
+ghost use Rattle.strat_cursor.specs.Cursors.{arrays_named, arrays_of_number, is_opened};
+ghost use Rattle.strat_cursor.specs.Looking.{LooksThrough, ReadsArrays};
 ghost use Rattle.strat_format.specs.Arrays.{block_on};
 ghost use Rattle.strat_model.specs.Answer.{as_told, plain};
 ghost use Rattle.strat_model.specs.Request.{OpenCursor, NextPairs, CloseCursor};
@@ -117,12 +117,14 @@ pub(crate) fn next_pairs<D: Disk>(
     } }
     ensures same { LooksThrough (D.view disk.old) (D.view disk.new)
         (arrays_named held.old.memory.cursors.opened) cache.old cache.new }
-    ensures cause { FailsAsTold (D.faults disk.old) (D.faults disk.new) result }
+    ensures cause { FailsAsTold (D.faults disk.old) (D.faults disk.new) result
+        × (is_opened number held.old.memory.cursors.opened ≡ false
+        → result ≡ reply.Refused why.UnknownCursor) }
     ensures damaged { (b : ℕ) → result ≡ reply.Refused (why.Damaged b)
         → IsDamagedIn (D.view disk.old).content held.old.memory held.old.published.levels b
         × ((f : Image) → Exposes (D.view disk.old) f → block_on f b ≡ None) }
-    ensures none { is_opened number held.old.memory.cursors.opened ≡ false
-        → result ≡ reply.Refused why.UnknownCursor }
+    ensures reads { ReadsArrays (arrays_of_number number held.old.memory.cursors.opened)
+        (D.reads disk.old) (D.reads disk.new) }
     ensures len { (result ≢ reply.Found) × (result ≢ reply.Refused why.NoMemory)
         × HasPairsFor (NextPairs number limit) (as_told result out.new) }
 {

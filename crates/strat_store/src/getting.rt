@@ -1,15 +1,15 @@
 //! What a store over levels says of a key at a version.
 
-ghost use Rattle.std.specs.Prelude.{◌≡◌, ◌≢◌, ◌<◌, ◌^◌, ℕ, [], ◌∷◌, length, true, false, None, Contains, IfOk, OnErr, IsErrOf};
+ghost use Rattle.std.specs.Prelude.{◌≡◌, ◌≢◌, ◌<◌, ℕ, [], ◌∷◌, length, true, false, None, Contains, IfOk, OnErr, IsErrOf};
 ghost use Rattle.strat_array.specs.Kept.{Blocks};
 ghost use Rattle.strat_array.specs.Told.{TellsFound, AddsPair};
 ghost use Rattle.strat_base.specs.Tree.{is_known};
 ghost use Rattle.strat_base.specs.declared.descriptors.ArrayDesc.{ArrayDesc};
 ghost use Rattle.strat_base.specs.declared.failures.Fault.TheVariants.{Damaged, Device};
-ghost use Rattle.strat_crash.specs.Faults.{HasCause, ReadsAtMost};
+ghost use Rattle.strat_crash.specs.Faults.{HasCause};
 ghost use Rattle.strat_crash.specs.Image.{Image};
 ghost use Rattle.strat_crash.specs.Moments.{Exposes};
-ghost use Rattle.strat_format.specs.Arrays.{blocks_of, block_on};
+ghost use Rattle.strat_format.specs.Arrays.{block_on};
 ghost use Rattle.strat_model.specs.Answer.{as_told};
 ghost use Rattle.strat_model.specs.Request.{Get};
 ghost use Rattle.strat_model.specs.Step.{found as answer_found};
@@ -21,7 +21,7 @@ ghost use Rattle.strat_state.specs.LookUp.{looked_up};
 ghost use Rattle.strat_store.specs.Applying.{is_fault, IsLookedUp, FailsAsTold, IsDamagedIn};
 ghost use Rattle.strat_store.specs.Getting.{reply_of_get, MayTellOfKey};
 ghost use Rattle.strat_store.specs.Held.{IsConsistent, StandsWith};
-ghost use Rattle.strat_cursor.specs.Looking.{levels_there, arrays_there, MayBeFound, AreInOrder, AreCachedFrom, LooksThrough, NamesNoBlock, HaveOwnIds, reads_in};
+ghost use Rattle.strat_cursor.specs.Looking.{levels_there, arrays_there, MayBeFound, AreInOrder, AreCachedFrom, LooksThrough, NamesNoBlock, HaveOwnIds, ReadsArrays, arrays_asked};
 ghost use Rattle.strat_store.specs.Recovering.{held_of};
 
 use crate::looking::look_up;
@@ -59,9 +59,10 @@ fn look_through<D: Disk>(
     requires kept { version < length held.now.memory.parents }
     requires room { out.old ≡ [] }
     ensures found { IfOk result (λ seen. (f : Image) (next : ℕ) → Exposes (D.view disk.old) f
-        → AreInOrder f (arrays_there held.now.published.levels)
+        → AreInOrder f (arrays_asked held.now.memory.parents held.now.published.levels version)
         → HaveOwnIds (arrays_there held.now.published.levels)
-        → AreCachedFrom f next (arrays_there held.now.published.levels) cache.old
+        → AreCachedFrom f next
+        (arrays_asked held.now.memory.parents held.now.published.levels version) cache.old
         → TellsFound (looked_up (on_disk f) held.now.memory.parents
         (held.now.memory.entries ∷ []) (levels_there held.now.published.levels) version key.now)
         key.now [] out.new seen) }
@@ -77,10 +78,8 @@ fn look_through<D: Disk>(
     ensures damaged { (b : ℕ) → IsErrOf result (Damaged b)
         → NamesNoBlock (D.view disk.old).content (arrays_there held.now.published.levels) b }
     ensures cause { HasCause Device (D.faults disk.old) (D.faults disk.new) result }
-    ensures reads { (n : ℕ) → ((a : ArrayDesc)
-        → Contains (arrays_there held.now.published.levels) a
-        → length (blocks_of a.extents) < 2 ^ n)
-        → ReadsAtMost (reads_in n held.now.memory.parents version held.now.published.levels)
+    ensures reads { ReadsArrays
+        (arrays_asked held.now.memory.parents held.now.published.levels version)
         (D.reads disk.old) (D.reads disk.new) }
 {
     let (_, _, tree) = held.memory.parts();
@@ -94,8 +93,8 @@ fn look_through<D: Disk>(
 }
 
 /// What a store says of a key at a version; a value's pair is put into `out`, which has none. Level 0 is asked first,
-/// and then the levels, of each one array at most, until one says something. It takes no memory but for blocks that are
-/// cached. UnknownVersion: there is no such version, and nothing was read. DeviceFault: the disk counted a fault.
+/// and then the levels, of each one array at most, until one says something: in an array of fewer than 2^n blocks a search
+/// reads n + 1 of them, and each block is read once more at most. It takes no memory but for blocks that are cached. UnknownVersion: there is no such version, and nothing was read. DeviceFault: the disk counted a fault.
 /// Damaged: this block of one of the arrays is no block of entries.
 pub(crate) fn get<D: Disk>(
     held: &Recovered,
@@ -112,9 +111,9 @@ pub(crate) fn get<D: Disk>(
         → IsLookedUp (D.view disk.new) (held_of held.now cache.new) x (Get version key.now)
         (as_told result out.new) }
     ensures found { (f : Image) → Exposes (D.view disk.old) f
-        → AreInOrder f (arrays_there held.now.published.levels)
+        → AreInOrder f (arrays_asked held.now.memory.parents held.now.published.levels version)
         → AreCachedFrom f held.now.published.manifest.next_array
-        (arrays_there held.now.published.levels) cache.old
+        (arrays_asked held.now.memory.parents held.now.published.levels version) cache.old
         → is_fault result ≡ false → is_known held.now.memory.parents version ≡ true
         → as_told result out.new ≡ answer_found key.now (asked f held.now.memory.parents
         (held.now.memory.entries ∷ []) (levels_there held.now.published.levels) version key.now) }
@@ -130,10 +129,8 @@ pub(crate) fn get<D: Disk>(
     ensures end { is_known held.now.memory.parents version ≡ true → MayTellOfKey result }
     ensures len { (result ≡ reply.Found → length out.new ≡ 1)
         × (result ≢ reply.Found → out.new ≡ []) }
-    ensures reads { (n : ℕ) → ((a : ArrayDesc)
-        → Contains (arrays_there held.now.published.levels) a
-        → length (blocks_of a.extents) < 2 ^ n)
-        → ReadsAtMost (reads_in n held.now.memory.parents version held.now.published.levels)
+    ensures reads { ReadsArrays
+        (arrays_asked held.now.memory.parents held.now.published.levels version)
         (D.reads disk.old) (D.reads disk.new) }
 {
     if !held.memory.has(version) {

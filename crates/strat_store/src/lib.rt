@@ -7,6 +7,7 @@ pub mod belonging_laws;
 mod changing;
 mod computing;
 mod cursoring;
+pub mod damage_laws;
 mod formatting;
 mod getting;
 mod looking;

@@ -1,17 +1,17 @@
 //! A look-up through the levels of a store: of each level one array is asked at most, until one says something.
 
-ghost use Rattle.std.specs.Prelude.{◌≡◌, ◌<◌, ◌^◌, ℕ, [], length, Some, Contains, IfOk, OnErr, IsErrOf};
+ghost use Rattle.std.specs.Option.{option_to_list};
+ghost use Rattle.std.specs.Prelude.{◌≡◌, ◌<◌, ℕ, [], length, Some, Contains, IfOk, OnErr, IsErrOf};
 ghost use Rattle.strat_array.specs.Told.{TellsFound, AddsPair};
 ghost use Rattle.strat_base.specs.declared.descriptors.ArrayDesc.{ArrayDesc};
 ghost use Rattle.strat_base.specs.declared.failures.Fault.TheVariants.{Damaged, Device};
 ghost use Rattle.strat_base.specs.declared.limits.TheConstants.{PAIRS_MAX};
-ghost use Rattle.strat_crash.specs.Faults.{HasCause, ReadsAtMost};
+ghost use Rattle.strat_crash.specs.Faults.{HasCause};
 ghost use Rattle.strat_crash.specs.Image.{Image};
 ghost use Rattle.strat_crash.specs.Moments.{Exposes};
-ghost use Rattle.strat_format.specs.Arrays.{blocks_of};
 ghost use Rattle.strat_recovery.specs.Asked.{on_disk};
 ghost use Rattle.strat_state.specs.LookUp.{looked_up};
-ghost use Rattle.strat_cursor.specs.Looking.{levels_there, arrays_there, MayBeFound, AreInOrder, AreCachedFrom, LooksThrough, NamesNoBlock, HaveOwnIds, MayBeAsked, asked_of_level, array_says, decides, reads_of_array, reads_in};
+ghost use Rattle.strat_cursor.specs.Looking.{levels_there, arrays_there, MayBeFound, AreInOrder, AreCachedFrom, LooksThrough, NamesNoBlock, HaveOwnIds, MayBeAsked, ReadsArrays, arrays_asked, asked_of_level, array_says, decides};
 
 use strat_array::{Cache, Scratch, Seen, find};
 use strat_base::limits::LEVELS;
@@ -58,9 +58,8 @@ fn ask_level<D: Disk>(
     ensures damaged { (b : ℕ) → IsErrOf result (Damaged b)
         → NamesNoBlock (D.view disk.old).content (arrays_there levels.now) b }
     ensures cause { HasCause Device (D.faults disk.old) (D.faults disk.new) result }
-    ensures reads { (n : ℕ) → ((a : ArrayDesc) → Contains (arrays_there levels.now) a
-        → length (blocks_of a.extents) < 2 ^ n)
-        → ReadsAtMost (reads_of_array n (asked_of_level tree.now.parents levels.now number v))
+    ensures reads { ReadsArrays (option_to_list
+        (asked_of_level tree.now.parents levels.now number v))
         (D.reads disk.old) (D.reads disk.new) }
 {
     match levels.array_for(tree, number, v) {
@@ -70,8 +69,8 @@ fn ask_level<D: Disk>(
 }
 
 /// The entry that is live for a key at a version in the first of levels 1 to 22 that says something of it: a value's
-/// pair is added to `out`. Where the arrays are in order, have numbers of their own, and are cached as they stand on
-/// the disk, the answer is exactly that. In each level one array is asked at most, by what `find` does, and a level
+/// pair is added to `out`. Where the arrays that are asked are in order, and are cached as they stand on the disk, the
+/// answer is exactly that. In each level one array is asked at most, by what `find` does, and a level
 /// without an array for the version costs O(log versions_max) and no read. It takes no memory but for blocks that are
 /// cached. Device: the disk counted a fault. Damaged: this block of one of the arrays is no block of entries.
 pub(crate) fn look_up<D: Disk>(
@@ -88,8 +87,9 @@ pub(crate) fn look_up<D: Disk>(
     requires kept { v < length tree.now.parents }
     requires room { length out.old < PAIRS_MAX }
     ensures found { IfOk result (λ seen. (f : Image) (next : ℕ) → Exposes (D.view disk.old) f
-        → AreInOrder f (arrays_there levels.now) → HaveOwnIds (arrays_there levels.now)
-        → AreCachedFrom f next (arrays_there levels.now) cache.old
+        → AreInOrder f (arrays_asked tree.now.parents levels.now v)
+        → HaveOwnIds (arrays_there levels.now)
+        → AreCachedFrom f next (arrays_asked tree.now.parents levels.now v) cache.old
         → TellsFound (looked_up (on_disk f) tree.now.parents [] (levels_there levels.now) v
         key.now) key.now out.old out.new seen) }
     ensures err { OnErr result (out.new ≡ out.old) }
@@ -104,9 +104,7 @@ pub(crate) fn look_up<D: Disk>(
     ensures damaged { (b : ℕ) → IsErrOf result (Damaged b)
         → NamesNoBlock (D.view disk.old).content (arrays_there levels.now) b }
     ensures cause { HasCause Device (D.faults disk.old) (D.faults disk.new) result }
-    ensures reads { (n : ℕ) → ((a : ArrayDesc) → Contains (arrays_there levels.now) a
-        → length (blocks_of a.extents) < 2 ^ n)
-        → ReadsAtMost (reads_in n tree.now.parents v levels.now)
+    ensures reads { ReadsArrays (arrays_asked tree.now.parents levels.now v)
         (D.reads disk.old) (D.reads disk.new) }
 {
     // How many levels there are is known where one is asked for.

@@ -13,9 +13,9 @@ ghost use Rattle.strat_base.specs.declared.limits.TheConstants.{CURSORS_MAX as t
 ghost use Rattle.strat_crash.specs.Faults.{HasCause};
 ghost use Rattle.strat_crash.specs.Image.{Image};
 ghost use Rattle.strat_crash.specs.Moments.{Exposes};
-ghost use Rattle.strat_cursor.specs.Cursors.{MayGoOn, TellsNext, arrays_named, closed_at, is_opened, moved_at, retired_by};
+ghost use Rattle.strat_cursor.specs.Cursors.{MayGoOn, TellsNext, arrays_named, arrays_of_number, closed_at, is_opened, moved_at, retired_by};
 ghost use Rattle.strat_cursor.specs.Held.{HeldCursor, IsMapHeld};
-ghost use Rattle.strat_cursor.specs.Looking.{LooksThrough, MayBeFound, NamesNoBlock, arrays_there};
+ghost use Rattle.strat_cursor.specs.Looking.{LooksThrough, MayBeFound, NamesNoBlock, ReadsArrays, arrays_there};
 ghost use Rattle.strat_cursor.specs.Ranges.{FillsPage};
 ghost use Rattle.strat_cursor.specs.declared.cursors.CursorFault.TheVariants as start_fault;
 ghost use Rattle.strat_cursor.specs.declared.cursors.NextFault.TheVariants as next_fault;
@@ -412,6 +412,8 @@ impl Memory {
         ensures damaged { (b : ℕ) → IsErrOf result (next_fault.Damaged b)
             → NamesNoBlock (D.view disk.old).content (arrays_named self.old.cursors.opened) b }
         ensures cause { HasCause next_fault.Device (D.faults disk.old) (D.faults disk.new) result }
+        ensures reads { ReadsArrays (arrays_of_number number self.old.cursors.opened)
+            (D.reads disk.old) (D.reads disk.new) }
     {
         let more = self.cursors.next(
             disk, cache, &self.pool, &self.tree, number, limit, desks, out,

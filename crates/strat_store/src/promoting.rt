@@ -2,7 +2,6 @@
 
 ghost use Rattle.std.specs.Prelude.{◌≡◌, ◌≤◌, ℕ, ◌+◌, ◌-◌, ◌*◌, ◌^◌, [], length, min, IfOk, OnErr, IsErrOf, Contains};
 ghost use Rattle.strat_array.specs.Taking.{AreUsed};
-ghost use Rattle.strat_base.specs.declared.failures.Trouble.TheVariants.{Damaged, Device};
 ghost use Rattle.strat_crash.specs.Blocks.{TearsBlocks};
 ghost use Rattle.strat_crash.specs.Faults.{HasCause};
 ghost use Rattle.strat_crash.specs.Image.{Image};
@@ -10,19 +9,21 @@ ghost use Rattle.strat_crash.specs.Moments.{Exposes};
 ghost use Rattle.strat_extent.specs.Blocks.{is_free};
 ghost use Rattle.strat_promote.specs.Job.{IsBadInput, blocks_listed};
 ghost use Rattle.strat_promote.specs.Promotions.{entries_if_any};
+ghost use Rattle.strat_promote.specs.declared.obstacle.Obstacle.TheVariants.{Damaged, Device, Unfit};
 ghost use Rattle.strat_standing.specs.Next.{arrays_made};
 ghost use Rattle.strat_standing.specs.Occupied.{UsesMore, extents_of};
 ghost use Rattle.strat_state.specs.Sound.{IsSound};
 ghost use Rattle.strat_state.specs.State.{State};
 ghost use Rattle.strat_cursor.specs.Looking.{arrays_there};
-ghost use Rattle.strat_store.specs.Promoting.{MayPromote, HoldInMemory, HaveFewLeads, IsPromotedTo};
+ghost use Rattle.strat_store.specs.Promoting.{MayPromote, HoldInMemory, IsPromotedTo};
 
 use crate::memory::Memory;
 use std::alloc::Global;
-use strat_base::{LevelDesc, Trouble};
+use strat_base::LevelDesc;
 use strat_disk::Disk;
 use strat_extent::Space;
 use strat_level::Levels;
+use strat_promote::obstacle::Obstacle;
 use strat_promote::promotion::{Progress, Promotion};
 
 /// More entries than any promotion takes in both passes.
@@ -40,7 +41,7 @@ pub(crate) struct Made {
 /// Promotes level 0 and the levels down to the first that has room for all their leads. Each block of their arrays is read
 /// twice at most, and nothing is written but free blocks. After an error the blocks that were taken are free again.
 /// `Damaged` names a block of an array that holds no entries, or none that come after those before it. `NoMemory` also stands
-/// for a disk on which no block is free, and for arrays that are not as their descriptors say.
+/// for a disk on which no block is free. `Unfit`: there are more leads than any store has that stands on its disk.
 pub(crate) fn promote<D: Disk>(
     alloc: Global,
     memory: &Memory,
@@ -49,7 +50,7 @@ pub(crate) fn promote<D: Disk>(
     next_array: u64,
     space: &mut Space,
     disk: &mut D,
-) -> Result<Made, Trouble>
+) -> Result<Made, Obstacle>
     requires kept { MayPromote memory.now levels.now next_array }
     requires fits { (4 ≤ mem) × (mem ≤ 4096) }
     ensures ok { IfOk result (λ made. (f g : Image) (s : State) → Exposes (D.view disk.old) f
@@ -57,7 +58,10 @@ pub(crate) fn promote<D: Disk>(
         → HoldInMemory f s memory.now levels.now
         → AreUsed space.old (blocks_listed (arrays_there levels.now))
         → IsPromotedTo g s next_array made.target made.level) }
-    ensures fits { IfOk result (λ made. (1 ≤ made.target) × (made.target ≤ 22)) }
+    ensures fits { IfOk result (λ made. (1 ≤ made.target) × (made.target ≤ 22))
+        × (IsErrOf result Unfit → (f : Image) (s : State) → Exposes (D.view disk.old) f
+        → IsSound s → s.mem ≡ mem → HoldInMemory f s memory.now levels.now
+        → AreUsed space.old (blocks_listed (arrays_there levels.now)) → ⊥) }
     ensures len { IfOk result (λ made.
         made.entries ≡ min (entries_if_any made.level) (2 ^ 64 - 1)) }
     ensures room { IfOk result (λ made.
@@ -69,7 +73,7 @@ pub(crate) fn promote<D: Disk>(
         → Contains (blocks_listed (arrays_there levels.now)) b
         × ((f : Image) → Exposes (D.view disk.old) f
         → AreUsed space.old (blocks_listed (arrays_there levels.now))
-        → HaveFewLeads f memory.now levels.now → IsBadInput f (arrays_there levels.now) b) }
+        → IsBadInput f (arrays_there levels.now) b) }
     ensures reads { D.reads disk.new
         ≤ D.reads disk.old + 2 * length (blocks_listed (arrays_there levels.now)) }
 {
@@ -87,11 +91,11 @@ pub(crate) fn promote<D: Disk>(
         }
         Ok(Progress::More) => {
             promotion.abandon(space);
-            Err(Trouble::NoMemory)
+            Err(Obstacle::Unfit)
         }
-        Err(trouble) => {
+        Err(obstacle) => {
             promotion.abandon(space);
-            Err(trouble)
+            Err(obstacle)
         }
     }
 }

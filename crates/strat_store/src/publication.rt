@@ -1,7 +1,7 @@
 //! A publication of a store, whole: its journal is emptied into its levels.
 
 ghost use Rattle.std.specs.List.{list_all};
-ghost use Rattle.std.specs.Prelude.{◌≡◌, ◌<◌, ◌≤◌, ℕ, ◌+◌, ◌-◌, ◌*◌, List, [], ◌∷◌, length, nat_le, Some, IfOk, OnOk, OnErr, IsErrOf, IsTrue};
+ghost use Rattle.std.specs.Prelude.{◌≡◌, ◌<◌, ◌≤◌, ℕ, ◌+◌, ◌-◌, ◌*◌, ◌^◌, List, [], ◌∷◌, length, nat_le, Some, IfOk, OnOk, OnErr, IsErrOf, IsTrue};
 ghost use Rattle.strat_array.specs.Kept.{Blocks};
 ghost use Rattle.strat_base.specs.declared.failures.Trouble.TheVariants as trouble;
 ghost use Rattle.strat_base.specs.declared.failures.Trouble.TheVariants.{Device, Damaged};
@@ -48,16 +48,18 @@ use strat_disk::Disk;
 use strat_extent::Space;
 use strat_gate::SuperBlock;
 use strat_manifest::LevelList;
+use strat_promote::obstacle::Unfit;
 
-/// The superblock after one, with this manifest. `NoMemory` stands for a generation that no store reaches.
-fn next_super(old: &SuperBlock, first: u32, length: u32) -> Result<SuperBlock, NoMemory>
+/// The superblock after one, with this manifest, unless no number is left for its generation: no store comes so far.
+fn next_super(old: &SuperBlock, first: u32, length: u32) -> Result<SuperBlock, Unfit>
     requires kept { IsLawful (super_of old.now) }
     requires fits { (places.first_free old.now.mem ≤ first) × (first < 4294967295) × (29 ≤ length) }
     ensures ok { IfOk result (λ sb. super_of sb ≡ super_after (super_of old.now) first length) }
     ensures kept { IfOk result (λ sb. IsLawful (super_of sb)) }
+    ensures cause { OnErr result (2 ^ 64 ≤ (super_of old.now).generation + 1) }
 {
     let Some(generation) = old.generation.checked_add(1) else {
-        return Err(NoMemory);
+        return Err(Unfit);
     };
     Ok(SuperBlock {
         generation,
@@ -96,7 +98,7 @@ fn compute_beside<D: Disk>(
     disk: &mut D,
 ) -> Result<Computed, Trouble>
     requires kept { (cached : Blocks) → IsConsistent (held_of held.now cached) }
-    requires len { 0 < length held.now.journal.list }
+    requires len { length held.now.journal.list ≡ held.now.sb.mem }
     ensures ok { IfOk result (λ r. (x : Contents) (cached : Blocks)
         → StandsWith (D.view disk.old) (held_of held.now cached) x
         → IsReadied (D.view disk.new) (held_of held.now cached) x
@@ -183,7 +185,9 @@ fn admit_next(alloc: Global, held: &Recovered, computed: Computed) -> Result<Nex
     if !has_new_numbers(&computed.made, held.published.manifest.next_array) {
         return Err(NoMemory);
     }
-    let sb = next_super(&held.sb, computed.first, computed.length)?;
+    let Ok(sb) = next_super(&held.sb, computed.first, computed.length) else {
+        return Err(NoMemory);
+    };
     match admit(alloc, &sb, computed.manifest, computed.chain)? {
         Some(published) => Ok(Next {
             sb,
@@ -198,7 +202,7 @@ fn admit_next(alloc: Global, held: &Recovered, computed: Computed) -> Result<Nex
 /// says. Errors are those of `compute_beside`, and want of memory.
 fn prepare_next<D: Disk>(alloc: Global, held: &Recovered, disk: &mut D) -> Result<Next, Trouble>
     requires kept { (cached : Blocks) → IsConsistent (held_of held.now cached) }
-    requires len { 0 < length held.now.journal.list }
+    requires len { length held.now.journal.list ≡ held.now.sb.mem }
     ensures ok { IfOk result (λ next. (x : Contents) (cached : Blocks)
         → StandsWith (D.view disk.old) (held_of held.now cached) x
         → IsReadied (D.view disk.new) (held_of held.now cached) x (super_of next.sb)
@@ -339,7 +343,7 @@ pub(crate) fn publish<D: Disk>(
     disk: &mut D,
 ) -> Result<(), Trouble>
     requires kept { (cached : Blocks) → IsConsistent (held_of held.old cached) }
-    requires len { 0 < length held.old.journal.list }
+    requires len { length held.old.journal.list ≡ held.old.sb.mem }
     ensures ok { OnOk result ((x : Contents) (cached : Blocks)
         → StandsWith (D.view disk.old) (held_of held.old cached) x
         → IsPublishedAs (D.view disk.new) x (held_of held.new cached)
@@ -368,7 +372,9 @@ pub(crate) fn publish<D: Disk>(
         → IsConsistent (held_of held.new cached) }
     ensures same { (held.new.sb.mem ≡ held.old.sb.mem)
         × (held.new.memory.parents ≡ held.old.memory.parents)
-        × (IsErrOf result trouble.NoMemory → held.new.journal ≡ held.old.journal)
+        × (IsErrOf result trouble.NoMemory → (held.new.journal ≡ held.old.journal)
+        × (held.new.memory ≡ prepared held.old.memory held.new.memory.ready
+        held.new.memory.cursors.room))
         × OnErr result ((cached : Blocks)
         → KeepsPublished (held_of held.old cached) (held_of held.new cached)
         × KeepsCursors (held_of held.old cached) (held_of held.new cached)) }

@@ -5,7 +5,7 @@ ghost use Rattle.strat_array.specs.Kept.{Blocks};
 ghost use Rattle.strat_base.specs.Tree.{is_known};
 ghost use Rattle.strat_crash.specs.Image.{Image};
 ghost use Rattle.strat_crash.specs.Moments.{Exposes};
-ghost use Rattle.strat_cursor.specs.Looking.{arrays_there, AreInOrder, AreCachedFrom, LooksThrough};
+ghost use Rattle.strat_cursor.specs.Looking.{arrays_there, AreInOrder, AreCachedFrom, LooksThrough, ReadsArrays, arrays_asked};
 ghost use Rattle.strat_format.specs.Arrays.{block_on};
 ghost use Rattle.strat_model.specs.Answer.{as_told};
 ghost use Rattle.strat_model.specs.Pairs.{Pairs, range};
@@ -59,9 +59,9 @@ pub(crate) fn scan_range<D: Disk>(
         → IsLookedUp (D.view disk.new) (held_of held.now cache.new) x
         (Scan version lo.now hi.now limit) (as_told result out.new) }
     ensures found { (f : Image) (m : Pairs) → Exposes (D.view disk.old) f
-        → AreInOrder f (arrays_there held.now.published.levels)
+        → AreInOrder f (arrays_asked held.now.memory.parents held.now.published.levels version)
         → AreCachedFrom f held.now.published.manifest.next_array
-        (arrays_there held.now.published.levels) cache.old
+        (arrays_asked held.now.memory.parents held.now.published.levels version) cache.old
         → is_fault result ≡ false → is_known held.now.memory.parents version ≡ true
         → IsMapAsked f held.now.memory.parents held.now.memory.entries
         held.now.published.levels version m
@@ -73,9 +73,11 @@ pub(crate) fn scan_range<D: Disk>(
         (arrays_there held.now.published.levels) cache.old cache.new }
     ensures cause { FailsAsTold (D.faults disk.old) (D.faults disk.new) result }
     ensures damaged { (b : ℕ) → result ≡ reply.Refused (why.Damaged b)
-        → IsDamagedIn (D.view disk.old).content held.now.memory held.now.published.levels b }
-    ensures err { (b : ℕ) → result ≡ reply.Refused (why.Damaged b) → (f : Image)
-        → Exposes (D.view disk.old) f → block_on f b ≡ None }
+        → IsDamagedIn (D.view disk.old).content held.now.memory held.now.published.levels b
+        × ((f : Image) → Exposes (D.view disk.old) f → block_on f b ≡ None) }
+    ensures reads { ReadsArrays
+        (arrays_asked held.now.memory.parents held.now.published.levels version)
+        (D.reads disk.old) (D.reads disk.new) }
     ensures end { is_known held.now.memory.parents version ≡ true → MayTellOfRange result }
     ensures len { HasPairsFor (Scan version lo.now hi.now limit) (as_told result out.new) }
 {

@@ -1,6 +1,6 @@
 //! Recovering a store over levels: what its manifest and its journal say is taken into memory.
 
-ghost use Rattle.std.specs.Prelude.{◌≡◌, ◌≢◌, ◌≤◌, ◌+◌, ◌-◌, ℕ, [], length, map, fold, Ok, Err, Some, None, IfOk, IfErr, OnOk, IsErrOf, IsTrue, false, ◌↔◌, is_some};
+ghost use Rattle.std.specs.Prelude.{◌≡◌, ◌≢◌, ◌≤◌, ◌+◌, ◌-◌, ◌*◌, ℕ, [], length, map, fold, Ok, Err, Some, None, IfOk, IfErr, OnOk, IsErrOf, IsTrue, false, ◌↔◌, is_some};
 ghost use Rattle.std.specs.List.{list_all};
 ghost use Rattle.strat_array.specs.Kept.{Blocks};
 ghost use Rattle.strat_base.specs.Change.{is_lawful};
@@ -167,7 +167,8 @@ fn recover_memory(
 
 /// The journal of a superblock, behind what the last publication left, and memory with its changes carried out. It
 /// reads each block of the active region at most once, none after its first closed gate, and one of the other region.
-/// Damaged: the block of a record that is no change, or of a change that is refused.
+/// Damaged: the block of a record that is no change, or of a change that is refused, or the other region's first where
+/// both regions hold too many. `NoMemory` also stands for a journal that goes on in the other region.
 fn read_journal<D: Disk>(
     alloc: Global,
     disk: &mut D,
@@ -193,8 +194,10 @@ fn read_journal<D: Disk>(
         → recover_journal f (super_of sb.now) (chained_of published.now).manifest ≡ Err block }
     ensures same { OnlyReads (D.view disk.old) (D.view disk.new) }
     ensures cause { HasCause Device (D.faults disk.old) (D.faults disk.new) result }
-    ensures reads { ReadsAtMost (region_blocks sb.now.mem + 1)
-        (D.reads disk.old) (D.reads disk.new) }
+    ensures reads { ReadsAtMost (2 * region_blocks sb.now.mem + 1)
+        (D.reads disk.old) (D.reads disk.new)
+        × IfOk result (λ r. ReadsAtMost (region_blocks sb.now.mem + 1)
+        (D.reads disk.old) (D.reads disk.new)) }
 {
     let (journal, logged) = Journal::read(alloc, disk, sb)?;
     let memory = recover_memory(alloc, sb, published, &logged)?;
@@ -219,8 +222,11 @@ fn recover_at<D: Disk>(
         → Exposes (D.view disk.old) f → recover_head f (super_of sb) ≡ Err block }
     ensures same { OnlyReads (D.view disk.old) (D.view disk.new) }
     ensures cause { HasCause Device (D.faults disk.old) (D.faults disk.new) result }
-    ensures reads { ReadsAtMost (chain_length sb.length - 1 + 1 + (region_blocks sb.mem + 1))
-        (D.reads disk.old) (D.reads disk.new) }
+    ensures reads { ReadsAtMost (chain_length sb.length - 1 + 1 + (2 * region_blocks sb.mem + 1))
+        (D.reads disk.old) (D.reads disk.new)
+        × IfOk result (λ r. ReadsAtMost
+        (chain_length sb.length - 1 + 1 + (region_blocks sb.mem + 1))
+        (D.reads disk.old) (D.reads disk.new)) }
 {
     let published = read_published(alloc, disk, &sb)?;
     let (journal, memory) = read_journal(alloc, disk, &sb, &published)?;
@@ -248,7 +254,7 @@ pub(crate) fn recover_store<D: Disk>(alloc: Global, disk: &mut D) -> Result<Reco
         → Exposes (D.view disk.old) f → recover f ≡ Err block }
     ensures same { OnlyReads (D.view disk.old) (D.view disk.new) }
     ensures cause { HasCause fault.Device (D.faults disk.old) (D.faults disk.new) result }
-    ensures reads { ReadsAtMost 1050894 (D.reads disk.old) (D.reads disk.new)
+    ensures reads { ReadsAtMost 1052183 (D.reads disk.old) (D.reads disk.new)
         × IfOk result (λ r. ReadsAtMost (chain_length r.sb.length + region_blocks r.sb.mem + 3)
         (D.reads disk.old) (D.reads disk.new)) }
 {
@@ -302,7 +308,7 @@ pub(crate) fn open<D: Disk>(alloc: Global, disk: &mut D) -> Result<Recovered, At
         → IsUnchanged (D.view disk.old) (D.view disk.new)) }
     ensures time { Passes (D.view disk.old) (D.view disk.new) }
     ensures cause { HasCause fault.Device (D.faults disk.old) (D.faults disk.new) result }
-    ensures reads { ReadsAtMost 1050895 (D.reads disk.old) (D.reads disk.new)
+    ensures reads { ReadsAtMost 1052184 (D.reads disk.old) (D.reads disk.new)
         × IfOk result (λ r. ReadsAtMost (chain_length r.sb.length + region_blocks r.sb.mem + 4)
         (D.reads disk.old) (D.reads disk.new)) }
 {

@@ -23,9 +23,9 @@ ghost use Rattle.strat_store.specs.Cursoring.{IsAppliedAt, LeavesCursors, cursor
 ghost use Rattle.strat_store.specs.Following.{IsOpenedAs, IsUnchanged, LeavesOpening};
 ghost use Rattle.strat_store.specs.Held.{IsConsistent, StandsAt, StandsWith, arrays_held};
 ghost use Rattle.strat_store.specs.Memory.{info_told};
-ghost use Rattle.strat_cursor.specs.Looking.{AreOfOldArrays, LooksThrough, arrays_there};
+ghost use Rattle.strat_cursor.specs.Looking.{AreOfOldArrays, LooksThrough, ReadsArrays, arrays_there};
 ghost use Rattle.strat_store.specs.Paying.{StoreTwoSince};
-ghost use Rattle.strat_store.specs.Ranging.{HasPairsFor, TellsFrom};
+ghost use Rattle.strat_store.specs.Ranging.{HasPairsFor, ReadsForLook, TellsFrom, arrays_wanted};
 ghost use Rattle.strat_store.specs.Recovering.{held_of, held_after, empty_cache};
 ghost use Rattle.strat_store.specs.Settling.{LeavesPublished, carries_out};
 ghost use Rattle.strat_store.specs.declared.opening.AttachFault.TheVariants as fault;
@@ -145,6 +145,9 @@ fn look<D: Disk>(
     ensures cause { FailsAsTold (D.faults disk.old) (D.faults disk.new) result }
     ensures err { TellsTroubleOf (D.view disk.old) (held_of held.now cache.old)
         (request_of command.now) result }
+    ensures reads { ReadsArrays
+        (arrays_wanted (held_of held.now cache.old) (request_of command.now))
+        (D.reads disk.old) (D.reads disk.new) }
     ensures damaged { (b : ℕ) → result ≡ reply.Refused (why.Damaged b)
         → IsDamagedIn (D.view disk.old).content held.now.memory held.now.published.levels b }
 {
@@ -194,7 +197,9 @@ fn query<D: Disk>(
     } }
     ensures len { HasPairsFor (request_of command.now) (as_told result out.new) }
     ensures same { LooksThrough (D.view disk.old) (D.view disk.new)
-        (arrays_held held.old.memory held.old.published.levels) cache.old cache.new }
+        (arrays_held held.old.memory held.old.published.levels) cache.old cache.new
+        × ReadsArrays (arrays_wanted (held_of held.old cache.old) (request_of command.now))
+        (D.reads disk.old) (D.reads disk.new) }
     ensures cause { FailsAsTold (D.faults disk.old) (D.faults disk.new) result
         × TellsTroubleOf (D.view disk.old) (held_of held.old cache.old)
         (request_of command.now) result }
@@ -246,7 +251,9 @@ fn answer<D: Disk>(
         (held_of held.old cache.old) (carries_out (request_of command.now) result) result
         (held_after held.new cache.new result)
         × LeavesCursors (held_of held.old cache.old) (request_of command.now)
-        (as_told result out.new) (held_after held.new cache.new result) }
+        (as_told result out.new) (held_after held.new cache.new result)
+        × ReadsForLook (held_of held.old cache.old) (request_of command.now)
+        (D.reads disk.old) (D.reads disk.new) }
     ensures time { Passes (D.view disk.old) (D.view disk.new) }
     ensures cause { FailsAsTold (D.faults disk.old) (D.faults disk.new) result
         × TellsTroubleOf (D.view disk.old) (held_of held.old cache.old)
@@ -285,10 +292,12 @@ impl Store {
     /// are merged are read twice, the new arrays and the manifest are written once, and there are five syncs at most. That takes
     /// memory before anything of the store is replaced, and where there is none the answer is `NoMemory`, and the store is as it
     /// was. A get asks level 0, and then in each level one array at most, by a binary search of its blocks; a scan goes through
-    /// level 0 and one array of each level, pair by pair. These take no memory but for blocks that are cached. An opening of a
-    /// cursor copies where level 0's pairs stand, 12 bytes an item, and at most 22 descriptors, and reads no block: `NoMemory` where
-    /// there is none. The pairs it shares: a level 0 that was emptied keeps its memory while a cursor reads it. A page of a cursor
-    /// costs what a scan does, a closing O(arrays kept for cursors * arrays of all cursors). Other look-ups are O(1).
+    /// level 0 and one array of each level, pair by pair. Either reads in an array of fewer than 2^n blocks n + 1 of them to search,
+    /// and each once more at most, and of an array that is not asked at the version none. These take no memory but for blocks that
+    /// are cached. An opening of a cursor copies where level 0's pairs stand, 12 bytes an item, and at most 22 descriptors, and
+    /// reads no block: `NoMemory` where there is none. The pairs it shares: a level 0 that was emptied keeps its memory while a
+    /// cursor reads it. A page of a cursor costs what a scan does, over the cursor's arrays, a closing O(arrays kept for cursors *
+    /// arrays of all cursors). Other look-ups are O(1), and read nothing.
     /// `DeviceFault`: the disk counted a fault.
     /// `Damaged`: this block of an array of the levels, or of one that a cursor holds on to, holds no entries, or in a level
     /// none that come after those before it. After these two, and no other, the store is spent.
@@ -323,8 +332,10 @@ impl Store {
             × LeavesCursors self.old (request_of command.now) (as_told result out.new)
             self.new }
         ensures time { Passes (D.view disk.old) (D.view disk.new) }
-        ensures cause { FailsAsTold (D.faults disk.old) (D.faults disk.new) result }
-        ensures err { TellsTroubleOf (D.view disk.old) self.old (request_of command.now) result }
+        ensures cause { FailsAsTold (D.faults disk.old) (D.faults disk.new) result
+            × TellsTroubleOf (D.view disk.old) self.old (request_of command.now) result }
+        ensures reads { ReadsForLook self.old (request_of command.now)
+            (D.reads disk.old) (D.reads disk.new) }
         ensures damaged { (b : ℕ) → result ≡ reply.Refused (why.Damaged b)
             → IsDamagedIn (D.view disk.old).content self.old.memory self.old.levels b }
     {
@@ -367,7 +378,7 @@ impl Store {
             → IsUnchanged (D.view disk.old) (D.view disk.new)) }
         ensures time { Passes (D.view disk.old) (D.view disk.new) }
         ensures cause { HasCause fault.Device (D.faults disk.old) (D.faults disk.new) result }
-        ensures reads { ReadsAtMost 1050895 (D.reads disk.old) (D.reads disk.new)
+        ensures reads { ReadsAtMost 1052184 (D.reads disk.old) (D.reads disk.new)
             × IfOk result (λ s. ReadsAtMost
             (chain_length s.sb.length + region_blocks s.sb.mem + 4)
             (D.reads disk.old) (D.reads disk.new)) }

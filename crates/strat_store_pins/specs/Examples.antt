@@ -1,14 +1,25 @@
--- Arrays, cursors and memory of which little matters but what an example asks.
-use Rattle.std.specs.Prelude.{ℕ, List, [], ◌∷◌, Option, None, Some}
+-- Arrays, cursors, memory and a store of which little matters but what an example asks.
+use Rattle.std.specs.Prelude.{ℕ, false, List, [], ◌∷◌, Option, None, Some}
 use Rattle.strat_base.specs.Entries.{Entry}
 use Rattle.strat_base.specs.declared.descriptors.ArrayDesc.{ArrayDesc}
 use Rattle.strat_base.specs.declared.descriptors.LevelDesc.{LevelDesc}
 use Rattle.strat_cursor.specs.Held.{HeldCursor, HeldCursors}
+use Rattle.strat_crash.specs.Image.{Image, patch}
+use Rattle.strat_format.specs.Manifest.{new_manifest}
+use Rattle.strat_recovery.specs.Disks.{array_block, new_super}
+use Rattle.strat_store.specs.Held.{Held}
 use Rattle.strat_store.specs.Memory.{Memory, fresh_memory}
 
 -- an array of a number, for version 0
 abbrev pub array : ℕ → ArrayDesc
 array n = record { id = n; entries = 1; leads = 1; least = 1; versions = 0 ∷ []; extents = [] }
+
+-- an array of a number, for this version, in this block alone
+abbrev pub array_in : ℕ → ℕ → ℕ → ArrayDesc
+array_in n version block = record (array n) {
+  versions = version ∷ [];
+  extents = record { start = block; len = 1 } ∷ [];
+}
 
 -- an entry of a key of one byte, at version 0
 abbrev pub entry : ℕ → Entry
@@ -37,3 +48,23 @@ cursors opened retired = record { opened = opened; next = 9; retired = retired; 
 -- memory of a store with one version and these cursors
 abbrev pub memory : HeldCursors → Memory
 memory c = record (fresh_memory 4 100 10) { cursors = c }
+
+-- a store with two children of version 0, which have an array each, and a cursor that reads one of these
+abbrev pub children_apart : Held
+children_apart = record {
+  slot = 0;
+  sb = new_super;
+  chained = record { manifest = new_manifest; blocks = [] };
+  log = record { mem = 4; active = 0; stale = false; list = []; batch = [] };
+  memory = record (memory (cursors (cursor 3 (Some []) (array_in 6 2 8 ∷ []) ∷ []) [])) {
+    parents = None ∷ Some 0 ∷ Some 0 ∷ [];
+  };
+  levels = Some (record { number = 1; horizon = 3; arrays = array_in 5 1 7 ∷ array_in 6 2 8 ∷ [] })
+      ∷ [];
+  cached = record { entries = []; cap = 256 };
+  spent = false;
+}
+
+-- a disk that has entries in block 7, and in no other
+abbrev pub one_block : Image
+one_block = patch (λ i. 0) 28672 array_block

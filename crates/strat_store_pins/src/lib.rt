@@ -3,7 +3,9 @@
 
 #![tactic(auto)]
 
+pub mod asking;
 pub mod cursors;
+pub mod keeping;
 pub mod leaving;
 pub mod publishing;
 pub mod telling;

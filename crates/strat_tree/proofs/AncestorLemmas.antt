@@ -119,11 +119,6 @@ two_halves zero some = absurd (omega arith)
 two_halves (suc i) some = let less : suc i - 1 ≡ i = omega arith in rw less (omega (arith, pow-succ' 2 i))
 
 module _ (parents : Parents) (tree : IsTree parents) (v h : ℕ) (positive : 0 < h) where
-  pub walk_begins : v < length parents → length parents ≤ 16384 → h ≤ v → IsWalk parents v h v 14
-  walk_begins known few above =
-      let low : ancestor_at parents 16384 v ≤ v - 16384 = at_le parents tree 16384 v in
-      record { known = known; above = above; same = refl; far = omega arith }
-
   -- a jump that stays at or above the horizon is taken
   pub walk_jumps : (at i next : ℕ) → 1 ≤ i → IsWalk parents v h at i → next ≡ ancestor_at parents (2 ^ (i - 1)) at → h ≤ next → IsWalk parents v h next (i - 1)
   walk_jumps at i next some walk is above =

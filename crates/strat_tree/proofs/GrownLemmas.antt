@@ -33,7 +33,7 @@ unfolding is_child
 no_child_yet parents tree v new =
     list_any_none (is_child v) parents (λ k d within. no_child_of (get_or parents k d) k v (omega arith) (subst (IsOlder k) (slice_get-get_or parents k d within) (tree.older k)))
 
-path_some : (parents : Parents) → IsTree parents → (v : ℕ) → 1 ≤ length (path parents v)
+pub path_some : (parents : Parents) → IsTree parents → (v : ℕ) → 1 ≤ length (path parents v)
 path_some parents tree v = go (path parents v) (self_on_path parents tree v)
   where
     go : (xs : List ℕ) → Among v xs → 1 ≤ length xs

@@ -1,7 +1,7 @@
 //! The tree of a store's versions. Each version has, beside its parent, its depth, whether it has a
 //! child, and the ancestors at 1, 2, 4, .. 8,192 steps above it.
 
-ghost use Rattle.std.specs.Prelude.{◌≡◌, ◌<◌, ◌≤◌, ◌+◌, [], ◌∷◌, length, None, IfOk};
+ghost use Rattle.std.specs.Prelude.{◌≡◌, ◌<◌, ◌≤◌, ◌+◌, ◌^◌, [], ◌∷◌, length, None, IfOk};
 ghost use Rattle.strat_base.specs.Tree.{parent_of, depth, has_child, is_ancestor, below, with_child, IsTree};
 ghost use Rattle.strat_tree.specs.Jumps.{IsChildRow};
 
@@ -11,6 +11,20 @@ use strat_base::{NoMemory, Version};
 
 /// Jumps of a version. The path of one of 2^14 versions has fewer than 2^14 steps.
 const JUMPS: usize = 14;
+
+/// The first jump that leads past version 0 from this depth: the search for an ancestor begins below it.
+fn jumps_over(depth: u32) -> usize
+    requires { depth < 16384 }
+    ensures ok { (result ≤ 14) × (depth < 2 ^ result) }
+{
+    let mut i = 0;
+    let mut reach: u32 = 1;
+    while i < JUMPS && reach <= depth {
+        reach *= 2;
+        i += 1;
+    }
+    i
+}
 
 /// The versions of a store: version 0, and others that were each made as a child of an earlier one.
 /// Jump `i` of a version leads `2^i` steps up its path, and to version 0 where the path is shorter.
@@ -107,7 +121,7 @@ impl Tree {
         self.inner[v as usize]
     }
 
-    /// Whether u is v or an ancestor of v. O(log versions_max): up to 15 steps.
+    /// Whether u is v or an ancestor of v. O(log depth): up to 15 steps.
     pub fn is_ancestor(&self, u: Version, v: Version) -> bool
         requires { (u < length self.now.parents) × (v < length self.now.parents) }
         ensures ok { result ≡ is_ancestor self.now.parents u v }
@@ -117,9 +131,9 @@ impl Tree {
         self.below(v, u + 1) == u
     }
 
-    /// The nearest of v and its ancestors that is numbered below h. O(log versions_max): a parent has
-    /// a smaller number than its child, so each jump that stays at or above h is taken, the longest
-    /// first, and one step after them is below h.
+    /// The nearest of v and its ancestors that is numbered below h. O(log depth): a parent has a smaller number than its
+    /// child, so each jump that stays at or above h is taken, from the longest that v is deep enough for, and one step after
+    /// them is below h.
     pub fn below(&self, v: Version, h: u32) -> Version
         requires { (v < length self.now.parents) × (1 ≤ h) }
         ensures ok { result ≡ below self.now.parents v h }
@@ -129,7 +143,7 @@ impl Tree {
             return v;
         }
         let mut at = v;
-        let mut i = JUMPS;
+        let mut i = jumps_over(self.depth(v));
         while i > 0 {
             i -= 1;
             let next = jumps[at as usize][i];

@@ -1,12 +1,12 @@
 use Rattle.std.proofs.Common.{refl, ◌∙◌, arith}
 use Rattle.std.proofs.lemmas.List.{length-set}
 use Rattle.strat_array.proofs.SearchLemmas.{err_of}
-use Rattle.strat_cursor.specs.Ranges.{arrays_in_view}
 use Rattle.strat_cursor.specs.Sources.{reads_left, reads_of_source}
 use Rattle.strat_cursor.proofs.ContestLemmas.{get_here}
 use Rattle.strat_cursor.proofs.ThroughLemmas.{through_more, through_trans, names_more, names_earlier}
 use Rattle.strat_cursor.proofs.BeginLemmas.{begins, begins_more, all_settled, all_up, sum_begins, sum_more, sum_ends, sum_rest, few_at}
 use Rattle.strat_cursor.proofs.scanning.begin_all.Goals as goal
+use Rattle.strat_cursor.specs.Views.{arrays_read}
 
 pub loop-i-init : goal.loop-i-init
 loop-i-init g c =
@@ -27,21 +27,21 @@ pub returns-in_err-begin-clause-same : goal.returns-in_err-begin-clause-same
 returns-in_err-begin-clause-same g c =
     let here = get_here c.args.sources.now c.loop-i.i c.index-sources-i.result c.loop-i-test.true c.index-sources-i.is in
     let of = (c.requires.same.each c.loop-i.i c.index-sources-i.result here) in
-    let looks = through_more _ _ _ (arrays_in_view c.args.view.now.levels) _ _ c.begin.ensures.same of.there in
+    let looks = through_more _ _ _ (arrays_read c.args.view.now c.args.v) _ _ c.begin.ensures.same of.there in
     through_trans _ _ _ _ _ _ _ c.loop-i.invariant.begun.looks looks
 
 pub returns-in_err-begin-clause-damaged : goal.returns-in_err-begin-clause-damaged
 returns-in_err-begin-clause-damaged g c =
     let here = get_here c.args.sources.now c.loop-i.i c.index-sources-i.result c.loop-i-test.true c.index-sources-i.is in
     let of = (c.requires.same.each c.loop-i.i c.index-sources-i.result here) in
-    λ b torn. names_earlier _ _ (arrays_in_view c.args.view.now.levels) b c.loop-i.invariant.begun.looks.disk.same (names_more _ _ (arrays_in_view c.args.view.now.levels) b of.there (c.in_err-begin.ensures.damaged b (err_of c.from_residual.result _ _ c.from_residual.ensures.1 torn)))
+    λ b torn. names_earlier _ _ (arrays_read c.args.view.now c.args.v) b c.loop-i.invariant.begun.looks.disk.same (names_more _ _ (arrays_read c.args.view.now c.args.v) b of.there (c.in_err-begin.ensures.damaged b (err_of c.from_residual.result _ _ c.from_residual.ensures.1 torn)))
 
 pub returns-in_err-begin-clause-reads : goal.returns-in_err-begin-clause-reads
 returns-in_err-begin-clause-reads g c =
     let here = get_here c.args.sources.now c.loop-i.i c.index-sources-i.result c.loop-i-test.true c.index-sources-i.is in
     let of = (c.requires.same.each c.loop-i.i c.index-sources-i.result here) in
     λ n few.
-    let own = c.begin.ensures.reads n (few_at n _ (arrays_in_view c.args.view.now.levels) of.there few) in
+    let own = c.begin.ensures.reads n (few_at n _ (arrays_read c.args.view.now c.args.v) of.there few) in
     let rest = sum_rest (reads_of_source n) c.args.sources.now c.loop-i.i c.index-sources-i.result here in
     record { later = omega (arith, own.later, c.loop-i.invariant.later n few); bound = omega (arith, own.bound, rest, c.loop-i.invariant.reads n few) }
 
@@ -49,15 +49,15 @@ pub loop-i-preserved : goal.loop-i-preserved
 loop-i-preserved g c =
     let here = get_here c.args.sources.now c.loop-i.i c.index-sources-i.result c.loop-i-test.true c.index-sources-i.is in
     let of = (c.requires.same.each c.loop-i.i c.index-sources-i.result here) in
-    let looks = through_more _ _ _ (arrays_in_view c.args.view.now.levels) _ _ c.begin.ensures.same of.there in
+    let looks = through_more _ _ _ (arrays_read c.args.view.now c.args.v) _ _ c.begin.ensures.same of.there in
     record {
       begun = begins_more (g.D.Disk.view c.args.disk.now) (g.D.Disk.view c.loop-i.disk) (g.D.Disk.view c.begin.new.disk) c.args.view.now c.args.v c.args.lo.now c.args.sources.now c.args.cache.now c.loop-i.cache c.begin.new.cache c.loop-i.i c.loop-i.desks c.index-sources-i.result c.begin.new.desk c.requires.same here c.loop-i.invariant.begun looks
           c.in_ok-begin.ensures.found c.in_ok-begin.ensures.ok;
       same = length-set c.loop-i.desks c.loop-i.i c.begin.new.desk ∙ c.loop-i.invariant.same;
       faults = c.in_ok-begin.ensures.cause.ok ∙ c.loop-i.invariant.faults;
-      later = λ n few. omega (arith, c.loop-i.invariant.later n few, (c.begin.ensures.reads n (few_at n _ (arrays_in_view c.args.view.now.levels) of.there few)).later);
+      later = λ n few. omega (arith, c.loop-i.invariant.later n few, (c.begin.ensures.reads n (few_at n _ (arrays_read c.args.view.now c.args.v) of.there few)).later);
       reads = λ n few.
-          let own = c.in_ok-begin.ensures.room n (few_at n _ (arrays_in_view c.args.view.now.levels) of.there few) in
+          let own = c.in_ok-begin.ensures.room n (few_at n _ (arrays_read c.args.view.now c.args.v) of.there few) in
           let more = sum_more c.loop-i.i reads_left c.args.sources.now c.loop-i.desks c.index-sources-i.result c.begin.new.desk here (omega (arith, c.loop-i-test.true, c.loop-i.invariant.same, c.requires.room)) in
           let rest = sum_rest (reads_of_source n) c.args.sources.now c.loop-i.i c.index-sources-i.result here in
           omega (arith, own, more, rest, c.loop-i.invariant.reads n few);

@@ -1,14 +1,15 @@
 use Rattle.std.proofs.Common.{◌≡◌, ◌≤◌, ◌+◌, ℕ, length, drop, sum_by}
-use Rattle.strat_cursor.specs.Ranges.{arrays_in_view}
-use Rattle.strat_cursor.specs.Sources.{reads_left, reads_of_source, HaveFewBlocks}
+use Rattle.strat_cursor.specs.Sources.{reads_left, reads_of_source}
 use Rattle.strat_cursor.proofs.BeginLemmas.{Beginning, sum_first}
 use Rattle.strat_cursor.proofs.scanning.begin_all.Given as goal
+use Rattle.strat_cursor.specs.Views.{arrays_read}
+use Rattle.strat_cursor.specs.Looking.{HaveFewBlocks}
 
 abbrev pub invariant-loop-i : goal.invariant-loop-i
 invariant-loop-i g l = record {
   begun : Beginning (g.D.Disk.view l.initial.disk) (g.D.Disk.view l.disk) l.view l.v l.lo l.sources l.initial.cache l.cache l.i l.desks;
   same : length l.desks ≡ length l.initial.desks;
   faults : g.D.Disk.faults l.disk ≡ g.D.Disk.faults l.initial.disk;
-  later : (n : ℕ) → HaveFewBlocks n (arrays_in_view l.view.levels) → g.D.Disk.reads l.initial.disk ≤ g.D.Disk.reads l.disk;
-  reads : (n : ℕ) → HaveFewBlocks n (arrays_in_view l.view.levels) → g.D.Disk.reads l.disk + sum_first l.i reads_left l.sources l.desks + sum_by (reads_of_source n) (drop l.i l.sources) ≤ g.D.Disk.reads l.initial.disk + sum_by (reads_of_source n) l.sources;
+  later : (n : ℕ) → HaveFewBlocks n (arrays_read l.view l.v) → g.D.Disk.reads l.initial.disk ≤ g.D.Disk.reads l.disk;
+  reads : (n : ℕ) → HaveFewBlocks n (arrays_read l.view l.v) → g.D.Disk.reads l.disk + sum_first l.i reads_left l.sources l.desks + sum_by (reads_of_source n) (drop l.i l.sources) ≤ g.D.Disk.reads l.initial.disk + sum_by (reads_of_source n) l.sources;
 }

@@ -3,12 +3,12 @@ use Rattle.std.proofs.lemmas.List.{length-set}
 use Rattle.strat_array.proofs.SearchLemmas.{err_of}
 use Rattle.strat_base.specs.Entries.{Entry}
 use Rattle.std.specs.declared.option.Option.{Option}
-use Rattle.strat_cursor.specs.Ranges.{arrays_in_view}
 use Rattle.strat_cursor.specs.Sources.{IsSpent, steps_left, reads_left}
 use Rattle.strat_cursor.proofs.ContestLemmas.{get_here, won_bracket, beside_source}
 use Rattle.strat_cursor.proofs.ThroughLemmas.{through_more, names_more}
 use Rattle.strat_cursor.proofs.TurnLemmas.{at_hand, settled_next, up_next, sum_next, sum_has, head_here, desk_at}
 use Rattle.strat_cursor.proofs.turn.go_on.Goals as goal
+use Rattle.strat_cursor.specs.Views.{arrays_read}
 
 pub advance-requires-clause-same : goal.advance-requires-clause-same
 advance-requires-clause-same g c =
@@ -29,12 +29,12 @@ returns-in_err-advance-clause-len g c =
 pub returns-in_err-advance-clause-same : goal.returns-in_err-advance-clause-same
 returns-in_err-advance-clause-same g c =
     let here = get_here c.args.sources.now c.args.w c.index-sources-w.result c.requires.fits.1 c.index-sources-w.is in
-    through_more _ _ _ (arrays_in_view c.args.view.now.levels) _ _ c.advance.ensures.same (λ a of. (c.requires.same.each c.args.w c.index-sources-w.result here).there a of)
+    through_more _ _ _ (arrays_read c.args.view.now c.args.v) _ _ c.advance.ensures.same (λ a of. (c.requires.same.each c.args.w c.index-sources-w.result here).there a of)
 
 pub returns-in_err-advance-clause-damaged : goal.returns-in_err-advance-clause-damaged
 returns-in_err-advance-clause-damaged g c =
     let here = get_here c.args.sources.now c.args.w c.index-sources-w.result c.requires.fits.1 c.index-sources-w.is in
-    λ b torn. names_more _ _ (arrays_in_view c.args.view.now.levels) b (λ a of. (c.requires.same.each c.args.w c.index-sources-w.result here).there a of) (c.in_err-advance.ensures.damaged b (err_of c.from_residual.result _ _ c.from_residual.ensures.1 torn))
+    λ b torn. names_more _ _ (arrays_read c.args.view.now c.args.v) b (λ a of. (c.requires.same.each c.args.w c.index-sources-w.result here).there a of) (c.in_err-advance.ensures.damaged b (err_of c.from_residual.result _ _ c.from_residual.ensures.1 torn))
 
 pub returns-in_err-advance-clause-reads : goal.returns-in_err-advance-clause-reads
 returns-in_err-advance-clause-reads g c =
@@ -70,8 +70,8 @@ returns-clause-ok g c =
     let here = get_here c.args.sources.now c.args.w c.index-sources-w.result c.requires.fits.1 c.index-sources-w.is in
     let there = desk_at c.args.desks.now (length c.args.sources.now) c.args.w c.index-desks-w.result c.requires.kept.0.same c.requires.fits.1 in
     λ f lo prev exposed own later up.
-    up_next (g.D.Disk.view c.args.disk.now) (g.D.Disk.view c.advance.new.disk) (arrays_in_view c.args.view.now.levels) f c.args.cache.now c.advance.new.cache c.args.view.now.pool.now c.args.view.now.tree.now.parents c.args.v lo prev c.args.last.now c.args.sources.now c.args.desks.now c.args.w c.index-sources-w.result (get_or c.args.desks.now c.args.w c.index-desks-w.result) c.advance.new.desk
-    exposed own (through_more _ _ _ (arrays_in_view c.args.view.now.levels) _ _ c.advance.ensures.same (λ a of. (c.requires.same.each c.args.w c.index-sources-w.result here).there a of))
+    up_next (g.D.Disk.view c.args.disk.now) (g.D.Disk.view c.advance.new.disk) (arrays_read c.args.view.now c.args.v) f c.args.cache.now c.advance.new.cache c.args.view.now.pool.now c.args.view.now.tree.now.parents c.args.v lo prev c.args.last.now c.args.sources.now c.args.desks.now c.args.w c.index-sources-w.result (get_or c.args.desks.now c.args.w c.index-desks-w.result) c.advance.new.desk
+    exposed own (through_more _ _ _ (arrays_read c.args.view.now c.args.v) _ _ c.advance.ensures.same (λ a of. (c.requires.same.each c.args.w c.index-sources-w.result here).there a of))
     (λ i t at a of. (c.requires.same.each i t at).there a of) later up here there (λ stands. c.in_ok-advance.ensures.ok f exposed stands)
 
 pub returns-clause-end : goal.returns-clause-end
@@ -85,7 +85,7 @@ returns-clause-end g c =
 pub returns-clause-same : goal.returns-clause-same
 returns-clause-same g c =
     let here = get_here c.args.sources.now c.args.w c.index-sources-w.result c.requires.fits.1 c.index-sources-w.is in
-    through_more _ _ _ (arrays_in_view c.args.view.now.levels) _ _ c.advance.ensures.same (λ a of. (c.requires.same.each c.args.w c.index-sources-w.result here).there a of)
+    through_more _ _ _ (arrays_read c.args.view.now c.args.v) _ _ c.advance.ensures.same (λ a of. (c.requires.same.each c.args.w c.index-sources-w.result here).there a of)
 
 pub returns-clause-reads : goal.returns-clause-reads
 returns-clause-reads g c =

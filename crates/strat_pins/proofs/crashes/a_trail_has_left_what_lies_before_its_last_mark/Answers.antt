@@ -1,4 +1,4 @@
-use Rattle.std.proofs.Common.{◌≡◌, ◌≤◌, refl, arith, ℕ, zero, suc, List, [], ◌∷◌}
+use Rattle.std.proofs.Common.{◌≡◌, ◌≤◌, refl, arith, ℕ, zero, suc, [], ◌∷◌}
 use Rattle.strat_crash.specs.Trail.{At}
 use Rattle.strat_pins.proofs.crashes.a_trail_has_left_what_lies_before_its_last_mark.Goals as goal
 

@@ -8,7 +8,7 @@ use Rattle.strat_promote.specs.Filled.{IsFilling}
 use Rattle.strat_promote.specs.InputFields.{input_seen}
 use Rattle.strat_promote.specs.Job.{groups_kept}
 use Rattle.strat_promote.specs.declared.input.Input.{Input}
-use Rattle.strat_promote.proofs.StartLemmas.{runs_begun, new_ready, new_content}
+use Rattle.strat_promote.proofs.StartLemmas.{read_begun, runs_begun, new_ready, new_content}
 use Rattle.strat_promote.proofs.opening.begin_writing.Goals as goal
 
 -- the counts are of as many versions as before
@@ -40,3 +40,8 @@ returns-clause-ok g c = λ f job told over within horizon counted.
       runs = runs_begun input_seen f _ _ job _ _ _ over c.in_ok-merger.ensures.ok c.in_ok-merger.ensures.len (runs.ok f told) runs.reads.2 (λ b bad. runs.kept f b told bad);
       content = record { each = new_content f job (plan_seen c.in_ok-filling.filling.plan) c.args.first c.in_ok-filling.filling.writers.items c.in_ok-filling.ensures.found };
     }
+
+pub returns-clause-damaged : goal.returns-clause-damaged
+returns-clause-damaged g c = λ f told.
+    let runs = c.in_ok-runs.ensures in
+    read_begun input_seen f _ _ _ c.in_ok-merger.ensures.ok runs.reads.2 (λ b bad. runs.kept f b told bad)

@@ -16,7 +16,7 @@ use Rattle.strat_promote.specs.Filled.{AreReadyFor, DealsOut}
 use Rattle.strat_promote.specs.Job.{blocks_listed}
 use Rattle.strat_promote.specs.Taken.{TakesKept}
 use Rattle.strat_promote.specs.Written.{IsAllWritten}
-use Rattle.strat_promote.proofs.BudgetLemmas.{one_key}
+use Rattle.strat_promote.proofs.BudgetLemmas.{takes_some}
 use Rattle.strat_promote.proofs.PassLemmas.{under_more}
 use Rattle.strat_promote.proofs.WrittenLemmas.{written_more, written_all, written_stays}
 use Rattle.strat_promote.proofs.passing.write_group.Goals as goal
@@ -74,7 +74,7 @@ returns-clause-ok g c = λ _ f g' job first told tells within purges horizon use
           → DealsOut (g.D.Disk.view c.take_group.new.disk) (g.D.Disk.view c.deal_out.new.disk) parents c.args.writing.now.filling.plan c.take_group.new.arena.pairs items
           c.args.writing.now.filling.writers.items c.deal_out.new.filling.writers.items) c.items.ensures.ok (c.in_ok-deal_out.ensures.ok parents) split)
           between tells,
-      one_key f job writing.groups old new _ _ taken.group writing.runs taken.taken (c.in_ok-take_group.ensures.len f told),
+      takes_some f job writing.groups old new _ _ taken.group writing.runs taken.taken (c.in_ok-take_group.ensures.len f told),
     )
 
 pub returns-clause-same : goal.returns-clause-same

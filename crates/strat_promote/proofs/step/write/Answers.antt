@@ -1,10 +1,15 @@
 use Rattle.std.proofs.Common.{sym, ap, ◌∙◌}
+use Rattle.strat_merge.specs.MergerFields.{views_of}
 use Rattle.strat_merge.specs.declared.merger.Merger.{Merger}
 use Rattle.strat_promote.specs.declared.input.Input.{Input}
 use Rattle.strat_promote.proofs.SpacesLemmas.{torn_on}
 use Rattle.strat_promote.proofs.PushingLemmas.{still_told}
 use Rattle.strat_promote.proofs.SliceLemmas.{inputs_agree, task_stays, made_from, count_same}
+use Rattle.strat_promote.specs.InputFields.{input_seen}
+use Rattle.strat_promote.specs.InputLaw.{input_law}
 use Rattle.strat_promote.specs.Job.{blocks_listed}
+use Rattle.strat_promote.proofs.PassLemmas.{read_fewer}
+use Rattle.strat_promote.proofs.WrittenLemmas.{read_stays}
 use Rattle.strat_promote.proofs.step.write.Goals as goal
 
 pub returns-in_err-made-clause-same : goal.returns-in_err-made-clause-same
@@ -26,3 +31,13 @@ returns-clause-ok g c = λ f g' job told tells task used writing.
     let all = c.in_ok-more.ensures.none c.if-more.false f mid.0 job c.args.task.now.first told mid.1 writing in
     let counted = ap (λ (m : Merger Input). m.consumed) c.in_ok-made.ensures.kept.0 ∙ all.0.taken ∙ count_same f mid.0 job agree in
     (made_from f mid.0 g' job _ _ _ agree (c.in_ok-made.ensures.ok mid.0 g' _ job mid.1 tells c.requires.fits (task_stays f mid.0 _ _ job agree task) all.0), counted, ap (λ (m : Merger Input). m.consumed) c.in_ok-made.ensures.kept.0 ∙ all.1)
+
+pub returns-then-more-clause-damaged : goal.returns-then-more-clause-damaged
+returns-then-more-clause-damaged g c = (
+  λ b bad. absurd (cc),
+  λ f g' arrays told tells used read.
+      let reads = c.in_ok-more.ensures.reads in
+      let agree = inputs_agree c.args.space.now (blocks_listed arrays) (g.D.Disk.view c.args.disk.now) (g.D.Disk.view c.write_group.new.disk) f g' used c.in_ok-more.ensures.same told tells in
+      read_stays f g' input_seen input_law arrays c.write_group.new.writing.merger.runs.items agree
+      (read_fewer f arrays (views_of input_seen c.args.writing.now.merger) (views_of input_seen c.write_group.new.writing.merger) reads.left.fewer (λ b is. reads.fewer f b told is) read),
+)

@@ -10,7 +10,6 @@ use Rattle.strat_serve.proofs.GiveUpLemmas.{caused_by_none, caused_by_fault}
 use Rattle.strat_serve.proofs.ProgressLemmas.{Answered, begins, reads, reads_none}
 use Rattle.strat_serve.proofs.SendLemmas.{frame_shrinks}
 use Rattle.strat_serve.proofs.SessionLemmas.{goes_on, ends_unsent, ends_broken, ends_long, ends_long_cut, ends_at_end, ends_budget, ends_source}
-use Rattle.strat_serve.proofs.StreamLemmas.{partial_short}
 use Rattle.strat_serve.proofs.serving.serve_frames.Given.{Over}
 use Rattle.strat_serve.proofs.serving.serve_frames.Goals as goal
 use Rattle.strat_serve.proofs.serving.serve_frames.Goals.{After-send}
@@ -27,7 +26,6 @@ loop-store-init g c = record {
   lawful = c.requires.kept;
   time = passes_refl (g.D.Disk.view c.args.disk.now);
   within = omega arith;
-  few = omega (arith, ap length c.requires.none);
   source_same = refl;
   sink_same = refl;
   disk_same = refl;
@@ -54,7 +52,7 @@ returns-in_default-clause-ok g c = λ d has.
     let sent = (goal.at.returns-in_default-clause-ok g c).After-send in
     ends_unsent c.args.store.now s.store c.answer-met.new.store s.taken c.args.budget s.buffers.frames.held c.next.new.self.held c.next.new.self.body c.answer-met.result c.answer-met.new.out
     (shown g c.args.source.now c.args.sink.now d) (shown g s.source s.sink s.disk) (shown g s.source c.send.new.sink c.answer-met.new.disk)
-    (s.invariant.progress d has) (s.invariant.within, s.invariant.few) (answered g sent) c.in-Frame.ensures.ok.0 c.in-Frame.ensures.ok.1 c.in-Frame.ensures.fits
+    (s.invariant.progress d has) s.invariant.within (answered g sent) c.in-Frame.ensures.ok.0 c.in-Frame.ensures.ok.1 c.in-Frame.ensures.fits
     (passes_trans has.passes s.invariant.time) c.in_default.ensures.err
 
 pub returns-in-Some-clause-ok : goal.returns-in-Some-clause-ok
@@ -63,7 +61,7 @@ returns-in-Some-clause-ok g c = λ d has.
     let sent = (goal.at.returns-in-Some-clause-ok g c).After-send in
     ends_broken c.args.store.now s.store c.answer-met.new.store s.taken c.args.budget s.buffers.frames.held c.next.new.self.held c.next.new.self.body c.answer-met.result c.answer-met.new.out
     (shown g c.args.source.now c.args.sink.now d) (shown g s.source s.sink s.disk) (shown g s.source c.send.new.sink c.answer-met.new.disk)
-    (s.invariant.progress d has) (s.invariant.within, s.invariant.few) (answered g sent) c.in-Frame.ensures.ok.0 c.in-Frame.ensures.ok.1 c.in-Frame.ensures.fits
+    (s.invariant.progress d has) s.invariant.within (answered g sent) c.in-Frame.ensures.ok.0 c.in-Frame.ensures.ok.1 c.in-Frame.ensures.fits
     c.in-Some.fault c.in-Some.is (passes_trans has.passes s.invariant.time) c.in-Ok.ensures.ok c.broken_by.result c.broken_by.ensures
 
 pub returns-in-Some-clause-cause : goal.returns-in-Some-clause-cause
@@ -94,13 +92,12 @@ loop-store-preserved-in_default-met g c =
     record {
       progress = λ d has. goes_on c.args.store.now s.store c.answer-met.new.store s.taken c.args.budget s.buffers.frames.held c.next.new.self.held c.next.new.self.body c.answer-met.result c.answer-met.new.out
           (shown g c.args.source.now c.args.sink.now d) (shown g s.source s.sink s.disk) (shown g s.source c.send.new.sink c.answer-met.new.disk)
-          (s.invariant.progress d has) (s.invariant.within, s.invariant.few) (answered g sent) c.in-Frame.ensures.ok.0 c.in-Frame.ensures.ok.1 c.in-Frame.ensures.fits
+          (s.invariant.progress d has) s.invariant.within (answered g sent) c.in-Frame.ensures.ok.0 c.in-Frame.ensures.ok.1 c.in-Frame.ensures.fits
           none c.in-Ok.ensures.ok;
       going = c.answer-met.ensures.end ∙ ap is_some none;
       lawful = c.answer-met.ensures.kept none;
       time = passes_trans s.invariant.time c.answer-met.ensures.time;
       within = s.invariant.within;
-      few = omega (arith, frame_shrinks s.buffers.frames.held c.next.new.self.body c.next.new.self.held c.in-Frame.ensures.ok.0, s.invariant.few);
       source_same = s.invariant.source_same;
       sink_same = c.in-Ok.ensures.cause.ok ∙ s.invariant.sink_same;
       disk_same = c.answer-met.ensures.cause.same (λ e. let f : ◌≡◌ {A = Option Fault} None (Some fault.Device) = sym none ∙ e in cc) ∙ s.invariant.disk_same;
@@ -110,7 +107,7 @@ pub returns-in_default-most_next-clause-ok : goal.returns-in_default-most_next-c
 returns-in_default-most_next-clause-ok g c = λ d has.
     let s = c.loop-store in
     ends_budget c.args.store.now s.store s.taken c.args.budget s.buffers.frames.held (shown g c.args.source.now c.args.sink.now d) (shown g s.source s.sink s.disk)
-    (s.invariant.progress d has) (s.invariant.within, s.invariant.few) c.in-NotYet.ensures.ok.0 c.in_default-most_next.ensures.none
+    (s.invariant.progress d has) s.invariant.within c.in-NotYet.ensures.ok.0 c.in_default-most_next.ensures.none
 
 pub returns-in_default-read_piece-clause-ok : goal.returns-in_default-read_piece-clause-ok
 returns-in_default-read_piece-clause-ok g c = λ d has.
@@ -118,7 +115,7 @@ returns-in_default-read_piece-clause-ok g c = λ d has.
     let before = shown g c.args.source.now c.args.sink.now d in
     let p = reads_none c.args.store.now s.store s.taken s.buffers.frames.held before (shown g s.source s.sink s.disk) (g.S.Source.left c.read_piece.new.source) (g.S.Source.faults c.read_piece.new.source)
     (s.invariant.progress d has) c.in_default-read_piece.ensures.err in
-    ends_source c.args.store.now s.store s.taken c.args.budget s.buffers.frames.held before (shown g c.read_piece.new.source s.sink s.disk) p (s.invariant.within, s.invariant.few) c.in-NotYet.ensures.ok.0
+    ends_source c.args.store.now s.store s.taken c.args.budget s.buffers.frames.held before (shown g c.read_piece.new.source s.sink s.disk) p s.invariant.within c.in-NotYet.ensures.ok.0
 
 pub returns-then-n-eq0-clause-ok : goal.returns-then-n-eq0-clause-ok
 returns-then-n-eq0-clause-ok g c = λ d has.
@@ -134,7 +131,7 @@ returns-then-n-eq0-clause-ok g c = λ d has.
     let room : 0 < c.in-Some-most_next.most = c.in-Some-most_next.ensures.fits.0 in
     let less : s.taken < c.args.budget = omega (arith, room, c.in-Some-most_next.ensures.fits.2) in
     ends_at_end c.args.store.now s.store s.taken c.args.budget s.buffers.frames.held before (shown g c.read_piece.new.source s.sink s.disk)
-    p (within, s.invariant.few) c.in-NotYet.ensures.ok.0 less c.at_end.result (λ e. c.at_end.ensures.none (c.held.ensures.ok ∙ same ∙ e)) (λ e. c.at_end.ensures.end (λ f. e (sym same ∙ sym c.held.ensures.ok ∙ f)))
+    p within c.in-NotYet.ensures.ok.0 less c.at_end.result (λ e. c.at_end.ensures.none (c.held.ensures.ok ∙ same ∙ e)) (λ e. c.at_end.ensures.end (λ f. e (sym same ∙ sym c.held.ensures.ok ∙ f)))
     (c.in-Ok-read_piece.ensures.end none room)
 
 pub returns-then-n-eq0-clause-cause : goal.returns-then-n-eq0-clause-cause
@@ -152,12 +149,12 @@ loop-store-preserved g c =
     let fed : c.feed.new.self.held ≡ s.buffers.frames.held ++ piece = c.feed.ensures ∙ ap (λ (x : List ℕ). x ++ piece) c.in-NotYet.ensures.ok.1 in
     record {
       progress = λ d has. reads c.args.store.now s.store s.taken n s.buffers.frames.held piece c.feed.new.self.held (shown g c.args.source.now c.args.sink.now d) (shown g s.source s.sink s.disk)
-          (g.S.Source.left c.read_piece.new.source) (g.S.Source.faults c.read_piece.new.source) (s.invariant.progress d has) c.in-Ok-read_piece.ensures.ok len fed;
+          (g.S.Source.left c.read_piece.new.source) (g.S.Source.faults c.read_piece.new.source) (s.invariant.progress d has) c.in-Ok-read_piece.ensures.ok len fed c.in-NotYet.ensures.ok.0
+          (omega (arith, c.in-Ok-read_piece.ensures.fits, c.in-Some-most_next.ensures.fits.1));
       going = s.invariant.going;
       lawful = s.invariant.lawful;
       time = s.invariant.time;
       within = omega (arith, c.in-Ok-read_piece.ensures.fits, c.in-Some-most_next.ensures.fits.2);
-      few = omega (arith, ap length fed, length-append s.buffers.frames.held piece, len, partial_short s.buffers.frames.held c.in-NotYet.ensures.ok.0, c.in-Ok-read_piece.ensures.fits, c.in-Some-most_next.ensures.fits.1);
       source_same = c.in-Ok-read_piece.ensures.cause.ok ∙ s.invariant.source_same;
       sink_same = s.invariant.sink_same;
       disk_same = s.invariant.disk_same;
@@ -166,11 +163,11 @@ loop-store-preserved g c =
 pub returns-in-Ok-refuse_long-clause-ok : goal.returns-in-Ok-refuse_long-clause-ok
 returns-in-Ok-refuse_long-clause-ok g c = λ d has.
     let s = c.loop-store in
-    ends_long c.args.store.now s.store s.taken c.args.budget s.buffers.frames.held (shown g c.args.source.now c.args.sink.now d) (shown g s.source s.sink s.disk) (s.invariant.progress d has) (s.invariant.within, s.invariant.few)
+    ends_long c.args.store.now s.store s.taken c.args.budget s.buffers.frames.held (shown g c.args.source.now c.args.sink.now d) (shown g s.source s.sink s.disk) (s.invariant.progress d has) s.invariant.within
     c.in-TooLong.ensures.ok.0 (g.K.Sink.held c.refuse_long.new.sink) (g.K.Sink.faults c.refuse_long.new.sink) c.in-Ok-refuse_long.ensures.ok
 
 pub returns-in-Err-clause-ok : goal.returns-in-Err-clause-ok
 returns-in-Err-clause-ok g c = λ d has.
     let s = c.loop-store in
-    ends_long_cut c.args.store.now s.store s.taken c.args.budget s.buffers.frames.held (shown g c.args.source.now c.args.sink.now d) (shown g s.source s.sink s.disk) (s.invariant.progress d has) (s.invariant.within, s.invariant.few)
+    ends_long_cut c.args.store.now s.store s.taken c.args.budget s.buffers.frames.held (shown g c.args.source.now c.args.sink.now d) (shown g s.source s.sink s.disk) (s.invariant.progress d has) s.invariant.within
     c.in-TooLong.ensures.ok.0 (g.K.Sink.held c.refuse_long.new.sink) (g.K.Sink.faults c.refuse_long.new.sink) c.in-Err.ensures.err

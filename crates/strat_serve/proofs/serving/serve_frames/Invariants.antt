@@ -16,7 +16,6 @@ invariant-loop-store g l = record {
   lawful : IsConsistent l.store;
   time : Passes (g.D.Disk.view l.fn.disk) (g.D.Disk.view l.disk);
   within : l.taken ≤ l.budget;
-  few : length l.buffers.frames.held ≤ 6148;
   source_same : g.S.Source.faults l.source ≡ g.S.Source.faults l.fn.source;
   sink_same : g.K.Sink.faults l.sink ≡ g.K.Sink.faults l.fn.sink;
   disk_same : g.D.Disk.faults l.disk ≡ g.D.Disk.faults l.fn.disk;

@@ -1,12 +1,13 @@
 use Rattle.std.proofs.Common.{refl, arith, ◌+◌, ◌*◌}
 use Rattle.std.proofs.lemmas.Bool.{le-leb}
+use Rattle.strat_state.specs.Sound.{journal_max}
 use Rattle.strat_state.specs.State.{deep}
 use Rattle.strat_state.proofs.laws.a_new_store_is_sound.Goals as goal
 
 pub returns : goal.returns
 returns c = record {
   sound = λ mem changes_max versions_max. record {
-    formed = record { tree = refl; numbered = refl; accepted = refl; fits = le-leb 0 mem (omega arith) };
+    formed = record { tree = refl; numbered = refl; accepted = refl; fits = le-leb 0 (journal_max mem) (omega arith) };
     stratified = tt;
     roomy = refl;
     old = refl;

@@ -1,13 +1,15 @@
-use Rattle.std.proofs.Common.{◌≡◌, ◌∙◌, length, Err, ap, arith}
+use Rattle.std.proofs.Common.{◌≡◌, ◌∙◌, length, Err, ap, sym, arith}
 use Rattle.std.specs.Prelude.{Result, IsErrOf}
 use Rattle.strat_base.specs.declared.failures.Trouble.{Trouble}
 use Rattle.strat_base.specs.declared.failures.Trouble.TheVariants as trouble
+use Rattle.strat_model.specs.Answer.{accepts}
+use Rattle.strat_model.specs.declared.replies.Refusal.TheVariants as why
 use Rattle.strat_model.specs.declared.replies.Reply.TheVariants as reply
 use Rattle.strat_store.specs.Recovering.{empty_cache, held_after, held_of}
 use Rattle.strat_store.proofs.ChangingLemmas.{rows_stay}
-use Rattle.strat_store.proofs.LeavingLemmas.{both_keep, cursors_left, cursors_published, gives_up, has_published, opened_after, renews, rows_renewed, troubled}
+use Rattle.strat_store.proofs.LeavingLemmas.{both_keep, cursors_left, cursors_published, gives_up, has_published, holds_the_same, opened_after, renews, rows_renewed, troubled}
 use Rattle.strat_store.proofs.PayingLemmas.{paid_now, paid_then}
-use Rattle.strat_store.proofs.RenewingLemmas.{calm_short, told_up, renewed, renewed_trail, trail_so_far}
+use Rattle.strat_store.proofs.RenewingLemmas.{calm_short, short_of, told_up, renewed, renewed_trail, trail_so_far}
 use Rattle.strat_store.proofs.changing.carry_out_anew.Goals as goal
 
 -- a trouble that came is the trouble of the call
@@ -20,7 +22,7 @@ publish-requires-clause-len g c = omega (arith, c.requires.room, (c.requires.kep
 pub returns-in-Err-clause-ok : goal.returns-in-Err-clause-ok
 returns-in-Err-clause-ok g c x cached stands =
     told_up c.args.held.now cached (c.requires.kept cached) (g.D.Disk.view c.args.disk.now) x stands _ c.requires.none c.requires.room c.publish.new.held (g.D.Disk.view c.publish.new.disk)
-    c.in-Err.trouble c.refusal_of.result c.refusal_of.ensures.ok (λ short. c.in-Err.ensures.none (handed short) x cached stands) (λ short. c.in-Err.ensures.same.2 (handed short))
+    c.in-Err.trouble c.refusal_of.result c.refusal_of.ensures.ok (λ short. c.in-Err.ensures.none (handed short) x cached stands) (λ short. (c.in-Err.ensures.same.2 (handed short)).0)
     (λ b bad. (c.in-Err.ensures.damaged b (handed bad)).1 x cached stands)
 
 pub returns-in-Err-clause-trail : goal.returns-in-Err-clause-trail
@@ -90,6 +92,9 @@ returns-in-Err-clause-same g c = (
   λ e. absurd (cc),
   troubled c.in-Err.trouble c.refusal_of.result c.refusal_of.ensures.ok,
   rows_stay c.args.held.now.memory c.publish.new.held.memory c.publish.ensures.same.1,
+  λ short cached.
+      let both = c.in-Err.ensures.same.2 (handed (short_of c.in-Err.trouble c.refusal_of.result c.refusal_of.ensures.ok short)) in
+      holds_the_same c.args.held.now c.publish.new.held cached (reply.Refused c.refusal_of.result) (c.in-Err.ensures.same.3 cached).0 both.0 both.1,
 )
 
 pub returns-clause-same : goal.returns-clause-same
@@ -98,6 +103,7 @@ returns-clause-same g c = (
   c.carry_out.ensures.same.1,
   c.carry_out.ensures.same.3,
   rows_renewed c.args.held.now.memory c.publish.new.held.memory c.carry_out.new.held.memory c.publish.ensures.same.1 (opened_after _ _ _ _ _ _ c.in_default.ensures.found.1) c.carry_out.ensures.found.1,
+  λ short cached. absurd (let e : reply.Refused why.NoMemory ≡ reply.Refused why.DeviceFault = sym short ∙ c.carry_out.ensures.same.2 (ap accepts short) in cc),
 )
 
 pub returns-clause-damaged : goal.returns-clause-damaged

@@ -59,7 +59,10 @@ returns-then-room-eq0-clause-damaged g c b bad =
 pub returns-then-room-eq0-clause-none : goal.returns-then-room-eq0-clause-none
 returns-then-room-eq0-clause-none g c = (
   λ none. c.carry_out_anew.ensures.same.2,
-  λ short. omega (arith, c.if-room-eq0.true, c.room.ensures, (c.requires.kept (empty_cache 0)).log.mem, (c.requires.kept (empty_cache 0)).log.few),
+  λ short. (
+    omega (arith, c.if-room-eq0.true, c.room.ensures, (c.requires.kept (empty_cache 0)).log.mem, (c.requires.kept (empty_cache 0)).log.few),
+    c.carry_out_anew.ensures.same.4 short,
+  ),
 )
 
 pub returns-clause-none : goal.returns-clause-none

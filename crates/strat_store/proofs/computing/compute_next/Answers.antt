@@ -1,4 +1,5 @@
 use Rattle.strat_manifest.specs.ManifestView.{manifest_of}
+use Rattle.strat_promote.proofs.ObstacleLemmas.{block_back, cause_back}
 use Rattle.strat_store.proofs.OnDiskLemmas.{written_at}
 use Rattle.strat_store.proofs.ComputedLemmas.{computed_by, torn_on, uses_both}
 use Rattle.strat_store.proofs.computing.compute_next.Goals as goal
@@ -24,3 +25,9 @@ pub returns-clause-end : goal.returns-clause-end
 returns-clause-end g c =
     written_at (g.D.Disk.view c.args.disk.now) (g.D.Disk.view c.promote.new.disk) (g.D.Disk.view c.write_after.new.disk) c.in_ok-manifest.first c.in_ok-manifest.length c.in_ok-manifest.chain
     (manifest_of c.in_ok-manifest.manifest) c.promote.ensures.images.time c.in_ok-manifest.ensures.fits.3 c.in_ok-manifest.ensures.ok
+
+pub returns-in_err-made-clause-cause : goal.returns-in_err-made-clause-cause
+returns-in_err-made-clause-cause g c = cause_back _ c.from_residual.result c.from_residual.ensures.1 _ _ c.in_err-made.ensures.cause
+
+pub returns-in_err-made-clause-damaged : goal.returns-in_err-made-clause-damaged
+returns-in_err-made-clause-damaged g c = λ b bad. c.in_err-made.ensures.damaged b (block_back _ c.from_residual.result c.from_residual.ensures.1 b bad)

@@ -45,9 +45,11 @@ returns-clause-kept g c =
     (page_leaves c.args.held.now.memory c.next_pairs-told.new.self c.args.held.now.published.levels c.args.number c.args.limit c.next_pairs-told.new.out c.next_pairs-told.result c.next_pairs-told.ensures.end c.next_pairs-told.ensures.err)
 
 pub returns-clause-cause : goal.returns-clause-cause
-returns-clause-cause g c =
-    subst (FailsAsTold (g.D.Disk.faults c.args.disk.now) (g.D.Disk.faults c.next_pairs-told.new.disk)) (sym c.reply_of_next.ensures.ok)
-    (page_fails (g.D.Disk.faults c.args.disk.now) (g.D.Disk.faults c.next_pairs-told.new.disk) c.next_pairs-told.result c.next_pairs-told.ensures.cause)
+returns-clause-cause g c = (
+  subst (FailsAsTold (g.D.Disk.faults c.args.disk.now) (g.D.Disk.faults c.next_pairs-told.new.disk)) (sym c.reply_of_next.ensures.ok)
+      (page_fails (g.D.Disk.faults c.args.disk.now) (g.D.Disk.faults c.next_pairs-told.new.disk) c.next_pairs-told.result c.next_pairs-told.ensures.cause),
+  λ off. c.reply_of_next.ensures.ok ∙ ap reply_of_next (c.next_pairs-told.ensures.found.1 off),
+)
 
 pub returns-clause-len : goal.returns-clause-len
 returns-clause-len g c = (
@@ -56,6 +58,3 @@ returns-clause-len g c = (
   subst (λ (r : Reply). HasPairs c.args.limit r c.next_pairs-told.new.out) (sym c.reply_of_next.ensures.ok)
       (pairs_paged c.next_pairs-told.result c.next_pairs-told.new.out c.args.limit c.next_pairs-told.ensures.len (nothing_told _ _ c.next_pairs-told.result c.next_pairs-told.ensures.err)),
 )
-
-pub returns-clause-none : goal.returns-clause-none
-returns-clause-none g c = λ off. c.reply_of_next.ensures.ok ∙ ap reply_of_next (c.next_pairs-told.ensures.found.1 off)

@@ -1,14 +1,13 @@
 use Rattle.std.proofs.Common.{subst, ◌∙◌}
 use Rattle.strat_base.specs.Tree.{Parents}
-use Rattle.strat_crash.specs.Faults.{ReadsAtMost}
-use Rattle.strat_cursor.specs.Looking.{reads_in}
+use Rattle.strat_cursor.specs.Looking.{ReadsArrays, arrays_asked}
 use Rattle.strat_store.proofs.LookLemmas.{looks_on}
 use Rattle.strat_store.proofs.getting.look_through.Goals as goal
 
 pub returns-in-None-clause-reads : goal.returns-in-None-clause-reads
-returns-in-None-clause-reads g c = λ n each.
-    subst (λ (parents : Parents). ReadsAtMost (reads_in n parents c.args.version c.args.held.now.published.levels) (g.D.Disk.reads c.args.disk.now) (g.D.Disk.reads c.look_up.new.disk)) c.parts.ensures.found.0
-    (c.look_up.ensures.reads n each)
+returns-in-None-clause-reads g c =
+    subst (λ (parents : Parents). ReadsArrays (arrays_asked parents c.args.held.now.published.levels c.args.version) (g.D.Disk.reads c.args.disk.now) (g.D.Disk.reads c.look_up.new.disk)) c.parts.ensures.found.0
+    c.look_up.ensures.reads
 
 pub returns-in-None-clause-found : goal.returns-in-None-clause-found
 returns-in-None-clause-found g c =

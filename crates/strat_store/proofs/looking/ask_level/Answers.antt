@@ -1,13 +1,14 @@
 use Rattle.std.proofs.Common.{◌≡◌, Option, Some, sym, subst}
+use Rattle.std.specs.Option.{option_to_list}
 use Rattle.strat_array.proofs.SearchLemmas.{if_ok_then}
 use Rattle.strat_array.specs.Told.{TellsFound}
 use Rattle.strat_base.specs.declared.descriptors.ArrayDesc.{ArrayDesc}
 use Rattle.strat_crash.specs.Faults.{ReadsAtMost}
-use Rattle.strat_cursor.specs.Looking.{arrays_there, asked_of_level, array_says, reads_of_array}
-use Rattle.strat_store.proofs.LookLemmas.{tell_one}
+use Rattle.strat_cursor.specs.Looking.{arrays_there, asked_of_level, array_says, HaveFewBlocks, reads_of_arrays}
+use Rattle.strat_store.proofs.LookLemmas.{one_read, tell_one}
 use Rattle.strat_store.proofs.looking.ask_level.Goals as goal
 use Rattle.strat_cursor.proofs.PickLemmas.{asked_there}
-use Rattle.strat_cursor.proofs.ThroughLemmas.{through_one, names_one}
+use Rattle.strat_cursor.proofs.ThroughLemmas.{only_one, through_one, names_one}
 
 pub find-requires-clause-fits : goal.find-requires-clause-fits
 find-requires-clause-fits g c =
@@ -34,7 +35,8 @@ returns-in-Some-clause-damaged g c = λ b torn.
     (c.find.ensures.damaged b torn)
 
 pub returns-in-Some-clause-reads : goal.returns-in-Some-clause-reads
-returns-in-Some-clause-reads g c = λ n each.
+returns-in-Some-clause-reads g c = λ n few.
     let is : asked_of_level c.args.tree.now.parents c.args.levels.now c.args.number c.args.v ≡ Some c.in-Some.desc.now = sym (rw c.in-Some.is at c.array_for.ensures.ok) in
-    subst (λ (o : Option ArrayDesc). ReadsAtMost (reads_of_array n o) (g.D.Disk.reads c.args.disk.now) (g.D.Disk.reads c.find.new.disk)) (sym is)
-    (c.find.ensures.reads n (each c.in-Some.desc.now (asked_there c.args.tree.now.parents c.args.levels.now c.args.number c.args.v c.in-Some.desc.now is)))
+    let here = subst (λ (o : Option ArrayDesc). HaveFewBlocks n (option_to_list o)) is few in
+    subst (λ (o : Option ArrayDesc). ReadsAtMost (reads_of_arrays n (option_to_list o)) (g.D.Disk.reads c.args.disk.now) (g.D.Disk.reads c.find.new.disk)) (sym is)
+    (one_read n c.in-Some.desc.now _ _ (c.find.ensures.reads n (here c.in-Some.desc.now (only_one c.in-Some.desc.now))))

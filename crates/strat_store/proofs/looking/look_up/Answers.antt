@@ -1,9 +1,9 @@
-use Rattle.std.proofs.Common.{◌≡◌, ◌<◌, false, [], length, sym, ◌∙◌, subst, arith}
+use Rattle.std.proofs.Common.{◌≡◌, ◌<◌, ◌+◌, false, [], length, sym, ◌∙◌, subst, arith}
 use Rattle.strat_array.specs.Told.{TheirPairs, TellsFound, AddsPair}
 use Rattle.strat_recovery.specs.Asked.{on_disk}
 use Rattle.strat_state.specs.LookUp.{looked_up}
 use Rattle.strat_cursor.specs.Looking.{levels_there, decides}
-use Rattle.strat_store.proofs.LookLemmas.{passes_on, passing_answers, passed_all, reads_left, adds_none}
+use Rattle.strat_store.proofs.LookLemmas.{passes_on, passing_answers, passed_all, reads_left, few_asked, adds_none}
 use Rattle.strat_store.proofs.looking.look_up.Goals as goal
 use Rattle.strat_cursor.proofs.ThroughLemmas.{through_trans, still_cached}
 
@@ -17,7 +17,7 @@ returns-in_err-seen-clause-kept g c = λ f next exposed few own cached.
 pub returns-in_err-seen-clause-reads : goal.returns-in_err-seen-clause-reads
 returns-in_err-seen-clause-reads g c = λ n each.
     let so_far = c.loop-above.invariant.3 n each in
-    let step = c.ask_level.ensures.reads n each in
+    let step = c.ask_level.ensures.reads n (few_asked n c.args.tree.now.parents c.args.levels.now (c.loop-above.above + 1) c.args.v each) in
     let left = reads_left n c.args.tree.now.parents c.args.v c.loop-above.above c.args.levels.now (omega (arith, c.get-first.ensures.len, c.loop-above-test.true)) in
     record {
       later = omega (arith, so_far.0, step.later);
@@ -43,7 +43,7 @@ returns-then-decides-clause-kept g c = λ f next exposed few own cached.
 pub returns-then-decides-clause-reads : goal.returns-then-decides-clause-reads
 returns-then-decides-clause-reads g c = λ n each.
     let so_far = c.loop-above.invariant.3 n each in
-    let step = c.ask_level.ensures.reads n each in
+    let step = c.ask_level.ensures.reads n (few_asked n c.args.tree.now.parents c.args.levels.now (c.loop-above.above + 1) c.args.v each) in
     let left = reads_left n c.args.tree.now.parents c.args.v c.loop-above.above c.args.levels.now (omega (arith, c.get-first.ensures.len, c.loop-above-test.true)) in
     record {
       later = omega (arith, so_far.0, step.later);
@@ -60,7 +60,7 @@ loop-above-preserved g c =
       c.in_ok-seen.ensures.cause.ok ∙ c.loop-above.invariant.2,
       λ n each.
           let so_far = c.loop-above.invariant.3 n each in
-          let step = c.ask_level.ensures.reads n each in
+          let step = c.ask_level.ensures.reads n (few_asked n c.args.tree.now.parents c.args.levels.now (c.loop-above.above + 1) c.args.v each) in
           let left = reads_left n c.args.tree.now.parents c.args.v c.loop-above.above c.args.levels.now within in
           (omega (arith, so_far.0, step.later), omega (arith, so_far.1, step.bound, left)),
     )

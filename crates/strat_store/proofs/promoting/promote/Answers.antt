@@ -1,4 +1,4 @@
-use Rattle.std.proofs.Common.{ℕ, Option, sym, subst}
+use Rattle.std.proofs.Common.{ℕ, Option, sym, subst, arith}
 use Rattle.strat_base.specs.declared.descriptors.LevelDesc.{LevelDesc}
 use Rattle.strat_promote.specs.Promotions.{target_of}
 use Rattle.strat_standing.specs.Next.{arrays_made}
@@ -6,13 +6,17 @@ use Rattle.strat_standing.specs.Occupied.{UsesMore, extents_of}
 use Rattle.strat_store.specs.Promoting.{IsPromotedTo}
 use Rattle.strat_crash.specs.Moments.{Exposes}
 use Rattle.strat_store.proofs.PromotingLemmas.{fed, its_job, promoted_to, takes_its_blocks, reads_few, blamed, block_there, err_handed}
+use Rattle.strat_promote.proofs.ObstacleLemmas.{none_kept, short_fit}
+use Rattle.strat_promote.proofs.PushingLemmas.{still_told}
 use Rattle.strat_promote.proofs.StateInputsLemmas.{begun_nothing}
 use Rattle.strat_store.proofs.promoting.promote.Goals as goal
 
 pub slice-requires-clause-fits : goal.slice-requires-clause-fits
-slice-requires-clause-fits g c =
-    fed c.args.memory.now c.args.levels.now c.args.mem c.args.next_array _ c.parts.result.0.now.list c.parts.result.1.now c.parts.result.2.now.parents _
-    c.parts.ensures.ok c.parts.ensures.found.0 c.parts.ensures.found.1 c.count-versions.ensures.ok c.in_ok-promotion.ensures.ok c.parts.ensures.kept c.requires.kept
+slice-requires-clause-fits g c = (
+  fed c.args.memory.now c.args.levels.now c.args.mem c.args.next_array _ c.parts.result.0.now.list c.parts.result.1.now c.parts.result.2.now.parents _
+      c.parts.ensures.ok c.parts.ensures.found.0 c.parts.ensures.found.1 c.count-versions.ensures.ok c.in_ok-promotion.ensures.ok c.parts.ensures.kept c.requires.kept,
+  omega arith,
+)
 
 pub returns-in-Ok-Done-clause-ok : goal.returns-in-Ok-Done-clause-ok
 returns-in-Ok-Done-clause-ok g c f h s exposed now sound mem_is holds used =
@@ -54,3 +58,34 @@ returns-in-Err-clause-damaged g c b torn =
     blamed c.args.memory.now c.args.levels.now c.args.mem c.args.next_array _ c.parts.result.0.now.list c.parts.result.1.now c.parts.result.2.now.parents _
     c.parts.ensures.ok c.parts.ensures.found.0 c.parts.ensures.found.1 c.count-versions.ensures.ok c.in_ok-promotion.ensures.ok (Exposes (g.D.Disk.view c.args.disk.now)) c.args.space.now b
     (c.in-Err.ensures.damaged b (err_handed _ _ torn))
+
+pub returns-in_err-promotion-clause-fits : goal.returns-in_err-promotion-clause-fits
+returns-in_err-promotion-clause-fits g c = (none_kept c.from_residual.result _ _ c.from_residual.ensures.1, λ unfit. absurd (short_fit c.from_residual.result c.from_residual.ensures.1 unfit))
+
+pub returns-in-Err-clause-fits : goal.returns-in-Err-clause-fits
+returns-in-Err-clause-fits g c = (
+  tt,
+  λ unfit f s exposed sound mem_is holds used.
+      let job =
+      its_job c.args.memory.now c.args.levels.now c.args.mem c.args.next_array _ c.parts.result.0.now.list c.parts.result.1.now c.parts.result.2.now.parents _
+      c.parts.ensures.ok c.parts.ensures.found.0 c.parts.ensures.found.1 c.count-versions.ensures.ok c.in_ok-promotion.ensures.ok f f s mem_is holds c.requires.kept sound in
+      c.in-Err.ensures.fits (err_handed _ _ unfit) f _ exposed job (λ b of. used b (block_there c.args.levels.now _ b of))
+      (begun_nothing c.parts.result.0.now.list c.args.levels.now c.args.mem _ c.args.next_array _ c.in_ok-promotion.ensures.ok f _),
+)
+
+pub returns-in-Ok-More-clause-fits : goal.returns-in-Ok-More-clause-fits
+returns-in-Ok-More-clause-fits g c = (
+  tt,
+  λ unfit f s exposed sound mem_is holds used.
+      let job =
+      its_job c.args.memory.now c.args.levels.now c.args.mem c.args.next_array _ c.parts.result.0.now.list c.parts.result.1.now c.parts.result.2.now.parents _
+      c.parts.ensures.ok c.parts.ensures.found.0 c.parts.ensures.found.1 c.count-versions.ensures.ok c.in_ok-promotion.ensures.ok f f s mem_is holds c.requires.kept sound in
+      let after = still_told (g.D.Disk.view c.args.disk.now) (g.D.Disk.view c.slice.new.disk) f c.slice.ensures.same.0.time exposed in
+      let sliced =
+      c.in-Ok-More.ensures.ok f after.0 _ exposed after.1 job (λ b of. used b (block_there c.args.levels.now _ b of))
+      (begun_nothing c.parts.result.0.now.list c.args.levels.now c.args.mem _ c.args.next_array _ c.in_ok-promotion.ensures.ok f _) in
+      let taken = (rw c.in-Ok-More.field-0-is at c.in-Ok-More.ensures.kept).1 in
+      let left = (rw c.in-Ok-More.field-0-is at sliced).1 in
+      let few = job.over.few in
+      absurd (omega (arith, taken, left, few)),
+)

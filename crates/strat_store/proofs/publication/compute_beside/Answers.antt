@@ -46,6 +46,6 @@ returns-clause-damaged g c = λ b torn.
     let told = c.compute_next.ensures.damaged b torn in (
       blames_held v (held_of c.args.held.now (empty_cache 0)) c.in_ok-space.space retired b (c.in_ok-space.ensures.ok (empty_cache 0) []) (c.requires.kept (empty_cache 0)).placed told,
       λ x cached stands.
-          none_damaged v (held_of c.args.held.now cached) x b (c.requires.kept cached) stands (λ f exposed few.
-          told.1 f exposed (used_held (held_of c.args.held.now cached) c.in_ok-space.space retired (c.in_ok-space.ensures.ok cached []) (c.requires.kept cached).placed) few),
+          none_damaged v (held_of c.args.held.now cached) x b (c.requires.kept cached) stands (λ f exposed.
+          told.1 f exposed (used_held (held_of c.args.held.now cached) c.in_ok-space.space retired (c.in_ok-space.ensures.ok cached []) (c.requires.kept cached).placed)),
     )

@@ -179,13 +179,13 @@ pub returns-in_err-make_room-clause-same : goal.returns-in_err-make_room-clause-
 returns-in_err-make_room-clause-same g c =
     let m = c.make_room.new.memory in
     let still = still_ready c.args.held.now.memory m m m.ready m.cursors.room refl c.make_room.ensures.same in
-    (refl, still.0, λ short. refl, on_err c.from_residual.result _ (λ cached. (record { slot = refl; sb = refl; chained = refl; levels = refl }, still.1)))
+    (refl, still.0, λ short. (refl, c.make_room.ensures.same), on_err c.from_residual.result _ (λ cached. (record { slot = refl; sb = refl; chained = refl; levels = refl }, still.1)))
 
 pub returns-in_err-next-clause-same : goal.returns-in_err-next-clause-same
 returns-in_err-next-clause-same g c =
     let m = c.make_room.new.memory in
     let still = still_ready c.args.held.now.memory m m m.ready m.cursors.room refl c.make_room.ensures.same in
-    (refl, still.0, λ short. refl, on_err c.from_residual-in_err-next.result _ (λ cached. (record { slot = refl; sb = refl; chained = refl; levels = refl }, still.1)))
+    (refl, still.0, λ short. (refl, c.make_room.ensures.same), on_err c.from_residual-in_err-next.result _ (λ cached. (record { slot = refl; sb = refl; chained = refl; levels = refl }, still.1)))
 
 pub returns-in_err-settle-clause-same : goal.returns-in_err-settle-clause-same
 returns-in_err-settle-clause-same g c =

@@ -12,7 +12,9 @@ use Rattle.strat_store.specs.Recovering.{held_of}
 use Rattle.strat_store.proofs.GettingLemmas.{whole_read}
 use Rattle.strat_store.proofs.RangingLemmas.{few_arrays, finds_range, range_told, damaged_range, none_in_range, unknown_range, known_range, pairs_scanned}
 use Rattle.strat_store.proofs.ranging.scan_range.Goals as goal
-use Rattle.strat_cursor.proofs.ThroughLemmas.{through_refl}
+use Rattle.strat_cursor.proofs.ThroughLemmas.{names_more, through_more, through_refl}
+use Rattle.strat_cursor.proofs.HoldingLemmas.{asked_in_all}
+use Rattle.strat_cursor.specs.Looking.{ReadsArrays, arrays_asked, arrays_there}
 
 pub returns-then-not-has-clause-ok : goal.returns-then-not-has-clause-ok
 returns-then-not-has-clause-ok g c = λ x w.
@@ -37,10 +39,11 @@ returns-clause-ok g c = λ x w.
     subst (λ (told : Reply). IsLookedUp (g.D.Disk.view c.scan-found.new.disk) (held_of c.args.held.now c.scan-found.new.cache) x (Scan c.args.version c.args.lo.now c.args.hi.now c.args.limit) (as_told told c.scan-found.new.out))
     (sym c.reply_of_scan.ensures.ok)
     (known_range _ _ (held_of c.args.held.now c.args.cache.now) x c.scan-found.new.cache c.args.version c.args.lo.now c.args.hi.now c.args.limit c.scan-found.new.out (c.requires.kept c.args.cache.now) w
-    c.scan-found.ensures.same (g.met.D.Disk.leaves_content c.scan-found.new.disk) c.scan-found.result (sym c.has.ensures.ok ∙ c.if-not-has.false)
+    (through_more _ _ _ (arrays_there c.args.held.now.published.levels) _ _ c.scan-found.ensures.same (asked_in_all c.parts.result.2.now.parents c.args.held.now.published.levels c.args.version)) (g.met.D.Disk.leaves_content c.scan-found.new.disk) c.scan-found.result (sym c.has.ensures.ok ∙ c.if-not-has.false)
     (finds_range _ _ c.args.held.now.memory.parents c.args.held.now.memory.entries c.args.held.now.published.levels c.args.version c.args.lo.now c.args.hi.now c.args.limit c.args.cache.now c.scan-found.new.out c.scan-found.result
-    c.parts.ensures.found.0 (ap (λ (es : List Entry). es ∷ []) (ap (λ (list : ItemList). entries_held c.parts.result.1.now list) c.view.ensures.ok ∙ c.parts.ensures.ok)) refl (λ ps. refl) c.scan-found.ensures.ok)
-    c.scan-found.ensures.err c.scan-found.ensures.damaged)
+    c.parts.ensures.found.0 (ap (λ (es : List Entry). es ∷ []) (ap (λ (list : ItemList). entries_held c.parts.result.1.now list) c.view.ensures.ok ∙ c.parts.ensures.ok)) (λ ps. refl) c.scan-found.ensures.ok)
+    c.scan-found.ensures.err
+    (λ block torn. names_more _ _ (arrays_there c.args.held.now.published.levels) block (asked_in_all c.parts.result.2.now.parents c.args.held.now.published.levels c.args.version) (c.scan-found.ensures.damaged block torn)))
 
 pub returns-clause-found : goal.returns-clause-found
 returns-clause-found g c = λ f m exposed ordered cached none is asked.
@@ -49,7 +52,7 @@ returns-clause-found g c = λ f m exposed ordered cached none is asked.
     ∙ range_told _ c.args.held.now.memory.parents c.args.held.now.memory.entries c.args.held.now.published.levels c.args.version c.args.lo.now c.args.hi.now c.args.limit c.args.cache.now c.scan-found.new.out
     c.scan-found.result
     (finds_range _ _ c.args.held.now.memory.parents c.args.held.now.memory.entries c.args.held.now.published.levels c.args.version c.args.lo.now c.args.hi.now c.args.limit c.args.cache.now c.scan-found.new.out c.scan-found.result
-    c.parts.ensures.found.0 (ap (λ (es : List Entry). es ∷ []) (ap (λ (list : ItemList). entries_held c.parts.result.1.now list) c.view.ensures.ok ∙ c.parts.ensures.ok)) refl (λ ps. refl) c.scan-found.ensures.ok)
+    c.parts.ensures.found.0 (ap (λ (es : List Entry). es ∷ []) (ap (λ (list : ItemList). entries_held c.parts.result.1.now list) c.view.ensures.ok ∙ c.parts.ensures.ok)) (λ ps. refl) c.scan-found.ensures.ok)
     (ap is_fault (sym c.reply_of_scan.ensures.ok) ∙ none) f _ m exposed ordered may.own cached asked
 
 pub returns-clause-len : goal.returns-clause-len
@@ -58,9 +61,18 @@ returns-clause-len g c =
     (pairs_scanned c.scan-found.result c.scan-found.new.out c.args.limit c.scan-found.ensures.len c.scan-found.ensures.err)
 
 pub returns-clause-damaged : goal.returns-clause-damaged
-returns-clause-damaged g c = λ b told.
-    damaged_range _ c.args.held.now.memory c.args.held.now.published.levels c.scan-found.result b c.scan-found.ensures.damaged (sym c.reply_of_scan.ensures.ok ∙ told)
+returns-clause-damaged g c = λ b told. (
+  damaged_range _ c.args.held.now.memory c.args.held.now.published.levels c.scan-found.result b
+      (λ block torn. names_more _ _ (arrays_there c.args.held.now.published.levels) block (asked_in_all c.parts.result.2.now.parents c.args.held.now.published.levels c.args.version) (c.scan-found.ensures.damaged block torn))
+      (sym c.reply_of_scan.ensures.ok ∙ told),
+  none_in_range _ _ c.scan-found.result b c.scan-found.ensures.damaged (sym c.reply_of_scan.ensures.ok ∙ told),
+)
 
-pub returns-clause-err : goal.returns-clause-err
-returns-clause-err g c = λ b told.
-    none_in_range _ _ c.scan-found.result b c.scan-found.ensures.damaged (sym c.reply_of_scan.ensures.ok ∙ told)
+pub returns-clause-same : goal.returns-clause-same
+returns-clause-same g c =
+    through_more _ _ _ (arrays_there c.args.held.now.published.levels) _ _ c.scan-found.ensures.same (asked_in_all c.parts.result.2.now.parents c.args.held.now.published.levels c.args.version)
+
+pub returns-clause-reads : goal.returns-clause-reads
+returns-clause-reads g c =
+    subst (λ (parents : Parents). ReadsArrays (arrays_asked parents c.args.held.now.published.levels c.args.version) (g.D.Disk.reads c.args.disk.now) (g.D.Disk.reads c.scan-found.new.disk)) c.parts.ensures.found.0
+    c.scan-found.ensures.reads

@@ -10,7 +10,7 @@ use Rattle.strat_store.specs.Applying.{FollowsStep, is_fault}
 use Rattle.strat_store.specs.Cursoring.{IsAppliedAt, LeavesCursors, cursors_after}
 use Rattle.strat_store.specs.Recovering.{held_of, held_after}
 use Rattle.strat_store.proofs.AppliedLemmas.{change_applied}
-use Rattle.strat_store.proofs.ApplyLemmas.{look_follows, look_no_change, pairs_wanted, tells_from_wanted, tells_of_change, wanted_for}
+use Rattle.strat_store.proofs.ApplyLemmas.{look_follows, look_no_change, pairs_wanted, reads_no_look, tells_from_wanted, tells_of_change, wanted_for}
 use Rattle.strat_store.proofs.LeavingLemmas.{left_queried, leaves_wanted, untouched_by}
 use Rattle.strat_store.proofs.QueryLemmas.{query_leaves}
 use Rattle.strat_store.proofs.store.answer.Goals as goal
@@ -40,12 +40,12 @@ returns-in-Some-clause-len g c = (
 
 pub returns-in-None-clause-trail : goal.returns-in-None-clause-trail
 returns-in-None-clause-trail g c = λ x w.
-    look_follows (g.D.Disk.view c.args.disk.now) (g.D.Disk.view c.query.new.disk) (held_of c.args.held.now c.args.cache.now) x _ (as_told c.query.result c.query.new.out) c.in-None.ensures c.query.ensures.same.disk w
+    look_follows (g.D.Disk.view c.args.disk.now) (g.D.Disk.view c.query.new.disk) (held_of c.args.held.now c.args.cache.now) x _ (as_told c.query.result c.query.new.out) c.in-None.ensures c.query.ensures.same.0.disk w
 
 pub returns-in-Some-clause-cause : goal.returns-in-Some-clause-cause
 returns-in-Some-clause-cause g c = (
   c.change.ensures.cause,
-  tells_of_change (g.D.Disk.view c.args.disk.now) (held_of c.args.held.now c.args.cache.now) _ _ c.change.result c.in-Some.ensures (λ b bad. (c.change.ensures.damaged b bad).1) c.change.ensures.none.1,
+  tells_of_change (g.D.Disk.view c.args.disk.now) (held_of c.args.held.now c.args.cache.now) _ _ c.change.result c.in-Some.ensures (λ b bad. (c.change.ensures.damaged b bad).1) (λ short. (c.change.ensures.none.1 short).0),
 )
 
 pub returns-in-Some-clause-damaged : goal.returns-in-Some-clause-damaged
@@ -59,10 +59,11 @@ returns-in-Some-clause-same g c =
     let leaves = c.change.ensures.end c.args.cache.now in (
       untouched_by before (g.D.Disk.view c.change.new.disk) (request_of c.args.command.now) _ c.args.held.now c.change.new.held c.args.cache.now c.change.result c.in-Some.ensures
           (λ q e. let one = c.change.ensures.err q e in (one.0, one.1, subst (λ (d : _). OnlyReads before (g.D.Disk.view d)) (sym one.2) (reads_refl before)))
-          c.change.ensures.none.0,
+          c.change.ensures.none.0 (λ short. (c.change.ensures.none.1 short).1 c.args.cache.now),
       leaves_wanted before (g.D.Disk.view c.change.new.disk) old new (request_of c.args.command.now) _ c.change.result c.in-Some.ensures leaves.0,
       subst (λ (pairs : Pairs). LeavesCursors old (request_of c.args.command.now) (as_told c.change.result pairs) new) (sym c.requires.room)
           (subst (λ (r : Request). LeavesCursors old r (plain c.change.result) new) (wanted_for (request_of c.args.command.now) _ c.in-Some.ensures) leaves.1),
+      reads_no_look old (request_of c.args.command.now) _ _ _ c.in-Some.ensures,
     )
 
 pub returns-in-None-clause-same : goal.returns-in-None-clause-same
@@ -70,15 +71,17 @@ returns-in-None-clause-same g c =
     let still = look_no_change (request_of c.args.command.now) c.in-None.ensures in
     let m = record c.args.held.now.memory { cursors = cursors_after c.args.held.now.memory c.args.held.now.published.levels (request_of c.args.command.now) (as_told c.query.result c.query.new.out) } in (
       record {
-        looks = λ none. c.query.ensures.same;
+        looks = λ none. c.query.ensures.same.0;
         refused = λ d q asks e. absurd (let x : ◌≡◌ {A = Option Change} None (Some d) = sym c.in-None.ensures ∙ asks in cc);
         taken = λ d asks e. absurd (let x : ◌≡◌ {A = Option Change} None (Some d) = sym c.in-None.ensures ∙ asks in cc);
+        short = λ d asks short. absurd (let x : ◌≡◌ {A = Option Change} None (Some d) = sym c.in-None.ensures ∙ asks in cc);
         cached = λ d asks. absurd (let x : ◌≡◌ {A = Option Change} None (Some d) = sym c.in-None.ensures ∙ asks in cc);
-        calm = λ calm. c.query.ensures.same.disk;
+        calm = λ calm. c.query.ensures.same.0.disk;
       },
       left_queried (g.D.Disk.view c.args.disk.now) (g.D.Disk.view c.query.new.disk) c.args.held.now c.query.new.held m c.args.cache.now c.query.new.cache _ c.query.result (is_fault c.query.result) c.query.ensures.end
-          (ap (λ (b : Bool). b && accepts c.query.result) still) c.query.ensures.same.disk,
+          (ap (λ (b : Bool). b && accepts c.query.result) still) c.query.ensures.same.0.disk,
       query_leaves c.args.held.now c.query.new.held c.args.cache.now c.query.new.cache (request_of c.args.command.now) (as_told c.query.result c.query.new.out) (is_fault c.query.result) c.in-None.ensures c.query.ensures.end,
+      λ none. c.query.ensures.same.1,
     )
 
 pub returns-in-Some-clause-found : goal.returns-in-Some-clause-found

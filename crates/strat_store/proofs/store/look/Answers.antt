@@ -11,7 +11,7 @@ use Rattle.strat_recovery.specs.StateTable.{table_of}
 use Rattle.strat_standing.specs.Contents.{contents_state}
 use Rattle.strat_store.specs.Applying.{is_fault}
 use Rattle.strat_store.specs.Recovering.{held_of}
-use Rattle.strat_store.proofs.ApplyLemmas.{get_same, info_calm, info_finds, info_here, info_says, info_short, key_short, no_pairs, pairs_beside, range_short, stat_finds, stat_short, tells_look, version_refused, look_applied, memory_applied, none_left, scan_fits, scan_same, stat_here, tells_calm, other_than, unknown_answer}
+use Rattle.strat_store.proofs.ApplyLemmas.{get_same, info_calm, info_finds, info_here, info_says, info_short, key_short, no_pairs, pairs_beside, range_short, stat_finds, stat_short, tells_look, version_refused, look_applied, memory_applied, none_left, reads_known, reads_still, scan_fits, scan_same, stat_here, tells_calm, other_than, unknown_answer}
 use Rattle.strat_store.proofs.store.look.Goals as goal
 
 pub returns-in-Get-clause-ok : goal.returns-in-Get-clause-ok
@@ -70,7 +70,27 @@ returns-in-Scan-clause-err g c =
     rw (c.in-Scan.is)
     (tells_look (g.D.Disk.view c.args.disk.now) s (Scan c.in-Scan.version c.in-Scan.lo.now c.in-Scan.hi.now c.in-Scan.limit) c.scan_range.result (reply.Refused why.UnknownVersion) refl refl refl
     (range_short (is_known c.args.held.now.memory.parents c.in-Scan.version) c.scan_range.result c.scan_range.ensures.end (λ off. (c.scan_range.ensures.none off).0))
-    (λ q refused. (c.scan_range.ensures.none (version_refused s.memory c.in-Scan.version q refused)).0) c.scan_range.ensures.err)
+    (λ q refused. (c.scan_range.ensures.none (version_refused s.memory c.in-Scan.version q refused)).0) (λ b bad. (c.scan_range.ensures.damaged b bad).1))
+
+pub returns-in-Get-clause-reads : goal.returns-in-Get-clause-reads
+returns-in-Get-clause-reads g c =
+    rw (c.in-Get.is) (reads_known (is_known c.args.held.now.memory.parents c.in-Get.version) _ _ _ c.get.ensures.reads (λ off. ap (λ (d : _). g.D.Disk.reads d) (c.get.ensures.none off).1))
+
+pub returns-in-Scan-clause-reads : goal.returns-in-Scan-clause-reads
+returns-in-Scan-clause-reads g c =
+    rw (c.in-Scan.is) (reads_known (is_known c.args.held.now.memory.parents c.in-Scan.version) _ _ _ c.scan_range.ensures.reads (λ off. ap (λ (d : _). g.D.Disk.reads d) (c.scan_range.ensures.none off).1))
+
+pub returns-in-Info-clause-reads : goal.returns-in-Info-clause-reads
+returns-in-Info-clause-reads g c = reads_still _ _
+
+pub returns-in-Stat-clause-reads : goal.returns-in-Stat-clause-reads
+returns-in-Stat-clause-reads g c = reads_still _ _
+
+pub returns-in_default-clause-reads : goal.returns-in_default-clause-reads
+returns-in_default-clause-reads g c = reads_still _ _
+
+pub returns-in-Scan-clause-damaged : goal.returns-in-Scan-clause-damaged
+returns-in-Scan-clause-damaged g c = λ b bad. (c.scan_range.ensures.damaged b bad).0
 
 pub returns-in-Get-clause-found : goal.returns-in-Get-clause-found
 returns-in-Get-clause-found g c = λ old f exposed calm. rw (c.in-Get.is) (

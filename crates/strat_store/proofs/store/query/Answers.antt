@@ -1,5 +1,6 @@
 use Rattle.std.proofs.Common.{refl, sym, ap, ◌∙◌}
 use Rattle.std.proofs.lemmas.List.Elements.{Contains-append_left}
+use Rattle.strat_cursor.proofs.ThroughLemmas.{through_refl}
 use Rattle.strat_cursor.specs.Looking.{arrays_there}
 use Rattle.strat_model.specs.Command.{request_of}
 use Rattle.strat_model.specs.Request.{NextPairs}
@@ -8,7 +9,7 @@ use Rattle.strat_model.specs.declared.commands.Command.{Command}
 use Rattle.strat_model.specs.declared.replies.Refusal.TheVariants as why
 use Rattle.strat_model.specs.declared.replies.Reply.TheVariants as reply
 use Rattle.strat_store.specs.Recovering.{held_of}
-use Rattle.strat_store.proofs.ApplyLemmas.{cursor_refused, fails_none, next_fits, no_pairs, of_cursor_not, tells_calm, tells_look}
+use Rattle.strat_store.proofs.ApplyLemmas.{cursor_refused, fails_none, next_fits, no_pairs, of_cursor_not, reads_still, tells_calm, tells_look}
 use Rattle.strat_store.proofs.CursoringLemmas.{closing_applied, looks_wider, opened_applied}
 use Rattle.strat_store.proofs.store.query.Goals as goal
 
@@ -32,11 +33,22 @@ next_pairs-requires-clause-fits g c =
     next_fits c.in-NextPairs.cursor c.in-NextPairs.limit (ap (λ (asked : Command). has_lawful_sizes (request_of asked)) (sym c.in-NextPairs.is) ∙ c.requires.fits)
 
 pub returns-in-NextPairs-clause-same : goal.returns-in-NextPairs-clause-same
-returns-in-NextPairs-clause-same g c = looks_wider _ _ _ _ _ _ (c.requires.kept c.args.cache.now).kept.named c.next_pairs.ensures.same
+returns-in-NextPairs-clause-same g c = (
+  looks_wider _ _ _ _ _ _ (c.requires.kept c.args.cache.now).kept.named c.next_pairs.ensures.same,
+  rw (c.in-NextPairs.is) c.next_pairs.ensures.reads,
+)
+
+pub returns-in-OpenCursor-clause-same : goal.returns-in-OpenCursor-clause-same
+returns-in-OpenCursor-clause-same g c = (through_refl _ _ _, reads_still _ _)
+
+pub returns-in-CloseCursor-clause-same : goal.returns-in-CloseCursor-clause-same
+returns-in-CloseCursor-clause-same g c = (through_refl _ _ _, reads_still _ _)
 
 pub returns-in_default-clause-same : goal.returns-in_default-clause-same
-returns-in_default-clause-same g c =
-    looks_wider _ _ (arrays_there c.args.held.now.published.levels) _ _ _ (λ a of. Contains-append_left (arrays_there c.args.held.now.published.levels) c.args.held.now.memory.cursors.retired a of) c.look.ensures.same
+returns-in_default-clause-same g c = (
+  looks_wider _ _ (arrays_there c.args.held.now.published.levels) _ _ _ (λ a of. Contains-append_left (arrays_there c.args.held.now.published.levels) c.args.held.now.memory.cursors.retired a of) c.look.ensures.same,
+  c.look.ensures.reads,
+)
 
 pub look-requires-clause-none : goal.look-requires-clause-none
 look-requires-clause-none g c = (c.requires.none, of_cursor_not c.args.command.now c.in_default.not-OpenCursor c.in_default.not-NextPairs c.in_default.not-CloseCursor)
@@ -72,9 +84,9 @@ pub returns-in-NextPairs-clause-cause : goal.returns-in-NextPairs-clause-cause
 returns-in-NextPairs-clause-cause g c =
     let s = held_of c.args.held.now c.args.cache.now in
     rw (c.in-NextPairs.is) (
-      c.next_pairs.ensures.cause,
+      c.next_pairs.ensures.cause.0,
       tells_look (g.D.Disk.view c.args.disk.now) s (NextPairs c.in-NextPairs.cursor c.in-NextPairs.limit) c.next_pairs.result (reply.Refused why.UnknownCursor) refl refl refl c.next_pairs.ensures.len.1
-          (λ q refused. c.next_pairs.ensures.none (cursor_refused s.memory c.in-NextPairs.cursor q refused)) (λ b bad. (c.next_pairs.ensures.damaged b bad).1),
+          (λ q refused. c.next_pairs.ensures.cause.1 (cursor_refused s.memory c.in-NextPairs.cursor q refused)) (λ b bad. (c.next_pairs.ensures.damaged b bad).1),
     )
 
 pub returns-in-NextPairs-clause-found : goal.returns-in-NextPairs-clause-found

@@ -7,6 +7,7 @@ use Rattle.strat_cursor.specs.CursorsFields.{cursors_seen}
 use Rattle.strat_cursor.specs.Pins.{ArePinned}
 use Rattle.strat_cursor.proofs.OpenedLemmas.{IsFoundAt, found_at, place_none, moved_keeps}
 use Rattle.strat_cursor.proofs.PinLemmas.{pinned_moved}
+use Rattle.strat_cursor.proofs.ReadLemmas.{reads_of_one}
 use Rattle.strat_cursor.proofs.FaultLemmas.{found_err, found_ok, damaged_err, looks_named}
 use Rattle.strat_cursor.proofs.cursors.Cursors.next.Given.{Over}
 use Rattle.strat_cursor.proofs.cursors.Cursors.next.Goals as goal
@@ -28,6 +29,9 @@ found g c =
 -- the cursor that goes on is one of those that are open
 there : (g : Over) (c : After-index_mut g) → Contains c.self.inside.opened.items c.index_mut.result.now
 there g c = (c.in-Some.place, (found g c).within, sym c.index_mut.ensures.value)
+
+is_number : (g : Over) (c : After-index_mut g) → c.index_mut.result.now.number ≡ c.args.number
+is_number g c = ap (λ (x : OpenCursor). x.number) c.index_mut.ensures.value ∙ (found g c).number
 
 -- it is the one that is meant
 meant : (g : Over) (c : After-index_mut g) (x : OpenCursor) → Contains c.args.self.now.opened x → x.number ≡ c.args.number → c.index_mut.result.now ≡ x
@@ -84,12 +88,27 @@ returns-clause-same g c =
     (looks_named _ _ _ _ c.self.inside.opened.items c.index_mut.result.now (there g (goal.at.returns-clause-same g c).After-index_mut) c.in_ok-more.ensures.same)
 
 pub returns-clause-ok : goal.returns-clause-ok
-returns-clause-ok g c = λ one open_there number f next m shown goes reads.
-    let same = meant g (goal.at.returns-clause-ok g c).After-index_mut one open_there number in
-    subst (λ (x : OpenCursor). TellsNext m x c.args.limit c.next.new.out c.in_ok-more.more) same
-    (c.in_ok-more.ensures.ok f next m shown
-    (subst (λ (x : OpenCursor). MayGoOn f next x c.args.cache.now) (sym same) goes)
-    (subst (λ (x : OpenCursor). IsMapPinned f c.args.tree.now.parents c.args.pool.now x m) (sym same) reads))
+returns-clause-ok g c = (
+  c.in_ok-more.ensures.len,
+  λ one open_there number f next m shown goes reads.
+      let same = meant g (goal.at.returns-clause-ok g c).After-index_mut one open_there number in
+      subst (λ (x : OpenCursor). TellsNext m x c.args.limit c.next.new.out c.in_ok-more.more) same
+      (c.in_ok-more.ensures.ok f next m shown
+      (subst (λ (x : OpenCursor). MayGoOn f next x c.args.cache.now) (sym same) goes)
+      (subst (λ (x : OpenCursor). IsMapPinned f c.args.tree.now.parents c.args.pool.now x m) (sym same) reads)),
+)
+
+pub returns-in_err-more-clause-reads : goal.returns-in_err-more-clause-reads
+returns-in_err-more-clause-reads g c =
+    let at = (goal.at.returns-in_err-more-clause-reads g c).After-index_mut in
+    rw (← c.self.view_is)
+    (reads_of_one c.self.inside.opened.items c.args.number c.index_mut.result.now _ _ (there g at) (is_number g at) c.in_err-more.ensures.reads)
+
+pub returns-clause-reads : goal.returns-clause-reads
+returns-clause-reads g c =
+    let at = (goal.at.returns-clause-reads g c).After-index_mut in
+    rw (← c.self.view_is)
+    (reads_of_one c.self.inside.opened.items c.args.number c.index_mut.result.now _ _ (there g at) (is_number g at) c.in_ok-more.ensures.reads)
 
 pub returns-clause-kept : goal.returns-clause-kept
 returns-clause-kept g c =

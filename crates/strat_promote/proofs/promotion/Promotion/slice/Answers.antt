@@ -1,4 +1,5 @@
 use Rattle.std.proofs.Common.{◌+◌, refl, sym, subst}
+use Rattle.strat_array.proofs.SearchLemmas.{err_of}
 use Rattle.strat_level.specs.Memtable.{ItemList}
 use Rattle.strat_promote.specs.Promotions.{inputs_given}
 use Rattle.strat_promote.specs.Stages.{stage_consumed}
@@ -16,3 +17,8 @@ returns-in-Made-clause-ok g c = λ f g' job told tells its used begun.
     let task = subst (λ (l : ItemList). IsTaskIn f c.args.self.now.task (inputs_given l c.args.pool.now c.args.levels.now c.args.tree.now.parents) job) (sym c.view.ensures.ok) its in
     let made = subst (λ (r : Step). SlicesOn f g' c.args.self.now.task job (stage_consumed c.args.self.now.stage + c.args.budget) c.take_steps.new.stage r) c.in-Made.is (c.in_ok-take_steps.ensures.ok f g' job told tells task used begun) in
     (refl, made.0, made.1, made.2)
+
+pub returns-in_err-take_steps-clause-fits : goal.returns-in_err-take_steps-clause-fits
+returns-in_err-take_steps-clause-fits g c = λ unfit f job told its used begun.
+    let task = subst (λ (l : ItemList). IsTaskIn f c.args.self.now.task (inputs_given l c.args.pool.now c.args.levels.now c.args.tree.now.parents) job) (sym c.view.ensures.ok) its in
+    c.in_err-take_steps.ensures.fits (err_of c.from_residual.result _ _ c.from_residual.ensures.1 unfit) f job told task used begun

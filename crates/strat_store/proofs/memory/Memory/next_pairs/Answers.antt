@@ -1,6 +1,9 @@
-use Rattle.strat_cursor.proofs.HeldLemmas.{held_opened}
+use Rattle.std.proofs.Common.{List, subst, sym}
+use Rattle.strat_base.specs.declared.descriptors.ArrayDesc.{ArrayDesc}
+use Rattle.strat_cursor.proofs.HeldLemmas.{held_of_number, held_opened}
 use Rattle.strat_cursor.specs.Cursors.{is_opened}
 use Rattle.strat_cursor.specs.Held.{opened_held}
+use Rattle.strat_cursor.specs.Looking.{ReadsArrays}
 use Rattle.strat_store.specs.MemoryFields.{memory_held}
 use Rattle.strat_store.proofs.PageLemmas.{damaged_held, found_held, found_ok, held_looks, held_paged, held_tells}
 use Rattle.strat_store.proofs.PoolLemmas.{paged_stands}
@@ -35,7 +38,7 @@ pub returns-clause-ok : goal.returns-clause-ok
 returns-clause-ok g c =
     rw (← c.self.view_is)
     (held_tells c.self.inside.pool c.self.inside.cursors.opened c.args.number c.self.inside.tree.parents c.args.limit c.next.new.out c.in_ok-more.more (g.D.Disk.view c.args.disk.now) c.args.cache.now
-    c.in_ok-more.ensures.ok)
+    c.in_ok-more.ensures.ok.1)
 
 pub returns-clause-end : goal.returns-clause-end
 returns-clause-end g c =
@@ -52,3 +55,16 @@ returns-clause-found g c =
 pub returns-clause-same : goal.returns-clause-same
 returns-clause-same g c =
     rw (← c.self.view_is) (held_looks c.self.inside.pool c.self.inside.cursors.opened c.args.number _ _ _ _ c.in_ok-more.ensures.same)
+
+pub returns-clause-len : goal.returns-clause-len
+returns-clause-len g c = c.in_ok-more.ensures.ok.0
+
+pub returns-in_err-more-clause-reads : goal.returns-in_err-more-clause-reads
+returns-in_err-more-clause-reads g c =
+    rw (← c.self.view_is)
+    (subst (λ (arrays : List ArrayDesc). ReadsArrays arrays (g.D.Disk.reads c.args.disk.now) (g.D.Disk.reads c.next.new.disk)) (sym (held_of_number c.self.inside.pool c.args.number c.self.inside.cursors.opened)) c.in_err-more.ensures.reads)
+
+pub returns-clause-reads : goal.returns-clause-reads
+returns-clause-reads g c =
+    rw (← c.self.view_is)
+    (subst (λ (arrays : List ArrayDesc). ReadsArrays arrays (g.D.Disk.reads c.args.disk.now) (g.D.Disk.reads c.next.new.disk)) (sym (held_of_number c.self.inside.pool c.args.number c.self.inside.cursors.opened)) c.in_ok-more.ensures.reads)

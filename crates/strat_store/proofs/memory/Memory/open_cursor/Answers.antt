@@ -1,7 +1,7 @@
 use Rattle.std.proofs.Common.{◌≡◌, ◌≤◌, None, length, ap, ◌∙◌, arith}
 use Rattle.strat_cursor.specs.Cursors.{CursorsView}
 use Rattle.strat_cursor.specs.Held.{cursors_held}
-use Rattle.strat_cursor.specs.Pins.{ArePinned, IsSamePool, IsStarted, SharesFollow, arrays_asked}
+use Rattle.strat_cursor.specs.Pins.{ArePinned, IsSamePool, IsStarted, SharesFollow}
 use Rattle.strat_cursor.proofs.HeldLemmas.{held_started}
 use Rattle.strat_level.specs.Memtable.{entries_held}
 use Rattle.strat_store.specs.Memory.{Memory, cursor_from, with_cursor}
@@ -11,6 +11,7 @@ use Rattle.strat_store.proofs.PageLemmas.{if_err, if_ok}
 use Rattle.strat_store.proofs.PoolLemmas.{few_shares, follow_entries, follow_stands, same_held, started_follow}
 use Rattle.strat_store.proofs.memory.Memory.open_cursor.Goals as goal
 use Rattle.strat_store.proofs.memory.Memory.open_cursor.Goals.{After-start}
+use Rattle.strat_cursor.specs.Looking.{arrays_asked}
 
 pub start-requires-clause-room : goal.start-requires-clause-room
 start-requires-clause-room c = λ n.

@@ -1,6 +1,8 @@
 use Rattle.std.proofs.Common.{arith, sym, ◌∙◌, ◌≡◌, ◌-◌}
 use Rattle.strat_base.proofs.TreeLemmas.{below_here}
-use Rattle.strat_tree.proofs.AncestorLemmas.{seen_as, jump_read, walk_begins, walk_jumps, walk_stays, walk_ends, at_one}
+use Rattle.strat_tree.proofs.AncestorLemmas.{seen_as, jump_read, walk_jumps, walk_stays, walk_ends, at_one}
+use Rattle.strat_tree.proofs.DepthLemmas.{walk_begins_deep}
+use Rattle.strat_tree.proofs.GrownLemmas.{depth_fits}
 use Rattle.strat_tree.proofs.tree.Tree.below.Goals as goal
 
 pub returns-then-v-h : goal.returns-then-v-h
@@ -11,7 +13,7 @@ returns-then-v-h c =
 pub loop-i-init : goal.loop-i-init
 loop-i-init c =
     let seen = seen_as c.self.inside c.args.self.now c.self.view_is c.self.invariant in
-    (omega arith, walk_begins c.args.self.now.parents seen.tree c.args.v c.args.h c.requires.1 c.requires.0 seen.few c.if-v-h.false)
+    (c.jumps_over-i.ensures.ok.0, walk_begins_deep c.args.self.now.parents seen.tree c.args.v c.args.h c.jumps_over-i.result c.requires.1 c.requires.0 (omega (arith, c.if-v-h.false)) (omega (arith, c.depth.ensures.ok, c.jumps_over-i.ensures.ok.1)))
 
 pub index-requires : goal.index-requires
 index-requires c =
@@ -44,3 +46,9 @@ returns c =
       ok = read ∙ at_one c.args.self.now.parents c.loop-i.at
           ∙ walk_ends c.args.self.now.parents seen.tree c.args.v c.args.h c.requires.1 c.loop-i.at (rw end at c.loop-i.invariant.1);
     }
+
+pub jumps_over-i-requires : goal.jumps_over-i-requires
+jumps_over-i-requires c =
+    let seen = seen_as c.self.inside c.args.self.now c.self.view_is c.self.invariant in
+    let fits = depth_fits c.args.self.now.parents seen.tree seen.few c.args.v c.requires.0 in
+    omega (arith, fits, c.depth.ensures.ok)

@@ -1,0 +1,19 @@
+use Rattle.std.proofs.Common.{◌≡◌, ◌<◌, inl, inr, refl, subst, arith}
+use Rattle.strat_base.specs.declared.descriptors.ArrayDesc.{ArrayDesc}
+use Rattle.strat_recovery.specs.Head.{descriptors}
+use Rattle.strat_standing.proofs.ListLemmas.{contained_among}
+use Rattle.strat_store.specs.Paying.{manifest_with_array}
+use Rattle.strat_store_pins.proofs.keeping.entries_are_counted_once.Goals as goal
+
+pub returns : goal.returns
+returns c = record {
+  ok = record {
+    raised = refl;
+    others = λ a of old. elim (contained_among (descriptors (manifest_with_array 2 8 12)) a of) [
+      | inl here ↦ absurd (let less : 2 < 2 = subst (λ (d : ArrayDesc). d.id < 2) here old in omega arith)
+      | inr none ↦ absurd none
+    ];
+  };
+  few = λ counts. let e : 11 ≡ 12 = counts.raised in absurd (omega (arith, e));
+  more = λ counts. let e : 13 ≡ 12 = counts.raised in absurd (omega (arith, e));
+}
