@@ -43,6 +43,10 @@ class Damaged(Exception):
         self.block = block
 
 
+class NoRoom(Exception):
+    """A file whose journal has more changes than one region takes, which the program has no memory for."""
+
+
 def region_blocks(mem):
     return -(-(RECORD_MAX * mem + 1) // BLOCK)
 
@@ -271,12 +275,12 @@ def change_at(at):
     return None if value_size > VALUE_MAX else (PUT, version, key, at(9 + key_size, value_size))
 
 
-def region_in(data, mem, region):
-    """The changes in a region of the journal, with the blocks of their gates."""
+def region_in(data, mem, region, most):
+    """The first changes in a region of the journal, with the blocks of their gates."""
     place = region_start(mem, region) * BLOCK
     end = place + region_blocks(mem) * BLOCK
     logged = []
-    while len(logged) < mem and place < end and bytes_at(data, place, 1)[0] == OPEN:
+    while len(logged) < most and place < end and bytes_at(data, place, 1)[0] == OPEN:
         change = change_at(lambda offset, size: bytes_at(data, place + offset, size))
         if change is None or place + len(record_of(change)) > end:
             raise Damaged(place // BLOCK, "behind an open gate stands no change")
@@ -287,10 +291,13 @@ def region_in(data, mem, region):
 
 def journal_in(data, head):
     """The changes in the journal, whether a table takes them or not."""
-    logged = region_in(data, head.mem, head.region)
-    other = region_start(head.mem, 1 - head.region)
-    if len(logged) == head.mem and bytes_at(data, other * BLOCK, 1)[0] == OPEN:
-        raise Damaged(other, "both regions have changes")
+    logged = region_in(data, head.mem, head.region, head.mem)
+    if len(logged) == head.mem:
+        later = region_in(data, head.mem, 1 - head.region, head.mem - 1)
+        if len(later) == head.mem - 1:
+            raise Damaged(region_start(head.mem, 1 - head.region), "both regions have too many changes")
+        if later:
+            raise NoRoom
     return logged
 
 
@@ -432,6 +439,8 @@ def opened(data):
         return model.ENDED, store_of(data, contents)
     except Damaged:
         return model.DAMAGED, None
+    except NoRoom:
+        return model.NO_MEMORY, None
 
 
 # What the job `levels` prints
@@ -489,6 +498,8 @@ def levels_printed(data):
         return "".join(f"{line}\n" for line in levels_text(contents)).encode(), model.ENDED
     except Damaged as damaged:
         return b"damaged block %d\n" % damaged.block, model.DAMAGED
+    except NoRoom:
+        return b"", model.NO_MEMORY
 
 
 # What holds of a sound file

@@ -744,61 +744,6 @@ def a_program_that_may_open_no_file_touches_none(folder):
     expect("no job", run(["serve"], preexec_fn=limited), (b"", 1, complaint(1)))
 
 
-def the_launcher_passes_words_input_and_status_on(folder):
-    for data in (PUT_A + GET_A, hexed("00000801"), PUT_A[:-1]):
-        StoreFile(folder).expect_served("through the launcher", [data], program=LAUNCHER)
-    path = StoreFile(folder).path
-    for words, want in (([], (b"", 1, complaint(1))), (["levels", path], (*formats.levels_printed(bytes_of(path)), b"")),
-                        (["levels", os.path.join(folder, "absent")], (b"", 2, complaint(2))),
-                        (["workload", path, "1", "1000001"], (b"", 1, complaint(1)))):
-        ran = subprocess.run([LAUNCHER, *words], stdin=subprocess.DEVNULL, capture_output=True, timeout=DEADLINE)
-        expect(f"{words}", (ran.stdout, ran.returncode, ran.stderr), want)
-
-
-def the_launcher_refuses_a_file_that_is_a_standard_stream(folder):
-    store = StoreFile(folder)
-    linked = os.path.join(folder, "linked")
-    os.symlink(store.path, linked)
-    for words, redirected, stream in (
-        (["serve", store.path], f"<{store.path}", "input"), (["serve", store.path], f">>{store.path}", "output"),
-        (["serve", linked], f"<>{store.path} >/dev/null", "input"),
-        (["format", store.path, "4", "100", "10"], f"1<>{linked}", "output"),
-        (["format", linked, "4", "100", "10"], f"<{store.path}", "input"),
-        (["levels", store.path], f">>{linked}", "output"), (["workload", store.path, "1", "10"], f">>{store.path}", "output"),
-    ):
-        ran = subprocess.run(["/bin/sh", "-c", f'"$@" {redirected}', "sh", LAUNCHER, *words], input=PUT_A,
-                             capture_output=True, timeout=DEADLINE)
-        said = f"castle: the store's file is standard {stream} as well\n".encode()
-        expect(f"{words} {redirected}", (ran.stdout, ran.returncode, ran.stderr), (b"", 1, said))
-        store.expect_bytes(f"{words} {redirected}")
-    # another file may be the input, and a closed stream is none
-    other = StoreFile(folder)
-    how = {"capture_output": True, "timeout": DEADLINE}
-    ran = subprocess.run(["/bin/sh", "-c", f'"$0" serve "$1" <{other.path}', LAUNCHER, store.path], **how)
-    out, status = store.model.serve(bytes_of(other.path))
-    expect("another file as input", (ran.stdout, ran.returncode, ran.stderr), (out, status, complaint(status)))
-    ran = subprocess.run(["/bin/sh", "-c", '"$0" serve "$1" <&-', LAUNCHER, store.path], **how)
-    expect("a closed input", (ran.stdout, ran.returncode, ran.stderr), (b"", 6, complaint(6)))
-
-
-def the_launcher_has_a_file_at_its_largest_size_told(folder):
-    def limited(most):
-        """Has the system send a signal at a write behind so many bytes of a file, which ends most programs."""
-        resource.setrlimit(resource.RLIMIT_FSIZE, (most, most))
-
-    path = os.path.join(folder, "small.store")
-    how = {"capture_output": True, "timeout": DEADLINE}
-    ran = subprocess.run([LAUNCHER, "format", path, "4", "100", "10"], preexec_fn=lambda: limited(9000), **how)
-    expect("format", (ran.stdout, ran.returncode, ran.stderr), (b"", 5, complaint(5)))
-    # the record of the second put lies across the end of what may be written
-    store = StoreFile(folder)
-    puts = put(0, b"0", b"value") + put(1, b"1", b"value")
-    most = 2 * BLOCK + len(formats.record_of((model.PUT, 0, b"0", b"value"))) + 5
-    ran = subprocess.run([LAUNCHER, "serve", store.path], input=puts, preexec_fn=lambda: limited(most), **how)
-    want = reply(0, model.DONE) + reply(1, model.DEVICE_FAULT)
-    expect("serve", (ran.stdout, ran.returncode, ran.stderr), (want, 5, complaint(5)))
-
-
 def the_examples_of_the_readme_are_as_shown(folder):
     text = (TOP / "README.md").read_text()
     blocks = re.findall(r"^```console\n(.*?)^```$", text, re.M | re.S)
@@ -1157,7 +1102,7 @@ def a_long_workload_keeps_its_bounds(folder):
 def a_workload_of_200_000_changes_keeps_its_bounds(folder):
     store = StoreFile(folder)
     # the launcher shows meanwhile how far it is
-    out, status, shown = at_a_terminal([LAUNCHER, "workload", store.path, "3", "200000"], 1200)
+    out, status, shown = at_a_terminal([LAUNCHER, "--overwrite", "workload", store.path, "3", "200000"], 1200)
     expect("200,000", (status, re.sub(rb"\r\x1b\[K(castle: \d+ MB\r)?", b"", shown)), (0, b""))
     expect_bounded("200,000", store.path, 3, out.decode())
     store.model = workloads.store_after(workloads.changes(3, 200_000))
@@ -1892,6 +1837,8 @@ def blamed(data):
         formats.store_of(data, formats.read(data))
     except formats.Damaged as damaged:
         return damaged.block
+    except formats.NoRoom:
+        pass
     return None
 
 
@@ -1920,6 +1867,12 @@ def altered_bytes_are_named(folder):
         wrong = with_byte(data, place, byte)
         status = expect_opened(name, path, wrong)
         expect(name, (status, blamed(wrong)), (0 if block is None else model.DAMAGED, block))
+    # a journal that goes on in the other region, by one change or two, and by one too many
+    for many, ends in ((1, (model.NO_MEMORY, None)), (2, (model.NO_MEMORY, None)), (3, (model.DAMAGED, 4))):
+        records = many * formats.record_of((formats.PUT, 0, b"a", b"1"))
+        wrong = used[:16384] + records + b"\0" + used[16385 + len(records):]
+        name = f"a journal with {many} behind a full region"
+        expect(name, (expect_opened(name, path, wrong), blamed(wrong)), ends)
     # the other region open behind one with room is shut
     altered(stores[1].path, 16384, b"\xa7")
     stores[1].expect_served("a look", [GET_A])
@@ -2231,25 +2184,6 @@ def a_full_device_is_a_device_fault(folder):
     expect("again", serve(store.path, [b"".join(puts)]), (out, status, b""))
 
 
-def the_bench_finds_both_stores_alike(folder):
-    ran = subprocess.run([sys.executable, str(TOP / "bench" / "run"), "--counts", "40,80", "--gets", "20", "--mem", "16",
-                          "--disk", folder], capture_output=True, timeout=60)
-    expect("its status", (ran.returncode, ran.stderr.count(b"\n")), (0, 8))
-    titles = re.findall(rb"^### `(\w+)`", ran.stdout, re.MULTILINE)
-    expect("its tables", titles, [b"puts", b"chain", b"sparse", b"star"])
-    expect("its scans", ran.stdout.count("| µs a scan of 100 | µs a pair, whole version | µs a pair, by a cursor |".encode()), 4)
-    rows = re.findall(rb"^\| (40|80) \| (castle|SQLite) \|", ran.stdout, re.MULTILINE)
-    expect("its rows", rows, [(b"40", b"castle"), (b"40", b"SQLite"), (b"80", b"castle"), (b"80", b"SQLite")] * 4)
-
-
-def the_wear_is_within_its_bounds(folder):
-    ran = subprocess.run([sys.executable, str(TOP / "bench" / "wear"), "--counts", "100,2000", "--folder", folder],
-                         capture_output=True, timeout=60)
-    expect("its status", (ran.returncode, ran.stderr.count(b"\n")), (0, 2))
-    rows = re.findall(rb"^\| (100|2,000) \| ([\d.]+) \| (\d+) \| ([\d.]+) \| 2 \|", ran.stdout, re.MULTILINE)
-    expect("its rows", rows, [(b"100", b"0.54", b"4", b"0.91"), (b"2,000", b"3.55", b"20", b"1.19")])
-
-
 CHECKS = [
     empty_input_is_answered_by_nothing,
     a_put_is_found_and_another_key_is_absent,
@@ -2285,9 +2219,6 @@ CHECKS = [
     an_input_that_cannot_be_read_is_a_source_fault,
     a_closed_stream_does_not_reach_the_store,
     a_program_that_may_open_no_file_touches_none,
-    the_launcher_passes_words_input_and_status_on,
-    the_launcher_refuses_a_file_that_is_a_standard_stream,
-    the_launcher_has_a_file_at_its_largest_size_told,
     the_examples_of_the_readme_are_as_shown,
     the_examples_of_the_protocol_are_frames,
     formatting_writes_the_bytes_of_a_new_store,
@@ -2332,8 +2263,6 @@ CHECKS = [
     a_cut_of_power_loses_nothing_acknowledged,
     a_folder_or_file_without_leave_is_a_device_fault,
     a_full_device_is_a_device_fault,
-    the_bench_finds_both_stores_alike,
-    the_wear_is_within_its_bounds,
 ]
 # Those of many changes run in memory, where that can be, since each change is synced twice
 IN_MEMORY = {
@@ -2351,25 +2280,14 @@ def folder_for(check):
     return tempfile.TemporaryDirectory(dir="/dev/shm" if has_memory else None)
 
 
-def is_built():
-    """Has the launcher build the program, and shows how far it is. Without words the program only complains."""
-    child = subprocess.Popen([LAUNCHER], stdin=subprocess.DEVNULL, stdout=subprocess.DEVNULL, stderr=subprocess.PIPE)
-    for line in child.stderr:
-        if line != complaint(1):
-            sys.stderr.buffer.write(line)
-            sys.stderr.flush()
-    child.stderr.close()
-    return child.wait() not in (126, 127)
-
-
-def main():
-    if not is_built():
-        print("outside: FAILED: the program isn't built")
+def run_checks(title, checks, wanted):
+    """Has the launcher build the program, runs the checks whose names have one of the wanted words, and tells each. The status."""
+    if subprocess.run([LAUNCHER, "--build"], stdin=subprocess.DEVNULL, stdout=subprocess.DEVNULL).returncode != 0:
+        print(f"{title}: FAILED: the program isn't built")
         print("0 passed, 1 failed")
         return 1
-    wanted = sys.argv[1:]
     passed = failed = 0
-    for check in CHECKS:
+    for check in checks:
         if wanted and not any(word in check.__name__ for word in wanted):
             continue
         name = check.__name__.replace("_", " ")
@@ -2377,16 +2295,16 @@ def main():
             with folder_for(check) as folder:
                 check(folder)
         except Skipped as why:
-            print(f"outside: skipped: {name}: {why}")
+            print(f"{title}: skipped: {name}: {why}")
         except (Wrong, subprocess.SubprocessError, OSError) as wrong:
-            print(f"outside: FAILED: {name}: {wrong}")
+            print(f"{title}: FAILED: {name}: {wrong}")
             failed += 1
         else:
-            print(f"outside: {name}")
+            print(f"{title}: {name}")
             passed += 1
     print(f"{passed} passed, {failed} failed")
     return 1 if failed or not passed else 0
 
 
 if __name__ == "__main__":
-    sys.exit(main())
+    sys.exit(run_checks("outside", CHECKS, sys.argv[1:]))

@@ -18,7 +18,7 @@ from typing import Callable, List
 sys.path.insert(0, str(pathlib.Path(__file__).resolve().parent))
 
 from castle import Store, frames  # noqa: E402
-from castle.program import find_program  # noqa: E402
+from castle.process import find_program  # noqa: E402
 
 TURNS = 5
 

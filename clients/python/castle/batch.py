@@ -20,9 +20,10 @@ class Batch:
 
     `results` has what the commands gave, in their order: None for put and delete, the value or None for get, the
     number for clone, `Page`, `Info`, `Stat`. They are all there at the end of the `with` block, or after `finish()`; before,
-    those that came so far. A command that was refused has its `Refused` there, and those behind it are carried out
-    none the less. The first refusal is raised at the end, unless the batch was made with `return_exceptions`. A batch
-    is no transaction: where the program ends, `results` has what was acknowledged, and later changes were made or not.
+    those that came so far. A command that was refused, by the program or here, has its exception there, and those behind it
+    are carried out none the less. The first is raised at the end, unless the batch was made with `return_exceptions`. A
+    batch is no transaction: where the program ends, `results` has what was acknowledged, and later changes were made or not.
+    After a KeyboardInterrupt `finish` goes on: what was added before is carried out. Several threads may fill one batch.
     """
 
     def __init__(self, program: Program, commands: Commands, return_exceptions: bool) -> None:
@@ -33,47 +34,39 @@ class Batch:
 
     def put(self, version: Version, key: Data, value: Data) -> None:
         """Gives a key this value at a version."""
-        self._program.turn_to(self.results)
-        self._program.add(self._commands.put(version, key, value))
+        self._program.send(self.results, self._commands.put, version, key, value)
 
     def delete(self, version: Version, key: Data) -> None:
         """Takes a key's value away at a version."""
-        self._program.turn_to(self.results)
-        self._program.add(self._commands.delete(version, key))
+        self._program.send(self.results, self._commands.delete, version, key)
 
     def get(self, version: Version, key: Data) -> None:
         """Asks for the value of a key at a version."""
-        self._program.turn_to(self.results)
-        self._program.add(self._commands.get(version, key))
+        self._program.send(self.results, self._commands.get, version, key)
 
     def clone(self, version: Version) -> None:
         """Makes a version with the same pairs."""
-        self._program.turn_to(self.results)
-        self._program.add(self._commands.clone(version))
+        self._program.send(self.results, self._commands.clone, version)
 
     def page(self, version: Version, lower: Data = b"", upper: Data = b"", *, prefix: Data = b"",
              limit: int = frames.PAGE_MAX) -> None:
         """Asks for the first pairs of a range, as `Store.page` does."""
-        self._program.turn_to(self.results)
-        self._program.add(self._commands.page(version, lower, upper, prefix, limit))
+        self._program.send(self.results, self._commands.page, version, lower, upper, prefix, limit)
 
     def info(self, version: Version) -> None:
         """Asks for a version's place in the tree."""
-        self._program.turn_to(self.results)
-        self._program.add(self._commands.info(version))
+        self._program.send(self.results, self._commands.info, version)
 
     def stat(self) -> None:
         """Asks what the store has."""
-        self._program.turn_to(self.results)
-        self._program.add(self._commands.stat())
+        self._program.send(self.results, self._commands.stat)
 
     def finish(self) -> List[Result]:
         """Waits until all is answered, and gives the results."""
-        self._program.turn_to(self.results)
-        self._program.settle()
+        self._program.settle(self.results)
         if not self._return_exceptions:
             for result in self.results:
-                if isinstance(result, errors.Refused):
+                if isinstance(result, errors.CastleError):
                     raise result
         return self.results
 

@@ -13,29 +13,38 @@ Version = Union[int, str]
 
 
 def data_of(data: Data) -> bytes:
-    """The bytes of a key or a value; text is UTF-8."""
-    return data.encode() if isinstance(data, str) else bytes(memoryview(data))
+    """The bytes of a key or a value; text is UTF-8. A `TextFault` tells of text that is none, a TypeError of other kinds."""
+    try:
+        return data.encode() if isinstance(data, str) else bytes(memoryview(data))
+    except UnicodeEncodeError:
+        raise errors.TextFault("text with half a surrogate pair has no UTF-8", "Give bytes.") from None
 
 
 class Commands:
     """Each method gives the frame of a command, with the tag that comes next; it has to be the next one added.
 
-    The program refuses what it doesn't take. What would not fit a frame is refused here, by the same exception.
+    The program refuses what it doesn't take. What would not fit a frame is refused here, by the same exception, and so are
+    changes where the store is open for reading alone, by `ReadOnly`.
     """
 
-    def __init__(self, program: Program, names: Names) -> None:
+    def __init__(self, program: Program, names: Names, read_only: bool) -> None:
         self._program = program
         self._names = names
+        self._read_only = read_only
 
     def number(self, version: Version) -> int:
         """The number of a version, which may be given by its name."""
         if isinstance(version, str):
             return self._names.version(version)
-        if not isinstance(version, int):
+        if not isinstance(version, int) or isinstance(version, bool):
             raise TypeError(f"a version is a number or a name, and not {version!r}")
         if not 0 <= version <= frames.NUMBER_MAX:
             raise errors.UnknownVersion(file=self._program.file, command=f"version {version}")
         return version
+
+    def _change(self, command: str) -> None:
+        if self._read_only:
+            raise errors.ReadOnly(file=self._program.file, command=command)
 
     def _key(self, command: str, key: Data) -> bytes:
         data = data_of(key)
@@ -45,6 +54,7 @@ class Commands:
 
     def put(self, version: Version, key: Data, value: Data) -> bytes:
         """The frame of a put."""
+        self._change("put")
         number, name, data = self.number(version), self._key("put", key), data_of(value)
         if len(name) + len(data) > frames.BODY_MAX - 13:
             kind = errors.KeySize if len(name) > frames.KEY_MAX else errors.ValueSize
@@ -53,6 +63,7 @@ class Commands:
 
     def delete(self, version: Version, key: Data) -> bytes:
         """The frame of a delete."""
+        self._change("delete")
         return frames.delete(self._program.tag, self.number(version), self._key("delete", key))
 
     def get(self, version: Version, key: Data) -> bytes:
@@ -62,8 +73,11 @@ class Commands:
         return frames.get(self._program.tag, number, name)
 
     def clone(self, version: Version) -> bytes:
-        """The frame of a clone."""
-        return frames.clone(self._program.tag, self.number(version))
+        """The frame of a clone. Names of versions that the store didn't have leave their file before."""
+        self._change("clone")
+        number = self.number(version)
+        self._names.forget_strays()
+        return frames.clone(self._program.tag, number)
 
     def _bounds(self, lower: Data, upper: Data, prefix: Data) -> Tuple[bytes, bytes]:
         """The bounds of the range between two bounds whose keys begin with a prefix."""

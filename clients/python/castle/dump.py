@@ -5,19 +5,20 @@ from __future__ import annotations
 import re
 from typing import Iterable, Iterator, List
 
-from .errors import DumpFault, TextFault
-from .frames import Pair
-from .text import cell, unescaped
+from .errors import DumpFault, KeySize, TextFault, ValueSize
+from .frames import KEY_MAX, VALUE_MAX, Pair
+from .text import cell, encoded, unescaped
 
 FIRST = "# castle dump 1"
+HEAD = re.compile(rf"{FIRST}(,.*)?")
 COMMENT = r"\\x23"  # a key's first # in a line, as the replacement of a pattern
-LAST = re.compile(r"# end, (\d+) pairs?")
+LAST = re.compile(r"# end, (\d{1,18}) pairs?")
 
 
 def lines_of(pairs: Iterable[Pair], title: str) -> Iterator[str]:
     """The lines of a dump. The title is told in the first one, and means nothing."""
     count = 0
-    yield f"{FIRST}, {title}\n"
+    yield f"{FIRST}, {cell(encoded(title))}\n"
     for key, value in pairs:
         yield f"{re.sub('^#', COMMENT, cell(key))}\t{cell(value)}\n"
         count += 1
@@ -25,12 +26,12 @@ def lines_of(pairs: Iterable[Pair], title: str) -> Iterator[str]:
 
 
 def pairs_of(lines: Iterable[str], file: str) -> List[Pair]:
-    """The pairs of a whole dump. Other lines that begin with # are passed over."""
+    """The pairs of a whole dump, each of which a store takes. Other lines that begin with # are passed over."""
     pairs: List[Pair] = []
     number, end = 0, None
     for number, line in enumerate(lines, 1):
         line = line.rstrip("\n")
-        if number == 1 and not line.startswith(FIRST):
+        if number == 1 and not HEAD.fullmatch(line):
             raise DumpFault("line 1 is not that of a dump", f"A dump begins with {FIRST}.", file=file)
         if end is not None:
             raise DumpFault(f"line {number} stands behind the end", "Remove it, or dump again.", file=file)
@@ -48,10 +49,16 @@ def pairs_of(lines: Iterable[str], file: str) -> List[Pair]:
 
 
 def _pair(line: str, number: int, file: str) -> Pair:
-    key, tab, value = line.partition("\t")
-    if not tab or "\t" in value:
+    written, tab, rest = line.partition("\t")
+    if not tab or "\t" in rest:
         raise DumpFault(f"line {number} is not a key, one tab and a value", "Mend the line.", file=file)
     try:
-        return unescaped(key), unescaped(value)
+        key, value = unescaped(written), unescaped(rest)
     except TextFault as fault:
         raise DumpFault(f"line {number}: {fault.what}", fault.remedy, file=file) from None
+    if not 1 <= len(key) <= KEY_MAX:
+        raise DumpFault(f"line {number} has a key of {len(key)} bytes", KeySize.remedy, file=file)
+    if len(value) > VALUE_MAX:
+        raise DumpFault(f"line {number} has a value of {len(value):,} bytes, above {VALUE_MAX:,}", ValueSize.remedy,
+                        file=file)
+    return key, value

@@ -170,7 +170,8 @@ class NotAStore(Ended):
     status = 2
     text = "not a store"
     what = "the file is no store"
-    remedy = "Look at the path. `castle format FILE 64 100000 100` makes a store there, and forgets what the file had."
+    remedy = ("Look at the path. `castle --overwrite format FILE 64 100000 100` makes a store there, and forgets what the "
+              "file had.")
 
 
 class InputTooLong(Ended):
@@ -240,6 +241,14 @@ class Unsound(Ended):
     remedy = "Restore a copy of the file."
 
 
+class LauncherRefused(Ended):
+    """The launcher says why on standard error."""
+
+    status = 125
+    what = "the launcher refused, and did not start the program"
+    remedy = "Look at what it said: the store is open elsewhere, or a file stands where a store is to be made."
+
+
 class NotBuilt(Ended):
     status = 126
     what = "the program could not be proved or built"
@@ -260,14 +269,14 @@ class Killed(Ended):
 
 
 class Interrupted(Ended):
-    what = "an exception cut off an exchange with the program"
-    remedy = "Open the store again."
+    what = "the pipes to the program failed"
+    remedy = "Open the store again, and look whether changes without a reply are there."
 
 
 ENDS: Dict[int, Type[Ended]] = {
     kind.status: kind for kind in (
         WrongUsage, NotAStore, InputTooLong, InputCutOff, DeviceFailed, InputFailed, OutputFailed, OutOfMemory,
-        StoreDamaged, InputBudget, Unsound, NotBuilt, NoKit)}
+        StoreDamaged, InputBudget, Unsound, LauncherRefused, NotBuilt, NoKit)}
 
 
 def ended(status: int, file: str, command: str, printed: str = "") -> Ended:
@@ -320,6 +329,13 @@ class StoreMissing(CastleError):
     remedy = "Look at the path. `castle format FILE 64 100000 100` makes a store there."
 
 
+class StoreMoved(CastleError):
+    """An open store's file is no longer at its path."""
+
+    what = "the file is no longer at this path: it was renamed, removed or replaced while the store was open"
+    remedy = "Close the store, and open it under its new name."
+
+
 class StoreExists(CastleError):
     """A file stands where a store is to be made."""
 
@@ -341,6 +357,27 @@ class StoreClosed(CastleError):
     remedy = "Open it again."
 
 
+class ReadOnly(CastleError):
+    """A change of a store that is read from a private copy. Nothing was sent."""
+
+    what = "the store is open for reading alone, as a private copy, and takes no changes"
+    remedy = "Open it where its file may be written, and without read_only."
+
+
+class Forked(CastleError):
+    """This process is a child of the one that opened the store, which goes on there."""
+
+    what = "the store was opened by another process, of which this one is a child"
+    remedy = "Use it there alone. To use it here, close it there first and open it here."
+
+
+class Busy(CastleError):
+    """A signal handler, or code that garbage collection runs, asked something amid a command of the same thread."""
+
+    what = "a command of this thread is under way, and this one came in its midst"
+    remedy = "Have a signal handler set a flag or raise an exception, and send commands behind it."
+
+
 class UnknownName(CastleError):
     """No version has this name."""
 
@@ -348,7 +385,11 @@ class UnknownName(CastleError):
 
 
 class NameFault(CastleError):
-    """A name that a version can't have, or a file of names that can't be read."""
+    """A name that a version can't have, a version that is no number, or a file of names that can't be read."""
+
+
+class NamesWarning(UserWarning):
+    """A store was opened without some of the names in its file."""
 
 
 class TextFault(CastleError):

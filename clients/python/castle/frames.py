@@ -16,6 +16,7 @@ BODY_MAX = 2048
 KEY_MAX = 255
 VALUE_MAX = 1024
 PAGE_MAX = 256  # pairs in one reply
+SHOWN_MAX = 60  # bytes of a key that a message has whole
 NUMBER_MAX = 2 ** 32 - 1
 NO_PARENT = NUMBER_MAX
 
@@ -127,7 +128,7 @@ NAMES = {PUT: "put", DELETE: "delete", GET: "get", CLONE: "clone version", SCAN:
 
 
 def describe(frame: bytes) -> str:
-    """A command in words, as `put user/1 at version 0`."""
+    """A command in words, as `put user/1 at version 0`. A long key is cut short."""
     opcode = frame[8] if len(frame) > 8 else 0
     name, number = NAMES.get(opcode), CURSOR if opcode in (NEXT_PAIRS, CLOSE_CURSOR) else NUMBER
     if name is None or (opcode != STAT and len(frame) < HEAD.size + number.size):
@@ -139,7 +140,8 @@ def describe(frame: bytes) -> str:
         return f"{name} {version}"
     size = SIZE.unpack_from(frame, VERSION_HEAD.size)[0]
     key = frame[KEY_HEAD.size:KEY_HEAD.size + size]
-    return f"{name} {text.shown(key)} at version {version}"
+    shown = text.shown(key) if size <= SHOWN_MAX else f"{text.shown(key[:SHOWN_MAX // 2])}.. ({size:,} bytes)"
+    return f"{name} {shown} at version {version}"
 
 
 # Replies

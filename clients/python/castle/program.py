@@ -1,273 +1,393 @@
-"""Runs the program, and exchanges frames with it: many may be under way, and it writes while it reads."""
+"""Exchanges frames with a run of the program: many may be under way, and it writes while it reads.
+
+Any thread may speak, one at a time. An exception may come between any two steps, as a KeyboardInterrupt does, and the next
+command goes on where it came: what is known of the exchange is replaced as a whole, by one assignment, and what the
+system read or wrote is noted within the call that did it.
+"""
 
 from __future__ import annotations
 
+import errno
 import os
-import select
-import signal
 import struct
-import subprocess
 import sys
+import threading
+import weakref
 from collections import deque
-from typing import Callable, Deque, Iterable, List, NoReturn, Optional, Sequence, Tuple, Union
+from itertools import islice
+from typing import Callable, Deque, Iterator, List, NamedTuple, NoReturn, Optional, Sequence, Tuple, Union
 
-from . import errors, frames
+from . import errors, forks, frames
+from .frames import NUMBER_MAX
+from .lock import Lock
+from .process import CHUNK, Process, find_program  # noqa: F401
 
-Result = Union[frames.Answer, errors.Refused]
-
-CHUNK = 1 << 16  # bytes: as many as a pipe takes on Linux
-TEXTS = {f"castle: {kind.text}" for kind in errors.ENDS.values()}
-
-
-def find_program(given: Optional[str] = None) -> str:
-    """The program to run: the one given, that of CASTLE_PROGRAM, the launcher of this checkout, or `castle` on PATH."""
-    if given or os.environ.get("CASTLE_PROGRAM"):
-        return given or os.environ["CASTLE_PROGRAM"]
-    top = os.path.normpath(os.path.join(os.path.realpath(__file__), "..", "..", "..", ".."))
-    launcher = os.path.join(top, "castle")
-    return launcher if os.path.isfile(os.path.join(top, "crates.txt")) and os.access(launcher, os.X_OK) else "castle"
+KEPT = 4096  # answered commands that are kept at most, before the list of commands is cut
+FAILURES = errno.EBADF, errno.EINVAL, errno.EIO  # of a pipe
+LIMIT = 5.0  # seconds that the program may take to end, once it has nothing to answer
 
 
-def pass_on(lines: Iterable[bytes]) -> None:
-    """Passes on what the launcher says on standard error, but not the program's own text, which its status tells."""
-    for line in lines:
-        told = line.decode("utf-8", "replace")
-        if told not in TEXTS:
-            print(told, file=sys.stderr)
+Result = Union[frames.Answer, errors.CastleError]
 
 
-def printed(program: str, words: Sequence[str], file: str) -> Tuple[str, int]:
-    """What a run of the program prints that reads no input, and its status."""
-    try:
-        ran = subprocess.run([program, *words], stdin=subprocess.DEVNULL, stdout=subprocess.PIPE, stderr=subprocess.PIPE,
-                             restore_signals=False, start_new_session=True)
-    except OSError as error:
-        raise errors.ProgramMissing(f"the program {program} can't be run: {error.strerror}", file=file) from error
-    pass_on(ran.stderr.splitlines())
-    return ran.stdout.decode("utf-8", "replace"), ran.returncode
+class Cursor(List[Result]):
+    """The number of an open cursor, which is in it from the answer on until it is closed.
+
+    Where nobody has this any more, the cursor is closed with the next command, also where an exception came before the answer.
+    """
+
+    _dropped: Deque[int] = deque()  # until it has that of its program
+
+    def __init__(self, dropped: Deque[int]) -> None:
+        super().__init__()
+        self._dropped = dropped
+
+    def close(self) -> None:
+        """Has it closed with the next command. It may be called amid a command, and from any thread."""
+        self._dropped.extend([number for number in self if isinstance(number, int)])
+        self.clear()
+
+    def __del__(self) -> None:
+        self.close()
 
 
 class Unheard(bytes):
     """A frame whose answer nobody wants."""
 
 
+class Heard(NamedTuple):
+    """What was asked and answered so far."""
+
+    first: int
+    """The tag of the first of the commands."""
+    commands: List[bytes]
+    """Their frames. Only this list grows; all else is replaced."""
+    done: int
+    """How many of them are answered."""
+    rest: bytes
+    """The beginning of a reply."""
+    got: List[bytes]
+    """What was read behind it."""
+    sink: List[Result]
+    """Where the answers go."""
+    answers: Iterator[Result]
+    """Answers for it. Whoever adds them to it takes them away here by the same call."""
+
+
+class Sending(NamedTuple):
+    """What is being sent."""
+
+    data: bytes
+    counts: List[int]
+    """How many bytes of it each write took."""
+    next: int
+    """The tag of the first command whose frame is not in it."""
+
+
 class Program:
     """One run of the program.
 
-    Commands are added and answered in order, and each answer goes into the list that was set by `turn_to`. Nothing
-    waits for a pipe that the other side can't empty, however many commands are under way.
+    Commands are added and answered in order, and each answer goes into the list that it was added for. Nothing waits
+    for a pipe that the other side can't empty, however many commands are under way.
     """
 
-    def __init__(self, program: str, words: Sequence[str], file: str, keep_open: Sequence[int] = ()) -> None:
-        """Starts it. What is in `keep_open` stays open in the program until it ends, as the file of a lock."""
+    def __init__(self, program: str, words: Sequence[str], file: str, lock: Optional[Lock] = None) -> None:
+        """Starts it. It inherits the locks, and has them until it ends."""
         self.file = file
-        self._open: Deque[bytes] = deque()  # frames that are not answered
-        self._out = bytearray()  # what is not sent
-        self._in = b""  # the beginning of a reply
-        self._said = b""  # the beginning of a line on standard error
-        self._has_errors = True  # whether standard error was not read to its end
-        self._sink: List[Result] = []
+        self.tag = 0
+        """That of the command which is being made."""
+        self.lock = threading.RLock()
+        """Around all that is done here: whoever has it may send several commands in a row."""
+        self._is_busy = False  # whether this thread is amid a command
         self._dropped: Deque[int] = deque()  # cursors that are to be closed
-        self.tag = 0  # of the next command
-        self._answered = 0  # the tag of the next reply
+        self._heard = Heard(0, [], 0, b"", [], [], iter(()))
+        self._sending = Sending(b"", [], 0)
+        self._size = 0  # bytes that were added and are not in it, as a guess
         self._end: Optional[errors.CastleError] = None
-        try:
-            # In a session of its own the terminal's Ctrl-C reaches the client alone. SIGXFSZ stays ignored, as Python
-            # has it, so that a file that may grow no more is a fault that the program tells.
-            self._child = subprocess.Popen(
-                [program, *words], stdin=subprocess.PIPE, stdout=subprocess.PIPE, stderr=subprocess.PIPE, bufsize=0,
-                pass_fds=keep_open, restore_signals=False, start_new_session=True)
-        except OSError as error:
-            raise errors.ProgramMissing(f"the program {program} can't be run: {error.strerror}", file=file) from error
-        assert self._child.stdin and self._child.stdout and self._child.stderr
-        self._pipes = (self._child.stdin.fileno(), self._child.stdout.fileno(), self._child.stderr.fileno())
-        os.set_blocking(self._pipes[0], False)  # of this end of the pipe alone; the program's own end waits
-        self._poll = select.poll()
-        for pipe in self._pipes[1:]:
-            self._poll.register(pipe, select.POLLIN)
-        self._writes = False
+        with forks.starting:
+            forks.own(self)
+            self.process = Process(program, words, file, lock)
 
     @property
     def pid(self) -> int:
         """The number of its process."""
-        return self._child.pid
+        return self.process.pid
+
+    @property
+    def is_own(self) -> bool:
+        """Whether this process started it, and is no child of the one that did."""
+        return self.process.is_own
 
     @property
     def end(self) -> Optional[errors.CastleError]:
         """Why it takes no more commands; None while it does."""
         return self._end
 
-    def add(self, frame: bytes) -> None:
-        """Adds a command, whose tag is `tag`. It is sent at the latest by `settle`."""
-        self.tag = (self.tag + 1) & frames.NUMBER_MAX
-        self._open.append(frame)
-        self._out += frame
-        if len(self._out) >= CHUNK:
-            self._exchange(CHUNK // 2, None)
-
-    def settle(self) -> None:
-        """Sends all that was added, and waits until all is answered."""
-        self._exchange(0, 0)
-
-    def turn_to(self, sink: List[Result]) -> None:
-        """Has the answers to the commands that follow go into this list. It comes before their frames are made."""
-        if sink is not self._sink:
-            self.settle()
-            self._sink = sink
-        if self._dropped:
-            self._close_dropped()
-
-    def ask(self, frame: bytes) -> Result:
-        """The answer to one command."""
-        self.settle()
-        self._sink = []
-        self.add(frame)
-        self.settle()
-        return self._sink.pop()
+    # What others call
 
     def call(self, make: Callable[..., bytes], *words: object) -> frames.Answer:
         """The answer to the command that is made of these words. A refusal is raised."""
-        self.settle()
-        self._sink = []
-        self._close_dropped()  # these go out together with the command, and are answered before it
-        self.add(make(*words))
-        self.settle()
-        answer = self._sink.pop()
-        if isinstance(answer, errors.Refused):
+        return self.answer([], make, *words)
+
+    def answer(self, sink: List[Result], make: Callable[..., bytes], *words: object) -> frames.Answer:
+        """The same through an empty list of the caller's.
+
+        Where an exception cuts off a call, the next one with this list sends nothing again, and gives the first one's answer.
+        """
+        self._ask(sink, make, words)
+        answer = sink[0]
+        if isinstance(answer, errors.CastleError):
             raise answer
         return answer
 
-    def drop(self, cursor: int) -> None:
-        """Has a cursor closed before the next command. It may be called amid a command, and from any thread."""
-        self._dropped.append(cursor)
+    def open(self, make: Callable[..., bytes], *words: object) -> Cursor:
+        """The cursor that the command opens which is made of these words. A refusal is raised."""
+        cursor = Cursor(self._dropped)
+        self._ask(cursor, make, words)
+        if isinstance(cursor[0], errors.CastleError):
+            raise cursor[0]
+        return cursor
 
-    def _close_dropped(self) -> None:
+    def _ask(self, sink: List[Result], make: Callable[..., bytes], words: Sequence[object]) -> None:
+        """Has the answer to one command in a list of its own."""
+        with self.lock:
+            if self._is_busy:
+                self._refuse_amid()
+            self._is_busy = True
+            try:
+                self.check()
+                if sink is self._heard.sink:
+                    self._exchange(0, 0)  # it may be asked for already
+                if not sink:
+                    self._turn_to(sink)  # closings of cursors go out together with the command
+                    heard = self._heard
+                    self.tag = heard.first + len(heard.commands) & NUMBER_MAX
+                    heard.commands.append(make(*words))
+                    self._exchange(0, 0)
+            finally:
+                self._is_busy = False
+
+    def send(self, sink: List[Result], make: Callable[..., bytes], *words: object) -> None:
+        """Adds the command that is made of these words; its answer goes into this list. `settle` waits for it.
+
+        A command that can't be made has its error there.
+        """
+        with self.lock:
+            if self._is_busy:
+                self._refuse_amid()
+            self._is_busy = True
+            try:
+                if self._end is not None:
+                    raise errors.again(self._end)
+                heard = self._heard
+                if sink is not heard.sink or self._dropped:
+                    self._turn_to(sink)
+                    heard = self._heard
+                commands = heard.commands
+                self.tag = heard.first + len(commands) & NUMBER_MAX
+                try:
+                    frame = make(*words)
+                except errors.CastleError as error:
+                    self._exchange(0, 0)
+                    sink.append(error.with_traceback(None))
+                    return
+                commands.append(frame)  # this alone adds it
+                self._size += len(frame)
+                if self._size >= CHUNK:
+                    self._exchange(CHUNK // 2, None)
+            finally:
+                self._is_busy = False
+
+    def settle(self, sink: Optional[List[Result]] = None) -> None:
+        """Sends all that was added, and waits until all is answered. Commands that are sent next are for this list."""
+        with self.lock:
+            if self._is_busy:
+                self._refuse_amid()
+            self._is_busy = True
+            try:
+                self._turn_to(self._heard.sink if sink is None else sink)
+                self._exchange(0, 0)
+            finally:
+                self._is_busy = False
+
+    def ask(self, make: Callable[[], bytes]) -> Result:
+        """The answer to one frame, a refusal too."""
+        sink: List[Result] = []
+        self._ask(sink, make, ())
+        return sink[0]
+
+    def check(self) -> None:
+        """Fails where no command can be sent: the program ended, or this is a child of the process that started it."""
+        if self._end is not None:
+            raise errors.again(self._end)
+        if not self.is_own:
+            raise errors.Forked(file=self.file)
+
+    def finish(self, limit: Optional[float] = None) -> int:
+        """Ends its input, waits until it has ended, and tells its status. Replies that nobody waited for are dropped.
+
+        After so many seconds it is killed.
+        """
+        with self.lock:
+            if self._is_busy:
+                self._refuse_amid()
+            self._is_busy = True
+            try:
+                if not self.is_own:  # where Python did not see the fork
+                    self.process.forget()
+                    self.forget()
+                if self._end is None:
+                    self._end = errors.StoreClosed(file=self.file)
+                return self.process.finish(limit)
+            finally:
+                self._is_busy = False
+
+    def forget(self) -> None:
+        """Takes no more commands, in a child of the process that started it."""
+        self._end = errors.Forked(file=self.file)
+        self.lock, self._is_busy = threading.RLock(), False  # the thread that had it is not in this process
+
+    # Turns
+
+    def _refuse_amid(self) -> None:
+        """Refuses a command amid another one of this thread. That there is one may be left over from an exception."""
+        codes = {method.__code__ for method in (Program._ask, Program.send, Program.settle, Program.finish)}
+        frame = sys._getframe(1).f_back
+        while frame is not None:
+            if frame.f_code in codes and frame.f_locals.get("self") is self:
+                raise errors.Busy(file=self.file)
+            frame = frame.f_back
+
+    def _turn_to(self, sink: List[Result]) -> None:
+        """Has the answers to the commands that follow go into this list, once all before are answered."""
+        heard = self._heard
+        if sink is not heard.sink:
+            if len(heard.commands) > heard.done or heard.got:
+                self._exchange(0, 0)
+            first, commands, done, rest, got, before, answers = self._heard
+            before.extend(answers)
+            self._heard = Heard(first, commands, done, rest, got, sink, iter(()))
+            del heard, before  # whose cursor may be closed here
         while self._dropped:
-            self.add(Unheard(frames.close_cursor(self.tag, self._dropped[0])))
+            heard = self._heard
+            tag = heard.first + len(heard.commands) & NUMBER_MAX
+            heard.commands.append(Unheard(frames.close_cursor(tag, self._dropped[0])))
             self._dropped.popleft()
 
     def _exchange(self, most_unsent: int, most_open: Optional[int]) -> None:
         """Writes and reads until no more bytes are unsent, and no more commands unanswered, than these."""
-        if self._end is not None:
-            raise errors.again(self._end)
+        self.check()
         try:
-            while len(self._out) > most_unsent or (most_open is not None and len(self._open) > most_open):
-                self._turn()
-        except errors.CastleError:
-            raise
-        except BaseException:
-            self._end = errors.Interrupted(file=self.file)
-            raise
+            self._digest()
+            unsent = self._load()
+            if unsent > most_unsent:
+                unsent = self._write()
+            while unsent > most_unsent or most_open is not None and len(self._heard.commands) - self._heard.done > most_open:
+                unsent = self._turn(unsent > 0)
+        except OSError as error:
+            if error.errno not in FAILURES:
+                raise  # a TimeoutError of a signal handler, as like as not
+            raise self._ended(errors.Interrupted(f"the pipes to the program failed: {error.strerror}", file=self.file)) from error
 
-    def _turn(self) -> None:
-        """Waits until something can be read or written, and does it."""
-        inp, out, err = self._pipes
-        if bool(self._out) != self._writes:
-            self._writes = not self._writes
-            if self._writes:
-                self._poll.register(inp, select.POLLOUT)
+    def _load(self) -> int:
+        """Takes the frames that were added into what is being sent, and tells how many bytes that are."""
+        heard, (data, counts, after) = self._heard, self._sending
+        tag = heard.first + len(heard.commands) & NUMBER_MAX
+        if tag != after:
+            fresh = heard.commands[-(tag - after & NUMBER_MAX):]
+            self._sending = Sending(b"".join([data[sum(counts):], *fresh]), [], tag)
+            self._size = 0
+        return len(self._sending.data) - sum(self._sending.counts)
+
+    def _turn(self, writes: bool) -> int:
+        """Waits until something can be read or written, and does it. How many bytes are unsent then."""
+        process = self.process
+        for pipe in process.ready(writes):
+            if pipe == process.out:
+                # noted by the same call that reads
+                self._heard.got.extend(map(os.read, (pipe,), (CHUNK,)))
+                self._digest()
+            elif pipe == process.err:
+                process.read_errors()
             else:
-                self._poll.unregister(inp)
-        for pipe, _ in self._poll.poll():
-            if pipe == inp:
                 self._write()
-            elif pipe == err:
-                self._read_errors()
-            else:
-                self._read()
+        return len(self._sending.data) - sum(self._sending.counts)
 
-    def _write(self) -> None:
+    def _write(self) -> int:
+        """Writes what the pipe takes now, and tells how many bytes are unsent."""
+        data, counts, after = self._sending
+        sent = sum(counts)
         try:
-            sent = os.write(self._pipes[0], self._out[:CHUNK])
+            # noted by the same call that writes
+            counts.extend(map(os.write, (self.process.inp,), (data[sent:sent + CHUNK],)))
         except BlockingIOError:
-            return
+            pass
         except BrokenPipeError:
-            self._out.clear()  # it ended; what it answered before is still to be read
-            return
-        del self._out[:sent]
+            self._sending = Sending(b"", [], after)
+            while True:  # it ended; what it answered before is still to be read, and its end raised
+                self._turn(False)
+        return len(data) - sum(counts)
 
-    def _read(self) -> None:
-        """Reads replies, and puts what they say into the list for them."""
-        data = os.read(self._pipes[1], CHUNK)
-        if not data:
+    def _digest(self) -> None:
+        """Takes the replies that were read, and has their answers go into the list for them."""
+        heard = self._heard
+        heard.sink.extend(heard.answers)  # where an exception came between these two
+        if not heard.got:
+            return
+        answers, rest, done, fault = self._parsed(heard)
+        first, commands, has_ended = heard.first, heard.commands, not heard.got[-1]
+        if done == len(commands) or done > KEPT and 2 * done > len(commands):
+            first, commands, done = first + done & NUMBER_MAX, commands[done:], 0
+        self._heard = heard = Heard(first, commands, done, rest, [], heard.sink, iter(answers))
+        heard.sink.extend(heard.answers)
+        if fault:
+            raise self._ended(errors.WrongProtocol(fault, file=self.file))
+        if has_ended:
             self._fail()
-        data = self._in + data
-        at, end, sink, answered = 0, len(data), self._sink, self._answered
-        head, pending, found = frames.HEAD.unpack_from, self._open, frames.FOUND
-        while end - at >= 9:
+
+    def _parsed(self, heard: Heard) -> Tuple[List[Result], bytes, int, str]:
+        """What whole replies say, the beginning of one behind them, how many commands are answered, and a wrong reply."""
+        data = b"".join([heard.rest, *heard.got])
+        answers: List[Result] = []
+        at, end, expected, found, head = 0, len(data), heard.first + heard.done & NUMBER_MAX, frames.FOUND, frames.HEAD.unpack_from
+        fault = ""
+        for frame in islice(heard.commands, heard.done, None):
+            if end - at < 9:
+                break
             length, tag, status = head(data, at)
             stop = at + 4 + length
             if stop > end:
                 break
-            if not pending or tag != answered and status != errors.FrameTooLong.status:
-                self._distrust(f"a reply has tag {tag}, which is not that of the command")
-            frame = pending.popleft()
-            answered = (answered + 1) & frames.NUMBER_MAX
+            if tag != expected and status != errors.FrameTooLong.status:
+                fault = f"a reply has tag {tag}, which is not that of the command"
+                break
             if status == found:
-                sink.append(data[at + 11:stop])
+                answers.append(data[at + 11:stop])
             elif type(frame) is Unheard:
                 pass
             elif status < frames.LEAST_REFUSAL:
                 try:
-                    sink.append(frames.answer(status, data[at + 9:stop]))
+                    answers.append(frames.answer(status, data[at + 9:stop]))
                 except (ValueError, IndexError, struct.error):
-                    self._distrust(f"a reply of status {status} can't be read")
+                    fault = f"a reply of status {status} can't be read"
+                    break
             else:
-                sink.append(errors.refusal(status, data[at + 9:stop], self.file, frames.describe(frame)))
+                answers.append(errors.refusal(status, data[at + 9:stop], self.file, frames.describe(frame)))
             at = stop
-        self._in, self._answered = data[at:], answered
-
-    def _read_errors(self) -> None:
-        """Passes on the lines that are on standard error."""
-        data = os.read(self._pipes[2], CHUNK)
-        *lines, self._said = (self._said + data).split(b"\n")
-        pass_on(lines)
-        if not data:
-            self._poll.unregister(self._pipes[2])
-            self._has_errors = False
-
-    def _distrust(self, what: str) -> NoReturn:
-        """Takes no more replies, since one was not as the protocol has it."""
-        self._end = errors.WrongProtocol(what, file=self.file)
-        raise self._end
+            expected = expected + 1 & NUMBER_MAX
+        done = expected - heard.first & NUMBER_MAX
+        if done == len(heard.commands) and at < end:
+            fault = "a reply came that is to no command"
+        return answers, data[at:], done, fault
 
     def _fail(self) -> NoReturn:
         """The program ended before it was asked to."""
-        status = self._wait()
-        asked = next((frame for frame in self._open if type(frame) is not Unheard), b"")
-        command = frames.describe(asked) if asked else ""
-        self._end = errors.ended(status, self.file, command)
-        raise self._end
+        status = self.process.finish(LIMIT)
+        heard = self._heard
+        asked = next((frame for frame in heard.commands[heard.done:] if type(frame) is not Unheard), b"")
+        raise self._ended(errors.ended(status, self.file, frames.describe(asked) if asked else ""))
 
-    def _wait(self) -> int:
-        """Reads what is left on standard error, and waits for the end."""
-        while self._has_errors:
-            self._read_errors()
-        return self._child.wait()
-
-    def finish(self) -> int:
-        """Ends its input, waits until it has ended, and tells its status. Replies that nobody waited for are dropped."""
-        if self._end is None:
-            self._end = errors.StoreClosed(file=self.file)
-        inp, out, _ = self._pipes
-        if self._writes:
-            self._poll.unregister(inp)
-            self._writes = False
-        assert self._child.stdin and self._child.stdout and self._child.stderr
-        self._child.stdin.close()
-        while not self._child.stdout.closed:
-            for pipe, _ in self._poll.poll():
-                if pipe != out:
-                    self._read_errors()
-                elif not os.read(out, CHUNK):
-                    self._poll.unregister(out)
-                    self._child.stdout.close()
-        status = self._wait()
-        self._child.stderr.close()
-        return status
-
-    def stop(self) -> None:
-        """Ends it by a signal, with what it started, as while the launcher builds it."""
-        if self._child.poll() is None:
-            os.killpg(self._child.pid, signal.SIGTERM)
-        self.finish()
+    def _ended(self, error: errors.CastleError) -> errors.CastleError:
+        """Takes no more commands. What is kept is a copy: one that is raised has the frames that it passed, and so all this."""
+        self._end = errors.again(error)
+        return error

@@ -2,13 +2,14 @@
 
 from __future__ import annotations
 
+import threading
 from types import TracebackType
-from typing import Any, Generic, Iterator, NamedTuple, Optional, Type, TypeVar, cast
+from typing import Any, Generic, Iterator, List, NamedTuple, Optional, Type, TypeVar, cast
 
 from . import errors, frames
 from .commands import Commands, Data, Version
 from .frames import Pair
-from .program import Program
+from .program import Program, Result
 
 Item = TypeVar("Item", covariant=True)
 Self = TypeVar("Self", bound="Reading[Any]")
@@ -36,44 +37,46 @@ class Reading(Iterator[Item], Generic[Item]):
 class Scan(Reading[Pair]):
     """The pairs of a range as they were when the scan began, read piece by piece as they are asked for. See `Store.scan`."""
 
-    _cursor: Optional[int] = None  # its number, while it is open
-
     def __init__(self, program: Program, commands: Commands, version: Version, lower: Data = b"", upper: Data = b"",
                  prefix: Data = b"") -> None:
         self._program = program
         self._commands = commands
         self._piece: Iterator[Pair] = iter(())
         self._more = True
-        self._cursor = cast(int, program.call(commands.open_cursor, version, lower, upper, prefix))
+        self._reading = threading.RLock()  # around the reading of a piece
+        self._asked: List[Result] = []  # has the next piece, once it was asked for and answered
+        self._cursor = program.open(commands.open_cursor, version, lower, upper, prefix)
 
     def __next__(self) -> Pair:
         while True:
-            for pair in self._piece:
+            piece = self._piece
+            for pair in piece:
                 return pair
-            if not self._more:
-                raise StopIteration
-            self._read()
+            if not self._program.is_own:
+                self._program.check()  # before a lock that a thread may have had at the fork
+            with self._reading:
+                if piece is self._piece:  # and no other thread has read on
+                    if not self._more:
+                        raise StopIteration
+                    self._read()
 
     def _read(self) -> None:
-        """Reads the next piece."""
+        """Reads the next piece. Where an exception of a signal cuts it off, the next call takes the piece that was asked for."""
         try:
-            if self._cursor is None:
+            if not self._cursor:
                 raise errors.StoreClosed(file=self._program.file)
-            page = cast(frames.Page, self._program.call(self._commands.next_pairs, self._cursor))
-        except BaseException:
-            self.close()
+            page = cast(frames.Page, self._program.answer(self._asked, self._commands.next_pairs, self._cursor[0]))
+        except errors.CastleError as error:
+            if not isinstance(error, errors.Busy):
+                self.close()
             raise
-        self._piece, self._more = iter(page.pairs), page.more
+        self._asked, self._more, self._piece = [], page.more, iter(page.pairs)
         if not page.more:
             self.give_back()
 
     def give_back(self) -> None:
         """Has its cursor closed. What was read is given still; more is missed as `StoreClosed`."""
-        cursor, self._cursor = self._cursor, None
-        if cursor is not None:
-            self._program.drop(cursor)
-
-    __del__ = give_back
+        self._cursor.close()
 
     def close(self) -> None:
         self._piece, self._more = iter(()), False

@@ -2,19 +2,17 @@
 
 from __future__ import annotations
 
-import glob
 import os
-import signal
 import sys
-from types import FrameType
-from typing import Callable, Dict, Iterable, Iterator, List, NamedTuple, Optional, TextIO, TypeVar
+import warnings
+from typing import Callable, Dict, Iterable, Iterator, List, NamedTuple, Optional, Sequence, TextIO, TypeVar
 
-from . import dump, levels, tree
-from .errors import CastleError, Ended, Refused
-from .files import write_whole
-from .frames import Info
+from . import __version__, dump, levels, outfile, terminal, tree
+from .errors import CastleError, Ended, NamesWarning, UnknownName, UnknownVersion
+from .frames import NUMBER_MAX, Info, Pair
 from .store import Store
-from .text import Word, counted, shown, words
+from .terminal import INTERRUPTED, Interrupts, Stopped
+from .text import Word, cell, counted, encoded, hexed, is_text, shortened, shown, words
 
 Item = TypeVar("Item")
 
@@ -27,9 +25,11 @@ NOTATION = """Words stand between blanks; "a word with blanks" has quotes, as ha
 text are \\xNN, and \\\\ \\" \\n \\t are as usual. @3 or @staging at the end names a version, by its number or name;
 else it is that of the prompt.
 """
+PIECE = 64  # pairs that a load sends at once; it can be stopped between two pieces
+LOST = "stopped at once; a change that was under way was made or it was not"
 
 
-class Wrong(Exception):
+class Wrong(CastleError):
     """A line that is no command."""
 
 
@@ -43,6 +43,12 @@ class Command(NamedTuple):
     least: int
     """How many words it takes, besides that for a version."""
     most: int
+    takes_version: bool = True
+    """Whether `@V` may stand at its end."""
+
+
+TOLD = (CastleError, Stopped)
+"""The errors of a line, which are told and not raised."""
 
 
 class Shell:
@@ -50,12 +56,12 @@ class Shell:
 
     def __init__(self, store: Store, out: TextIO) -> None:
         self.store = store
+        self.name = cell(os.fsencode(os.path.basename(store.path)))
         self.out = out
         self.here = 0
         self.is_done = False
         self._version: Optional[int] = None  # that of @, in the command that runs
-        self._is_stopped = False
-        self._is_reading = False
+        self._interrupts = Interrupts()
 
     # Lines
 
@@ -67,87 +73,92 @@ class Shell:
         name, *rest = words(line)
         command = COMMANDS.get(name.text)
         if command is None:
-            raise Wrong(f"unknown command {name.text}; `help` lists the commands")
-        self._version = None
-        if rest and rest[-1].bare and rest[-1].text.startswith("@"):
-            self._version = self.version_of(rest.pop())
-        if not command.least <= len(rest) <= command.most:
-            raise Wrong(f"usage: {command.usage}")
+            raise Wrong(f"unknown command {shortened(name.text)}; `help` lists the commands")
+        at = rest.pop() if rest and rest[-1].is_version else None
+        check_words(command, rest, at)
+        self._version = None if at is None else self.version_of(at)
         command.run(self, rest)
 
     def script(self, lines: Iterable[str]) -> int:
-        """Carries out lines up to the first error, and gives the exit status."""
-        for number, line in enumerate(lines, 1):
+        """Carries out lines up to the first error or Ctrl-C, and gives the exit status."""
+        number, source = 0, iter(lines)
+        with self._interrupts:
             try:
-                self.run(line)
-            except BrokenPipeError:
-                raise  # nobody reads the output
-            except (CastleError, Wrong, OSError) as error:
-                self.out.flush()
-                print(f"castle-shell: line {number}: {described(error)}", file=sys.stderr)
-                return 1
-            if self.is_done:
-                break
+                for line in iter(lambda: self._interrupts.read(lambda: next(source, None)), None):
+                    number += 1
+                    self.run(line)
+                    if self.is_done:
+                        return 0
+                    if self._interrupts.count:
+                        return self._give_up(f"stopped before line {number + 1}", INTERRUPTED)
+            except TOLD as error:
+                return self._give_up(f"line {number}: {error}", INTERRUPTED if isinstance(error, Stopped) else 1)
+            except KeyboardInterrupt:
+                is_between = self._interrupts.count == 1
+                return self._give_up(f"stopped before line {number + 1}" if is_between else f"line {number}: {LOST}", INTERRUPTED)
         return 0
+
+    def _give_up(self, what: str, status: int) -> int:
+        """Tells why a script ends, behind what it has printed."""
+        self.out.flush()
+        print(f"castle-shell: {what}", file=sys.stderr)
+        return status
 
     def converse(self) -> int:
         """Reads lines at a prompt until the end, and gives the exit status."""
-        signal.signal(signal.SIGINT, self._interrupt)
         stat = self.store.stat()
-        self.say(f"{self.store.path}: {counted(stat.versions, 'version')}, {counted(stat.changes, 'change')}. "
+        self.say(f"{self.name}: {counted(stat.versions, 'version')}, {counted(stat.changes, 'change')}. "
                  "`help` lists the commands.")
-        while not self.is_done:
-            try:
-                line = self._read()
-            except EOFError:
-                self.say("")
-                break
-            except KeyboardInterrupt:
-                self.say("")
-                continue
-            try:
-                self.run(line)
-            except (CastleError, Wrong, OSError) as error:
-                self._tell(error)
-                if isinstance(error, Ended):
+        with self._interrupts:
+            while not self.is_done:
+                try:
+                    line = self._read()
+                except EOFError:
+                    self.say("")
+                    break
+                except KeyboardInterrupt:
+                    self.say("")
+                    continue
+                if not self._carry_out(line):
                     return 1
         return 0
 
+    def _read(self) -> str:
+        """A line that was typed."""
+        prompt = self.prompt()
+        return self._interrupts.read(lambda: input(prompt))
+
+    def _carry_out(self, line: str) -> bool:
+        """Carries out a line that was typed, tells what is wrong with it, and whether the store goes on."""
+        try:
+            check_text(line)
+            self.run(line)
+        except TOLD as error:
+            self._tell(error)
+            return not isinstance(error, Ended)
+        except KeyboardInterrupt:
+            self._tell(Stopped(LOST))
+        return True
+
     def _tell(self, error: Exception) -> None:
         """Shows an error, and under it what to do."""
-        if isinstance(error, CastleError) and error.file == self.store.path:
-            place = f"{error.command}: " if error.command else ""
-            self.say(f"error: {place}{error.what}")
-            if error.remedy:
-                self.say(f"       {error.remedy}")
-        else:
-            self.say(f"error: {described(error)}")
-
-    def _read(self) -> str:
-        prompt = self.prompt()
-        self._is_stopped, self._is_reading = False, True
-        try:
-            return input(prompt)
-        finally:
-            self._is_reading = False
-
-    def _interrupt(self, _: int, __: Optional[FrameType]) -> None:
-        """Ctrl-C drops the line at the prompt, and stops a command that prints between two of its lines."""
-        self._is_stopped = True
-        if self._is_reading:
-            raise KeyboardInterrupt
-
-    def _until_stopped(self, items: Iterable[Item]) -> Iterator[Item]:
-        for item in items:
-            if self._is_stopped:
-                raise Wrong("stopped")
-            yield item
+        if isinstance(error, Stopped):
+            self.say("")  # ends the line in which the terminal has shown ^C
+        if not isinstance(error, CastleError):
+            self.say(f"error: {error}")
+            return
+        is_plain = error.file == self.store.path and not isinstance(error, outfile.Unwritable)
+        file = "" if is_plain else error.file
+        place = "".join(f"{part}: " for part in (file, error.command) if part)
+        self.say(f"error: {place}{error.what}")
+        if error.remedy:
+            self.say(f"       {error.remedy}")
 
     def prompt(self) -> str:
         """The store, the version, its names, and whether it takes changes."""
         names = "".join(f" {name}" for name in self.store.names.of(self.here))
         frozen = " (frozen)" if self.store.info(self.here).frozen else ""
-        return f"{os.path.basename(self.store.path)} @{self.here}{names}{frozen}> "
+        return f"{self.name} @{self.here}{names}{frozen}> "
 
     # Words and lines
 
@@ -157,13 +168,19 @@ class Shell:
 
     def version_of(self, word: Word) -> int:
         """The version that a word names: `3`, `@3`, `staging` or `@staging`."""
-        name = word.text[1:] if word.bare and word.text.startswith("@") else word.text
-        return int(name) if name.isascii() and name.isdigit() else self.store.names.version(name)
+        name = word.name[1:] if word.is_version else word.name
+        if not name:
+            raise Wrong(f"{word.text} names no version", "Write its number or its name, as @3 or @staging.")
+        if not (name.isascii() and name.isdigit()):
+            return self.store.names.version(name)
+        if len(name) > len(str(NUMBER_MAX)):
+            raise UnknownVersion(file=self.store.path, command=f"version {shortened(name)}")
+        return int(name)
 
-    def version(self, rest: List[Word]) -> int:
+    def version(self, rest: Sequence[Word] = ()) -> int:
         """The version of a command: its next word, or that of @, or that of the prompt."""
         if rest and self._version is not None:
-            raise Wrong(f"two versions are named: {rest[0].text} and {self._version}")
+            raise Wrong(f"two versions are named: {shortened(rest[0].text)} and {self._version}")
         return self.version_of(rest[0]) if rest else self.here if self._version is None else self._version
 
     def titled(self, version: int) -> str:
@@ -171,22 +188,30 @@ class Shell:
         names = ", ".join(self.store.names.of(version))
         return f"version {version}{f' ({names})' if names else ''}"
 
+    def _until_stopped(self, items: Iterable[Item]) -> Iterator[Item]:
+        return self._interrupts.items(items)
+
+    def _save(self, word: Word, pieces: Iterable[str]) -> None:
+        """Writes a file that the user named, whole or not at all."""
+        outfile.write(word.path, pieces, self.store.path)
+        self.say(f"wrote {shown(os.fsencode(word.path))}")
+
     # Commands
 
     def put(self, rest: List[Word]) -> None:
-        self.store.put(self.version([]), rest[0].data, rest[1].data)
+        self.store.put(self.version(), rest[0].data, rest[1].data)
         self.say("done")
 
     def get(self, rest: List[Word]) -> None:
-        value = self.store.get(self.version([]), rest[0].data)
+        value = self.store.get(self.version(), rest[0].data)
         self.say("absent" if value is None else shown(value))
 
     def delete(self, rest: List[Word]) -> None:
-        self.store.delete(self.version([]), rest[0].data)
+        self.store.delete(self.version(), rest[0].data)
         self.say("done")
 
     def scan(self, rest: List[Word]) -> None:
-        version, count = self.version([]), 0
+        version, count = self.version(), 0
         if len(rest) == 2:
             pairs = self.store.scan(version, rest[0].data, rest[1].data)
         else:
@@ -202,15 +227,31 @@ class Shell:
         self.here = version
 
     def clone(self, rest: List[Word]) -> None:
-        names, name = self.store.names, rest[0].text if rest else None
+        name = rest[0].name if rest else None
         if name is not None:
-            names.check(name)
-            if name in names:
-                raise Wrong(f"version {names[name]} has the name {name}; `names remove {name}` takes it away")
-        made = self.store.clone(self.version([]))
+            self._check_free(name)
+        made = self.store.clone(self.version())
         if name is not None:
-            names[name] = made
+            try:
+                self._set_name(name, made)
+            except CastleError as error:
+                error.command = f"made version {made}, which got no name"
+                raise
         self.say(f"made {self.titled(made)}")
+
+    def _check_free(self, name: str) -> None:
+        """Fails where no new version can get this name."""
+        names = self.store.names
+        names.check(name)
+        try:
+            version = names.version(name)  # fails otherwise where names can't be read
+        except UnknownName:
+            return
+        raise Wrong(f"version {version} has the name {name}", f"Take another, or `names remove {name}` takes it away.")
+
+    def _set_name(self, name: str, version: int) -> None:
+        with outfile.told(self.store.names.path, "written"):
+            self.store.names[name] = version
 
     def info(self, rest: List[Word]) -> None:
         version = self.version(rest)
@@ -224,17 +265,20 @@ class Shell:
             self.say(f"{name:8} {count}")
 
     def names(self, rest: List[Word]) -> None:
-        names, (action, *more) = self.store.names, [word.text for word in rest] or ["list"]
-        if action == "list" and not more:
+        names, (action, *more) = self.store.names, [word.name for word in rest] or ["list"]
+        if action == "set" and more:
+            self._set_name(more[0], self.version(rest[2:]))
+        elif self._version is not None:
+            raise Wrong(f"usage: {COMMANDS['names'].usage}")
+        elif action == "list" and not more:
             for name, version in names.items():
                 self.say(f"{version} {name}")
             if not names:
                 self.say("no version has a name")
-        elif action == "set" and more:
-            names[more[0]] = self.version(rest[2:])
         elif action == "remove" and len(more) == 1:
             names.version(more[0])
-            del names[more[0]]
+            with outfile.told(names.path, "written"):
+                del names[more[0]]
         else:
             raise Wrong(f"usage: {COMMANDS['names'].usage}")
 
@@ -242,15 +286,15 @@ class Shell:
         infos = self.store.versions()
         names = {version: self.store.names.of(version) for version in set(self.store.names.values())}
         if not rest:
-            for line in tree.Tree([info.parent for info in infos], names, self.here).lines():
+            for line in self._until_stopped(tree.Tree([info.parent for info in infos], names, self.here).lines()):
                 self.say(line)
             return
         if rest[0].text != "--svg" or len(rest) != 2:
             raise Wrong(f"usage: {COMMANDS['tree'].usage}")
+        outfile.check(rest[1].path, self.store.path)
         drawn = tree.Tree([info.parent for info in infos], names)
-        keys = {version: len(self.store.at(version)) for version in self._until_stopped(drawn.single())}
-        write_whole(rest[1].text, tree.svg(drawn, keys, self._heading(infos)))
-        self.say(f"wrote {rest[1].text}")
+        keys = {version: sum(1 for _ in self._until_stopped(self.store.scan(version))) for version in drawn.single()}
+        self._save(rest[1], tree.svg(drawn, keys, self._heading(infos)))
 
     def levels(self, rest: List[Word]) -> None:
         found = self.store.levels()
@@ -260,12 +304,11 @@ class Shell:
             return
         if rest[0].text != "--svg" or len(rest) != 2:
             raise Wrong(f"usage: {COMMANDS['levels'].usage}")
-        write_whole(rest[1].text, levels.svg(found, os.path.basename(self.store.path)))
-        self.say(f"wrote {rest[1].text}")
+        self._save(rest[1], levels.svg(found, self.name))
 
     def _heading(self, infos: List[Info]) -> str:
         changes = counted(self.store.stat().changes, "change")
-        return f"{os.path.basename(self.store.path)}: {counted(len(infos), 'version')}, {changes}"
+        return f"{self.name}: {counted(len(infos), 'version')}, {changes}"
 
     def diff(self, rest: List[Word]) -> None:
         before, after = self.version_of(rest[0]), self.version(rest[1:])
@@ -283,34 +326,59 @@ class Shell:
         self.say(f"{removed} removed, {added} added, {changed} changed")
 
     def dump(self, rest: List[Word]) -> None:
-        version = self.version(rest[:1])
+        try:
+            version = self.version(rest[:1])
+        except (UnknownName, Wrong) as error:
+            if len(rest) == 1:
+                error.remedy = f"{error.remedy} A file stands behind the version: dump V FILE.".strip()
+            raise
         title = f"{self.titled(version)} of {os.path.basename(self.store.path)}"
         lines = dump.lines_of(self._until_stopped(self.store.scan(version)), title)
         if len(rest) < 2:
             self.out.writelines(lines)
         else:
-            write_whole(rest[1].text, lines)
-            self.say(f"wrote {rest[1].text}")
+            self._save(rest[1], lines)
 
     def load(self, rest: List[Word]) -> None:
-        version, file = self.version([]), rest[0].text
-        with open(file, encoding="utf-8", errors="surrogateescape", newline="\n") as lines:
-            pairs = dump.pairs_of(lines, file)
-        batch, done = self.store.batch(return_exceptions=True), 0
-        for key, value in pairs:
-            batch.put(version, key, value)
-        for result in batch.finish():
-            if isinstance(result, Refused):
-                result.command += f", after {counted(done, 'pair')} of {len(pairs)}"
-                raise result
-            done += 1
-        self.say(f"loaded {counted(done, 'pair')} into {self.titled(version)}")
+        version, path = self.version(), rest[0].path
+        with outfile.told(path, "read"), open(path, encoding="utf-8", errors="surrogateescape", newline="\n") as lines:
+            pairs = dump.pairs_of(self._until_stopped(lines), path)
+        loaded = 0
+        try:
+            for start in self._until_stopped(range(0, len(pairs), PIECE)):
+                loaded += self._put(version, pairs[start:start + PIECE], loaded, len(pairs))
+        except Stopped:
+            raise Stopped(f"stopped, with {loaded:,} of {counted(len(pairs), 'pair')} loaded") from None
+        except KeyboardInterrupt:
+            raise Stopped(f"stopped, with {loaded:,} of {counted(len(pairs), 'pair')} loaded and some of the next {PIECE} or none"
+                          ) from None
+        self.say(f"loaded {counted(loaded, 'pair')} into {self.titled(version)}")
+
+    def _put(self, version: int, pairs: List[Pair], before: int, total: int) -> int:
+        """Puts a piece of a load, behind the pairs that were loaded before it, and tells how many pairs it had."""
+        batch = self.store.batch(return_exceptions=True)
+        try:
+            for key, value in pairs:
+                batch.put(version, key, value)
+            batch.finish()
+        except CastleError as error:
+            raise self._how_far(error, before + batch.results.count(None), total)
+        for result in batch.results:
+            if isinstance(result, CastleError):
+                raise self._how_far(result, before + batch.results.count(None), total)
+        return len(pairs)
+
+    @staticmethod
+    def _how_far(error: CastleError, loaded: int, total: int) -> CastleError:
+        """An error that ended a load, with how many pairs were put before it or beside it."""
+        error.command += f", with {loaded:,} of {counted(total, 'pair')} loaded"
+        return error
 
     def help(self, rest: List[Word]) -> None:
         if rest:
             command = COMMANDS.get(rest[0].text)
             if command is None:
-                raise Wrong(f"unknown command {rest[0].text}; `help` lists the commands")
+                raise Wrong(f"unknown command {shortened(rest[0].text)}; `help` lists the commands")
             self.say(f"{command.usage}\n    {command.summary}")
             return
         width = max(len(command.usage) for command in COMMANDS.values())
@@ -339,83 +407,66 @@ COMMANDS: Dict[str, Command] = {
                      Shell.names, 0, 3),
     "info": Command(VERSIONS, "info [V]", "shows a version's place in the tree", Shell.info, 0, 1),
     "tree": Command(VERSIONS, "tree [--svg FILE]", "draws the tree of versions, or writes a picture of it",
-                    Shell.tree, 0, 2),
+                    Shell.tree, 0, 2, False),
     "diff": Command(VERSIONS, "diff A [B]", "shows what has to change in A to get B", Shell.diff, 1, 2),
-    "stat": Command(VERSIONS, "stat", "shows how many versions and changes there are", Shell.stat, 0, 0),
+    "stat": Command(VERSIONS, "stat", "shows how many versions and changes there are", Shell.stat, 0, 0, False),
     "levels": Command(FILES, "levels [--svg FILE]", "draws what is stored, level by level, or writes a picture of it",
-                      Shell.levels, 0, 2),
+                      Shell.levels, 0, 2, False),
     "dump": Command(FILES, "dump [V [FILE]]", "writes a version's pairs as lines of text", Shell.dump, 0, 2),
     "load": Command(FILES, "load FILE [@V]", "puts the pairs of a dump into a version", Shell.load, 1, 1),
-    "help": Command(SHELL, "help [COMMAND]", "shows this, or one command", Shell.help, 0, 1),
-    "quit": Command(SHELL, "quit", "ends the shell", Shell.quit, 0, 0),
+    "help": Command(SHELL, "help [COMMAND]", "shows this, or one command", Shell.help, 0, 1, False),
+    "quit": Command(SHELL, "quit", "ends the shell", Shell.quit, 0, 0, False),
 }
 
 
-def described(error: Exception) -> str:
-    """An error as a line."""
-    if isinstance(error, OSError) and error.filename is not None:
-        return f"{error.filename}: {error.strerror}"
-    return str(error)
+# What a line may not be
+
+def check_words(command: Command, rest: Sequence[Word], at: Optional[Word]) -> None:
+    """Fails where a command has too few words or too many, or a version where none may stand.
+
+    `rest` are its words, and `at` is the version at its end, if there is one.
+    """
+    for word in rest:
+        if word.is_version:
+            raise Wrong(f"{shortened(word.text)} does not stand at the end, where @ and a version stand",
+                        "Elsewhere write a version without @, and a key or value that begins with @ in quotes.")
+    if at is not None and not command.takes_version:
+        raise Wrong(f"usage: {command.usage}")
+    if not command.least <= len(rest) <= command.most:
+        is_short = at is not None and len(rest) < command.least
+        raise Wrong(f"usage: {command.usage}", "Write a key or value that begins with @ in quotes." if is_short else "")
 
 
-# The terminal
+def check_text(line: str) -> None:
+    """Fails for a line that was typed with a byte that is no text of the terminal."""
+    for column, char in enumerate(line, 1):
+        if not is_text(char):
+            raise Wrong(f"the byte in column {column} is no text of this terminal", f"Write it as {hexed(encoded(char))}.")
 
-def complete_with(shell: Shell) -> None:
-    """Has Tab complete commands, names of versions and files, and keeps the history of lines in ~/.castle_history."""
-    try:
-        import readline
-    except ImportError:
-        return
-    import atexit
 
-    def offers(written: str) -> List[str]:
-        before = readline.get_line_buffer()[:readline.get_begidx()].split()
-        if not before:
-            return [f"{name} " for name in COMMANDS if name.startswith(written)]
-        if before[0] == "load" or before[-1] == "--svg":
-            return [path + ("/" if os.path.isdir(path) else "") for path in glob.glob(glob.escape(written) + "*")]
-        at = "@" if written.startswith("@") else ""
-        if not at and before[0] not in ("use", "info", "diff", "dump", "names"):
-            return []
-        names = [f"{at}{name} " for name in shell.store.names if name.startswith(written[len(at):])]
-        return names + [f"{word} " for word in ("set", "remove") if before == ["names"] and word.startswith(written)]
+# The process
 
-    def complete(written: str, state: int) -> Optional[str]:
-        found = sorted(offers(written))
-        return found[state] if state < len(found) else None
-
-    readline.set_completer(complete)
-    readline.set_completer_delims(" \t")
-    has_libedit = "libedit" in (readline.__doc__ or "")
-    readline.parse_and_bind("bind ^I rl_complete" if has_libedit else "tab: complete")
-    history = os.path.join(os.path.expanduser("~"), ".castle_history")
-    try:
-        readline.read_history_file(history)
-    except OSError:
-        pass
-    readline.set_history_length(1000)
-
-    def keep() -> None:
-        try:
-            readline.write_history_file(history)
-        except OSError:
-            pass
-
-    atexit.register(keep)
+def opened(path: str) -> Store:
+    """Opens a store, and says on standard error what is not as one may expect of it."""
+    with warnings.catch_warnings():
+        warnings.simplefilter("ignore", NamesWarning)  # it is told below
+        store = Store(path)
+    if store.read_only:
+        print(f"castle-shell: {store.path}: the file can't be written; this is a copy of it as it is now, and takes no changes",
+              file=sys.stderr)
+    if store.names.warning:
+        print(f"castle-shell: {store.names.warning}", file=sys.stderr)
+    return store
 
 
 def serve_lines(path: str) -> int:
     """Opens the store and carries out what standard input has."""
-    is_terminal = sys.stdin.isatty()
-    for stream in (sys.stdin, sys.stdout):
-        if hasattr(stream, "reconfigure") and not stream.isatty():
-            stream.reconfigure(encoding="utf-8", errors="surrogateescape")
     try:
-        with Store(path) as store:
+        with opened(path) as store:
             shell = Shell(store, sys.stdout)
-            if not is_terminal:
+            if not sys.stdin.isatty():
                 return shell.script(sys.stdin)
-            complete_with(shell)
+            terminal.complete(COMMANDS, store.names)
             return shell.converse()
     except CastleError as error:
         sys.stdout.flush()
@@ -429,15 +480,29 @@ def main(arguments: Optional[List[str]] = None) -> int:
     if given in (["-h"], ["--help"]):
         print(USAGE, end="")
         return 0
+    if given == ["--version"]:
+        print(f"castle-shell {__version__}")
+        return 0
     if len(given) != 1 or given[0].startswith("--"):
         print(USAGE, end="", file=sys.stderr)
         return 2
+    if sys.stdin is None or sys.stdout is None:
+        print("castle-shell: standard input or output is closed", file=sys.stderr)
+        return 1
+    terminal.prepare_streams()
     try:
         status = serve_lines(given[0])
         sys.stdout.flush()
         return status
-    except BrokenPipeError:
+    except OSError as error:
+        # nobody reads what is printed, or it can't be written; what is left of it goes nowhere
         os.dup2(os.open(os.devnull, os.O_WRONLY), sys.stdout.fileno())
+        if not isinstance(error, BrokenPipeError):
+            print(f"castle-shell: {error.filename or 'standard output'}: {error.strerror}", file=sys.stderr)
         return 1
     except KeyboardInterrupt:
-        return 130
+        return INTERRUPTED
+
+
+if __name__ == "__main__":
+    sys.exit(main())

@@ -1,22 +1,32 @@
-"""A store: the program that serves it, with a lock and names beside its file."""
+"""A store: the program that serves it, with locks and names beside its file."""
 
 from __future__ import annotations
 
+import errno
 import os
+import signal
+import stat
+import threading
+import warnings
+import weakref
 from types import TracebackType
-from typing import List, Optional, Type, Union, cast
+from typing import List, NoReturn, Optional, Tuple, Type, Union, cast
 from weakref import WeakSet
 
-from . import errors, frames
+from . import errors, files, frames
 from .batch import Batch
 from .commands import Commands, Data, Version
+from .copies import PrivateCopy
 from .frames import Info, Page, Stat
 from .levels import Levels, read
 from .lock import Lock
 from .names import Names, remove_names
-from .program import Program, find_program, printed
+from .process import Process, find_program, printed
+from .program import LIMIT, Program
 from .scan import Differences, Scan
 from .view import VersionView
+
+Path = Union[str, bytes, "os.PathLike[str]", "os.PathLike[bytes]"]
 
 
 class Store:
@@ -28,75 +38,103 @@ class Store:
 
     A version is a number or a name of `names`. Keys and values are bytes, or text, which is taken as UTF-8; what comes
     back is bytes. Every method may raise a `Refused` or an `Ended` of `castle.errors`. When a change returns it is in
-    the file for good. A store belongs to one thread.
+    the file for good.
+
+    Threads may share a store: each command gets its own answer, one command at a time. A child of the process that
+    opened it may not: it gets `Forked`, and does not keep the store from being closed. A KeyboardInterrupt leaves the store open:
+    a change that it cut off is made or not, and the next command goes on. A store that nobody closed is closed
+    where nobody has it any more, and at the end of Python, with a ResourceWarning.
     """
 
-    def __init__(self, path: Union[str, "os.PathLike[str]"], program: Optional[str] = None) -> None:
+    read_only = False
+    """Whether it is a private copy, which takes no changes."""
+
+    def __init__(self, path: Path, program: Optional[str] = None, *, read_only: bool = False) -> None:
         """Opens the store of a file: locks it, runs the program on it, and waits until that has opened it.
 
         `program` is the program or its launcher; else that of CASTLE_PROGRAM, the launcher of this checkout, or
         `castle` on PATH. The launcher proves and builds the program at its first use, which takes long.
+
+        Where the file may be read and not written, or with `read_only`, a private copy of it is opened, in the folder for
+        temporary files and as long as the store is open. It needs no lock, but `StoreLocked` tells of a program that
+        serves the file: a copy taken meanwhile would be of no one moment. It shows the store as it was at this call.
         """
-        self.path = os.fspath(path)
-        real = os.path.realpath(self.path)
-        if not os.path.exists(real):
-            raise errors.StoreMissing(file=self.path)
-        self._lock = Lock(real, self.path)
-        self._real = real
-        self._closed = False
+        self.path, self._real = _located(path)
+        _check_file(self._real, self.path)
+        self.read_only = read_only or not _is_writable(self._real, self.path)
         self._scans: WeakSet[Scan] = WeakSet()  # whose cursors may be open
         self._found = find_program(program)
+        copy = lock = run = None
         try:
-            self._program = Program(self._found, ["serve", real], self.path, [self._lock.descriptor])
-        except BaseException:
-            self._lock.release()
-            raise
-        try:
-            self.names = Names(real + ".names", self.path, self.info)
-            self._commands = Commands(self._program, self.names)
+            self._copy = copy = PrivateCopy(self._real, self.path) if self.read_only else None
+            self._served = copy.path if copy else self._real
+            self._lock = lock = Lock(self._served, self.path)
+            self._program = run = Program(self._found, ["serve", self._served], self.path, lock)
             self._open()
+            self._closing = weakref.finalize(run, _abandon, run.process, run.lock, lock, copy, self.path)
         except BaseException:
-            self._program.stop()
-            self._lock.release()
+            if run is not None:
+                run.process.kill(signal.SIGTERM)
+                run.finish(LIMIT)
+            if lock is not None:
+                lock.release(forgets=True)
+            _remove(copy)
             raise
 
     def _open(self) -> None:
-        """Waits until the program has opened the file; its first answer tells."""
+        """Waits until the program has opened the file, which its first answer tells, and reads the names."""
+        program, lock, path, is_copy = self._program, self._lock, self._real, self.read_only
         try:
-            self.stat()
+            program.call(lambda: frames.stat(program.tag))
         except errors.Ended as error:
-            error.command = "open"
-            raise
+            raise _explained(error, "open", self._served)
+
+        def count() -> int:
+            return cast(Stat, program.call(lambda: frames.stat(program.tag))).versions
+
+        def guard() -> None:
+            program.check()
+            if is_copy:
+                raise errors.ReadOnly(file=program.file, command="names")
+            if not lock.is_of(path):
+                raise errors.StoreMoved(file=program.file, command="names")
+
+        # these hold the program and not the store, which is closed where nobody has it any more
+        self.names = Names(path + ".names", self.path, count, guard, program.lock)
+        self._commands = Commands(program, self.names, is_copy)
 
     @staticmethod
-    def format(path: Union[str, "os.PathLike[str]"], mem: int, changes: int, versions: int, *,
-               program: Optional[str] = None, overwrite: bool = False) -> None:
+    def format(path: Path, mem: int, changes: int, versions: int, *, program: Optional[str] = None,
+               overwrite: bool = False) -> None:
         """Makes a new store in a file, with its limits for life.
 
         `mem` is M, how many changes its journal takes (4 to 4096): more takes more memory and is faster. `changes` is
-        C, how many it takes in its life (up to 16,777,216), and `versions` is V (up to 16,384). Where a file is there
-        already it is refused, unless `overwrite`: then all that it had is forgotten, its names too.
+        C, how many it takes in its life (up to 16,777,216), and `versions` is V (up to 16,384). A file that is there
+        already and is not empty is refused, unless `overwrite`: then all that it had is forgotten, its names too.
         """
-        file, real = os.fspath(path), os.path.realpath(path)
+        file, real = _located(path)
         folder = os.path.dirname(real)
         if not os.path.isdir(folder):
             raise errors.StoreMissing(f"there is no folder {folder}", "Make it first.", file=file)
+        if os.path.exists(real) and not os.path.isfile(real):
+            raise errors.StoreExists(f"{files.seen(real)} is there already", "Take another path.", file=file)
         lock = Lock(real, file)
         try:
-            if os.path.exists(real) and not overwrite:
-                raise errors.StoreExists(file=file)
+            there = files.seen(real) if os.path.exists(real) else files.EMPTY
+            if there != files.EMPTY and not overwrite:
+                raise errors.StoreExists(f"{there} is there already", file=file)
             words = ["format", real, str(mem), str(changes), str(versions)]
-            running = Program(find_program(program), words, file, [lock.descriptor])
-            try:
-                status = running.finish()
-            except BaseException:
-                running.stop()
-                raise
+            status = _finished(Process(find_program(program), words, file, lock))
             if status != 0:
-                raise errors.ended(status, file, "format")
+                raise _explained(errors.ended(status, file, ""), "format", real)
             remove_names(real)
-        finally:
-            lock.release()
+        except BaseException:
+            lock.release(forgets=True)
+            raise
+        lock.release()
+
+    def __reduce__(self) -> NoReturn:
+        raise TypeError("a store can't be copied or pickled: open it in the process that uses it")
 
     def __enter__(self) -> "Store":
         return self
@@ -113,23 +151,34 @@ class Store:
         """Ends the program, once it has answered all, and frees the store. To close it again does nothing.
 
         Open cursors are closed: a scan that was not read to its end gives what it has read, and raises `StoreClosed` then.
+        A child of the process that opened the store closes nothing.
         """
-        if self._closed:
+        program = self._program
+        if not self._closing.alive:
             return
-        self._closed = True
-        try:
-            for scan in self._scans:
-                scan.give_back()
-            told = self._program.end
-            if told is None:
-                self._program.turn_to([])
-                self._program.settle()
-            status = self._program.finish()
-            if status != 0 and told is None:
-                raise errors.ended(status, self.path, "close")
-        finally:
-            self._program.finish()
-            self._lock.release()
+        with program.lock:
+            told = None if isinstance(program.end, errors.StoreClosed) else program.end
+            try:
+                if program.end is None and program.is_own:
+                    for scan in list(self._scans):
+                        scan.give_back()
+                    program.settle()
+            except errors.Busy:
+                raise
+            except BaseException:
+                self._free()
+                raise
+            status = self._free()
+        if status != 0 and told is None and not program.process.was_killed:
+            raise errors.ended(status, self.path, "close")
+
+    def _free(self) -> int:
+        """Waits for the program's end, whose status it gives, and frees the file and what was made beside it."""
+        status = self._program.finish(LIMIT)
+        self._lock.release()
+        _remove(self._copy)
+        self._closing.detach()
+        return status
 
     @property
     def pid(self) -> int:
@@ -194,8 +243,11 @@ class Store:
         Another run of the program reads it from the file while this one waits, so it takes an opening more. It looks
         at no key and no value.
         """
-        self._program.settle()
-        text, status = printed(self._found, ["levels", self._real], self.path)
+        with self._program.lock:
+            self._program.settle()
+            if not self._lock.is_of(self._served):
+                raise errors.StoreMoved(file=self.path, command="levels")
+            text, status = printed(self._found, ["levels", self._served], self.path, self._lock)
         if status != 0:
             raise errors.ended(status, self.path, "levels", text)
         try:
@@ -236,3 +288,82 @@ class Store:
     def number(self, version: Version) -> int:
         """The number of a version, which may be given by its name."""
         return self._commands.number(version)
+
+
+def _located(path: Path) -> Tuple[str, str]:
+    """A path as text, and the same without symbolic links."""
+    file = os.fsdecode(path)
+    if not file or "\0" in file:
+        what = "the path has a zero byte" if file else "the path is empty"
+        raise errors.StoreMissing(what, "Give the path of a store's file.", file=file.replace("\0", "\\x00"))
+    return file, os.path.realpath(file)
+
+
+def _check_file(real: str, file: str) -> None:
+    """Fails for what can't be a store's file."""
+    try:
+        kind = os.stat(real).st_mode
+    except (FileNotFoundError, NotADirectoryError):
+        leads = ", where the symbolic link leads" if os.path.islink(file) else ""
+        raise errors.StoreMissing(f"there is no such file{leads}", file=file) from None
+    except OSError as error:
+        raise _failed(real, file, error) from error
+    if not stat.S_ISREG(kind) and not stat.S_ISBLK(kind):
+        what = "a folder" if stat.S_ISDIR(kind) else "no plain file"
+        raise errors.NotAStore(f"it is {what}, and no store", "Give the path of a store's file.", file=file, command="open")
+
+
+def _is_writable(real: str, file: str) -> bool:
+    """Whether a file may be written, as a store's is. The program reads its folder too, in order to sync it."""
+    try:
+        os.close(os.open(real, os.O_RDWR | os.O_CLOEXEC))
+    except OSError as error:
+        may_read = os.access(real, os.R_OK, effective_ids=os.access in os.supports_effective_ids)
+        if error.errno in (errno.EACCES, errno.EPERM, errno.EROFS) and may_read:
+            return False
+        raise _failed(real, file, error) from error
+    try:
+        os.close(os.open(os.path.dirname(real), os.O_RDONLY | os.O_DIRECTORY | os.O_CLOEXEC))
+    except OSError as error:
+        raise _failed(real, file, error) from error
+    return True
+
+
+def _failed(real: str, file: str, error: OSError) -> errors.DeviceFailed:
+    """What the program would end with at this file."""
+    return errors.DeviceFailed(files.fault(real) or f"the file can't be opened: {error.strerror}", file=file, command="open")
+
+
+def _explained(error: errors.Ended, command: str, real: str) -> errors.Ended:
+    """The end of a run with its command, and with what one sees at the file."""
+    error.command = command
+    if isinstance(error, errors.NotAStore) and files.seen(real) == files.EMPTY:
+        error.what, error.remedy = "the file is empty, and no store", errors.StoreMissing.remedy
+    elif isinstance(error, errors.DeviceFailed):
+        error.what = files.fault(real) or error.what
+    return error
+
+
+def _finished(process: Process) -> int:
+    """The status of a run that takes no input, however long the launcher builds."""
+    try:
+        return process.finish()
+    except BaseException:
+        process.kill(signal.SIGTERM)
+        process.finish(LIMIT)
+        raise
+
+
+def _remove(copy: Optional[PrivateCopy]) -> None:
+    if copy is not None:
+        copy.remove()
+
+
+def _abandon(process: Process, guard: "threading._RLock", lock: Lock, copy: Optional[PrivateCopy], file: str) -> None:
+    """Frees a store that nobody closed, where nobody has it any more or Python ends."""
+    if not process.is_own or not guard.acquire(timeout=1):
+        return  # a child, or at the end of Python a thread that is amid a command
+    process.finish(LIMIT)
+    lock.release()
+    _remove(copy)
+    warnings.warn(f"unclosed store {file}", ResourceWarning)

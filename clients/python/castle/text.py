@@ -6,6 +6,7 @@ in a command line: between blanks, or in double quotes where it has some.
 
 from __future__ import annotations
 
+import os
 import re
 from typing import List, NamedTuple
 
@@ -21,13 +22,34 @@ class Word(NamedTuple):
     text: str
     """As it was written."""
 
+    @property
+    def is_version(self) -> bool:
+        """Whether it is `@` and a version."""
+        return self.bare and self.text.startswith("@")
+
+    @property
+    def name(self) -> str:
+        """What it says without quotes and escapes, as the name of a version."""
+        return self.data.decode("utf-8", "surrogateescape")
+
+    @property
+    def path(self) -> str:
+        """What it says without quotes and escapes, as the path of a file."""
+        return os.fsdecode(self.data)
+
 
 def encoded(written: str) -> bytes:
     """The bytes of text. A byte that was no UTF-8 as it was read is the byte again."""
     return written.encode("utf-8", "surrogateescape")
 
 
-def _hex(data: bytes) -> str:
+def is_text(written: str) -> bool:
+    """Whether all that was read is text. A byte that is none was read as half of a pair of surrogates."""
+    return not re.search("[\ud800-\udfff]", written)
+
+
+def hexed(data: bytes) -> str:
+    """Each byte as `\\xNN`."""
     return "".join(f"\\x{byte:02x}" for byte in data)
 
 
@@ -40,7 +62,7 @@ def cell(data: bytes) -> str:
         elif char.isprintable():
             shown.append(char)
         else:
-            shown.append(_hex(encoded(char)))
+            shown.append(hexed(encoded(char)))
     return "".join(shown)
 
 
@@ -50,6 +72,14 @@ def shown(data: bytes) -> str:
     if plain and not re.search(r'[ "]', plain) and plain[0] not in "@#":
         return plain
     return '"' + plain.replace('"', '\\"') + '"'
+
+
+MOST = 60  # characters of a word in a message
+
+
+def shortened(written: str) -> str:
+    """A word for a message, which breaks off where it is long."""
+    return written if len(written) <= MOST else f"{written[:MOST]}.. ({len(written):,} characters)"
 
 
 ESCAPE = re.compile(r"\\(x[0-9a-fA-F]{2}|.?)", re.S)

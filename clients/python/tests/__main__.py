@@ -15,7 +15,7 @@ from typing import Any, Iterator, List
 
 sys.path.insert(0, str(pathlib.Path(__file__).resolve().parents[1]))
 
-from castle.program import Program, find_program  # noqa: E402
+from castle.process import Process, find_program  # noqa: E402
 
 
 def said(test: unittest.TestCase) -> str:
@@ -63,8 +63,8 @@ DEADLINE = 900  # seconds for all of them; then it tells where it hangs, and end
 
 
 def is_built() -> bool:
-    """Has the launcher build the program, and shows how far it is. Without words the program only complains."""
-    return Program(find_program(), [], "the program").finish() not in (126, 127)
+    """Has the launcher build the program, and shows how far it is. Another program only complains of the word."""
+    return Process(find_program(), ["--build"], "the program").finish() not in (126, 127)
 
 
 def main(wanted: List[str]) -> int:

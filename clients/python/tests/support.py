@@ -2,22 +2,68 @@
 
 from __future__ import annotations
 
+import contextlib
 import os
 import pathlib
+import signal
 import subprocess
 import sys
 import tempfile
+import time
 import unittest
-from typing import List, Optional, Tuple
+from typing import Iterator, List, Optional, Tuple
 
 TOP = pathlib.Path(__file__).resolve().parents[3]
 SHELL = str(TOP / "castle-shell")
 PRETENDER = str(pathlib.Path(__file__).resolve().parent / "pretender")
+PACKAGE = str(TOP / "clients" / "python")
 DEADLINE = 120  # seconds that a run of the shell may take
+NOBODY = 65534  # the number of a user and a group without rights
 
-sys.path.insert(0, str(TOP / "clients" / "python"))
+sys.path.insert(0, PACKAGE)
 
 from castle import Store  # noqa: E402
+
+
+@contextlib.contextmanager
+def unprivileged() -> Iterator[None]:
+    """Within it permissions count, though the tests may be run by root."""
+    if os.geteuid() != 0:
+        yield
+        return
+    os.setegid(NOBODY)
+    os.seteuid(NOBODY)
+    try:
+        yield
+    finally:
+        os.seteuid(0)
+        os.setegid(0)
+
+
+def comes_to(pid: int, *states: str) -> bool:
+    """Whether a process comes to one of these states within some seconds: as `T`, stopped, or `Z`, ended."""
+    deadline = time.monotonic() + 10
+    while time.monotonic() < deadline:
+        try:
+            with open(f"/proc/{pid}/stat", encoding="ascii", errors="replace") as file:
+                state = file.read().rpartition(")")[2].split()[0]
+        except FileNotFoundError:
+            state = "Z"
+        if state in states:
+            return True
+        time.sleep(0.01)
+    return False
+
+
+def is_gone(pid: int) -> bool:
+    """Whether a process ends within some seconds; one that nobody waited for counts as ended."""
+    return comes_to(pid, "Z")
+
+
+def stop(pid: int) -> None:
+    """Has a process stand still, and waits until it does. SIGCONT has it go on."""
+    os.kill(pid, signal.SIGSTOP)
+    assert comes_to(pid, "T", "Z")
 
 
 class StoreCase(unittest.TestCase):
@@ -51,9 +97,20 @@ class StoreCase(unittest.TestCase):
             file.write(text)
         return path
 
+    def bytes_of(self, name: str) -> bytes:
+        """The bytes of a file of the folder."""
+        with open(os.path.join(self.folder, name), "rb") as file:
+            return file.read()
+
     def pretending(self, answers: str) -> Store:
         """A store whose program pretends: it opens, and does what the words say at the first command."""
         return Store(self.written("pretended", answers), program=PRETENDER)
+
+    def python(self, code: str, *words: str) -> "subprocess.CompletedProcess[bytes]":
+        """A run of Python that has imported castle, with the store's path and other words behind it."""
+        start = "import sys; sys.path.insert(0, sys.argv.pop(1))\nimport castle, os\n"
+        return subprocess.run([sys.executable, "-W", "always::ResourceWarning", "-c", start + code, PACKAGE, self.path, *words],
+                              capture_output=True, cwd=self.folder, timeout=DEADLINE)
 
     def shell(self, script: str, path: Optional[str] = None) -> Tuple[str, str, int]:
         """Output, complaints and status of the shell over a script."""

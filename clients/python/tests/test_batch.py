@@ -6,7 +6,7 @@ import random
 import threading
 from typing import Dict, List, Optional, Set, Tuple, Type
 
-from support import StoreCase
+from support import StoreCase, is_gone
 
 from castle import Info, Page, Scan, Stat, errors
 from castle.errors import Refused
@@ -151,6 +151,45 @@ class BatchTest(StoreCase):
         self.assertEqual(kinds(list(batch.results)), [None, errors.UnknownVersion, errors.UnknownVersion, None])
         self.assertEqual((store.get(0, "a"), store.get(0, "d")), (b"1", b"4"))
 
+    def test_what_the_package_refuses_is_among_the_results(self) -> None:
+        store = self.made()
+        store.names["first"] = 0
+        long = b"k" * 2100
+        for returns in (True, False):
+            batch = store.batch(return_exceptions=returns)
+            batch.put(0, "a", "1")
+            batch.put(0, long, "")
+            batch.get("first", "a")
+            batch.get(2 ** 32, "a")
+            batch.get("none", "a")
+            batch.page(0, long)
+            batch.page(0, limit=2 ** 16)
+            batch.delete(0, long)
+            batch.put(0, "a", long)
+            batch.clone(-1)
+            batch.get(0, "k" * 300)  # the program refuses this one
+            batch.get(0, "a")
+            if returns:
+                batch.finish()
+            else:
+                with self.assertRaises(errors.KeySize):
+                    batch.finish()
+            self.assertEqual([type(result) if isinstance(result, errors.CastleError) else result for result in batch.results],
+                             [None, errors.KeySize, b"1", errors.UnknownVersion, errors.UnknownName, errors.KeySize,
+                              errors.ScanSize, errors.KeySize, errors.ValueSize, errors.UnknownVersion, errors.KeySize, b"1"])
+        with self.assertRaises(TypeError):
+            store.batch(return_exceptions=True).put(0, 5, b"")  # type: ignore[arg-type]
+
+    def test_results_may_be_taken_away_while_a_batch_is_filled(self) -> None:
+        store, got = self.made(), []  # type: ignore[var-annotated]
+        store.put(0, "a", "1")
+        with store.batch() as batch:
+            for _ in range(20000):
+                batch.get(0, "a")
+                got += batch.results
+                batch.results.clear()
+        self.assertEqual(got + batch.results, [b"1"] * 20000)
+
     def test_batches_and_single_commands_may_be_mixed(self) -> None:
         store = self.made()
         first, second = store.batch(), store.batch()
@@ -177,6 +216,15 @@ class BatchTest(StoreCase):
             batch.put(0, "a", "1")
         self.assertEqual(batch.results, [None])
         self.assertEqual(self.opened().get(0, "a"), b"1")
+
+    def test_a_batch_that_is_filled_behind_the_end_of_the_program_is_told(self) -> None:
+        store = self.made()
+        batch = store.batch()
+        os.kill(store.pid, 9)
+        self.assertTrue(is_gone(store.pid))
+        with self.assertRaises(errors.Killed):
+            for _ in range(20000):  # which is more than what waits unsent
+                batch.get(0, b"a")
 
     def test_a_program_killed_amid_a_batch_loses_nothing_acknowledged(self) -> None:
         chance, amid = random.Random(5), 0

@@ -2,17 +2,18 @@
 
 import os
 import re
+import signal
 import struct
 import subprocess
 import sys
-import time
 import unittest
 from typing import Type
 
-from support import TOP, StoreCase
+from support import TOP, StoreCase, is_gone
 
 from castle import Store, errors, frames
 from castle.errors import Ended, Refused
+from castle.process import printed
 
 ERRORS = (TOP / "docs" / "ERRORS.md").read_text(encoding="utf-8")
 
@@ -26,8 +27,10 @@ class PageTest(unittest.TestCase):
     def test_ends_are_those_of_the_page(self) -> None:
         rows = re.findall(r"^\| (\d+) \| `?([^`|]*)`? \|", ERRORS.split("## Refusals")[0], re.M)
         told = {int(status): text for status, text in rows if status != "0"}
-        self.assertEqual(told, {status: kind.text for status, kind in errors.ENDS.items() if status < 126})
-        self.assertIn("126 where the program could not be proved or built, and 127", ERRORS)
+        self.assertEqual({status: text for status, text in told.items() if status < 124},
+                         {status: kind.text for status, kind in errors.ENDS.items() if status < 124})
+        for status in (126, 127):  # those of the launcher
+            self.assertRegex(ERRORS, rf"\b{status}\b")
 
     def test_every_message_says_what_and_what_to_do(self) -> None:
         for kind in (*errors.REFUSALS.values(), *errors.ENDS.values()):
@@ -75,16 +78,36 @@ class RefusalsTest(StoreCase):
         self.store.put(0, longest, b"v" * 1024)
         self.assertEqual(self.store.get(0, longest), b"v" * 1024)
 
+    def test_sizes_around_that_of_the_largest_frame_are_refused_and_the_store_goes_on(self) -> None:
+        self.store = self.made()
+        self.store.put(0, b"a", b"1")
+        for size in range(2025, 2060):
+            for name in ("get", "delete"):
+                self.refused(errors.KeySize, name, 0, b"k" * size)
+            for name in ("scan", "page"):
+                self.refused(errors.KeySize, name, 0, b"k" * (size - 100), b"k" * 100)
+                self.refused(errors.KeySize, name, 0, b"", b"k" * size)
+            self.refused(errors.ValueSize, "put", 0, b"k" * 100, b"v" * (size - 100))
+            self.refused(errors.ValueSize, "put", 0, b"k" * 255, b"v" * (size - 255))
+            self.refused(errors.KeySize, "put", 0, b"k" * (size - 100), b"v" * 100)
+            self.refused(errors.KeySize, "put", 0, b"k" * 300, b"v" * (size - 300))
+        self.assertEqual((self.store.get(0, b"a"), self.store.stat().changes), (b"1", 1))
+
+    def test_a_refusal_shows_the_beginning_of_a_long_key(self) -> None:
+        self.store = self.made()
+        for size, command in ((256, f"get {'k' * 30}.. (256 bytes) at version 0"), (5000, "get of a key of 5000 bytes")):
+            self.assertEqual(self.refused(errors.KeySize, "get", 0, b"k" * size).command, command)
+
     def test_what_is_no_command_is_malformed(self) -> None:
         store = self.made()
         program = store._program
-        self.assertIsInstance(program.ask(frames.HEAD.pack(5, program.tag, 11)), errors.Malformed)
+        self.assertIsInstance(program.ask(lambda: frames.HEAD.pack(5, program.tag, 11)), errors.Malformed)
         self.assertEqual(store.stat().changes, 0)
 
     def test_a_frame_that_is_too_long_ends_the_run(self) -> None:
         store = self.made()
         store.put(0, b"a", b"1")
-        self.assertIsInstance(store._program.ask(struct.pack(">I", 2049)), errors.FrameTooLong)
+        self.assertIsInstance(store._program.ask(lambda: struct.pack(">I", 2049)), errors.FrameTooLong)
         with self.assertRaises(errors.InputTooLong) as caught:
             store.get(0, b"a")
         self.assertEqual((caught.exception.status, caught.exception.file), (3, self.path))
@@ -146,6 +169,42 @@ class EndsTest(StoreCase):
         self.assertEqual(ran.stderr, b"castle: out of order\n")
         self.assertIn(b"x: open: the Rattle kit's command rt is not found", ran.stdout)
 
+    def test_all_that_was_said_before_an_end_is_passed_on(self) -> None:
+        ran = self.python("sys.path.insert(0, sys.argv[2]); import support\n"
+                          "with castle.Store(sys.argv[3], program=support.PRETENDER) as store:\n"
+                          "    try: store.get(0, 'a')\n    except castle.errors.NotBuilt: print('told')",
+                          os.path.dirname(os.path.abspath(__file__)), self.written("x", "mutter 126"))
+        self.assertEqual((ran.stdout, ran.stderr), (b"told\n", b"".join(b"line %d\n" % number for number in range(20000)) + b"last\n"))
+
+    def test_the_program_does_not_say_itself_what_its_exception_tells(self) -> None:
+        ran = self.python("try: castle.Store(sys.argv[2])\nexcept castle.errors.NotAStore: print('told')\n"
+                          "try: castle.Store.format(sys.argv[2], 1, 1, 1, overwrite=True)\nexcept castle.errors.WrongUsage: print('told')",
+                          self.written("foreign", "x" * 10000))
+        self.assertEqual((ran.stdout, ran.stderr), (b"told\ntold\n", b""))
+
+    def test_the_program_has_a_session_of_its_own_and_a_full_file_is_no_signal(self) -> None:
+        stub = self.written("stub", '#!/bin/sh\n{ grep SigIgn /proc/$$/status; echo $$; cut -d " " -f 6 /proc/$$/stat; } >"$2.told"\n')
+        os.chmod(stub, 0o755)
+        self.written("a.store", "")
+        for run in (lambda: Store(self.path, program=stub), lambda: printed(stub, ["levels", self.path], self.path)):
+            try:
+                run()
+            except Ended:
+                pass
+            _, ignored, pid, session = self.bytes_of("a.store.told").split()
+            self.assertTrue(int(ignored, 16) >> (signal.SIGXFSZ - 1) & 1)
+            self.assertEqual(pid, session)
+
+    def test_a_program_that_fails_unseen_is_told_at_the_end_of_a_block(self) -> None:
+        with self.assertRaises(errors.Killed):
+            with self.made() as store:
+                os.kill(store.pid, signal.SIGKILL)
+                self.assertTrue(is_gone(store.pid))
+        with self.assertRaises(ZeroDivisionError):
+            with self.opened() as store:
+                os.kill(store.pid, signal.SIGKILL)
+                1 / 0
+
     def test_a_file_that_is_no_store_is_refused(self) -> None:
         path = self.written("foreign", "x" * 10000)
         with self.assertRaisesRegex(errors.NotAStore, "foreign: open: the file is no store. Look at the path."):
@@ -160,11 +219,6 @@ class EndsTest(StoreCase):
         self.assertEqual(os.listdir(self.folder), [])
         with self.assertRaises(errors.StoreMissing):
             Store.format(os.path.join(self.folder, "none", "a.store"), 4, 10, 10)
-
-    def test_a_folder_is_a_device_fault(self) -> None:
-        os.mkdir(self.path)
-        with self.assertRaises(errors.DeviceFailed):
-            Store(self.path)
 
     def test_wrong_limits_are_refused_and_touch_nothing(self) -> None:
         for limits in ((3, 10, 10), (4097, 10, 10), (4, 0, 10), (4, 10, 16385), (-4, 10, 10)):
@@ -194,7 +248,7 @@ class EndsTest(StoreCase):
     def test_a_program_that_was_killed_unseen_is_told_at_the_close(self) -> None:
         store = self.made()
         os.kill(store.pid, 9)
-        time.sleep(0.1)
+        self.assertTrue(is_gone(store.pid))
         with self.assertRaises(errors.Killed):
             store.close()
         self.opened()

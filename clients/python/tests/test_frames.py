@@ -48,10 +48,14 @@ class FramesTest(unittest.TestCase):
         self.assertEqual(frames.describe(frames.next_pairs(1, 2 ** 63, 1)), f"next pairs of cursor {2 ** 63}")
         self.assertEqual(frames.describe(frames.close_cursor(1, 3)), "close cursor 3")
         self.assertEqual(frames.describe(frames.stat(1)), "stat")
+        self.assertEqual(frames.describe(frames.put(1, 3, b"k" * 60, b"v")), f"put {'k' * 60} at version 3")
+        self.assertEqual(frames.describe(frames.get(1, 3, b"k" * 256)), f"get {'k' * 30}.. (256 bytes) at version 3")
         for body in (b"", b"\0\0\0\0\x01", b"\0\0\0\0\x08\0\0\0\0", b"\0\0\0\0\x0b"):
             self.assertEqual(frames.describe(len(body).to_bytes(4, "big") + body), "a frame that is no command")
 
     def test_the_end_of_a_prefix_leaves_out_no_key(self) -> None:
         self.assertEqual(frames.prefix_end(b"a/"), b"a0")
+        self.assertEqual((frames.prefix_end(b"a\xff"), frames.prefix_end(b"a\xff\xff")), (b"b", b"b"))
         self.assertIsNone(frames.prefix_end(b"\xff"))
+        self.assertIsNone(frames.prefix_end(b"\xff\xff"))
         self.assertIsNone(frames.prefix_end(b""))

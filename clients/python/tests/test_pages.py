@@ -8,8 +8,8 @@ import subprocess
 import unittest
 from typing import List, Optional
 
+from session import Session
 from support import DEADLINE, TOP, StoreCase
-from test_shell import Session
 
 PROMPT = re.compile(r"settings\.store @[^>]*> ")
 
@@ -38,7 +38,7 @@ class QuickstartTest(StoreCase):
                 self.assertEqual("".join(f"{line}\n" for line in lines), output, command)
             elif command == "./castle-shell settings.store":
                 session = Session(self.folder, "settings.store")
-                self.addCleanup(session.child.kill)
+                self.addCleanup(session.kill)
                 *lines, shown = session.until(r"> $").split("\n")
                 self.assertEqual("".join(f"{line}\n" for line in lines), output, command)
             else:

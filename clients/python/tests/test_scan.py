@@ -11,7 +11,8 @@ from typing import Dict, Iterator, List, Tuple, cast
 from support import StoreCase
 
 from castle import Difference, Page, Store, VersionView, dump, errors, frames
-from castle.shell import Shell, Wrong
+from castle.shell import Shell
+from castle.terminal import Stopped
 
 
 class Filled(StoreCase):
@@ -52,6 +53,24 @@ class ScanTest(Filled):
         self.assertEqual(list(store.scan(0, prefix="10")), [pair for pair in pairs if pair[0].startswith(b"10")])
         self.assertEqual(list(store.scan(0, "105", "12", prefix="1")), [pair for pair in pairs if b"105" <= pair[0] < b"12"])
         self.assertEqual(list(store.scan(0, "5", "3")), [])
+
+    def test_bounds_and_a_prefix_hold_together(self) -> None:
+        store = self.made(64, 100000, 10)
+        pairs = self.filled(store, [b"%s/%02d" % (head, number) for head in (b"a", b"b", b"c") for number in range(40)])
+        for lower, upper, prefix in ((b"", b"z", b"b/"), (b"", b"c", b"b/"), (b"a/05", b"c/07", b"b/"), (b"a", b"", b"b/"),
+                                     (b"b/10", b"z", b"b/"), (b"a", b"b/10", b"b/"), (b"b/10", b"b/20", b"b/"),
+                                     (b"b/20", b"b/10", b"b/"), (b"c", b"", b"b/"), (b"", b"b", b"b/"), (b"b/1", b"b/3", b"b/2"),
+                                     (b"a/1", b"c", b""), (b"", b"", b"d")):
+            want = [pair for pair in pairs if pair[0].startswith(prefix) and lower <= pair[0] and (not upper or pair[0] < upper)]
+            self.assertEqual(list(store.scan(0, lower, upper, prefix=prefix)), want, (lower, upper, prefix))
+            self.assertEqual(store.page(0, lower, upper, prefix=prefix), Page(want, False), (lower, upper, prefix))
+
+    def test_a_prefix_may_end_in_the_greatest_bytes(self) -> None:
+        store = self.made(64, 100000, 10)
+        pairs = self.filled(store, [b"a\xff", b"a\xff\xff", b"a\xff\xff\0", b"a\xff\xff\xff", b"b", b"b\0", b"\xff\xff"])
+        for prefix in (b"a\xff", b"a\xff\xff", b"a\xff\xff\xff", b"\xff", b"\xff\xff", b"\xff\xff\xff"):
+            want = [pair for pair in pairs if pair[0].startswith(prefix)]
+            self.assertEqual((list(store.scan(0, prefix=prefix)), store.page(0, prefix=prefix).pairs), (want, want))
 
     def test_the_longest_keys_are_between_pieces(self) -> None:
         store = self.made(64, 100000, 10)
@@ -135,6 +154,22 @@ class ScanTest(Filled):
                 plain[version].pop(key, None)
         for before, after in ((0, 1), (1, 0), (1, 2), (2, 2)):
             self.assertEqual(list(store.diff(before, after)), different(plain[before], plain[after]))
+
+    def test_differences_at_both_ends_and_of_empty_values_are_told(self) -> None:
+        store = self.made(64, 100000, 10)
+        self.filled(store, [b"%03d" % number for number in range(520)])
+        store.put(0, "100", "")
+        store.put(0, "200", "x")
+        other = store.clone(0)
+        for key in (b"000", b"001", b"518", b"519"):
+            store.delete(other, key)
+        store.put(other, "100", "x")
+        store.put(other, "200", "")
+        store.put(other, "300", "")
+        want = {b"000": None, b"001": None, b"100": b"x", b"200": b"", b"300": b"", b"518": None, b"519": None}
+        first = dict(store.scan(0))
+        self.assertEqual(list(store.diff(0, other)), [Difference(key, first[key], value) for key, value in want.items()])
+        self.assertEqual(list(store.diff(other, 0)), [Difference(key, value, first[key]) for key, value in want.items()])
 
     def test_differences_are_those_of_the_call_while_both_versions_are_changed(self) -> None:
         store, chance = self.made(4, 100000, 100), random.Random(8)
@@ -345,7 +380,7 @@ class CursorTest(Filled):
         batch = store.batch()
         batch.put(0, "key", "value")
         store.close()
-        self.assertEqual((store._program._child.returncode, batch.results), (0, [None]))
+        self.assertEqual((store._program.process._child.returncode, batch.results), (0, [None]))
         # what was read is there, and what was not is missed
         self.assertEqual((len(first), len(list(last))), (10, 99))
         for scan in (begun, other, difference):
@@ -415,19 +450,33 @@ class CursorTest(Filled):
         with self.assertRaises(errors.StoreDamaged):
             store.scan(0)
 
+    def test_differences_that_meet_a_damaged_block_give_both_cursors_back(self) -> None:
+        store = self.made(4, 100, 10)
+        self.filled(store, [b"k%02d" % number for number in range(13)])
+        store.close()
+        with open(self.path, "r+b") as file:
+            file.seek(7 * 4096)
+            file.write(b"\xff" * 4096)
+        store = self.opened()
+        found = store.diff(0, 0)
+        self.assertEqual(self.cursors(store), 2)
+        with self.assertRaises(errors.Damaged):
+            next(found)
+        self.assertEqual((list(found), [list(scan._cursor) for scan in found._scans]), ([], [[], []]))
+
     def test_a_command_of_the_shell_that_is_stopped_gives_its_cursors_back(self) -> None:
         store, out = self.three_pieces(), io.StringIO()
         shell = Shell(store, out)
         for line in ("scan", "scan 00", "diff 0 0", "dump"):
             out.seek(0)
-            shell._is_stopped = False
+            shell._interrupts.count = 0
             shell.run(line)
             self.assertEqual((len(out.getvalue()) > 0, self.cursors(store)), (True, 0))
         store.clone(0)
         store.put(1, "0000", "other")
         for line in ("scan", "diff 0 1", "dump", "tree --svg " + os.path.join(self.folder, "tree.svg")):
-            shell._is_stopped = True
-            with self.assertRaisesRegex(Wrong, "stopped"):
+            shell._interrupts.count = 1
+            with self.assertRaisesRegex(Stopped, "^stopped$"):
                 shell.run(line)
             self.assertEqual(self.cursors(store), 0)
 

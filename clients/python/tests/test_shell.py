@@ -1,60 +1,30 @@
-"""The shell: scripts, dumps, pictures, and a session at a terminal."""
+"""The shell: scripts, dumps and pictures. What it does at a terminal is in test_terminal.py."""
 
-import importlib.util
+import contextlib
+import io
 import os
-import pty
-import re
-import select
-import shutil
+import signal
 import subprocess
 import sys
-import time
-import unittest
-from typing import List, Optional, Tuple
+from typing import Callable, List, Tuple
+from unittest import mock
 
-from support import DEADLINE, SHELL, StoreCase
+from session import carried_out
+from support import DEADLINE, SHELL, TOP, StoreCase, unprivileged
 
-from castle import Store
+import castle
+from castle import Batch, Store
+from castle.process import find_program
+from castle.shell import PIECE, Shell, main
 
-CONTROL = re.compile(r"\x1b\[[0-9;?]*[A-Za-z]|\x1b[=>]|\x07|\r")
+DUMP = "# castle dump 1\n"
+UNBUFFERED = {**os.environ, "PYTHONUNBUFFERED": "1"}
+ENVIRONMENTS = UNBUFFERED, {name: value for name, value in os.environ.items() if name != "PYTHONUNBUFFERED"}
 
 
-class Session:
-    """The shell at a terminal. What it prints comes without the terminal's control sequences."""
-
-    def __init__(self, folder: str, path: str) -> None:
-        own, other = pty.openpty()
-        environment = {**os.environ, "TERM": "dumb", "HOME": folder, "COLUMNS": "500", "INPUTRC": "/dev/null"}
-        self.child = subprocess.Popen([sys.executable, SHELL, path], stdin=other, stdout=other, stderr=other, cwd=folder,
-                                      env=environment, start_new_session=True)
-        os.close(other)
-        self.own = own
-
-    def until(self, end: Optional[str] = None) -> str:
-        """What it prints up to a pattern at its end, or up to its own end."""
-        got, deadline = b"", time.monotonic() + DEADLINE
-        while time.monotonic() < deadline:
-            if end and re.search(end, CONTROL.sub("", got.decode("utf-8", "replace"))):
-                break
-            if select.select([self.own], [], [], 0.1)[0]:
-                try:
-                    more = os.read(self.own, 65536)
-                except OSError:
-                    more = b""
-                if not more:
-                    break
-                got += more
-        return CONTROL.sub("", got.decode("utf-8", "replace"))
-
-    def type(self, line: str, end: Optional[str] = r"> $") -> List[str]:
-        """Types a line, and gives the lines that follow it up to the next prompt."""
-        os.write(self.own, line.encode() + b"\n")
-        return self.until(end).split("\n")[1:]
-
-    def close(self) -> int:
-        self.until()
-        os.close(self.own)
-        return self.child.wait(DEADLINE)
+def dumped(*lines: str) -> str:
+    """A dump of these lines."""
+    return "".join([DUMP, *(f"{line}\n" for line in lines), f"# end, {len(lines)} pairs\n"])
 
 
 class ScriptTest(StoreCase):
@@ -68,18 +38,24 @@ class ScriptTest(StoreCase):
 
     def test_a_script_stops_at_an_error_in_line_3(self) -> None:
         self.made().close()
+        out, complaint, status = self.shell("put a 1\n\nfrobnicate\nput b 2\n")
+        self.assertEqual((out, complaint, status), ("done\n", "castle-shell: line 3: unknown command frobnicate; `help` lists the commands\n", 1))
+        store = self.opened()
         for line, what in (("frobnicate", "unknown command frobnicate; `help` lists the commands"),
                            ("put a", "usage: put KEY VALUE [@V]"),
                            ("get a @7", "a.store: get a at version 7: the store has no version of this number. Use 0"),
                            ("get a @none", "a.store: no version has the name none. Names: no version has one."),
                            ('put "a', "the quotes from column 5 on have no end."), (r"put \q 1", r"\q is no escape"),
-                           ("clone 7up", "'7up' can't be a name"), ("load none.dump", "none.dump: No such file or directory"),
+                           ("clone 7up", "'7up' can't be a name"), ("names remove none", "no version has the name none"),
+                           ("load none.dump", "none.dump: the file can't be read: No such file or directory. Look at its path"),
+                           ("load .", ".: the file can't be read: Is a directory"), ("use 0 @0", "two versions are named: 0 and 0"),
+                           ("x" * 10000, f"unknown command {'x' * 60}.. (10,000 characters); `help`"),
                            ("levels --png a.png", "usage: levels [--svg FILE]")):
-            out, complaint, status = self.shell(f"put a 1\n\n{line}\nput b 2\n")
+            out, complaint, status = carried_out(store, "put a 1", "", line, "put b 2")
             self.assertEqual((out, status), ("done\n", 1), line)
             self.assertTrue(complaint.startswith("castle-shell: line 3: "), complaint)
             self.assertIn(what, complaint)
-        self.assertEqual(self.opened().get(0, "b"), None)
+        self.assertEqual(store.get(0, "b"), None)
 
     def test_the_end_of_a_script_may_be_in_its_midst(self) -> None:
         self.made().close()
@@ -99,6 +75,10 @@ class ScriptTest(StoreCase):
             ran = subprocess.run([sys.executable, SHELL, *words], capture_output=True, stdin=subprocess.DEVNULL)
             self.assertEqual(ran.returncode, status)
             self.assertIn(b"usage: castle-shell FILE\n", ran.stderr if status else ran.stdout)
+
+    def test_the_version_of_the_shell_is_that_of_the_package(self) -> None:
+        ran = subprocess.run([sys.executable, SHELL, "--version"], capture_output=True, stdin=subprocess.DEVNULL)
+        self.assertEqual((ran.stdout.decode(), ran.stderr, ran.returncode), (f"castle-shell {castle.__version__}\n", b"", 0))
 
     def test_help_names_every_command(self) -> None:
         self.made().close()
@@ -120,9 +100,77 @@ class ScriptTest(StoreCase):
     def test_an_output_that_nobody_reads_ends_the_shell(self) -> None:
         self.made().close()
         script = self.written("script", "stat\n" * 20000)
-        ran = subprocess.run(["/bin/sh", "-c", '"$1" "$2" a.store < "$3" | head -n 1', "sh", sys.executable, SHELL, script],
-                             capture_output=True, cwd=self.folder, timeout=DEADLINE)
-        self.assertEqual((ran.stdout, ran.stderr), (b"versions 1\n", b""))
+        for environment in ENVIRONMENTS:
+            with open(script, "rb") as lines, subprocess.Popen([sys.executable, SHELL, self.path], stdin=lines, stdout=subprocess.PIPE,
+                                                               stderr=subprocess.PIPE, env=environment) as shell:
+                assert shell.stdout and shell.stderr
+                self.assertEqual(shell.stdout.readline(), b"versions 1\n")
+                shell.stdout.close()
+                self.assertEqual((shell.stderr.read(), shell.wait(DEADLINE)), (b"", 1))
+
+    def test_an_output_that_can_not_be_written_is_told(self) -> None:
+        self.made().close()
+        for environment in ENVIRONMENTS:
+            for script in ("stat\n", "stat\n" * 20000, "stat\nfrobnicate\n"):
+                ran = subprocess.run(["/bin/sh", "-c", '"$1" "$2" a.store > /dev/full', "sh", sys.executable, SHELL], cwd=self.folder,
+                                     input=script.encode(), capture_output=True, env=environment, timeout=DEADLINE)
+                self.assertEqual((ran.stderr, ran.returncode), (b"castle-shell: standard output: No space left on device\n", 1))
+
+    def test_streams_that_are_closed_are_told(self) -> None:
+        self.made().close()
+        for closed in ("<&-", ">&-"):
+            ran = subprocess.run(["/bin/sh", "-c", f'"$1" "$2" a.store {closed}', "sh", sys.executable, SHELL], cwd=self.folder,
+                                 stdin=subprocess.DEVNULL, capture_output=True, timeout=DEADLINE)
+            self.assertEqual((ran.stderr, ran.returncode), (b"castle-shell: standard input or output is closed\n", 1))
+
+    def test_the_shell_runs_as_a_module(self) -> None:
+        self.made().close()
+        environment = {**os.environ, "PYTHONPATH": str(TOP / "clients" / "python")}
+        for module in ("castle", "castle.shell"):
+            ran = subprocess.run([sys.executable, "-m", module, "a.store"], input=f"put {module} 1\nget {module}\nnonsense\n".encode(),
+                                 cwd=self.folder, env=environment, capture_output=True, timeout=DEADLINE)
+            self.assertEqual((ran.stdout, ran.returncode), (b"done\n1\n", 1))
+            self.assertEqual(ran.stderr, b"castle-shell: line 3: unknown command nonsense; `help` lists the commands\n")
+            self.assertEqual(subprocess.run([sys.executable, "-m", module], env=environment, capture_output=True).returncode, 2)
+
+    def test_a_version_behind_at_stands_at_the_end_alone(self) -> None:
+        store = self.made()
+        carried_out(store, "put a 1", "clone staging", "clone production")
+        for line in ("put @staging v", "put @staging v @production", "put a @staging @production", "scan a @staging @production",
+                     "scan @staging b", "get @staging a", "delete @1 a @2", "clone @staging x", "names set @staging 1",
+                     "diff @staging production", "dump @staging a.dump", "load @staging a.dump", "use @1 @2"):
+            out, complaint, status = carried_out(store, line)
+            word = next(word for word in line.split() if word.startswith("@"))
+            self.assertEqual((out, status), ("", 1), line)
+            self.assertTrue(complaint.startswith(f"castle-shell: line 1: {word} does not stand at the end, where @ and a version stand"),
+                            complaint)
+        for line, usage in (("put a @staging", "put KEY VALUE [@V]. Write a key or value that begins with @ in quotes."),
+                            ("put a b c @staging", "put KEY VALUE [@V]"), ("tree @1", "tree [--svg FILE]"), ("stat @1", "stat"),
+                            ("levels @1", "levels [--svg FILE]"), ("help @1", "help [COMMAND]"), ("quit @1", "quit"),
+                            ("names @1", "names [set NAME [V] | remove NAME]"), ("names remove staging @1", "names [set NAME [V] | remove NAME]")):
+            self.assertEqual(carried_out(store, line), ("", f"castle-shell: line 1: usage: {usage}\n", 1))
+        for word in ("@", '""'):
+            self.assertIn(f"line 1: {word} names no version. Write its number or its name", carried_out(store, f"use {word}")[1])
+        out, complaint, status = carried_out(store, 'put "@staging" "@v" @staging', 'get "@staging" @1', 'scan "@a" "@z" @staging',
+                                             "scan \\x40 @staging", "names set second @2", "get a @second")
+        self.assertEqual((out, complaint, status), ('done\n"@v"\n"@staging" = "@v"\n1 pair\n"@staging" = "@v"\n1 pair\n1\n', "", 0))
+        self.assertEqual((dict(store.at(0)), store.stat().changes), ({b"a": b"1"}, 4))
+
+    def test_bytes_that_are_no_text_are_themselves_in_a_script(self) -> None:
+        self.made().close()
+        ran = subprocess.run([sys.executable, SHELL, self.path], input=b'put \xff\xfe "\xe6"\nget \\xff\\xfe\n', capture_output=True,
+                             env={**os.environ, "PYTHONIOENCODING": "utf-8:strict"}, timeout=DEADLINE)
+        self.assertEqual((ran.stdout, ran.stderr, ran.returncode), (b"done\n\\xe6\n", b"", 0))
+        self.assertEqual(self.opened().get(0, b"\xff\xfe"), b"\xe6")
+
+    def test_a_store_with_an_odd_name_is_shown_as_one_line(self) -> None:
+        self.path = os.path.join(self.folder, "a\nb \x1b.store")
+        self.made().close()
+        out, complaint, status = self.shell("put a 1\ndump 0 a.dump\nload a.dump\ntree --svg a.svg\nlevels --svg b.svg\n")
+        self.assertEqual((out, complaint, status), ("done\nwrote a.dump\nloaded 1 pair into version 0\nwrote a.svg\nwrote b.svg\n", "", 0))
+        for name in ("a.dump", "a.svg", "b.svg"):
+            with open(os.path.join(self.folder, name), encoding="utf-8") as file:
+                self.assertIn(r"a\x0ab \x1b.store", file.read())
 
 
 class ScanningTest(StoreCase):
@@ -164,12 +212,119 @@ class ScanningTest(StoreCase):
             self.assertEqual(list(store.scan(0)), sorted(pairs.items()))
             self.assertEqual(list(store.scan(1)), sorted(pairs.items()))
 
+    def test_more_pairs_than_a_piece_are_shown(self) -> None:
+        with self.made() as store, store.batch() as batch:
+            for number in range(600):
+                batch.put(0, f"{number:03}", "v")
+        self.assertEqual(self.shell("scan\n"), ("".join(f"{number:03} = v\n" for number in range(600)) + "600 pairs\n", "", 0))
+
     def test_a_dump_that_can_not_be_loaded_says_why_and_how_far(self) -> None:
         self.made(64, 5, 10).close()
         self.written("cut.dump", "# castle dump 1, x\na\t1\n")
         self.assertIn("cut.dump: it is cut off behind line 2", self.shell("load cut.dump\n")[1])
-        self.written("more.dump", "# castle dump 1, x\n" + "".join(f"{key}\t1\n" for key in range(7)) + "# end, 7 pairs\n")
-        self.assertIn("put 5 at version 0, after 5 pairs of 7: the store took as many changes", self.shell("load more.dump\n")[1])
+        self.written("more.dump", dumped(*(f"{key}\t1" for key in range(7))))
+        self.assertIn("put 5 at version 0, with 5 of 7 pairs loaded: the store took as many changes", self.shell("load more.dump\n")[1])
+        self.assertEqual(len(self.opened().at(0)), 5)
+
+    def test_a_dump_with_a_pair_that_no_store_takes_is_not_loaded_in_part(self) -> None:
+        store = self.made()
+        for line, what in (("k" * 256 + "\t1", "line 3 has a key of 256 bytes. Give keys 1 to 255 bytes."), ("\t1", "line 3 has a key of 0 bytes"),
+                           ("k" * 2100 + "\t1", "line 3 has a key of 2100 bytes"), ("a\t" + "v" * 1025, "line 3 has a value of 1,025 bytes"),
+                           ("a\t" + "\\xff" * 1025, "line 3 has a value of 1,025 bytes, above 1,024. Cut it into several keys.")):
+            file = self.written("wrong.dump", dumped("a\t1", line, "b\t1", "c\t1"))
+            out, complaint, status = carried_out(store, f"load {file}")
+            self.assertEqual((out, status), ("", 1))
+            self.assertIn(f"castle-shell: line 1: {file}: {what}", complaint)
+        file = self.written("large.dump", dumped("k" * 255 + "\t" + "v" * 1024, "\\xff" * 255 + "\t" + "\\xff" * 1024))
+        self.assertEqual(carried_out(store, f"load {file}"), ("loaded 2 pairs into version 0\n", "", 0))
+        self.assertEqual(store.stat().updates, 2)
+
+    def test_a_load_whose_program_ends_says_how_far_it_came(self) -> None:
+        self.made(64, 100000, 10).close()
+        self.written("many.dump", dumped(*(f"{key:04}\t1" for key in range(1000))))
+        with self.opened() as store:
+            out, status = self.in_piece(store, 3, lambda: os.kill(store.pid, signal.SIGKILL))
+        self.assertEqual(status, 1)
+        self.assertRegex(out, r"^castle-shell: line 1: .*put 0\d\d\d at version 0, with \d+ of 1,000 pairs loaded: the program was ended by SIGKILL")
+        told = int(out.split(", with ")[1].split()[0])
+        self.assertIn(told, range(2 * PIECE, 3 * PIECE + 1))
+        self.assertIn(len(self.opened().at(0)) - told, range(PIECE))
+
+    def test_ctrl_c_stops_a_load_behind_a_piece(self) -> None:
+        self.made(64, 100000, 10).close()
+        self.written("many.dump", dumped(*(f"{key:04}\t1" for key in range(1000))))
+        with self.opened() as store:
+            told = self.in_piece(store, 3, lambda: os.kill(os.getpid(), signal.SIGINT))
+            self.assertEqual(told, (f"castle-shell: line 1: stopped, with {3 * PIECE} of 1,000 pairs loaded\n", 130))
+            self.assertEqual([int(key) for key in store.at(0)], list(range(3 * PIECE)))
+            self.assertEqual(store.stat().updates, 3 * PIECE)
+
+    def in_piece(self, store: Store, number: int, act: Callable[[], None]) -> Tuple[str, int]:
+        """Complaints and status of a shell that loads many.dump, where something happens amid the piece of this number."""
+        finish, pieces = Batch.finish, iter(range(1, 1000))
+
+        def finished(batch: Batch) -> object:
+            if next(pieces) == number:
+                act()
+            return finish(batch)
+
+        complaints = io.StringIO()
+        with mock.patch.object(Batch, "finish", finished), contextlib.redirect_stderr(complaints):
+            status = Shell(store, io.StringIO()).script([f"load {self.folder}/many.dump\n", "put a 1\n"])
+        return complaints.getvalue(), status
+
+    def test_ctrl_c_stops_a_script_behind_a_line(self) -> None:
+        with self.made() as store:
+            complaints, out = io.StringIO(), io.StringIO()
+            put = store.put
+
+            def interrupted(version: int, key: bytes, value: bytes) -> None:
+                os.kill(os.getpid(), signal.SIGINT)
+                put(version, key, value)
+
+            with mock.patch.object(store, "put", interrupted), contextlib.redirect_stderr(complaints):
+                status = Shell(store, out).script(["get a\n", "put a 1\n", "put b 1\n"])
+            self.assertEqual((out.getvalue(), complaints.getvalue(), status), ("absent\ndone\n", "castle-shell: stopped before line 3\n", 130))
+            self.assertEqual(dict(store.at(0)), {b"a": b"1"})
+            self.assertIs(signal.getsignal(signal.SIGINT), signal.default_int_handler)
+
+    def test_a_script_that_waits_for_its_next_line_ends_at_ctrl_c(self) -> None:
+        self.made().close()
+        with subprocess.Popen([sys.executable, SHELL, self.path], stdin=subprocess.PIPE, stdout=subprocess.PIPE,
+                              stderr=subprocess.PIPE, env=UNBUFFERED) as shell:
+            assert shell.stdin and shell.stdout and shell.stderr
+            shell.stdin.write(b"put a 1\n")
+            shell.stdin.flush()
+            self.assertEqual(shell.stdout.readline(), b"done\n")
+            for _ in range(10):  # a signal that comes just before the wait begins is seen at the next one alone
+                shell.send_signal(signal.SIGINT)
+                with contextlib.suppress(subprocess.TimeoutExpired):
+                    shell.wait(5)
+                    break
+            self.assertEqual((shell.stderr.read(), shell.wait(DEADLINE)), (b"castle-shell: stopped before line 2\n", 130))
+
+    def test_a_file_in_place_of_a_version_is_told_where_it_stands(self) -> None:
+        store = self.made()
+        store.names["base"] = 0
+        for line, what in (("dump a.dump", "no version has the name a.dump. Names: base. A file stands behind the version: dump V FILE."),
+                           ("dump a.dump @base", "two versions are named: a.dump and 0. A file stands behind the version: dump V FILE."),
+                           ("dump none a.dump", "no version has the name none. Names: base.")):
+            out, complaint, status = carried_out(store, line)
+            self.assertEqual((out, status), ("", 1))
+            self.assertTrue(complaint.endswith(f"{what}\n"), complaint)
+
+    def test_a_byte_that_is_no_text_in_a_dump_is_loaded_as_it_is(self) -> None:
+        self.made().close()
+        with open(os.path.join(self.folder, "raw.dump"), "wb") as file:
+            file.write(b"# castle dump 1\n\xff\t\xfe1\n# end, 1 pair\n")
+        self.assertEqual(self.shell("load raw.dump\nscan\n"), ("loaded 1 pair into version 0\n\\xff = \\xfe1\n1 pair\n", "", 0))
+
+    def test_a_dump_of_another_format_is_refused(self) -> None:
+        store = self.made()
+        for first in ("# castle dump 12", "# castle dump 10, version 0 of a.store", "# castle dump 2", "# castle dump 1.5", "# castle dump"):
+            file = self.written("other.dump", f"{first}\na\t1\n# end, 1 pair\n")
+            self.assertIn("other.dump: line 1 is not that of a dump. A dump begins with # castle dump 1.", carried_out(store, f"load {file}")[1])
+        self.assertEqual(store.stat().updates, 0)
 
     def test_a_picture_of_the_tree_is_written(self) -> None:
         self.made().close()
@@ -182,42 +337,83 @@ class ScanningTest(StoreCase):
             self.assertIn(text, picture)
 
 
-@unittest.skipUnless(importlib.util.find_spec("readline"), "this Python has no readline")
-class TerminalTest(StoreCase):
-    def test_a_session_has_a_prompt_errors_history_and_completion(self) -> None:
-        self.made().close()
-        session = Session(self.folder, "a.store")
-        self.addCleanup(session.child.kill)
-        self.assertEqual(session.until(r"> $").split("\n"), ["a.store: 1 version, 0 changes. `help` lists the commands.", "a.store @0> "])
-        self.assertEqual(session.type("clone staging"), ["made version 1 (staging)", "a.store @0 (frozen)> "])
-        self.assertEqual(session.type("put a 1"), [
-            "error: put a at version 0: the version has a child and takes no more puts and deletes",
-            "       Clone it, and write to the clone.", "a.store @0 (frozen)> "])
-        self.assertEqual(session.type("use st\t"), ["a.store @1 staging> "])
-        self.assertEqual(session.type("nonsense"), ["error: unknown command nonsense; `help` lists the commands", "a.store @1 staging> "])
-        self.assertEqual(session.type("put a 1\x03", r"> $")[-1], "a.store @1 staging> ")
-        self.assertEqual(session.type("get a"), ["absent", "a.store @1 staging> "])
-        self.assertEqual(session.type("quit", None), [""])
-        self.assertEqual(session.close(), 0)
-        with open(os.path.join(self.folder, ".castle_history"), encoding="utf-8") as file:
-            self.assertEqual(file.read().split("\n")[-3:], ["get a", "quit", ""])
+class OpeningTest(StoreCase):
+    """What the shell says of a store as it opens it."""
 
-    def test_the_end_of_input_ends_the_session(self) -> None:
-        self.made().close()
-        session = Session(self.folder, "a.store")
-        self.addCleanup(session.child.kill)
-        session.until(r"> $")
-        os.write(session.own, b"\x04")
-        self.assertEqual(session.close(), 0)
+    def opened_shell(self, script: str, folder: int = 0o755) -> Tuple[str, str, int]:
+        """Output, complaints and status of the shell where permissions count, though root may run this."""
+        out, complaints = io.StringIO(), io.StringIO()
+        os.chmod(self.folder, folder)
+        with unprivileged(), mock.patch("sys.stdin", io.StringIO(script)), contextlib.redirect_stdout(out), \
+                contextlib.redirect_stderr(complaints):
+            if not os.access(find_program(), os.X_OK, effective_ids=True):
+                self.skipTest("the program can't be run by everybody")
+            status = main([self.path])
+        return out.getvalue(), complaints.getvalue(), status
 
-    @unittest.skipUnless(shutil.which("ps"), "ps is not here")
-    def test_a_program_that_was_killed_ends_the_session(self) -> None:
+    def test_a_store_that_may_only_be_read_is_shown_and_not_changed(self) -> None:
+        with self.made() as store:
+            carried_out(store, "put a 1", "clone staging", "put a 2 @staging", "names set base 0")
+            levels = carried_out(store, "levels")[0]
+        self.written("a.dump", dumped("b\t1"))
+        os.chmod(self.path, 0o444)
+        before = {name: self.bytes_of(name) for name in os.listdir(self.folder)}
+        told = (f"castle-shell: {self.path}: the file can't be written; this is a copy of it as it is now, and takes no changes\n")
+        out, complaint, status = self.opened_shell(
+            "get a\nget a @staging\nscan\ntree\ndiff base staging\ninfo staging\nuse 1\ndump\nnames\nlevels\n")
+        self.assertEqual((complaint, status), (told, 0))
+        self.assertEqual(out, "1\n2\na = 1\n1 pair\n0 base (here) ─ 1 staging\n~ a = 1 -> 2\n0 removed, 0 added, 1 changed\n"
+                              "version 1 (staging): a clone of version 0 (base), 1 ancestor, takes puts and deletes\n"
+                              "# castle dump 1, version 1 (staging) of a.store\na\t2\n# end, 1 pair\n0 base\n1 staging\n" + levels)
+        for line in ("put b 1 @staging", "delete a @staging", "clone", "clone new", "names set new 0", "names remove base",
+                     f"load {self.folder}/a.dump @staging"):
+            out, complaint, status = self.opened_shell(f"{line}\n")
+            self.assertEqual((out, status), ("", 1), line)
+            self.assertTrue(complaint.startswith(told + f"castle-shell: line 1: {self.path}: "), complaint)
+            self.assertIn("the store is open for reading alone, as a private copy, and takes no changes. Open it where its file may be",
+                          complaint)
+        self.assertEqual({name: self.bytes_of(name) for name in os.listdir(self.folder)}, before)
+
+    def test_a_store_that_can_not_be_opened_says_which_cause(self) -> None:
         self.made().close()
-        session = Session(self.folder, "a.store")
-        self.addCleanup(session.child.kill)
-        session.until(r"> $")
-        client = str(session.child.pid)
-        children = subprocess.run(["ps", "-o", "pid=", "--ppid", client], capture_output=True, check=True).stdout.split()
-        os.kill(int(children[0]), 9)
-        self.assertIn("error: stat: the program was ended by SIGKILL", "\n".join(session.type("stat", None)))
-        self.assertEqual(session.close(), 1)
+        kept, self.path = self.path, self.folder
+        self.assertRegex(self.opened_shell("")[1], "it is a folder")
+        self.path = os.path.join(self.folder, "none", "a.store")
+        self.assertRegex(self.opened_shell("")[1], "there is no such file")
+        self.path = kept
+        os.chmod(self.path, 0)
+        self.assertRegex(self.opened_shell("")[1], "the file can't be opened: Permission denied")
+
+    def test_names_that_are_left_out_are_told_once(self) -> None:
+        with self.made() as store:
+            store.names["next"] = store.clone(0)
+        names = self.written("a.store.names", "base 0\nnext 1\nlost 7\n")
+        self.assertEqual(self.shell("names\nclone lost\nnames\n"), (
+            "0 base\n1 next\nmade version 2 (lost)\n0 base\n1 next\n2 lost\n",
+            f"castle-shell: {names}: names of versions that the store doesn't have are left out: lost 7\n", 0))
+        self.assertEqual(self.shell("names\n")[1], "")
+
+    def test_names_that_can_not_be_read_are_told_and_the_store_opens(self) -> None:
+        self.made().close()
+        for text in ("one two three\n", "# castle dump 1\n"):
+            names = self.written("a.store.names", text)
+            out, complaint, status = self.shell("put a 1\nget a\nnames\nclone x\n")
+            self.assertEqual((out, status), ("done\n1\nno version has a name\n", 1))
+            told, refused = complaint.splitlines()
+            self.assertRegex(told, f"^castle-shell: {names}: line 1 is not a name and a version")
+            self.assertRegex(refused, f"^castle-shell: line 4: {names}: line 1 is not a name and a version")
+            self.assertEqual(self.bytes_of("a.store.names"), text.encode())
+        self.assertIn("versions 1\n", self.shell("stat\n")[0])
+
+    def test_a_clone_that_gets_no_name_is_told(self) -> None:
+        self.made().close()
+        for name in ("a.store", "a.store.lock"):
+            os.chmod(os.path.join(self.folder, name), 0o666)
+        os.chmod(self.folder, 0o555)
+        self.addCleanup(os.chmod, self.folder, 0o755)
+        names = f"{self.path}.names: "
+        for line, what in (("clone next", f"{names}made version 1, which got no name: the file can't be written: Permission denied"),
+                           ("names set base 0", f"{names}the file can't be written: Permission denied")):
+            out, complaint, status = self.opened_shell(f"{line}\n", 0o555)
+            self.assertEqual((out, status), ("", 1))
+            self.assertTrue(complaint.startswith(f"castle-shell: line 1: {what}"), complaint)

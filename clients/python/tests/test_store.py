@@ -3,17 +3,14 @@
 import os
 import resource
 import signal
-import subprocess
-import sys
-import time
+import stat
 from pathlib import Path
-from typing import List, Union
+from typing import Any
+from unittest import mock
 
-from support import StoreCase
+from support import StoreCase, stop
 
 from castle import Info, Stat, Store, errors
-
-PACKAGE = str(Path(__file__).resolve().parents[1])
 
 
 class CommandsTest(StoreCase):
@@ -45,6 +42,24 @@ class CommandsTest(StoreCase):
                 store.put(*words)  # type: ignore[arg-type]
         self.assertEqual(store.stat().changes, 2)
 
+    def test_text_is_not_composed(self) -> None:
+        store = self.made()
+        store.put(0, "e\u0301", "decomposed")
+        self.assertEqual((store.get(0, b"e\xcc\x81"), store.get(0, "\u00e9")), (b"decomposed", None))
+        store.put(0, "\u00e9", "e\u0301")
+        self.assertEqual((store.get(0, b"\xc3\xa9"), store.get(0, "e\u0301"), len(list(store.scan(0)))), (b"e\xcc\x81", b"decomposed", 2))
+        for call in (lambda: store.get(0, "\ud800"), lambda: store.put(0, "a", "\ud800"), lambda: store.scan(0, prefix="\ud800")):
+            with self.assertRaisesRegex(errors.TextFault, "has no UTF-8. Give bytes."):
+                call()
+
+    def test_a_version_is_a_number_or_a_name(self) -> None:
+        store = self.made()
+        for version in (True, False, 0.0, b"0", None):
+            for call in (store.info, store.clone, store.scan, store.at, lambda version: store.get(version, "a"), store.batch().info):
+                with self.assertRaisesRegex(TypeError, "a version is a number or a name"):
+                    call(version)  # type: ignore[arg-type]
+        self.assertEqual(store.stat(), Stat(1, 0, 0, 0))
+
     def test_a_closed_store_says_so(self) -> None:
         store = self.made()
         store.close()
@@ -69,66 +84,26 @@ class CommandsTest(StoreCase):
         with self.opened() as store:
             self.assertEqual((store.get(0, "a"), dict(store.names)), (None, {}))
 
-    def test_an_interrupted_exchange_ends_the_store_and_loses_nothing(self) -> None:
+    def test_an_interrupted_command_loses_nothing_and_the_store_goes_on(self) -> None:
         store = self.made()
         store.put(0, "a", "1")
+        store.put(0, "b", "1")
 
         def interrupt(*_: object) -> None:
             raise KeyboardInterrupt
 
         before = signal.signal(signal.SIGALRM, interrupt)
         self.addCleanup(signal.signal, signal.SIGALRM, before)
-        os.kill(store.pid, signal.SIGSTOP)
-        signal.setitimer(signal.ITIMER_REAL, 0.1)
-        with self.assertRaises(KeyboardInterrupt):
-            store.put(0, "a", "2")
+        stop(store.pid)
+        # the first is sent, and those behind it wait for its reply and are not
+        for call in (lambda: store.put(0, "a", "2"), lambda: store.get(0, "b"), lambda: store.clone(0)):
+            signal.setitimer(signal.ITIMER_REAL, 0.05)
+            with self.assertRaises(KeyboardInterrupt):
+                call()
         os.kill(store.pid, signal.SIGCONT)
-        with self.assertRaises(errors.Interrupted):
-            store.get(0, "a")
+        self.assertEqual((store.get(0, "a"), store.get(0, "b"), store.stat()), (b"2", b"1", Stat(1, 3, 3, 0)))
         store.close()
-        self.assertIn(self.opened().get(0, "a"), (b"1", b"2"))
-
-
-class LockTest(StoreCase):
-    def test_a_second_opener_is_refused_at_once(self) -> None:
-        store = self.made()
-        store.put(0, "a", "1")
-        link = os.path.join(self.folder, "link")
-        os.symlink(self.path, link)
-        paths: List[Union[str, Path]] = [self.path, link, Path(self.path)]
-        for path in paths:
-            with self.assertRaisesRegex(errors.StoreLocked, f"open already, by process {os.getpid()}. Close it there"):
-                Store(path)
-        with self.assertRaises(errors.StoreLocked):
-            Store.format(self.path, 64, 1000, 10, overwrite=True)
-        code = "import sys; sys.path.insert(0, sys.argv[1])\nimport castle; castle.Store(sys.argv[2])"
-        ran = subprocess.run([sys.executable, "-c", code, PACKAGE, self.path], capture_output=True)
-        self.assertIn(b"castle.errors.StoreLocked", ran.stderr)
-        self.assertEqual(store.get(0, "a"), b"1")
-        store.close()
-        self.assertEqual(self.opened().get(0, "a"), b"1")
-
-    def test_the_lock_holds_until_the_program_has_ended(self) -> None:
-        self.made().close()
-        code = ("import sys, time; sys.path.insert(0, sys.argv[1])\nimport castle\n"
-                "store = castle.Store(sys.argv[2]); print(store.pid, flush=True); time.sleep(100)")
-        client = subprocess.Popen([sys.executable, "-c", code, PACKAGE, self.path], stdout=subprocess.PIPE)
-        assert client.stdout
-        program = int(client.stdout.readline())
-        os.kill(program, signal.SIGSTOP)
-        client.kill()
-        client.wait()
-        client.stdout.close()
-        with self.assertRaises(errors.StoreLocked):
-            Store(self.path)
-        os.kill(program, signal.SIGCONT)
-        for _ in range(100):
-            try:
-                Store(self.path).close()
-                return
-            except errors.StoreLocked:
-                time.sleep(0.1)
-        self.fail("the lock is held for ever")
+        self.assertEqual(self.opened().get(0, "a"), b"2")
 
 
 class NamesTest(StoreCase):
@@ -162,25 +137,143 @@ class NamesTest(StoreCase):
             store.get("staging", "a")
         self.assertFalse(os.path.exists(self.path + ".names"))
 
-    def test_a_file_of_names_that_can_not_be_read_is_told(self) -> None:
+    def test_a_file_of_names_that_can_not_be_read_leaves_the_store_open_and_is_left_alone(self) -> None:
         self.made().close()
-        for text, line in (("a 0\nb\n", 2), ("a 0 1\n", 1), ("0 a\n", 1), ("a x\n", 1)):
-            self.written("a.store.names", text)
-            with self.assertRaisesRegex(errors.NameFault, f"a.store.names: line {line} is not a name and a version"):
-                Store(self.path)
+        cases = [(b"a 0\nb\n", "line 2 is not a name and a version"), (b"a 0 1\n", "line 1 is not a name and a version"),
+                 (b"0 a\n", "line 1 is not"), (b"a x\n", "line 1 is not"), (b"a 0\n\xff 0\n", "it is no text of UTF-8"),
+                 (b"a 0\nb 0\na 0\n", "line 3 has the name a a second time")]
+        for data, what in cases:
+            self.written("a.store.names", "")
+            with open(self.path + ".names", "wb") as file:
+                file.write(data)
+            with self.assertWarnsRegex(errors.NamesWarning, f"a.store.names: {what}.*no names until then"):
+                store = self.opened()
+            self.assertIn(what, store.names.warning)
+            self.assertEqual((dict(store.names), store.names.of(0)), ({}, []))
+            for call in (lambda: store.names.update(c=0), lambda: store.names.__delitem__("a"), lambda: store.get("a", "k")):
+                with self.assertRaisesRegex(errors.NameFault, f"a.store.names: {what}"):
+                    call()
+            with open(self.path + ".names", "rb") as file:
+                self.assertEqual(file.read(), data)
+            store.put(0, "k", "v")
+            self.written("a.store.names", "b 0\n")  # mended, while the store is open
+            store.names["c"] = 0
+            self.assertEqual(dict(store.names), {"b": 0, "c": 0})
+            store.close()
         self.written("a.store.names", "\na 0\n")
-        self.assertEqual(dict(self.opened().names), {"a": 0})
+        store = self.opened()
+        self.assertEqual((dict(store.names), store.names.warning), ({"a": 0}, ""))
+        store.close()
+        os.remove(self.path + ".names")
+        os.mkdir(self.path + ".names")
+        with self.assertWarnsRegex(errors.NamesWarning, "a.store.names: it can't be read: Is a directory"):
+            self.opened()
+
+    def test_names_of_versions_that_are_not_there_are_left_out_before_a_clone_gets_the_number(self) -> None:
+        with self.made() as store:
+            store.names["base"] = 0
+            for name in ("one", "two", "three", "four", "five", "six"):
+                store.names[name] = store.clone(0)
+        names = self.bytes_of("a.store.names")
+        for call in (lambda store: store.clone(0), lambda store: store.batch().clone(0), lambda store: store.names.update(new=0)):
+            os.remove(self.path)
+            Store.format(self.path, 64, 1000, 10)
+            self.assertFalse(os.path.exists(self.path + ".names"))
+            with open(self.path + ".names", "wb") as file:
+                file.write(names)
+            with self.assertWarnsRegex(errors.NamesWarning, r"are left out: one 1, two 2, .*, five 5, \.\. \(6 in all\)"):
+                store = self.opened()
+            self.assertEqual((dict(store.names), self.bytes_of("a.store.names")), ({"base": 0}, names))
+            with self.assertRaises(errors.UnknownName):
+                store.get("one", "k")
+            call(store)
+            self.assertNotIn(b"one", self.bytes_of("a.store.names"))
+            self.assertEqual(store.names.of(1), [])
+            store.close()
+            with self.opened() as store:
+                self.assertEqual((store.names["base"], "one" in store.names), (0, False))
+
+    def test_a_version_of_a_name_that_is_no_number_is_refused_and_nothing_written(self) -> None:
+        store = self.made()
+        store.names["staging"] = 0
+        before = self.bytes_of("a.store.names")
+        for version in (False, True, "staging", "0", b"0", None, 0.0, [0]):
+            with self.assertRaisesRegex(errors.NameFault, "a.store: the version of the name prod is .*, and no number"):
+                store.names["prod"] = version  # type: ignore[assignment]
+        for number in (-1, 1, 2 ** 32, 2 ** 70):
+            with self.assertRaises(errors.UnknownVersion):
+                store.names["prod"] = number
+        for name in (b"prod", 5, None):
+            with self.assertRaises(errors.NameFault):
+                store.names[name] = 0  # type: ignore[index]
+        self.assertEqual((dict(store.names), self.bytes_of("a.store.names")), ({"staging": 0}, before))
+        store.close()
+        self.assertEqual(dict(self.opened().names), {"staging": 0})
+
+    def test_one_of_two_names_of_a_version_is_removed(self) -> None:
+        store = self.made()
+        store.names.update(a=0, b=0, c=store.clone(0))
+        del store.names["a"]
+        self.assertEqual((dict(store.names), self.bytes_of("a.store.names")), ({"b": 0, "c": 1}, b"b 0\nc 1\n"))
+
+    def test_an_unknown_name_is_told_with_a_few_that_there_are(self) -> None:
+        store = self.made()
+        for number in range(20):
+            store.names[f"name{number:02}"] = 0
+        with self.assertRaises(errors.UnknownName) as caught:
+            store.get("x" * 1000, "a")
+        self.assertEqual(str(caught.exception), f"{self.path}: no version has the name {'x' * 70}... Names: name00, name01, "
+                                                "name02, name03, name04, .. (20 in all).")
+
+    def test_a_change_of_names_is_synced_before_and_after_it_takes_its_place(self) -> None:
+        store, calls = self.made(), []
+
+        def noted(name: str) -> None:
+            real = getattr(os, name)
+
+            def call(first: Any, *rest: Any) -> Any:
+                kind = "folder" if isinstance(first, int) and stat.S_ISDIR(os.fstat(first).st_mode) else "file"
+                calls.append((name, kind))
+                return real(first, *rest)
+
+            patched = mock.patch.object(os, name, call)
+            patched.start()
+            self.addCleanup(patched.stop)
+
+        for name in ("fsync", "replace", "remove"):
+            noted(name)
+        store.names["a"] = 0
+        want = [("fsync", "file"), ("replace", "file"), ("fsync", "folder")]
+        self.assertEqual(calls, want)
+        del store.names["a"]
+        self.assertEqual(calls, want * 2)
+        store.close()
+        calls.clear()
+        Store.format(self.path, 64, 1000, 10, overwrite=True)
+        self.assertEqual(calls, [("remove", "file"), ("fsync", "folder")])
 
     def test_a_write_that_fails_leaves_the_names(self) -> None:
         store = self.made()
         store.names["a"] = 0
-        os.mkdir(self.path + ".names.new")
-        with self.assertRaises(OSError):
-            store.names["b"] = 0
-        os.rmdir(self.path + ".names.new")
-        self.assertEqual(dict(store.names), {"a": 0})
+        for name in ("fsync", "replace"):
+            with mock.patch.object(os, name, side_effect=OSError(28, "No space left on device")):
+                with self.assertRaisesRegex(OSError, "No space left on device.*a.store.names"):
+                    store.names["b"] = 0
+        self.assertEqual((dict(store.names), sorted(os.listdir(self.folder))), ({"a": 0}, ["a.store", "a.store.lock", "a.store.names"]))
         store.close()
         self.assertEqual(dict(self.opened().names), {"a": 0})
+
+    def test_the_names_keep_their_permissions_and_have_those_of_the_store_first(self) -> None:
+        self.made().close()
+        os.remove(self.path + ".lock")
+        os.chmod(self.path, 0o660)
+        with self.opened() as store:
+            store.names["a"] = 0
+        self.assertEqual([stat.S_IMODE(os.stat(self.path + end).st_mode) for end in (".lock", ".names")], [0o660, 0o660])
+        os.chmod(self.path + ".names", 0o640)
+        with self.opened() as store:
+            store.names["b"] = 0
+        self.assertEqual(stat.S_IMODE(os.stat(self.path + ".names").st_mode), 0o640)
 
 
 class DeviceTest(StoreCase):

@@ -1,0 +1,256 @@
+"""The shell at a terminal: its prompt, Ctrl-C, bytes that are no text, and completion."""
+
+import importlib.util
+import io
+import os
+import select
+import shutil
+import signal
+import subprocess
+import unittest
+from typing import Dict, Optional
+from unittest import mock
+
+from session import CTRL_C, CTRL_D, PROMPT, Session
+from support import StoreCase
+
+from castle.shell import Shell
+
+
+class TerminalCase(StoreCase):
+    """A test with a shell at a terminal."""
+
+    def session(self, path: str = "a.store", environment: Optional[Dict[str, str]] = None) -> Session:
+        """A shell that has shown its first prompt."""
+        session = Session(self.folder, path, environment)
+        self.addCleanup(session.kill)
+        self.greeting = session.until(PROMPT)
+        return session
+
+    def filled(self, pairs: Dict[bytes, bytes], mem: int = 64) -> None:
+        """A new store with these pairs, which nobody has open."""
+        with self.made(mem, 300000, 20) as store, store.batch() as batch:
+            for key, value in pairs.items():
+                batch.put(0, key, value)
+
+
+LONG = {f"key/{number:04}".encode(): b"v" * 1000 for number in range(600)}  # more than a terminal takes unread
+
+
+@unittest.skipUnless(importlib.util.find_spec("readline"), "this Python has no readline")
+class PromptTest(TerminalCase):
+    def test_a_session_has_a_prompt_errors_history_and_completion(self) -> None:
+        self.made().close()
+        session = self.session()
+        self.assertEqual(self.greeting.split("\n"), ["a.store: 1 version, 0 changes. `help` lists the commands.", "a.store @0> "])
+        self.assertEqual(session.type("clone staging"), ["made version 1 (staging)", "a.store @0 (frozen)> "])
+        self.assertEqual(session.type("put a 1"), [
+            "error: put a at version 0: the version has a child and takes no more puts and deletes",
+            "       Clone it, and write to the clone.", "a.store @0 (frozen)> "])
+        self.assertEqual(session.type("use st\t"), ["a.store @1 staging> "])
+        self.assertEqual(session.type("nonsense"), ["error: unknown command nonsense; `help` lists the commands", "a.store @1 staging> "])
+        self.assertEqual(session.type("get a"), ["absent", "a.store @1 staging> "])
+        self.assertEqual(session.type("quit", None), [""])
+        self.assertEqual(session.close(), 0)
+        with open(os.path.join(self.folder, ".castle_history"), encoding="utf-8") as file:
+            self.assertEqual(file.read().split("\n")[-3:], ["get a", "quit", ""])
+
+    def test_the_end_of_input_ends_the_session(self) -> None:
+        self.made().close()
+        session = self.session()
+        session.send(CTRL_D)
+        self.assertEqual(session.close(), 0)
+
+    @unittest.skipUnless(shutil.which("ps"), "ps is not here")
+    def test_a_program_that_was_killed_ends_the_session(self) -> None:
+        self.made().close()
+        session = self.session()
+        os.kill(program_of(session), signal.SIGKILL)
+        self.assertIn("error: stat: the program was ended by SIGKILL", "\n".join(session.type("stat", None)))
+        self.assertEqual(session.close(), 1)
+
+    def test_a_version_that_is_not_there_leaves_the_prompt_as_it_was(self) -> None:
+        self.made().close()
+        session = self.session()
+        for version in ("99", "4294967296", "9" * 5000, "none"):
+            *said, prompt = session.type(f"use {version}")
+            self.assertTrue(said[0].startswith("error: "), said)
+            self.assertLess(len(said[0]), 200)
+            self.assertEqual(prompt, "a.store @0> ")
+        self.assertEqual(session.type("put a 1"), ["done", "a.store @0> "])
+
+    def test_a_version_with_two_names_is_shown_with_both(self) -> None:
+        self.made().close()
+        session = self.session()
+        session.type("names set stable 0")
+        self.assertEqual(session.type("names set base 0"), ["a.store @0 base stable> "])
+        self.assertEqual(session.type("tree"), ["0 base, stable (here)", "a.store @0 base stable> "])
+
+    def test_a_file_that_is_not_there_is_an_error_and_the_shell_goes_on(self) -> None:
+        self.made().close()
+        session = self.session()
+        self.assertEqual(session.type("load none.dump"), [
+            "error: none.dump: the file can't be read: No such file or directory", "       Look at its path, its permissions and its device.", "a.store @0> "])
+        self.assertEqual(session.type("dump 0 none/a.dump"), [
+            "error: none/a.dump: there is no folder none", "       Make it first, or take another file.", "a.store @0> "])
+        self.assertEqual(session.type("get a"), ["absent", "a.store @0> "])
+
+    def test_words_are_completed(self) -> None:
+        self.made().close()
+        self.written("product.dump", "# castle dump 1\na\t1\n# end, 1 pair\n")
+        self.written("two words.dump", "# castle dump 1\nb\t1\n# end, 1 pair\n")
+        os.mkdir(os.path.join(self.folder, "pictures"))
+        session = self.session()
+        session.type("clone staging")
+        for typed, want in (("load prod\t @st\t", ["loaded 1 pair into version 1 (staging)"]),
+                            ("load tw\t @1", ["loaded 1 pair into version 1 (staging)"]),
+                            ("tree --s\tpict\ta.svg", ["wrote pictures/a.svg"]), ("dump st\tproduct\t", ["wrote product.dump"]),
+                            ("help lev\t", ["levels [--svg FILE]", "    draws what is stored, level by level, or writes a picture of it"]),
+                            ("names rem\tst\t", [])):
+            self.assertEqual(session.type(typed)[:-1], want, typed)
+
+
+def program_of(session: Session) -> int:
+    """The process of the program that a shell runs."""
+    ran = subprocess.run(["ps", "-o", "pid=", "--ppid", str(session.pid)], capture_output=True, check=True)
+    return int(ran.stdout.split()[0])
+
+
+@unittest.skipUnless(importlib.util.find_spec("readline"), "this Python has no readline")
+class InterruptTest(TerminalCase):
+    """Ctrl-C is a signal here, since the terminal controls the shell."""
+
+    def test_ctrl_c_drops_the_line_at_the_prompt(self) -> None:
+        self.made().close()
+        session = self.session()
+        session.send(b"put a 1")
+        session.until("put a 1$")
+        self.assertEqual(session.interrupt(PROMPT).split("\n")[-1], "a.store @0> ")
+        self.assertEqual(session.type("")[-1], "a.store @0> ")
+        self.assertEqual(session.type("get a"), ["absent", "a.store @0> "])
+        session.interrupt(PROMPT)
+        self.assertEqual(session.type("quit", None)[-1], "")
+        self.assertEqual(session.close(), 0)
+
+    def test_ctrl_c_stops_what_is_printed_and_nothing_after_it(self) -> None:
+        self.filled(LONG)
+        session = self.session()
+        session.send(b"scan\n")
+        session.until("key/0003 = v+\n.*")
+        session.send(CTRL_C)
+        said = session.until(PROMPT).split("\n")
+        self.assertEqual(said[-2:], ["error: stopped", "a.store @0> "])
+        self.assertLess(len(said), len(LONG))
+        *lines, last, prompt = session.type("scan")
+        self.assertEqual((len(lines), last, prompt), (600, "600 pairs", "a.store @0> "))
+        self.assertEqual(session.type("put a 1"), ["done", "a.store @0> "])
+        self.assertEqual(session.type("stat")[-2], "cursors  0")
+
+    def test_ctrl_c_stops_a_load_which_says_how_far_it_came(self) -> None:
+        pairs = 100000
+        self.written("many.dump", "# castle dump 1\n" + "".join(f"{key:06}\t1\n" for key in range(pairs)) + f"# end, {pairs} pairs\n")
+        self.filled({}, 4096)
+        session = self.session()
+        before = os.stat(self.path).st_mtime_ns
+        session.send(b"load many.dump\n")
+        while os.stat(self.path).st_mtime_ns == before:
+            self.assertEqual(select.select([], [], [], 0.001), ([], [], []))
+        session.send(CTRL_C)
+        said = session.until(PROMPT)
+        self.assertRegex(said, r"(?m)^error: stopped, with [\d,]+ of 100,000 pairs loaded$")
+        loaded = int(said.split("with ")[1].split()[0].replace(",", ""))
+        self.assertIn(f"updates  {loaded}", session.type("stat"))
+        self.assertTrue(0 < loaded < pairs, loaded)
+        self.assertEqual(session.type("get 000000"), ["1", "a.store @0> "])
+        self.assertEqual(session.type("put a 1"), ["done", "a.store @0> "])
+        session.send(CTRL_D)
+        self.assertEqual(session.close(), 0)
+        self.assertEqual(len(self.opened().at(0)), loaded + 1)
+
+    @unittest.skipUnless(shutil.which("ps"), "ps is not here")
+    def test_a_command_whose_program_stands_still_can_be_left(self) -> None:
+        self.made().close()
+        session = self.session()
+        program = program_of(session)
+        os.kill(program, signal.SIGSTOP)
+        self.addCleanup(goes_on, program)
+        session.send(b"put a 1\n")
+        session.until("put a 1\n$")
+        said = ""
+        while "left" not in said:
+            # one that comes before the last was noted counts as that
+            session.send(CTRL_C)
+            said += session.until(r"answered\n$", 0.5)
+        self.assertIn("castle-shell: left amid a command; the program ends as soon as it has answered", said)
+        self.assertEqual(session.close(), 130)
+        goes_on(program)
+
+    def test_the_second_interrupt_of_a_command_waits_no_more(self) -> None:
+        store, out = self.made(), io.StringIO()
+        shell, put = Shell(store, out), store.put
+
+        def interrupted(version: int, key: bytes, value: bytes) -> None:
+            for _ in range(int(value)):
+                os.kill(os.getpid(), signal.SIGINT)
+            put(version, key, value)
+
+        lines = iter(["put a 2", "put b 1", "put c 1", "scan"])
+        with mock.patch.object(store, "put", interrupted), mock.patch("builtins.input", lambda _: next(lines, None) or ended()):
+            self.assertEqual(shell.converse(), 0)
+        lost = "error: stopped at once; a change that was under way was made or it was not"
+        self.assertEqual(out.getvalue().split("\n")[1:], ["", lost, "done", "done", "b = 1", "c = 1", "2 pairs", "", ""])
+
+    def test_an_exchange_that_an_interrupt_cuts_off_costs_nothing(self) -> None:
+        """A KeyboardInterrupt comes while the shell waits for an answer, and the next command gets its own."""
+        self.made().close()
+        session = self.session()
+        program = program_of(session)
+        os.kill(program, signal.SIGSTOP)
+        self.addCleanup(goes_on, program)
+        session.send(b"get a\n")
+        session.until("get a\n$")
+        said = ""
+        while "stopped" not in said and "left" not in said:
+            session.send(CTRL_C)
+            said += session.until(r"or it was not\n$", 1)
+        goes_on(program)
+        if "left" not in said:  # as where a machine is so slow that three came before the second was told
+            session.until(PROMPT)
+            self.assertEqual(session.type("put a 1"), ["done", "a.store @0> "])
+            self.assertEqual(session.type("get a"), ["1", "a.store @0> "])
+
+
+def ended() -> str:
+    """The end of what is typed."""
+    raise EOFError
+
+
+def goes_on(process: int) -> None:
+    """Lets a process go on that was stopped, if it is there still."""
+    try:
+        os.kill(process, signal.SIGCONT)
+    except ProcessLookupError:
+        pass
+
+
+@unittest.skipUnless(importlib.util.find_spec("readline"), "this Python has no readline")
+class EncodingTest(TerminalCase):
+    def test_a_byte_that_is_no_text_is_an_error(self) -> None:
+        self.made().close()
+        for encoding in ("utf-8:strict", "ascii:strict"):
+            session = self.session(environment={"PYTHONIOENCODING": encoding})
+            session.send(b"put \xff 1\n")
+            self.assertEqual(session.until(PROMPT).split("\n")[-3:], [
+                "error: the byte in column 5 is no text of this terminal", r"       Write it as \xff.", "a.store @0> "], encoding)
+            self.assertEqual(session.type("scan"), ["0 pairs", "a.store @0> "])
+            self.assertEqual(session.type("quit", None), [""])
+            self.assertEqual(session.close(), 0)
+
+    def test_text_that_the_terminal_has_not_is_shown_as_bytes(self) -> None:
+        self.filled({"日".encode(): "é日".encode()})
+        session = self.session(environment={"PYTHONIOENCODING": "latin-1:strict"})
+        session.send(b"scan\n")
+        self.assertIn("\\xe6\\x97\\xa5 = \ufffd\\xe6\\x97\\xa5\n1 pair\n", session.until(PROMPT))
+        self.assertEqual(session.type(r"get \xe6\x97\xa5")[-1], "a.store @0> ")
+        self.assertEqual(session.type("quit", None), [""])
+        self.assertEqual(session.close(), 0)

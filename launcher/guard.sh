@@ -1,0 +1,240 @@
+# What the launcher of a checkout and an installed `castle` share: words, refusals, locks, and the run itself.
+#
+# The script that reads this file sets `program`, the path of the proved program, and `documents`, the folder of the
+# documents. It has the functions show_version and make_ready; the latter ends with a status other than 0 where
+# there is no program to run. Then it calls `run` with its words.
+#
+# Exit status 125: the store is open already, or something would be overwritten. 1, 2 and 5 are as the program's own:
+# wrong words, no store, and a file that can't be opened.
+
+refuse() {
+    printf 'castle: %s\n' "$2" >&2
+    exit "$1"
+}
+
+# The program's own line. It stands here too, so that nothing has to be built to say it.
+usage() {
+    refuse 1 "usage: castle format FILE M C V, serve FILE, levels FILE, check FILE, workload FILE SEED COUNT"
+}
+
+show_help() {
+    cat <<END
+castle keeps dictionaries whose versions form a tree, in one file.
+
+    castle format FILE M C V          makes a store: M changes in its journal (4 to 4096), C in its life
+                                      (1 to 16777216), V versions (1 to 16384)
+    castle serve FILE                 answers frames on standard input; people use castle-shell FILE
+    castle levels FILE                prints what is in which level of a store
+    castle workload FILE SEED COUNT   makes a store of COUNT drawn changes, and prints a summary
+    castle --overwrite format ..      the same where FILE is not empty, which is lost; also workload
+    castle --build                    proves and builds the program, where that has to be done
+    castle --version, castle --help   say what this is
+
+The documents are in $documents: README.md; docs/QUICKSTART.md to begin with; docs/ERRORS.md for each status.
+END
+}
+
+# Whether a text is a number as the program reads it, without a zero in front, and from $2 to $3.
+is_number() {
+    case $1 in
+        '' | *[!0-9]* | 0?* | ?????????????????????*) return 1 ;;
+    esac
+    # as text, since the largest seed is too large for the shell's own numbers
+    printf '%20s\n' "$2" "$1" "$3" | LC_ALL=C sort -c 2>/dev/null
+}
+
+# Ends with the usage, unless the program takes these words.
+check_words() {
+    case ${1-}:$#:$overwrite in
+        serve:2: | levels:2:) ;;
+        format:5:*) is_number "$3" 4 4096 && is_number "$4" 1 16777216 && is_number "$5" 1 16384 || usage ;;
+        workload:4:*) is_number "$3" 0 18446744073709551615 && is_number "$4" 0 1000000 || usage ;;
+        *) usage ;;
+    esac
+    [ -n "$2" ] || usage
+    if command -v iconv >/dev/null 2>&1; then
+        printf '%s' "$2" | iconv -f UTF-8 -t UTF-8 >/dev/null 2>&1 || usage
+    fi
+}
+
+# A store's file that is a standard stream as well would be overwritten, or read as its own input.
+refuse_stream() {
+    if [ "$1" -ef "/dev/$2" ]; then
+        refuse 1 "the store's file is standard $3 as well"
+    fi
+}
+
+# Sets `real` to the path of FILE without symbolic links. Its last byte may be a line feed.
+resolve() {
+    if [ ! -e "$2" ] && { [ "$1" = serve ] || [ "$1" = levels ]; }; then
+        folder=$(dirname -- "$2")
+        [ ! -d "$folder" ] || [ -x "$folder" ] || refuse 5 "$2: its folder can't be entered"
+        refuse 2 "$2: no such file"
+    fi
+    real=$(readlink -f -- "$2" && echo .) || refuse 5 "$2: its folder is not there, or its links lead in a circle"
+    real=${real%??}
+}
+
+# Whether the file has the text of a superblock slot at this byte.
+has_slot() {
+    [ "$(dd if="$real" bs=1 skip="$1" count=8 2>/dev/null | tr -d '\0')" = STRATBT1 ]
+}
+
+seems_store() {
+    has_slot 1 || has_slot 4097
+}
+
+# Ends where FILE is not what the subcommand takes, or has something that it would destroy.
+look_at_file() {
+    if [ -e "$real" ] && [ ! -f "$real" ]; then
+        refuse 5 "$2: it is no plain file"
+    fi
+    case $1 in
+        serve | levels)
+            [ -r "$real" ] && [ -w "$real" ] || refuse 5 "$2: it can't be read and written; castle-shell reads a copy"
+            seems_store || refuse 2 "$2: not a store"
+            ;;
+        *)
+            [ -z "$overwrite" ] && [ -s "$real" ] || return 0
+            held="a file that is no castle store"
+            ! seems_store || held="a castle store"
+            refuse 125 "$2: $held is there, and stays as it is; to lose it, use castle --overwrite $1 .."
+            ;;
+    esac
+}
+
+# Locks an open descriptor: `lock -n 8` fails at once where somebody else has it locked, and `lock -x 8` waits.
+lock() {
+    if command -v flock >/dev/null 2>&1; then
+        flock "$@" || [ "$?" -ne 1 ]  # other failures it has told itself: this file system has no locks
+    elif command -v python3 >/dev/null 2>&1; then
+        python3 -c 'import fcntl, sys
+try:
+    fcntl.flock(int(sys.argv[2]), fcntl.LOCK_EX | (fcntl.LOCK_NB if sys.argv[1] == "-n" else 0))
+except BlockingIOError:
+    sys.exit(1)' "$@"
+    else
+        echo "castle: nothing is locked, since neither flock nor python3 is here: let nobody else use the file" >&2
+    fi
+}
+
+# Whether the caller has the store's locks, on the descriptors that CASTLE_LOCKS names: of FILE.lock and of FILE.
+is_locked_by_caller() {
+    case ${CASTLE_LOCKS-} in
+        *[!0-9,]* | *,*,* | ,*) return 1 ;;
+        *,*) ;;
+        *) return 1 ;;
+    esac
+    beside=${CASTLE_LOCKS%,*} itself=${CASTLE_LOCKS#*,}
+    [ "/dev/fd/$beside" -ef "$real.lock" ] || return 1
+    if [ -e "$real" ]; then
+        # to lock again what is locked does nothing
+        [ "/dev/fd/${itself:-none}" -ef "$real" ] && lock -n "$beside" && lock -n "$itself"
+    else
+        lock -n "$beside"
+    fi
+}
+
+# Whether an open file is the one at a path still, as far as the system tells.
+is_at() {
+    [ ! -e "/dev/fd/$1" ] || [ "/dev/fd/$1" -ef "$2" ]
+}
+
+# Locks FILE.lock, and FILE itself, which may have other names. The program inherits both, so they last until its end.
+take_locks() {
+    was_there=no
+    [ ! -e "$real.lock" ] || was_there=yes
+    (exec 8<>"$real.lock") 2>/dev/null || refuse 125 "$real.lock: the lock can't be opened; look at it and at its folder"
+    exec 8<>"$real.lock"
+    if [ "$was_there" = no ]; then
+        chmod --reference="$real" -- "$real.lock" 2>/dev/null  # who may open the store may lock it
+    fi
+    if ! lock -n 8; then
+        holder=$(head -n 1 <"$real.lock")
+        case $holder in
+            '' | *[!0-9]*) refuse 125 "$1: the store is open already" ;;
+            *) refuse 125 "$1: the store is open already, by process $holder" ;;
+        esac
+    elif ! is_at 8 "$real.lock"; then
+        take_locks "$1"  # whoever had it took it away; there is another one, or none
+        return
+    fi
+    echo "$$" >"$real.lock" 2>/dev/null
+    if [ -r "$real" ]; then
+        exec 9<"$real"
+        lock -n 9 || refuse 125 "$1: the store is open already under another name, or is being copied"
+        is_at 9 "$real" || refuse 125 "$1: the file was replaced meanwhile; try again"
+    fi
+}
+
+# Shows once a second how large a file has become, as long as this shell is there. The cursor goes back to the line's
+# beginning, so that what the program prints stands over it.
+show_growth() {
+    while sleep 1 && kill -0 "$$" 2>/dev/null; do
+        printf '\r\033[Kcastle: %s MB\r' "$(($(wc -c <"$1") / 1000000))" >&2
+    done
+}
+
+# Ends what was started last, and then this shell.
+give_up() {
+    trap '' HUP INT TERM
+    { kill "$!"; wait "$!"; } 2>/dev/null
+    exit "$1"
+}
+
+# Makes a store, and forgets the names that versions of the one before it had. The program reads no input.
+make_store() {
+    trap 'give_up 129' HUP
+    trap 'give_up 130' INT
+    trap 'give_up 143' TERM
+    # A long workload says nothing before its end.
+    if [ "$1" = workload ] && [ -t 2 ]; then
+        (show_growth "$real") 8>&- 9>&- </dev/null >/dev/null &
+        growth=$!
+        trap 'kill "$growth" 2>/dev/null; wait "$growth" 2>/dev/null; printf "\r\033[K" >&2' EXIT
+    fi
+    "$program" "$@" &
+    wait "$!"
+    status=$?
+    # with 7 the store is there as well, and only what is said of it could not be written
+    if [ "$status" -eq 0 ] || [ "$status" -eq 7 ]; then
+        rm -f -- "$real.names" || echo "castle: $real.names: these names are of the store before; remove them" >&2
+    fi
+    exit "$status"
+}
+
+run() {
+    overwrite=
+    case ${1-} in
+        -h | --help) show_help; exit ;;
+        --version) show_version; exit ;;
+        --build) [ "$#" -eq 1 ] || usage; make_ready; exit ;;
+        --overwrite) overwrite=yes; shift ;;
+    esac
+    check_words "$@"
+    refuse_stream "$2" stdin input
+    refuse_stream "$2" stdout output
+    resolve "$@"
+    # `levels` changes nothing. A caller that has the locks has looked at the file, and sees to the names.
+    locks=needed
+    if is_locked_by_caller; then
+        locks=
+    else
+        look_at_file "$@"
+        [ "$1" != levels ] || locks=
+    fi
+    # in a shell of its own, since it opens descriptors, and the caller may have passed on some
+    (make_ready) || exit
+    # A write past the largest size of a file is then a fault of the device, which the program tells, and no signal.
+    if (trap '' XFSZ) 2>/dev/null; then
+        trap '' XFSZ
+    fi
+    if [ -n "$locks" ]; then
+        take_locks "$2"
+        look_at_file "$@"  # again, since it may have changed before it was locked
+        case $1 in
+            format | workload) make_store "$@" ;;
+        esac
+    fi
+    exec "$program" "$@"
+}

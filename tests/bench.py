@@ -1,0 +1,182 @@
+#!/usr/bin/env python3
+"""Tries the benches: that they notice a wrong answer, and print what they measured: `tests/bench.py [WORD..]` at the top."""
+
+import contextlib
+import importlib.machinery
+import importlib.util
+import io
+import os
+import re
+import subprocess
+import sys
+
+import model
+from outside import PROGRAM, TOP, StoreFile, Wrong, expect, run_checks
+
+CASTLE, SQLITE = "castle", "SQLite"
+
+
+def bench_as_library():
+    loader = importlib.machinery.SourceFileLoader("bench_run", str(TOP / "bench" / "run"))
+    module = importlib.util.module_from_spec(importlib.util.spec_from_loader(loader.name, loader))
+    loader.exec_module(module)
+    return module
+
+
+bench = bench_as_library()
+
+
+@contextlib.contextmanager
+def changed(owner, name, value):
+    """Has a name stand for something else for a while."""
+    before = getattr(owner, name)
+    setattr(owner, name, value)
+    try:
+        yield before
+    finally:
+        setattr(owner, name, before)
+
+
+def measured(folder, *words):
+    """Status, output and complaints of the bench over one small workload."""
+    out, errors = io.StringIO(), io.StringIO()
+    given = ["run", "--counts", "40", "--gets", "5", "--scans", "3", "--wholes", "2", "--mem", "16", "--workloads", "chain",
+             "--disk", folder, "--memory", folder, *words]
+    with changed(sys, "argv", given), contextlib.redirect_stdout(out), contextlib.redirect_stderr(errors):
+        status = bench.main()
+    return status, out.getvalue(), errors.getvalue()
+
+
+def the_bench_finds_both_stores_alike(folder):
+    ran = subprocess.run([sys.executable, str(TOP / "bench" / "run"), "--counts", "40,80", "--gets", "20", "--mem", "16",
+                          "--disk", folder], capture_output=True, timeout=60)
+    expect("its status", (ran.returncode, ran.stderr.count(b"\n")), (0, 8))
+    titles = re.findall(rb"^### `(\w+)`", ran.stdout, re.MULTILINE)
+    expect("its tables", titles, [b"puts", b"chain", b"sparse", b"star"])
+    expect("its scans", ran.stdout.count("| µs a scan of 100 | µs a pair, whole version | µs a pair, by a cursor |".encode()), 4)
+    rows = re.findall(rb"^\| (40|80) \| (castle|SQLite) \|", ran.stdout, re.MULTILINE)
+    expect("its rows", rows, [(b"40", b"castle"), (b"40", b"SQLite"), (b"80", b"castle"), (b"80", b"SQLite")] * 4)
+
+
+def one_wrong_answer_is_noticed_wherever_it_comes(folder):
+    expect("no wrong answer", measured(folder)[0], 0)
+    # of 40 changes, 5 gets, 3 scans and 2 whole versions the first and the last of each kind
+    for kind, places, wrong in (("change", (0, 39), lambda answer: not answer), ("get", (0, 4), lambda answer: b"x"),
+                                ("scan", (0, 2), lambda answer: answer[:-1]), ("scan", (3, 4), lambda answer: answer[1:])):
+        for place in places:
+            asked = []
+
+            def answer(store, *words, right=getattr(bench.PlainStore, kind), place=place, wrong=wrong, asked=asked):
+                asked.append(words)
+                return wrong(right(store, *words)) if len(asked) == place + 1 else right(store, *words)
+
+            with changed(bench.PlainStore, kind, answer):
+                status, out, errors = measured(folder)
+            expect(f"{kind} {place}", (status, out.count("|"), "the program answered" in errors), (1, 0, True))
+
+
+def answers_that_are_missing_are_noticed(folder):
+    for got, wanted in (([1, 2], [1, 2, 3]), ([1, 2, 3], [1, 2]), ([], [])):
+        try:
+            bench.compare(3, ["a", "b", "c"], got, wanted)
+        except bench.Different:
+            continue
+        raise Wrong(f"{got} and {wanted} are taken for answers to three commands")
+    bench.compare(3, ["a", "b", "c"], [1, 2, 3], [1, 2, 3])
+
+
+def a_program_that_fails_behind_its_replies_is_noticed(folder):
+    stub = os.path.join(folder, "stub")
+    with open(stub, "w") as file:
+        file.write(f'#!/bin/sh\n"{PROGRAM}" "$@" || exit\n[ "$1" != serve ] || exit 9\n')
+    os.chmod(stub, 0o755)
+    with changed(bench, "PROGRAM", stub):
+        status, out, errors = measured(folder)
+    expect("its status", (status, out.count("|"), "the program ended with status 9" in errors), (1, 0, True))
+
+
+def the_clock_of_commands_starts_when_the_store_is_open(folder):
+    """The clock of this test stands still, but while replies are waited for."""
+    store, now = StoreFile(folder), [0.0]
+
+    def replies_of(child, wanted, real=bench.replies_of):
+        now[0] += 100 if now[0] == 0 else wanted
+        return real(child, wanted)
+
+    with changed(bench, "replies_of", replies_of), changed(bench.time, "perf_counter", lambda: now[0]):
+        _, each, opening, _ = bench.serve(store.path, [model.get(tag, b"a") for tag in range(7)])
+    expect("an opening, and each command", (opening, each), (100, 1))
+
+
+def replies_are_no_bytes_of_the_file(folder):
+    store = StoreFile(folder)
+    if bench.bytes_handed_on("self") is None:
+        return
+    for name, frames, least, most in (("gets", [model.get(tag, b"a") for tag in range(50)], 0, 0),
+                                      ("puts", [model.put(tag, b"a", b"v" * 1000) for tag in range(50)], 50_000, 100_000)):
+        written = bench.serve(store.path, frames)[3]
+        expect(f"{name}, {written} bytes", least <= written <= most, True)
+
+
+TABLE = """\
+### `chain`: {}
+
+| Changes | Store | µs a change, synced | µs a change, in memory | µs a get | µs a scan of 100 | µs a pair, whole version \
+| µs a pair, by a cursor | Opening, ms | Bytes of the file | Bytes written a change |
+|---|---|---|---|---|---|---|---|---|---|---|
+| 10 | castle | 1,000.0 | 20.0 | 30.0 | 400.0 | 0.50 | 0.60 | 7.00 | 8,000 | 90 |
+| 10 | SQLite | 1.0 |  | 2.0 | 3.0 | 4.00 |  | 5.00 | 6 |  |
+| 1,000 | castle | 1,000.0 | 200.0 | 3,000.0 | 400.0 | 0.50 | 0.60 | 70.00 | 80,000,000 | 9 |
+| 1,000 | SQLite | 1.0 |  | 2.0 | 3.0 | 4.00 |  | 5.00 | 6 |  |
+| grows by | castle | 0.00 | 0.50 | 1.00 | 0.00 | 0.00 | 0.00 | 0.50 | 2.00 | -0.50 |
+| grows by | SQLite | 0.00 |  | 0.00 | 0.00 | 0.00 |  | 0.00 | 0.00 |  |
+"""
+
+
+def a_table_shows_what_was_measured(folder):
+    new = bench.Measured
+    plain = new(change=1e-6, get=2e-6, scan=3e-6, pair=4e-6, cursor=None, opening=5e-3, size=6, written=None)
+    rows = [(count, {CASTLE: (new(1e-3, 1, 1, 1, 1, 1, size, written), new(fast, get, 4e-4, 5e-7, 6e-7, opening, 1, 1)),
+                     SQLITE: (plain, None)})
+            for count, opening, size, written, fast, get in ((10, 7e-3, 8000, 90, 2e-5, 3e-5), (1000, 7e-2, 80_000_000, 9, 2e-4, 3e-3))]
+    expect("the table", "\n".join(bench.table("chain", rows)), TABLE.format(bench.chain.__doc__))
+
+
+def a_power_is_the_slope_of_logarithms(folder):
+    for points, power in (([(10, 100), (100, 10000)], 2), ([(10, 5), (1000, 50)], 0.5), ([(10, 7), (100, 7), (1000, 7)], 0)):
+        expect(f"{points}", round(bench.exponent(points), 9), power)
+    expect("one point", bench.exponent([(10, 100), (100, None)]), None)
+
+
+def the_plain_store_makes_each_change_durable_too(folder):
+    store = bench.PlainStore(os.path.join(folder, "plain"))
+    pragmas = {name: store.rows.execute(f"PRAGMA {name}").fetchone()[0] for name in ("journal_mode", "synchronous")}
+    expect("its settings", pragmas, {"journal_mode": "wal", "synchronous": 2})
+    store.change(bench.Put(0, b"a", b"1"))
+    expect("a transaction is open", store.rows.in_transaction, False)
+    store.close()
+
+
+def the_wear_is_within_its_bounds(folder):
+    ran = subprocess.run([sys.executable, str(TOP / "bench" / "wear"), "--counts", "100,2000", "--folder", folder],
+                         capture_output=True, timeout=60)
+    expect("its status", (ran.returncode, ran.stderr.count(b"\n")), (0, 2))
+    rows = re.findall(rb"^\| (100|2,000) \| ([\d.]+) \| (\d+) \| ([\d.]+) \| 2 \|", ran.stdout, re.MULTILINE)
+    expect("its rows", rows, [(b"100", b"0.54", b"4", b"0.91"), (b"2,000", b"3.55", b"20", b"1.19")])
+
+
+CHECKS = [
+    the_bench_finds_both_stores_alike,
+    one_wrong_answer_is_noticed_wherever_it_comes,
+    answers_that_are_missing_are_noticed,
+    a_program_that_fails_behind_its_replies_is_noticed,
+    the_clock_of_commands_starts_when_the_store_is_open,
+    replies_are_no_bytes_of_the_file,
+    a_table_shows_what_was_measured,
+    a_power_is_the_slope_of_logarithms,
+    the_plain_store_makes_each_change_durable_too,
+    the_wear_is_within_its_bounds,
+]
+
+if __name__ == "__main__":
+    sys.exit(run_checks("bench", CHECKS, sys.argv[1:]))
