@@ -29,7 +29,8 @@ def is_of_an_end(frame: Optional[FrameType]) -> bool:
 def interrupted(call: Callable[[], object], at: int, names: str, opcodes: bool = False) -> bool:
     """Runs this with a KeyboardInterrupt at so many lines, or opcodes, of some files of the package; whether it came.
 
-    A line is left out where a `with` block ends: no signal comes between its end and the release of its lock.
+    Left out is where Python runs no signal's handler, so that no interrupt comes there: between the end of a `with` block and
+    the release of its lock, and at a `try:`, which does nothing and which no `with` around it covers.
     """
     files = {os.path.join(FOLDER, f"{name}.py") for name in names.split()}
     left, has_come = at, False
@@ -42,7 +43,10 @@ def interrupted(call: Callable[[], object], at: int, names: str, opcodes: bool =
         frame.f_trace_opcodes = opcodes
         if event == "call":
             begun.difference_update([place for place in begun if place[0] == id(frame)])
-        if event == "line" and linecache.getline(frame.f_code.co_filename, frame.f_lineno).lstrip().startswith("with "):
+        text = linecache.getline(frame.f_code.co_filename, frame.f_lineno).strip()
+        if text == "try:":
+            return step
+        if event == "line" and text.startswith("with "):
             place = id(frame), frame.f_lineno
             if place in begun:
                 return step
