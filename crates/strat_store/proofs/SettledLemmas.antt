@@ -1,9 +1,8 @@
 -- A publication of a store: what stands before it, between its calls and after it.
-use Rattle.std.proofs.Common.{◌≡◌, ◌≤◌, ◌+◌, ◌-◌, ◌*◌, ℕ, Bool, true, false, eqb, ◌&&◌, ◌||◌, inl, inr, ◌⊎◌, List, [], ◌∷◌, ◌++◌, length, length-append, Contains, flat_map, fold, map, Option, None, Some, refl, sym, ap, ◌∙◌, subst, arith, true≢false}
-use Rattle.std.specs.List.{list_all, sum_by}
+use Rattle.std.proofs.Common.{◌≡◌, ◌≤◌, ◌+◌, ◌-◌, ◌*◌, ℕ, Bool, true, false, eqb, ◌&&◌, ◌||◌, inl, inr, ◌⊎◌, List, [], ◌∷◌, ◌++◌, length, Contains, flat_map, fold, map, Option, None, Some, refl, sym, ap, ◌∙◌, subst, arith, true≢false}
+use Rattle.std.specs.List.{list_all}
 use Rattle.std.specs.Option.{option_to_list}
 use Rattle.std.proofs.lemmas.Bool.{and_parts, eqb-true, le-ltb}
-use Rattle.std.proofs.lemmas.List.Sums.{sum_by-cons, sum_by-append}
 use Rattle.std.proofs.lemmas.Option.{slice_get_within, get_or_from_slice_get}
 use Rattle.strat_array.specs.Kept.{Blocks}
 use Rattle.strat_base.proofs.ListFacts.{Among, all_at, among_flat, among_in_flat, among_split, among_right, range_among}
@@ -27,9 +26,8 @@ use Rattle.strat_format.specs.Manifest.{Manifest, is_lawful_manifest}
 use Rattle.strat_format.specs.SuperBlock.{Super}
 use Rattle.strat_plan.proofs.ListLemmas.{among_map}
 use Rattle.strat_promote.proofs.LeadLemmas.{read_whole}
-use Rattle.strat_promote.specs.Job.{IsBadInput, arrays_to, blocks_listed}
-use Rattle.strat_promote.specs.Leads.{leads_in, misfit_in}
-use Rattle.strat_plan.specs.Groups.{grouped_entries}
+use Rattle.strat_promote.specs.Job.{IsBadInput, blocks_listed}
+use Rattle.strat_promote.specs.Leads.{misfit_in}
 use Rattle.strat_recovery.proofs.OpeningLemmas.{map_some}
 use Rattle.strat_recovery.specs.Head.{Head, head_versions, head_updates, parent_numbers, descriptors}
 use Rattle.strat_recovery.specs.Opened.{array_on, level_on}
@@ -47,11 +45,9 @@ use Rattle.strat_state.specs.Sound.{IsSound, is_described, has_ascending_entries
 use Rattle.strat_state.specs.State.{State, versions_of, tree_after}
 use Rattle.strat_store.proofs.LookLawLemmas.{made_of}
 use Rattle.strat_store.proofs.MemoryLawLemmas.{memory_emptied}
-use Rattle.strat_store.proofs.PromotingLemmas.{to_front, array_there}
 use Rattle.strat_store.proofs.KeptLemmas.{array_named, held_behind, kept_next, named_behind}
 use Rattle.strat_store.proofs.RetiringLemmas.{retired_room}
 use Rattle.strat_store.proofs.SettlingLemmas.{listed_arrays, named_there}
-use Rattle.strat_store.proofs.WholeLemmas.{leads_summed, whole_promotes}
 use Rattle.strat_store.specs.Applying.{IsDamagedIn, IsPublishedAs}
 use Rattle.strat_store.specs.Held.{Held, AreKept, ArePlaced, IsConsistent, StandsWith, arrays_held, contents_held, head_held}
 use Rattle.strat_cursor.specs.Cursors.{retired_all}

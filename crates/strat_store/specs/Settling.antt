@@ -1,5 +1,6 @@
 -- A publication of a store: what takes the place of what the store holds.
-use Rattle.std.specs.Prelude.{◌≡◌, ◌≢◌, ◌⊎◌, ◌≤◌, ℕ, ◌+◌, ◌-◌, ◌&&◌, Bool, true, false, List, [], length, Contains, Option}
+use Rattle.std.specs.Prelude.{◌≡◌, ◌≢◌, ◌⊎◌, ◌≤◌, ◌<◌, ℕ, ◌+◌, ◌-◌, ◌^◌, ◌&&◌, nat_le, nat_lt, Bool, true, false, List, [], length, Contains, Option, IsTrue}
+use Rattle.std.specs.List.{list_all}
 use Rattle.strat_base.specs.declared.descriptors.ArrayDesc.{ArrayDesc}
 use Rattle.strat_base.specs.declared.descriptors.LevelDesc.{LevelDesc}
 use Rattle.strat_crash.specs.Blocks.{AgreeOn, TearsBlocks}
@@ -21,6 +22,7 @@ use Rattle.strat_model.specs.Request.{Request}
 use Rattle.strat_model.specs.Run.{is_change}
 use Rattle.strat_promote.specs.Job.{blocks_listed}
 use Rattle.strat_recovery.specs.Head.{parent_numbers}
+use Rattle.strat_recovery.specs.Opening.{belongs}
 use Rattle.strat_standing.specs.Contents.{Contents, contents_state}
 use Rattle.strat_standing.specs.Next.{arrays_made}
 use Rattle.strat_standing.specs.Occupied.{arrays_in}
@@ -98,6 +100,16 @@ pub record IsReadied (v : DiskView) (s : Held) (x : Contents) (sb : Super) (chai
   -- they are paid for where those are and the journal is full
   pub paid : IsPaid (contents_state x) → s.sb.mem ≤ length s.log.list
       → IsPaid (contents_state (contents_next s sb chained levels))
+
+-- a superblock and a manifest that were computed pass all tests that come before they are laid: the arrays that were made are
+-- numbered from the old next number on, another generation has a number, and so have the blocks of the chain, and the
+-- manifest belongs to its superblock
+pub record MayBeAdmitted (sb : Super) (m : Manifest) (made : Option LevelDesc) (next_sb : Super)
+    (next : Chained) : Type 0 where
+  pub numbered : IsTrue (list_all (λ a. nat_le m.next_array a.id) (arrays_made made))
+  pub generation : sb.generation + 1 < 2 ^ 64
+  pub low : IsTrue (list_all (λ b. nat_lt b 4294967295) next.blocks)
+  pub belonging : IsTrue (belongs next_sb next)
 
 -- after a superblock, a manifest and what is in memory come these that one promotion leaves, down to this target, of arrays
 -- that have new numbers, and of a manifest in some blocks
