@@ -95,10 +95,11 @@ cursors_stay m (change.Put v key value) = refl
 cursors_stay m (change.Delete v key) = refl
 cursors_stay m (change.Clone v) = refl
 
-kept_still : (sb : Super) (next : ℕ) (levels : List (Option LevelDesc)) (m k : Memory) → k.cursors ≡ m.cursors → AreKept sb next levels m → AreKept sb next levels k
-kept_still sb next levels m k same kept =
-    let here : AreKept sb next levels (record k { cursors = m.cursors }) = record { named = kept.named; needed = kept.needed; ids = kept.ids; below = kept.below; behind = kept.behind } in
-    subst (λ (cs : HeldCursors). AreKept sb next levels (record k { cursors = cs })) (sym same) here
+kept_still : (sb : Super) (chained : Chained) (levels : List (Option LevelDesc)) (m k : Memory) → k.cursors ≡ m.cursors → AreKept sb chained levels m → AreKept sb chained levels k
+kept_still sb chained levels m k same kept =
+    let here : AreKept sb chained levels (record k { cursors = m.cursors }) =
+    record { named = kept.named; needed = kept.needed; ids = kept.ids; below = kept.below; within = kept.within; once = kept.once } in
+    subst (λ (cs : HeldCursors). AreKept sb chained levels (record k { cursors = cs })) (sym same) here
 
 -- the cursors of a table stay while the versions do
 pub rows_stay : (m k : Memory) → k.parents ≡ m.parents → KeepsRows m k
@@ -158,7 +159,7 @@ module _ (r : Recovered) (cached : Blocks) (kept : IsConsistent (held_of r cache
               subst (λ (m : Memory). IsMemoryOf (record (head_held (held_of r cached)) { journal = j.list }) m) (sym follows)
               (subst (λ (cs : List Change). IsMemoryOf (record (head_held (held_of r cached)) { journal = cs }) (memory_after r.memory c)) list of);
           placed = kept.placed;
-          kept = kept_still (super_of r.sb) (chained_of r.published).manifest.next_array r.published.levels r.memory m (ap (λ (k : Memory). k.cursors) follows ∙ cursors_stay r.memory c) kept.kept;
+          kept = kept_still (super_of r.sb) (chained_of r.published) r.published.levels r.memory m (ap (λ (k : Memory). k.cursors) follows ∙ cursors_stay r.memory c) kept.kept;
         }
 
   -- and what stands on the disk answers as its table does

@@ -55,7 +55,7 @@ use Rattle.strat_cursor.specs.Held.{HeldCursors}
 use Rattle.strat_cursor.specs.Looking.{AreCachedFrom, arrays_there}
 use Rattle.strat_store.specs.Memory.{Memory, IsMemoryOf, emptied, prepared, renewed}
 use Rattle.strat_store.specs.Publishing.{is_in_front, manifest_after}
-use Rattle.strat_store.specs.Settling.{held_next, contents_next, MayFollow, WritesBeside, IsReadied, ArePublishedAfter, ArePublishedTo, arrays_taken}
+use Rattle.strat_store.specs.Settling.{held_next, contents_next, MayFollow, StandApart, WritesBeside, IsReadied, ArePublishedAfter, ArePublishedTo, arrays_taken}
 
 -- memory that is prepared for a publication, or is not
 pub consistent_ready : (s : Held) (o : Option ℕ) (n : ℕ) (m : Memory) → m ≡ prepared s.memory o n → IsConsistent s → IsConsistent (record s { memory = m })
@@ -69,12 +69,13 @@ consistent_ready s o n m is whole =
       entries = whole.memory.entries;
       room = whole.memory.room;
     } in
-    let kept : AreKept s.sb s.chained.manifest.next_array s.levels (prepared s.memory o n) = record {
+    let kept : AreKept s.sb s.chained s.levels (prepared s.memory o n) = record {
       named = whole.kept.named;
       needed = whole.kept.needed;
       ids = whole.kept.ids;
       below = whole.kept.below;
-      behind = whole.kept.behind;
+      within = whole.kept.within;
+      once = whole.kept.once;
     } in
     record {
       slot = whole.slot;
@@ -85,7 +86,7 @@ consistent_ready s o n m is whole =
       accepted = whole.accepted;
       memory = subst (λ (k : Memory). IsMemoryOf (head_held s) k) (sym is) of;
       placed = whole.placed;
-      kept = subst (λ (k : Memory). AreKept s.sb s.chained.manifest.next_array s.levels k) (sym is) kept;
+      kept = subst (λ (k : Memory). AreKept s.sb s.chained s.levels k) (sym is) kept;
     }
 
 pub stands_ready : (v : DiskView) (s : Held) (x : Contents) (m : Memory) → StandsWith v s x → StandsWith v (record s { memory = m }) x
@@ -311,8 +312,8 @@ versions_back h =
 -- what a store holds after a publication is consistent
 pub consistent_next : (s : Held) (target : ℕ) (sb : Super) (chained : Chained) (levels : List (Option LevelDesc)) → IsConsistent s → MayFollow s sb chained
     → ArePublishedTo target s.sb s.chained.manifest s.memory sb chained.manifest → is_lawful_manifest chained.manifest ≡ true → belongs sb chained ≡ true
-    → ArePlaced chained.manifest.levels levels → IsConsistent (held_next s target sb chained levels)
-consistent_next s target sb chained levels whole follows are spelled belonging placed =
+    → ArePlaced chained.manifest.levels levels → StandApart target s chained → IsConsistent (held_next s target sb chained levels)
+consistent_next s target sb chained levels whole follows are spelled belonging placed apart =
     let h : Head = head_held s in
     let new : Head = record { sb = sb; manifest = chained.manifest; journal = [] } in
     let versions : head_versions new ≡ head_versions h =
@@ -345,7 +346,7 @@ consistent_next s target sb chained levels whole follows are spelled belonging p
           } in
           subst (λ (n : ℕ). IsMemoryOf new (renewed n (arrays_taken target s.chained.manifest) s.memory)) follows.mem all;
       placed = placed;
-      kept = kept_next s target sb chained levels whole are follows.mem spelled belonging placed;
+      kept = kept_next s target sb chained levels whole are follows.mem spelled belonging placed apart;
     }
 
 -- the arrays of a sound state are read whole, in order, and have as many leads as their descriptors say

@@ -13,8 +13,10 @@ use Rattle.strat_crash.specs.Blocks.{TearsBlocks}
 use Rattle.strat_crash.specs.Image.{Image}
 use Rattle.strat_crash.specs.Moments.{DiskView, Exposes}
 use Rattle.strat_extent.proofs.BlockLemmas.{times_listed}
+use Rattle.strat_extent.proofs.ChangeLemmas.{is_free_of, uses_unused}
 use Rattle.strat_extent.proofs.CountLemmas.{times_append}
 use Rattle.strat_extent.specs.Blocks.{SpaceView, is_free, is_used, times_in, uses}
+use Rattle.strat_extent.specs.Change.{CanMark}
 use Rattle.strat_format.specs.Arrays.{blocks_of}
 use Rattle.strat_format.specs.Chained.{Chained, manifest_at}
 use Rattle.strat_format.specs.Manifest.{Manifest, is_lawful_extent}
@@ -169,6 +171,16 @@ owns_blocks s levels whole same low never =
     let m : Manifest = s.chained.manifest in
     let lawful = ap (λ (ls : List LevelDesc). list_all is_lawful_extent (extents_of (arrays_in ls))) same ∙ extents_lawful m whole.spelled in
     true≢false (sym (pass_at (belonging_tests s.sb s.chained) 0 whole.belonging) ∙ never s.sb m refl (sym same) low lawful)
+
+-- the blocks of the arrays that are kept can be marked beside them
+pub keeps_own : (s : Held) (space : SpaceView) → IsConsistent s → IsSpaceOf space (contents_held s []) [] → CanMark space (extents_of s.memory.cursors.retired)
+keeps_own s space whole own = record {
+  free = λ b some.
+      let lies = whole.kept.within b some in
+      let none : uses space b ≡ 0 = omega (arith, own.used b, some, whole.kept.once b) in
+      is_free_of space b (omega (arith, own.first, lies.0)) lies.1 (uses_unused space b none);
+  once = λ b. omega (arith, whole.kept.once b);
+}
 
 -- the next superblock and manifest pass all tests
 pub may_admit : (w : DiskView) (s : Held) (x : Contents) (made : Option LevelDesc) (sb : Super) (chained : Chained) → IsConsistent s → IsReadied w s x sb chained

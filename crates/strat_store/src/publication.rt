@@ -32,7 +32,7 @@ ghost use Rattle.strat_store.specs.Memory.{emptied, prepared};
 ghost use Rattle.strat_store.specs.Paying.{ArePaidSince, CountsWritten};
 ghost use Rattle.strat_store.specs.Publishing.{IsComputed, LaysSuperblock, WritesManifest, descs_to, is_in_front, manifest_after};
 ghost use Rattle.strat_store.specs.Recovering.{chained_of, held_of, IsAdmitted};
-ghost use Rattle.strat_store.specs.Settling.{super_after, held_next, ArePublishedAfter, ArePublishedTo, KeepsCursors, KeepsPublished, MayBeAdmitted, MayFollow, WritesBeside, IsReadied};
+ghost use Rattle.strat_store.specs.Settling.{super_after, held_next, ArePublishedAfter, ArePublishedTo, KeepsCursors, KeepsPublished, MayBeAdmitted, MayFollow, StandApart, WritesBeside, IsReadied};
 
 use crate::admitting::{Published, admit};
 use crate::belonging::{mark_arrays, own_blocks};
@@ -73,8 +73,7 @@ fn next_super(old: &SuperBlock, first: u32, length: u32) -> Result<SuperBlock, U
 }
 
 /// The space in which just the blocks of a store are used, those of the arrays that are kept for cursors among them.
-/// `NoMemory` also stands for a block of these arrays that stands twice. `Unfit`: so does one of the manifest's chain or of
-/// the levels, or it has no number.
+/// `Unfit`: a block of all these stands twice, or has no number; none does where the store stands.
 fn used_space(alloc: Global, held: &Recovered) -> Result<Space, Obstacle>
     requires kept { (cached : Blocks) → IsConsistent (held_of held.now cached) }
     ensures ok { IfOk result (λ space. (cached : Blocks) (levels : List Level)
@@ -89,7 +88,7 @@ fn used_space(alloc: Global, held: &Recovered) -> Result<Space, Obstacle>
         return Err(Obstacle::Unfit);
     };
     if !mark_arrays(&mut space, held.memory.retired())? {
-        return Err(Obstacle::NoMemory);
+        return Err(Obstacle::Unfit);
     }
     Ok(space)
 }
@@ -110,6 +109,9 @@ fn compute_beside<D: Disk>(
         (super_after (super_of held.now.sb) r.first r.length)
         (record { manifest = manifest_of r.manifest; blocks = blocks_of r.chain })
         × AreNewArrays held.now.published.manifest.next_array (arrays_made r.made.level)) }
+    ensures room { IfOk result (λ r. (cached : Blocks)
+        → StandApart r.made.target (held_of held.now cached)
+        (record { manifest = manifest_of r.manifest; blocks = blocks_of r.chain })) }
     ensures found { IfOk result (λ r. manifest_of r.manifest ≡ manifest_after
         (manifest_of held.now.published.manifest) held.now.memory r.made.target r.made.level) }
     ensures end { IfOk result (λ r. WritesManifest (D.view disk.old) (D.view disk.new)
@@ -226,7 +228,9 @@ fn prepare_next<D: Disk>(alloc: Global, held: &Recovered, disk: &mut D) -> Resul
         (manifest_of next.published.manifest)) }
     ensures end { IfOk result (λ next. WritesManifest (D.view disk.old) (D.view disk.new)
         next.sb.manifest next.sb.length (chained_of next.published)) }
-    ensures kept { IfOk result (λ next. IsAdmitted (super_of next.sb) next.published) }
+    ensures kept { IfOk result (λ next. IsAdmitted (super_of next.sb) next.published
+        × ((cached : Blocks)
+        → StandApart next.target (held_of held.now cached) (chained_of next.published))) }
     ensures err { IsErrOf result obstacle.Unfit → (x : Contents) (cached : Blocks)
         → StandsWith (D.view disk.old) (held_of held.now cached) x → ⊥ }
     ensures images { (cached : Blocks)

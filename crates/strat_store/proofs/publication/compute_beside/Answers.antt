@@ -3,6 +3,7 @@ use Rattle.strat_array.proofs.SearchLemmas.{err_of, if_ok_then}
 use Rattle.strat_manifest.specs.ManifestView.{manifest_of}
 use Rattle.strat_standing.specs.Occupied.{extents_of}
 use Rattle.strat_store.specs.Recovering.{held_of, empty_cache}
+use Rattle.strat_store.proofs.KeptLemmas.{stand_apart}
 use Rattle.strat_store.proofs.ObstacleLemmas.{short_block, short_cause}
 use Rattle.strat_store.proofs.SettledLemmas.{none_damaged}
 use Rattle.strat_store.proofs.SettlingLemmas.{chain_numbered, computes_all, unwritten, used_held, written_free, blames_held, readied}
@@ -39,6 +40,13 @@ returns-clause-ok g c =
     c.args.held.now.published.chain (extents_of c.args.held.now.memory.cursors.retired) r.made.target r.made.level r.first r.length r.chain (manifest_of r.manifest) (c.requires.kept cached) stands
     c.requires.len refl (c.in_ok-space.ensures.ok cached) computed found)
     c.compute_next.ensures.ok c.compute_next.ensures.found
+
+pub returns-clause-room : goal.returns-clause-room
+returns-clause-room g c =
+    ok_and c.compute_next.result _ _ _ (λ r more found cached.
+    stand_apart (held_of c.args.held.now cached) c.in_ok-space.space c.compute_next.new.space r.made.target r.made.level r.chain (manifest_of r.manifest) (c.requires.kept cached)
+    (c.in_ok-space.ensures.ok cached []) more found)
+    c.compute_next.ensures.room c.compute_next.ensures.found
 
 pub returns-clause-err : goal.returns-clause-err
 returns-clause-err g c = λ unfit x cached stands.

@@ -1,10 +1,12 @@
-use Rattle.std.proofs.Common.{sym, ap, ◌∙◌}
+use Rattle.std.proofs.Common.{ℕ, sym, ap, subst, ◌∙◌}
 use Rattle.std.proofs.lemmas.Result.{err_from_is_err_and}
 use Rattle.strat_array.proofs.SearchLemmas.{err_of}
+use Rattle.strat_format.specs.Arrays.{blocks_of}
 use Rattle.strat_format.specs.Chained.{Chained}
 use Rattle.strat_journal.proofs.ReadLemmas.{same_err}
 use Rattle.strat_manifest.specs.ManifestView.{manifest_of}
 use Rattle.strat_store.specs.Publishing.{manifest_after}
+use Rattle.strat_store.specs.Settling.{StandApart}
 use Rattle.strat_store.specs.Recovering.{held_of, empty_cache}
 use Rattle.strat_store.proofs.OnDiskLemmas.{written_as}
 use Rattle.strat_store.proofs.ObstacleLemmas.{short_block, short_cause}
@@ -52,3 +54,13 @@ returns-in_err-next-clause-cause g c = short_cause c.from_residual-in_err-next.r
 
 pub returns-in_err-next-clause-damaged : goal.returns-in_err-next-clause-damaged
 returns-in_err-next-clause-damaged g c = λ b bad. absurd (short_block c.from_residual-in_err-next.result _ c.from_residual-in_err-next.ensures.1 c.in_err-next.ensures.cause b bad)
+
+pub returns-clause-kept : goal.returns-clause-kept
+returns-clause-kept g c = (
+  c.in_ok-next.ensures.kept,
+  λ cached.
+      let apart = c.in_ok-computed.ensures.room cached in
+      let y : Chained = record { manifest = manifest_of c.in_ok-computed.computed.manifest; blocks = blocks_of c.in_ok-computed.computed.chain } in
+      subst (λ (y : Chained). StandApart c.in_ok-next.next.target (held_of c.args.held.now cached) y) (sym c.in_ok-next.ensures.found)
+      (subst (λ (n : ℕ). StandApart n (held_of c.args.held.now cached) y) (sym c.in_ok-next.ensures.ok.2) apart),
+)

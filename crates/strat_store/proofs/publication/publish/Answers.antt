@@ -171,9 +171,9 @@ returns-clause-kept g c = λ _ cached.
     let mid = record c.args.held.now { memory = c.make_room.new.memory } in
     let whole = consistent_ready (held_of c.args.held.now cached) c.make_room.new.memory.ready c.make_room.new.memory.cursors.room c.make_room.new.memory c.make_room.ensures.same (c.requires.kept.0 cached) in
     let next = c.in_ok-next.next in
-    let admitted = c.in_ok-next.ensures.kept in
+    let admitted = c.in_ok-next.ensures.kept.0 in
     subst IsConsistent (sym (c.in_ok-settle.ensures.ok cached))
-    (consistent_next (held_of mid cached) next.target (super_of next.sb) (chained_of next.published) next.published.levels whole (c.in_ok-next.ensures.fits cached) c.in_ok-next.ensures.found admitted.spelled admitted.belonging admitted.placed)
+    (consistent_next (held_of mid cached) next.target (super_of next.sb) (chained_of next.published) next.published.levels whole (c.in_ok-next.ensures.fits cached) c.in_ok-next.ensures.found admitted.spelled admitted.belonging admitted.placed (c.in_ok-next.ensures.kept.1 cached))
 
 pub returns-clause-found : goal.returns-clause-found
 returns-clause-found g c =
@@ -203,7 +203,7 @@ returns-clause-end g c = λ other cached on.
     subst (λ (h : Held). IsOnDisk (g.D.Disk.view c.settle.new.disk) h) (sym (c.in_ok-settle.ensures.ok cached))
     (published_on v (g.D.Disk.view c.prepare_next.new.disk) (g.D.Disk.view c.settle.new.disk) (held_of mid cached) next.target (super_of next.sb) (chained_of next.published) next.published.levels
     whole (c.prepare_next.ensures.images cached) c.in_ok-next.ensures.end (g.met.D.Disk.leaves_content c.prepare_next.new.disk) c.in_ok-settle.ensures.end c.settle.ensures.time
-    greater (c.in_ok-next.ensures.fits cached).mem c.in_ok-next.ensures.kept.belonging
+    greater (c.in_ok-next.ensures.fits cached).mem c.in_ok-next.ensures.kept.0.belonging
     (kept_on v (held_of c.args.held.now cached) (held_of mid cached) (record { slot = refl; sb = refl; chained = refl; levels = refl }) on))
 
 pub returns-in_err-make_room-clause-same : goal.returns-in_err-make_room-clause-same
