@@ -17,7 +17,7 @@ use Rattle.strat_model.specs.declared.replies.Reply.{Reply}
 use Rattle.strat_model.specs.declared.replies.Reply.TheVariants as reply
 use Rattle.strat_model.specs.Answer.{Answer, refusal, accepts}
 use Rattle.strat_model.specs.Request.{Request, Put, Delete, Get, Clone, Scan, NextPairs}
-use Rattle.strat_model.specs.Run.{position_after, reaches_disk, is_change, takes_memory}
+use Rattle.strat_model.specs.Run.{EmptiesAtOnce, IsAfter, reaches_disk, is_change, takes_memory}
 use Rattle.strat_model.specs.Step.{step}
 use Rattle.strat_model.specs.Table.{Table, bare}
 use Rattle.strat_promote.specs.Job.{IsBadInput, blocks_listed}
@@ -47,15 +47,16 @@ abbrev pub is_fault : Reply → Bool
 is_fault (reply.Refused r) = tells_fault r
 is_fault _ = false
 
--- a command was answered as the table says, and the store stands at the position after it, but for its cursors
+-- a command was answered as the table says, and the store stands at a position after it, but for its cursors; it uses one
+-- region of its journal at a time
 pub record IsAnsweredBy (now : DiskView) (old : Held) (x : Contents) (request : Request)
     (answer : Answer) (new : Held) : Type 0 where
   pub told : answer ≡ (step (table_of (contents_state x)) request).answer
   pub going : new.spent ≡ false
   pub after : Contents
   pub stands : StandsWith now new after
-  pub place : position_with new after
-      ≡ position_after old.log.mem (position_with old x) request
+  pub place : IsAfter old.log.mem (position_with old x) request (position_with new after)
+  pub fill : EmptiesAtOnce old.log.mem (position_with old x) request (position_with new after)
 
 -- memory ran out for a change that the table accepts, at a full journal, and nothing changed
 pub record IsShortOf (now : DiskView) (old : Held) (x : Contents) (request : Request)
