@@ -9,7 +9,7 @@ use Rattle.strat_extent.specs.Blocks.{SpaceView}
 use Rattle.strat_level.specs.Levels.{level_numbered, leads_if_any}
 use Rattle.strat_level.specs.Memtable.{ItemList}
 use Rattle.strat_level.specs.Target.{IsTarget, leads_down_to}
-use Rattle.strat_slicing.specs.Opened.{AreLent, IsBegunOf, OpenPromotion, IsOpenOver, AreNumbersOf, job_open, slice_numbers}
+use Rattle.strat_slicing.specs.Opened.{AreLent, IsBegunOf, IsOpenOver, AreNumbersOf, job_open, slice_numbers}
 use Rattle.strat_slicing.proofs.OpenedLemmas.{counted, begun_over}
 use Rattle.strat_promote.specs.Closing.{all_extents}
 use Rattle.strat_promote.specs.Job.{input_count}
@@ -24,7 +24,7 @@ use Rattle.strat_slicing.specs.Budget.{IsBudget, MaySlice, SliceNumbers, budget_
 use Rattle.strat_slicing.proofs.BudgetLemmas.{begun as begun_on_time}
 use Rattle.strat_standing.specs.Contents.{Contents, contents_state, sealed_state}
 use Rattle.strat_standing.specs.Occupied.{IsSpaceOf}
-use Rattle.strat_standing.specs.Standing.{LiesIn, ReadsAs}
+use Rattle.strat_standing.specs.Standing.{ReadsAs}
 use Rattle.strat_standing.proofs.PromotedLemmas.{sealed_sound}
 use Rattle.strat_state.specs.Setting.{set_all}
 use Rattle.strat_state.specs.Sound.{IsSound}

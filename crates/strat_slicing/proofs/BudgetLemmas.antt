@@ -1,8 +1,8 @@
 -- The budget of slices, and that the last one comes in time.
-use Rattle.std.proofs.Common.{◌≡◌, ◌≢◌, ◌≤◌, ◌<◌, ◌⊎◌, inl, inr, ◌+◌, ◌-◌, ◌*◌, ◌^◌, ℕ, zero, suc, Bool, true, false, cond, eqb, List, [], ◌∷◌, length, refl, sym, ap, ◌∙◌, subst, arith}
+use Rattle.std.proofs.Common.{◌≡◌, ◌≤◌, ◌<◌, inl, inr, ◌+◌, ◌-◌, ◌*◌, ◌^◌, ℕ, Bool, true, false, cond, eqb, List, [], ◌∷◌, length, refl, sym, ap, ◌∙◌, arith}
 use Rattle.std.specs.Int.{div_ceil}
 use Rattle.std.specs.Prelude.{max}
-use Rattle.std.proofs.lemmas.Bool.{eqb-true, eq-eqb, cases_Bool, cases_lt, true≢false}
+use Rattle.std.proofs.lemmas.Bool.{eqb-true, eq-eqb, cases_lt, true≢false}
 use Rattle.std.proofs.lemmas.Grind.{div_ceil_times}
 use Rattle.std.proofs.Math.Nat.{mul-le-mul_right, add-mul, mul-add}
 use Rattle.strat_slicing.specs.Budget.{changes_left, IsBudget, budget_for, IsOnTime, MaySlice, LeaveOpen}
@@ -85,12 +85,12 @@ pub goes_on : (mem fill sum b taken next : ℕ) → MaySlice mem fill sum b take
 goes_on mem fill sum b taken next may le lt = elim (cases_lt 0 (changes_left mem fill)) [
   | inr none ↦ absurd (let all = last_takes_all mem fill sum b taken next may (omega (arith, none)) le in omega (arith, all, lt))
   | inl some ↦ elim may [
-      | inr all ↦ absurd (omega (arith, all, le, lt))
-      | inl on_time ↦
-          let less : changes_left mem fill ≡ changes_left mem (fill + 1) + 1 = omega (arith, some) in
-          let split : b * changes_left mem fill ≡ b * changes_left mem (fill + 1) + b * 1 = ap (λ (n : ℕ). b * n) less ∙ mul-add b (changes_left mem (fill + 1)) 1 in
-          (omega (arith, some), omega (arith, on_time, split, le))
-    ]
+    | inr all ↦ absurd (omega (arith, all, le, lt))
+    | inl on_time ↦
+        let less : changes_left mem fill ≡ changes_left mem (fill + 1) + 1 = omega (arith, some) in
+        let split : b * changes_left mem fill ≡ b * changes_left mem (fill + 1) + b * 1 = ap (λ (n : ℕ). b * n) less ∙ mul-add b (changes_left mem (fill + 1)) 1 in
+        (omega (arith, some), omega (arith, on_time, split, le))
+  ]
 ]
 
 open_on_time : (mem fill sum b taken : ℕ) (counts : List ℕ) → fill ≤ 2 * mem - 2 → MaySlice mem fill sum b taken → LeaveOpen sum b taken counts → fill + length counts ≤ 2 * mem - 2

@@ -1,5 +1,5 @@
 -- A change that ends a promotion: what it left is published, and then comes its record.
-use Rattle.std.proofs.Common.{◌≡◌, ◌≤◌, ◌<◌, ◌+◌, ◌-◌, ◌*◌, ℕ, Bool, true, List, [], ◌∷◌, ◌++◌, length, Option, sym, ap, ◌∙◌, subst, arith}
+use Rattle.std.proofs.Common.{◌≡◌, ◌≤◌, ◌+◌, List, [], ◌∷◌, ◌++◌, length, Option, sym, ap, ◌∙◌, subst, arith}
 use Rattle.std.proofs.lemmas.List.{length-append}
 use Rattle.strat_base.specs.Change.{Change}
 use Rattle.strat_base.specs.Entries.{Entry}
@@ -13,21 +13,21 @@ use Rattle.strat_journal.specs.Log.{Log}
 use Rattle.strat_model.specs.Step.{step}
 use Rattle.strat_model.specs.Table.{Table}
 use Rattle.strat_slicing.specs.Ending.{PublishesNext, EndsOpen}
-use Rattle.strat_slicing.specs.Opened.{OpenPromotion, IsOpenOver, AppendsOne, StandsOpen}
+use Rattle.strat_slicing.specs.Opened.{OpenPromotion, AppendsOne, StandsOpen}
 use Rattle.strat_slicing.proofs.LastLemmas.{fill_after}
 use Rattle.strat_promote.specs.Promotions.{extents_taken}
 use Rattle.strat_promotion.specs.Promoted.{SaysTheSame}
 use Rattle.strat_recovery.specs.StateTable.{table_of, request_for}
 use Rattle.strat_recovery.proofs.StateTableLemmas.{stays_sound, steps_to}
-use Rattle.strat_standing.specs.Appending.{IsLogOf, with_batch}
+use Rattle.strat_standing.specs.Appending.{with_batch}
 use Rattle.strat_standing.specs.Contents.{Contents, contents_state}
-use Rattle.strat_standing.specs.Standing.{ShowsTable, LeavesContent, ContentsStand}
+use Rattle.strat_standing.specs.Standing.{ShowsTable, ContentsStand}
 use Rattle.strat_standing.proofs.AppendLemmas.{appended_trail, appended_stands}
 use Rattle.strat_standing.proofs.OccupiedLemmas.{free_beside}
 use Rattle.strat_standing.proofs.PromotedLemmas.{none_later}
 use Rattle.strat_standing.proofs.TableLemmas.{same_table}
 use Rattle.strat_standing.proofs.TurnLemmas.{turned_trail, turned_contents}
-use Rattle.strat_state.specs.Sound.{accepts_change, is_accepted, IsSound, Takes}
+use Rattle.strat_state.specs.Sound.{is_accepted, IsSound, Takes}
 
 module _ (v0 mid lay v1 v2 : DiskView) (x y : Contents) (sealed : List Entry) (levels : List (Option LevelDesc)) (others : List Extent) (o : OpenPromotion) (log turned : Log) (change : Change)
     (s : StandsOpen v0 x sealed levels others o) (ends : EndsOpen v0 mid lay v1 v2 x y o log turned change) where

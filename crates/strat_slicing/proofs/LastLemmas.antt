@@ -1,5 +1,5 @@
 -- The last slice: what it made, and the promotion that next contents ask for.
-use Rattle.std.proofs.Common.{◌≡◌, ◌≤◌, ◌<◌, ◌+◌, ◌-◌, ◌*◌, ℕ, List, ◌++◌, length, drop, Option, None, sym, ap, ◌∙◌, subst, arith}
+use Rattle.std.proofs.Common.{◌≡◌, ◌≤◌, ◌<◌, ◌+◌, ◌*◌, ℕ, List, ◌++◌, length, drop, Option, None, sym, ap, ◌∙◌, subst, arith}
 use Rattle.std.proofs.lemmas.Bool.{leb-true}
 use Rattle.std.proofs.lemmas.List.{length-drop, length-take-le, take-append-drop}
 use Rattle.strat_base.specs.Change.{Change}
@@ -9,7 +9,7 @@ use Rattle.strat_base.specs.declared.descriptors.LevelDesc.{LevelDesc}
 use Rattle.strat_crash.specs.Image.{Image}
 use Rattle.strat_crash.proofs.BlockLemmas.{keeps_refl}
 use Rattle.strat_promote.specs.Budget.{count_of_key}
-use Rattle.strat_promote.specs.Promotions.{IsSliced, SamePromotion, entries_taken, target_of, level_of}
+use Rattle.strat_promote.specs.Promotions.{SamePromotion, entries_taken, target_of, level_of}
 use Rattle.strat_promote.specs.Replacing.{LeavesTheSame}
 use Rattle.strat_promote.specs.Stages.{IsMade}
 use Rattle.strat_promote.specs.StateInputs.{IsBegunOver, LeavesPaid, job_of_state}

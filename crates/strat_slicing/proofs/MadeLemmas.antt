@@ -1,5 +1,5 @@
 -- What the last slice made, on the way to its publication.
-use Rattle.std.proofs.Common.{◌≡◌, ◌≤◌, ◌<◌, ◌+◌, ℕ, zero, suc, Bool, true, inl, inr, List, [], ◌∷◌, ◌++◌, length, map, drop, Option, Some, None, refl, sym, ap, ◌∙◌, subst, arith}
+use Rattle.std.proofs.Common.{◌≡◌, ◌≤◌, ℕ, zero, suc, true, inl, inr, List, [], ◌∷◌, ◌++◌, length, map, drop, Option, Some, None, refl, sym, ap, ◌∙◌, subst, arith}
 use Rattle.std.specs.List.{AllByRecursion, flat_map, slice_get}
 use Rattle.std.specs.Option.{option_to_list}
 use Rattle.std.proofs.lemmas.List.{append-nil}
@@ -18,7 +18,7 @@ use Rattle.strat_crash.specs.Image.{Image}
 use Rattle.strat_crash.specs.Moments.{DiskView, OnlyReads, IsDurable}
 use Rattle.strat_extent.proofs.ChangeLemmas.{used_not_free}
 use Rattle.strat_extent.specs.Blocks.{SpaceView, is_used, is_free}
-use Rattle.strat_format.specs.Arrays.{blocks_of, all_some}
+use Rattle.strat_format.specs.Arrays.{blocks_of}
 use Rattle.strat_slicing.specs.Ending.{SlicesLast, IsLastMade}
 use Rattle.strat_slicing.specs.Opened.{OpenPromotion, IsOpenOver, job_open}
 use Rattle.strat_slicing.proofs.LastLemmas.{last_promotes, done_leaves}
@@ -28,27 +28,24 @@ use Rattle.strat_promote.proofs.StateInputsLemmas.{begun_takes, begun_job}
 use Rattle.strat_promote.specs.Closing.{AreAllUsed}
 use Rattle.strat_promote.specs.Job.{Job}
 use Rattle.strat_promote.specs.Owned.{OwnsItsBlocks, extents_made}
-use Rattle.strat_promote.specs.Promotions.{IsSliced, SamePromotion, entries_taken, target_of, level_of, writers_of}
+use Rattle.strat_promote.specs.Promotions.{target_of, level_of, writers_of}
 use Rattle.strat_promote.specs.Stages.{IsMade, IsPlanMade}
 use Rattle.strat_promote.specs.StateInputs.{IsBegunOver, job_of_state}
 use Rattle.strat_promote.specs.Steps.{Inputs}
 use Rattle.strat_promote.specs.declared.promotion.Promotion.{Promotion}
-use Rattle.strat_promote.specs.declared.promotion.Progress.TheVariants as progress
 use Rattle.strat_promote.specs.declared.step.Task.{Task}
 use Rattle.strat_promotion.specs.Promoted.{levels_to, levels_behind}
-use Rattle.strat_recovery.specs.Opened.{level_on}
 use Rattle.strat_standing.proofs.ComputedLemmas.{promotion_next, computed_prepared}
 use Rattle.strat_standing.proofs.ListLemmas.{among_contained}
 use Rattle.strat_standing.proofs.LocalLemmas.{levels_local, level_blocks}
 use Rattle.strat_standing.proofs.PartLemmas.{arrays_new}
 use Rattle.strat_standing.proofs.PromotedLemmas.{sealed_sound}
-use Rattle.strat_standing.specs.Contents.{Contents, contents_state, sealed_state}
+use Rattle.strat_standing.specs.Contents.{Contents, sealed_state}
 use Rattle.strat_standing.specs.Next.{AreNewArrays, AreArraysOf, IsNextOf, HasManifest, arrays_made}
 use Rattle.strat_standing.specs.Occupied.{IsSpaceOf}
 use Rattle.strat_standing.specs.Publication.{IsPrepared}
 use Rattle.strat_standing.specs.Standing.{ReadsAs, LeavesContent, ContentsStand}
 use Rattle.strat_state.specs.Sound.{IsSound}
-use Rattle.strat_state.specs.State.{State, versions_of}
 
 -- what holds of the extents of each array
 extents_at : (P : List Extent → Type 0) (arrays : List ArrayDesc) (q : ℕ) (a : ArrayDesc) → AllByRecursion P (map (λ (x : ArrayDesc). x.extents) arrays) → slice_get arrays q ≡ Some a → P a.extents

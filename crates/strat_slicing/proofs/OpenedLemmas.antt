@@ -1,8 +1,8 @@
 -- A promotion that is open over contents, in slices and between them.
-use Rattle.std.proofs.Common.{◌≡◌, ◌≤◌, ◌<◌, ◌+◌, ◌-◌, ◌*◌, ◌^◌, ℕ, zero, suc, Bool, true, false, cond, eqb, leb, ltb, ◌&&◌, inl, inr, List, [], ◌∷◌, ◌++◌, length, map, take, Option, Some, None, refl, sym, ap, ◌∙◌, subst, arith, length-append}
-use Rattle.std.specs.List.{filter_map, flat_map, sum, count_by, Contains}
-use Rattle.std.proofs.lemmas.Bool.{and_parts, leb-true, lt-ltb, ltb-true, cases_Bool, cases_lt, true≢false}
-use Rattle.std.proofs.lemmas.List.{length-map, length-take-le, take-append-le, take-append-drop}
+use Rattle.std.proofs.Common.{◌≡◌, ◌≤◌, ◌<◌, ◌+◌, ◌-◌, ◌*◌, ◌^◌, ℕ, zero, suc, Bool, true, false, cond, eqb, leb, ltb, ◌&&◌, inl, inr, List, [], ◌∷◌, ◌++◌, length, Option, Some, None, refl, sym, ap, ◌∙◌, subst, arith, length-append}
+use Rattle.std.specs.List.{filter_map, flat_map, sum, count_by}
+use Rattle.std.proofs.lemmas.Bool.{and_parts, leb-true, ltb-true, cases_Bool}
+use Rattle.std.proofs.lemmas.List.{length-map, take-append-le}
 use Rattle.strat_arena.specs.Items.{entry_of_item}
 use Rattle.strat_arena.specs.PoolView.{arena_at}
 use Rattle.strat_array.specs.Taking.{AreUsed}
@@ -14,7 +14,6 @@ use Rattle.strat_base.specs.declared.descriptors.Extent.{Extent}
 use Rattle.strat_base.specs.declared.descriptors.LevelDesc.{LevelDesc}
 use Rattle.strat_base.proofs.ListFacts.{Among, among_left, among_right, among_split, among_in_flat, among_flat}
 use Rattle.strat_crash.specs.Blocks.{AgreeOn, KeepsTaken}
-use Rattle.strat_crash.proofs.BlockLemmas.{keeps_refl}
 use Rattle.strat_crash.specs.Image.{Image}
 use Rattle.strat_extent.specs.Blocks.{SpaceView, times_in, is_used, is_free, uses}
 use Rattle.strat_extent.proofs.BlockLemmas.{times_listed}
@@ -24,40 +23,35 @@ use Rattle.strat_format.specs.Layout.{first_free}
 use Rattle.strat_level.specs.Levels.{level_numbered}
 use Rattle.strat_level.specs.Memtable.{ItemList}
 use Rattle.strat_slicing.specs.Opened.{KeepsBehind, AreLent, IsBegunOf, OpenPromotion, IsOpenOver, job_open, sliced_to}
-use Rattle.strat_plan.specs.Groups.{grouped_entries}
-use Rattle.strat_promote.specs.Budget.{count_of_key}
-use Rattle.strat_promote.specs.Replacing.{LeavesTheSame}
-use Rattle.strat_promote.specs.Stages.{IsMade}
-use Rattle.strat_promote.specs.Between.{KeepsItsBlocks, HasUsedBlocks}
+use Rattle.strat_promote.specs.Between.{KeepsItsBlocks}
 use Rattle.strat_promote.specs.Closing.{AreAllUsed}
 use Rattle.strat_promote.specs.Job.{Job, arrays_to, blocks_listed, input_count}
-use Rattle.strat_promote.specs.Promotions.{IsBegun, IsOpen, IsItsJob, HasBegun, IsSliced, SamePromotion, extents_taken, writers_of, entries_taken, leads_listed, target_of, level_of}
+use Rattle.strat_promote.specs.Promotions.{IsBegun, IsOpen, IsItsJob, HasBegun, IsSliced, SamePromotion, extents_taken, writers_of, entries_taken, leads_listed, target_of}
 use Rattle.strat_promote.specs.Spaces.{TakesMore}
-use Rattle.strat_promote.specs.StateInputs.{IsBegunOver, LeavesPaid, job_of_state}
+use Rattle.strat_promote.specs.StateInputs.{IsBegunOver, job_of_state}
 use Rattle.strat_promote.specs.Steps.{Inputs, IsTaskIn}
 use Rattle.strat_promote.specs.declared.promotion.Promotion.{Promotion}
 use Rattle.strat_promote.specs.declared.promotion.Progress.TheVariants as progress
 use Rattle.strat_promote.specs.declared.step.Task.{Task}
 use Rattle.strat_promote.proofs.BetweenLemmas.{goes_on}
 use Rattle.strat_promote.proofs.SliceLemmas.{count_same}
-use Rattle.strat_promote.proofs.StateInputsLemmas.{begun_its_job, begun_paid, begun_leaves_later}
+use Rattle.strat_promote.proofs.StateInputsLemmas.{begun_its_job}
 use Rattle.strat_recovery.specs.Head.{descriptors}
 use Rattle.strat_recovery.specs.Opened.{level_on}
 use Rattle.strat_slicing.specs.Budget.{MaySlice}
 use Rattle.strat_slicing.proofs.BudgetLemmas.{goes_on as goes_on_time}
 use Rattle.strat_standing.specs.Appending.{with_batch}
-use Rattle.strat_standing.specs.Contents.{Contents, contents_state, named_blocks, sealed_state, sealed_part, later_part}
-use Rattle.strat_standing.specs.Occupied.{IsSpaceOf, times_named}
+use Rattle.strat_standing.specs.Contents.{Contents, contents_state, named_blocks, sealed_state}
+use Rattle.strat_standing.specs.Occupied.{IsSpaceOf}
 use Rattle.strat_standing.specs.Standing.{LiesIn, ReadsAs}
 use Rattle.strat_standing.proofs.ListLemmas.{contained_among}
 use Rattle.strat_standing.proofs.OccupiedLemmas.{joined_beside, named_used, counted_some}
 use Rattle.strat_standing.proofs.PlaceLemmas.{named_behind}
 use Rattle.strat_standing.proofs.PromotedLemmas.{sealed_sound}
-use Rattle.strat_promotion.specs.Promoted.{promoted, levels_behind}
-use Rattle.strat_promotion.specs.Sealed.{sealed_at, grown_by}
+use Rattle.strat_promotion.specs.Sealed.{sealed_at}
 use Rattle.strat_state.specs.Setting.{set_all}
 use Rattle.strat_state.specs.Sound.{IsSound}
-use Rattle.strat_state.specs.State.{State, versions_of, journal_updates, IsPaid}
+use Rattle.strat_state.specs.State.{State, versions_of, journal_updates}
 
 -- what is lent is what it was begun with
 module _ (f : Image) (x : Contents) (sealed : List Entry) (levels : List (Option LevelDesc)) (was : Promotion) (inputs : Inputs) (lies : LiesIn f x) (b : IsBegunOf x sealed levels was)

@@ -1,12 +1,10 @@
 -- A change over an open promotion: one slice, and then its record.
-use Rattle.std.proofs.Common.{◌≡◌, ◌≤◌, ◌<◌, ◌+◌, ◌-◌, ◌*◌, ℕ, Bool, true, List, [], ◌∷◌, ◌++◌, length, Option, sym, ap, ◌∙◌, subst, arith}
-use Rattle.std.proofs.lemmas.Bool.{leb-true}
+use Rattle.std.proofs.Common.{◌≤◌, ◌+◌, ◌-◌, ◌*◌, ℕ, List, [], ◌∷◌, ◌++◌, length, Option, sym, subst, arith}
 use Rattle.strat_base.specs.Change.{Change}
 use Rattle.strat_base.specs.Entries.{Entry}
 use Rattle.strat_base.specs.declared.descriptors.Extent.{Extent}
 use Rattle.strat_base.specs.declared.descriptors.LevelDesc.{LevelDesc}
-use Rattle.strat_crash.specs.Image.{Image}
-use Rattle.strat_crash.specs.Moments.{DiskView, Exposes}
+use Rattle.strat_crash.specs.Moments.{DiskView}
 use Rattle.strat_crash.specs.Trail.{Trail}
 use Rattle.strat_crash.proofs.TrailLemmas.{trail_join}
 use Rattle.strat_extent.specs.Blocks.{SpaceView, is_free}
@@ -17,14 +15,13 @@ use Rattle.strat_promote.specs.Promotions.{extents_taken}
 use Rattle.strat_promote.specs.declared.promotion.Promotion.{Promotion}
 use Rattle.strat_recovery.specs.StateTable.{table_of}
 use Rattle.strat_recovery.proofs.StateTableLemmas.{stays_sound}
-use Rattle.strat_model.specs.Table.{Table}
-use Rattle.strat_standing.specs.Appending.{IsLogOf, with_batch}
+use Rattle.strat_standing.specs.Appending.{with_batch}
 use Rattle.strat_standing.specs.Contents.{Contents, contents_state}
-use Rattle.strat_standing.specs.Standing.{ReadsAs, ShowsTable, LeavesContent, ContentsStand}
+use Rattle.strat_standing.specs.Standing.{ShowsTable, ContentsStand}
 use Rattle.strat_standing.proofs.AppendLemmas.{appended_trail, appended_stands}
 use Rattle.strat_standing.proofs.FreeLemmas.{free_trail, free_stands}
 use Rattle.strat_standing.proofs.OccupiedLemmas.{free_beside}
-use Rattle.strat_state.specs.Sound.{accepts_change, IsSound, Takes}
+use Rattle.strat_state.specs.Sound.{IsSound, Takes}
 
 module _ (v0 v1 v2 : DiskView) (x : Contents) (sealed : List Entry) (levels : List (Option LevelDesc)) (others : List Extent) (o : OpenPromotion) (q : Promotion) (space : SpaceView) (log : Log) (change : Change)
     (s : StandsOpen v0 x sealed levels others o) (steps : StepsOpen v0 v1 v2 x (job_open x levels s.open_over.was) o q space log change) where

@@ -147,8 +147,11 @@ abbrev pub AreNumbersOf : ℕ → ℕ → List ℕ → Option OpenPromotion → 
 AreNumbersOf mem fill leads (Some o) n = n ≡ slice_numbers o
 AreNumbersOf mem fill leads None n =
     (target : ℕ) × IsTarget leads mem target
-    × (n ≡ record { budget = budget_for mem fill (leads_down_to leads target);
-      sum = leads_down_to leads target; taken = 0 })
+    × (n ≡ record {
+      budget = budget_for mem fill (leads_down_to leads target);
+      sum = leads_down_to leads target;
+      taken = 0;
+    })
 
 -- no key has more entries among those that are merged
 abbrev pub IsMostOfKey : Image → Job → ℕ → Type 0

@@ -55,23 +55,31 @@ pub fn a_begun_promotion_is_open()
         → IsSpaceOf space x others → IsBudget x.sb.mem (length x.journal)
         (leads_down_to (leads_listed inputs.zero levels) (target_of p)) n
         → IsOpenOver f x (length x.journal) sealed levels others (record {
-        promotion = p; space = space; budget = n;
-        sum = leads_down_to (leads_listed inputs.zero levels) (target_of p) }) }
+          promotion = p;
+          space = space;
+          budget = n;
+          sum = leads_down_to (leads_listed inputs.zero levels) (target_of p);
+        }) }
     ensures whole { (f : Image) (x : Contents) (sealed : List Entry)
         (levels : List (Option LevelDesc)) (others : List Extent) (inputs : Inputs) (p : Promotion)
         (space : SpaceView) (n : ℕ) → ReadsAs f x → IsSound (contents_state x)
         → IsBegunOf x sealed levels p → AreLent sealed levels (sealed_state x) inputs
         → IsSpaceOf space x others → 2 ^ 25 ≤ n
         → IsOpenOver f x (length x.journal) sealed levels others (record {
-        promotion = p; space = space; budget = n;
-        sum = leads_down_to (leads_listed inputs.zero levels) (target_of p) }) }
+          promotion = p;
+          space = space;
+          budget = n;
+          sum = leads_down_to (leads_listed inputs.zero levels) (target_of p);
+        }) }
     ensures numbers { (zero : ItemList) (levels : List (Option LevelDesc))
         (mem versions id fill : ℕ) (p : Promotion) (space : SpaceView)
         → IsBegun zero levels mem versions id p
         → AreNumbersOf mem fill (leads_listed zero levels) None (slice_numbers (record {
-        promotion = p; space = space;
-        budget = budget_for mem fill (leads_down_to (leads_listed zero levels) (target_of p));
-        sum = leads_down_to (leads_listed zero levels) (target_of p) })) }
+          promotion = p;
+          space = space;
+          budget = budget_for mem fill (leads_down_to (leads_listed zero levels) (target_of p));
+          sum = leads_down_to (leads_listed zero levels) (target_of p);
+        })) }
 {}
 
 /// What is lent to an open promotion is what it was begun with, so its job is that of what was sealed.
