@@ -5,7 +5,7 @@ use Rattle.std.specs.Prelude.{max}
 use Rattle.std.proofs.lemmas.Bool.{eqb-true, eq-eqb, cases_lt, true≢false}
 use Rattle.std.proofs.lemmas.Grind.{div_ceil_times}
 use Rattle.std.proofs.Math.Nat.{mul-le-mul_right, add-mul, mul-add}
-use Rattle.strat_slicing.specs.Budget.{changes_left, IsBudget, budget_for, IsOnTime, MaySlice, LeaveOpen}
+use Rattle.strat_slicing.specs.Budget.{changes_left, IsBudget, budget_for, IsOnTime, EndsInTime, LeaveOpen}
 
 times_one : (n k : ℕ) → 1 ≤ n → k ≤ n * k
 times_one n k some = let more = mul-le-mul_right {m = 1} {n = n} k some in omega (arith, more)
@@ -66,14 +66,14 @@ only_budget mem fill sum b is =
           is.last zero_left ∙ sym (made.last zero_left)
     ]
 
-pub begun : (mem fill sum b : ℕ) → IsBudget mem fill sum b → sum ≤ 2 ^ 24 → MaySlice mem fill sum b 0
+pub begun : (mem fill sum b : ℕ) → IsBudget mem fill sum b → sum ≤ 2 ^ 24 → EndsInTime mem fill sum b 0
 begun mem fill sum b is few = elim (cases_lt 0 (changes_left mem fill)) [
   | inl some ↦ inl (let le = is.enough some in omega (arith, le))
   | inr none ↦ inr (let big = is.last (omega (arith, none)) in omega (arith, big, few))
 ]
 
 -- no change left: then this slice takes all
-pub last_takes_all : (mem fill sum b taken next : ℕ) → MaySlice mem fill sum b taken → changes_left mem fill ≡ 0 → taken + b ≤ next → 2 * sum ≤ next
+pub last_takes_all : (mem fill sum b taken next : ℕ) → EndsInTime mem fill sum b taken → changes_left mem fill ≡ 0 → taken + b ≤ next → 2 * sum ≤ next
 last_takes_all mem fill sum b taken next may none le = elim may [
   | inr all ↦ omega (arith, all, le)
   | inl on_time ↦
@@ -81,7 +81,7 @@ last_takes_all mem fill sum b taken next may none le = elim may [
       omega (arith, on_time, nothing, le)
 ]
 
-pub goes_on : (mem fill sum b taken next : ℕ) → MaySlice mem fill sum b taken → taken + b ≤ next → next < 2 * sum → (fill + 1 ≤ 2 * mem - 2) × IsOnTime mem (fill + 1) sum b next
+pub goes_on : (mem fill sum b taken next : ℕ) → EndsInTime mem fill sum b taken → taken + b ≤ next → next < 2 * sum → (fill + 1 ≤ 2 * mem - 2) × IsOnTime mem (fill + 1) sum b next
 goes_on mem fill sum b taken next may le lt = elim (cases_lt 0 (changes_left mem fill)) [
   | inr none ↦ absurd (let all = last_takes_all mem fill sum b taken next may (omega (arith, none)) le in omega (arith, all, lt))
   | inl some ↦ elim may [
@@ -93,7 +93,7 @@ goes_on mem fill sum b taken next may le lt = elim (cases_lt 0 (changes_left mem
   ]
 ]
 
-open_on_time : (mem fill sum b taken : ℕ) (counts : List ℕ) → fill ≤ 2 * mem - 2 → MaySlice mem fill sum b taken → LeaveOpen sum b taken counts → fill + length counts ≤ 2 * mem - 2
+open_on_time : (mem fill sum b taken : ℕ) (counts : List ℕ) → fill ≤ 2 * mem - 2 → EndsInTime mem fill sum b taken → LeaveOpen sum b taken counts → fill + length counts ≤ 2 * mem - 2
 open_on_time mem fill sum b taken [] high may all = omega (arith, high)
 open_on_time mem fill sum b taken (next ∷ later) high may all =
     let on = goes_on mem fill sum b taken next may all.0 all.1 in

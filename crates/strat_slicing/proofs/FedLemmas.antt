@@ -7,9 +7,10 @@ use Rattle.strat_arena.specs.PoolView.{arena_at}
 use Rattle.strat_base.specs.Entries.{Entry}
 use Rattle.strat_base.specs.declared.descriptors.LevelDesc.{LevelDesc}
 use Rattle.strat_level.specs.Memtable.{ListStands}
-use Rattle.strat_slicing.specs.Opened.{AreLent, IsBegunOf, MayRead}
+use Rattle.strat_slicing.specs.Opened.{AreLent, IsBegunOf, MayRead, OpenPromotion, MayBeSliced}
+use Rattle.strat_promote.specs.Closing.{AreAllUsed}
 use Rattle.strat_promote.specs.Job.{AreReadable, arrays_to}
-use Rattle.strat_promote.specs.Promotions.{IsBegun, IsFed, SamePromotion}
+use Rattle.strat_promote.specs.Promotions.{IsBegun, IsOpen, IsFed, SamePromotion, ReadsFrom, writers_of, target_of}
 use Rattle.strat_promote.specs.Steps.{Inputs}
 use Rattle.strat_promote.specs.declared.promotion.Promotion.{Promotion}
 use Rattle.strat_promote.specs.declared.step.Task.{Task}
@@ -39,3 +40,14 @@ module _ (x : Contents) (sealed : List Entry) (levels : List (Option LevelDesc))
     known = omega (arith, horizon_is, known);
     first = omega (arith, ap (λ (t : Task). t.first) same.task, begun.first, may.first);
   }
+
+-- an open promotion meets what a slice asks for
+pub may_slice : (x : Contents) (sealed : List Entry) (levels : List (Option LevelDesc)) (o : OpenPromotion) (inputs : Inputs) → MayBeSliced x sealed levels o → AreLent sealed levels (sealed_state x) inputs
+    → ListStands inputs.pool inputs.zero → length (versions_of (sealed_state x)) ≤ length inputs.parents → IsOpen o.promotion × IsFed o.promotion inputs × (1 ≤ o.budget) × AreAllUsed o.space (writers_of o.promotion)
+may_slice x sealed levels o inputs m lent stands known = (m.steady, fed_on x sealed levels m.was o.promotion inputs m.begun m.may lent stands known m.same, m.some, m.used)
+
+pub reads_its_arrays : (x : Contents) (sealed : List Entry) (levels : List (Option LevelDesc)) (o : OpenPromotion) (inputs : Inputs) → MayBeSliced x sealed levels o → AreLent sealed levels (sealed_state x) inputs
+    → ReadsFrom (arrays_to inputs.levels (target_of o.promotion)) o.promotion
+reads_its_arrays x sealed levels o inputs m lent =
+    subst (λ (ls : List (Option LevelDesc)). ReadsFrom (arrays_to ls (target_of o.promotion)) o.promotion) (sym lent.levels_are)
+    (subst (λ (t : Task). ReadsFrom (arrays_to levels t.target) o.promotion) (sym m.same.task) m.reads)

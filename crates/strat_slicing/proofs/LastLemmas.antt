@@ -34,25 +34,25 @@ use Rattle.strat_state.specs.State.{State, IsPaid}
 
 -- the last slice: the level is made
 module _ (f g : Image) (x : Contents) (fill : ℕ) (sealed : List Entry) (levels : List (Option LevelDesc)) (others : List Extent) (o : OpenPromotion) (q : Promotion) (inputs : Inputs)
-    (p : IsOpenOver f x fill sealed levels others o) (s : SlicesLast f g x sealed levels (job_open x levels p.was) o q inputs) where
-  over : IsBegunOver f (sealed_state x) inputs p.was
-  over = begun_over f x sealed levels p.was inputs s.reads.lies p.begun s.lent
+    (p : IsOpenOver f x fill sealed levels others o) (s : SlicesLast f g x sealed levels (job_open x levels p.going.was) o q inputs) where
+  over : IsBegunOver f (sealed_state x) inputs p.going.was
+  over = begun_over f x sealed levels p.going.was inputs s.reads.lies p.going.begun s.lent
 
-  whole : SamePromotion p.was q
-  whole = record { task = s.same.task ∙ p.same.task }
+  whole : SamePromotion p.going.was q
+  whole = record { task = s.same.task ∙ p.going.same.task }
 
   before : IsSound (sealed_state x)
   before = sealed_sound x s.sound
 
-  target_same : target_of q ≡ target_of p.was
+  target_same : target_of q ≡ target_of p.going.was
   target_same = ap (λ (t : Task). t.target) whole.task
 
-  made_here : IsMade f g (job_of_state (sealed_state x) inputs.levels (target_of p.was)) (target_of q) q.task.first (level_of q)
-  made_here = subst (λ (ls : List (Option LevelDesc)). IsMade f g (job_of_state (sealed_state x) ls (target_of p.was)) (target_of q) q.task.first (level_of q)) (sym s.lent.levels_are) s.sliced.1
+  made_here : IsMade f g (job_of_state (sealed_state x) inputs.levels (target_of p.going.was)) (target_of q) q.task.first (level_of q)
+  made_here = subst (λ (ls : List (Option LevelDesc)). IsMade f g (job_of_state (sealed_state x) ls (target_of p.going.was)) (target_of q) q.task.first (level_of q)) (sym s.lent.levels_are) s.sliced.1
 
   at_was : LeavesTheSame g (level_of q) (contents_state x) (λ fresh written next.
-      grown_by (promoted (sealed_state x) (fresh ++ levels_behind (target_of p.was) x.levels) written next) (later_part x))
-  at_was = begun_leaves_later f f g (contents_state x) (sealed_part x) (later_part x) inputs p.was q q.task.first (level_of q) s.sound (sym (take-append-drop x.sb.mem x.journal)) over whole (λ b of. keeps_refl b f) made_here
+      grown_by (promoted (sealed_state x) (fresh ++ levels_behind (target_of p.going.was) x.levels) written next) (later_part x))
+  at_was = begun_leaves_later f f g (contents_state x) (sealed_part x) (later_part x) inputs p.going.was q q.task.first (level_of q) s.sound (sym (take-append-drop x.sb.mem x.journal)) over whole (λ b of. keeps_refl b f) made_here
 
   -- the state with it and with what came since says the same and is sound
   pub done_leaves : LeavesTheSame g (level_of q) (contents_state x) (λ fresh written next.
@@ -66,18 +66,18 @@ module _ (f g : Image) (x : Contents) (fill : ℕ) (sealed : List Entry) (levels
       → LeavesPaid g (level_of q) (sealed_state x) (λ fresh written next. promoted (sealed_state x) (fresh ++ levels_behind (target_of q) x.levels) written next)
   done_paid paid some honest =
       let here : IsPaid (sealed_state x) = record { shallow = paid.shallow; bounded = paid.bounded } in
-      let full : x.sb.mem ≤ length (sealed_part x) = omega (arith, length-take-le x.sb.mem x.journal p.begun.full) in
+      let full : x.sb.mem ≤ length (sealed_part x) = omega (arith, length-take-le x.sb.mem x.journal p.going.begun.full) in
       subst (λ (n : ℕ). LeavesPaid g (level_of q) (sealed_state x) (λ fresh written next. promoted (sealed_state x) (fresh ++ levels_behind n x.levels) written next)) (sym target_same)
-      (begun_paid f (sealed_state x) inputs p.was before over f g q q.task.first (level_of q) whole (λ b of. keeps_refl b f) made_here here some honest (λ one. full))
+      (begun_paid f (sealed_state x) inputs p.going.was before over f g q q.task.first (level_of q) whole (λ b of. keeps_refl b f) made_here here some honest (λ one. full))
 
   -- and it did not come early: with the entries of one key both passes are exceeded
-  pub done_late : (key : List ℕ) × (2 * o.sum < entries_taken o.promotion + o.budget + count_of_key f (job_open x levels p.was) key)
+  pub done_late : (key : List ℕ) × (2 * o.sum < entries_taken o.promotion + o.budget + count_of_key f (job_open x levels p.going.was) key)
   done_late =
       let near = s.sliced.3 in
       (near.last, omega (arith, near.below, s.sliced.2, p.sum_is))
 
   -- so it keeps to its budget
-  pub done_in_budget : (most : ℕ) → IsMostOfKey f (job_open x levels p.was) most → KeepsToBudget (slice_numbers o) most None
+  pub done_in_budget : (most : ℕ) → IsMostOfKey f (job_open x levels p.going.was) most → KeepsToBudget (slice_numbers o) most None
   done_in_budget most all =
       let late = done_late in
       let few = all late.0 in

@@ -55,41 +55,41 @@ extents_at P (x ∷ arrays) (suc q) a all there = extents_at P arrays q a all.1 
 
 -- the last slice made a level in new arrays
 module _ (f g : Image) (x : Contents) (fill : ℕ) (sealed : List Entry) (levels : List (Option LevelDesc)) (others : List Extent) (o : OpenPromotion) (q : Promotion) (inputs : Inputs)
-    (p : IsOpenOver f x fill sealed levels others o) (s : SlicesLast f g x sealed levels (job_open x levels p.was) o q inputs) (owns : OwnsItsBlocks (writers_of q) (level_of q)) where
-  over : IsBegunOver f (sealed_state x) inputs p.was
-  over = begun_over f x sealed levels p.was inputs s.reads.lies p.begun s.lent
+    (p : IsOpenOver f x fill sealed levels others o) (s : SlicesLast f g x sealed levels (job_open x levels p.going.was) o q inputs) (owns : OwnsItsBlocks (writers_of q) (level_of q)) where
+  over : IsBegunOver f (sealed_state x) inputs p.going.was
+  over = begun_over f x sealed levels p.going.was inputs s.reads.lies p.going.begun s.lent
 
   before : IsSound (sealed_state x)
   before = sealed_sound x s.sound
 
   abbrev target : ℕ
-  target = target_of p.was
+  target = target_of p.going.was
 
   abbrev the_job : Job
   the_job = job_of_state (sealed_state x) inputs.levels target
 
-  task_same : q.task ≡ p.was.task
-  task_same = s.same.task ∙ p.same.task
+  task_same : q.task ≡ p.going.was.task
+  task_same = s.same.task ∙ p.going.same.task
 
-  made_is : IsMade f g the_job target p.was.task.first (level_of q)
+  made_is : IsMade f g the_job target p.going.was.task.first (level_of q)
   made_is =
-      subst (λ (ls : List (Option LevelDesc)). IsMade f g (job_of_state (sealed_state x) ls target) target p.was.task.first (level_of q)) (sym s.lent.levels_are)
-      (subst (λ (t : Task). IsMade f g (job_open x levels p.was) t.target t.first (level_of q)) task_same s.sliced.1)
+      subst (λ (ls : List (Option LevelDesc)). IsMade f g (job_of_state (sealed_state x) ls target) target p.going.was.task.first (level_of q)) (sym s.lent.levels_are)
+      (subst (λ (t : Task). IsMade f g (job_open x levels p.going.was) t.target t.first (level_of q)) task_same s.sliced.1)
 
-  arrays_of_plan : (made : Option LevelDesc) → level_of q ≡ made → AreArraysOf made_is.plan p.was.task.first (arrays_made made)
+  arrays_of_plan : (made : Option LevelDesc) → level_of q ≡ made → AreArraysOf made_is.plan p.going.was.task.first (arrays_made made)
   arrays_of_plan None e =
-      let none : made_is.plan.parts ≡ [] = subst (λ (m : Option LevelDesc). IsPlanMade g the_job target p.was.task.first made_is.groups made_is.plan m) e made_is.level in
+      let none : made_is.plan.parts ≡ [] = subst (λ (m : Option LevelDesc). IsPlanMade g the_job target p.going.was.task.first made_is.groups made_is.plan m) e made_is.level in
       record { len = sym (ap (λ (ps : List _). length ps) none); each = λ n a there. absurd (cc) }
   arrays_of_plan (Some level) e =
-      let one = subst (λ (m : Option LevelDesc). IsPlanMade g the_job target p.was.task.first made_is.groups made_is.plan m) e made_is.level in
+      let one = subst (λ (m : Option LevelDesc). IsPlanMade g the_job target p.going.was.task.first made_is.groups made_is.plan m) e made_is.level in
       let spelled = subst (λ (m : Option LevelDesc). AllByRecursion (λ (xs : List Extent). AreMaximal xs × AreWithin xs) (extents_made m)) e owns.each in
       record {
         len = one.len;
         each = λ n a there.
             let within = slice_get_within level.arrays n a there in
             let got =
-            made_arrays f g (sealed_state x) target p.was.task.first (levels_to target x.levels) (levels_behind target x.levels) the_job (level_of q) made_is
-            (begun_job f (sealed_state x) inputs p.was before over) before level one n (omega (arith, within, one.len)) in
+            made_arrays f g (sealed_state x) target p.going.was.task.first (levels_to target x.levels) (levels_behind target x.levels) the_job (level_of q) made_is
+            (begun_job f (sealed_state x) inputs p.going.was before over) before level one n (omega (arith, within, one.len)) in
             let both : Some got.0 ≡ Some a = sym got.1 ∙ there in
             let alike : got.0 ≡ a = cc in
             let here : AreMaximal a.extents × AreWithin a.extents = extents_at (λ (xs : List Extent). AreMaximal xs × AreWithin xs) level.arrays n a spelled there in
@@ -105,14 +105,14 @@ module _ (f g : Image) (x : Contents) (fill : ℕ) (sealed : List Entry) (levels
   pub last_made : IsLastMade g x (target_of q) (level_of q)
   last_made =
       let promotes =
-      made_promotes f g (sealed_state x) target p.was.task.first (levels_to target x.levels) (levels_behind target x.levels) the_job (level_of q) made_is
-      (begun_job f (sealed_state x) inputs p.was before over) (begun_takes f (sealed_state x) inputs p.was before over) in
-      let first_is : p.was.task.first ≡ x.chained.manifest.next_array = (p.begun.begun inputs.zero (counted f x sealed levels p.was inputs s.reads.lies p.begun s.lent)).first in
+      made_promotes f g (sealed_state x) target p.going.was.task.first (levels_to target x.levels) (levels_behind target x.levels) the_job (level_of q) made_is
+      (begun_job f (sealed_state x) inputs p.going.was before over) (begun_takes f (sealed_state x) inputs p.going.was before over) in
+      let first_is : p.going.was.task.first ≡ x.chained.manifest.next_array = (p.going.begun.begun inputs.zero (counted f x sealed levels p.going.was inputs s.reads.lies p.going.begun s.lent)).first in
       record {
         says = done_leaves f g x fill sealed levels others o q inputs p s;
-        fresh = subst (λ (n : ℕ). AreNewArrays n (arrays_made (level_of q))) first_is (arrays_new _ _ _ made_is.plan p.was.task.first (arrays_made (level_of q)) promotes.split.split (arrays_of_plan (level_of q) refl));
+        fresh = subst (λ (n : ℕ). AreNewArrays n (arrays_made (level_of q))) first_is (arrays_new _ _ _ made_is.plan p.going.was.task.first (arrays_made (level_of q)) promotes.split.split (arrays_of_plan (level_of q) refl));
         numbered = λ level e.
-            (subst (λ (m : Option LevelDesc). IsPlanMade g the_job target p.was.task.first made_is.groups made_is.plan m) e made_is.level).number
+            (subst (λ (m : Option LevelDesc). IsPlanMade g the_job target p.going.was.task.first made_is.groups made_is.plan m) e made_is.level).number
             ∙ sym (ap (λ (t : Task). t.target) task_same);
       }
 

@@ -15,6 +15,7 @@ use Rattle.strat_base.specs.declared.descriptors.LevelDesc.{LevelDesc}
 use Rattle.strat_base.proofs.ListFacts.{Among, among_left, among_right, among_split, among_in_flat, among_flat}
 use Rattle.strat_crash.specs.Blocks.{AgreeOn, KeepsTaken}
 use Rattle.strat_crash.specs.Image.{Image}
+use Rattle.strat_crash.specs.Moments.{DiskView, Exposes}
 use Rattle.strat_extent.specs.Blocks.{SpaceView, times_in, is_used, is_free, uses}
 use Rattle.strat_extent.proofs.BlockLemmas.{times_listed}
 use Rattle.strat_extent.proofs.CountLemmas.{times_append}
@@ -22,7 +23,7 @@ use Rattle.strat_format.specs.Arrays.{blocks_of, all_some}
 use Rattle.strat_format.specs.Layout.{first_free}
 use Rattle.strat_level.specs.Levels.{level_numbered}
 use Rattle.strat_level.specs.Memtable.{ItemList}
-use Rattle.strat_slicing.specs.Opened.{KeepsBehind, AreLent, IsBegunOf, OpenPromotion, IsOpenOver, job_open, sliced_to}
+use Rattle.strat_slicing.specs.Opened.{KeepsBehind, AreLent, IsBegunOf, MayRead, OpenPromotion, MayBeSliced, IsOpenOver, LeavesEntry, job_open, sliced_to}
 use Rattle.strat_promote.specs.Between.{KeepsItsBlocks}
 use Rattle.strat_promote.specs.Closing.{AreAllUsed}
 use Rattle.strat_promote.specs.Job.{Job, arrays_to, blocks_listed, input_count}
@@ -38,7 +39,7 @@ use Rattle.strat_promote.proofs.SliceLemmas.{count_same}
 use Rattle.strat_promote.proofs.StateInputsLemmas.{begun_its_job}
 use Rattle.strat_recovery.specs.Head.{descriptors}
 use Rattle.strat_recovery.specs.Opened.{level_on}
-use Rattle.strat_slicing.specs.Budget.{MaySlice}
+use Rattle.strat_slicing.specs.Budget.{EndsInTime}
 use Rattle.strat_slicing.proofs.BudgetLemmas.{goes_on as goes_on_time}
 use Rattle.strat_standing.specs.Appending.{with_batch}
 use Rattle.strat_standing.specs.Contents.{Contents, contents_state, named_blocks, sealed_state}
@@ -73,11 +74,11 @@ module _ (f : Image) (x : Contents) (sealed : List Entry) (levels : List (Option
   }
 
 pub does_its_job : (f : Image) (x : Contents) (fill : ℕ) (sealed : List Entry) (levels : List (Option LevelDesc)) (others : List Extent) (o : OpenPromotion) (inputs : Inputs) → ReadsAs f x
-    → IsSound (contents_state x) → (p : IsOpenOver f x fill sealed levels others o) → AreLent sealed levels (sealed_state x) inputs → IsItsJob f o.promotion inputs (job_open x levels p.was)
+    → IsSound (contents_state x) → (p : IsOpenOver f x fill sealed levels others o) → AreLent sealed levels (sealed_state x) inputs → IsItsJob f o.promotion inputs (job_open x levels p.going.was)
 does_its_job f x fill sealed levels others o inputs reads sound p lent =
-    let at_was = begun_its_job f (sealed_state x) inputs p.was (sealed_sound x sound) (begun_over f x sealed levels p.was inputs reads.lies p.begun lent) in
-    let here : IsTaskIn f p.was.task inputs (job_open x levels p.was) = subst (λ (ls : List (Option LevelDesc)). IsTaskIn f p.was.task inputs (job_of_state (sealed_state x) ls (target_of p.was))) lent.levels_are at_was in
-    subst (λ (t : Task). IsTaskIn f t inputs (job_open x levels p.was)) (sym p.same.task) here
+    let at_was = begun_its_job f (sealed_state x) inputs p.going.was (sealed_sound x sound) (begun_over f x sealed levels p.going.was inputs reads.lies p.going.begun lent) in
+    let here : IsTaskIn f p.going.was.task inputs (job_open x levels p.going.was) = subst (λ (ls : List (Option LevelDesc)). IsTaskIn f p.going.was.task inputs (job_of_state (sealed_state x) ls (target_of p.going.was))) lent.levels_are at_was in
+    subst (λ (t : Task). IsTaskIn f t inputs (job_open x levels p.going.was)) (sym p.going.same.task) here
 
 -- the arrays of a promotion are arrays of the contents
 arrays_front : (levels : List (Option LevelDesc)) (j : ℕ) (a : ArrayDesc) → Among a (arrays_to levels j) → Among a (flat_map (λ (l : LevelDesc). l.arrays) (filter_map (λ level. level) levels))
@@ -100,39 +101,49 @@ module _ (x : Contents) (levels : List (Option LevelDesc)) (listed : filter_map 
       (among_in_flat (λ (a : ArrayDesc). blocks_of a.extents) (descriptors x.chained.manifest) at.0 b there at.2)
 
 -- a slice that leaves an entry
-module _ (f g : Image) (x : Contents) (sealed : List Entry) (levels : List (Option LevelDesc)) (others : List Extent) (o : OpenPromotion) (q : Promotion) (space : SpaceView)
+module _ (f g : Image) (x : Contents) (sealed : List Entry) (levels : List (Option LevelDesc)) (others : List Extent) (o : OpenPromotion)
     (p : IsOpenOver f x (length x.journal) sealed levels others o) where
   abbrev job : Job
-  job = job_open x levels p.was
+  job = job_open x levels p.going.was
 
   listed_used : AreUsed o.space (blocks_listed job.arrays)
   listed_used b there =
       named_used o.space x (extents_taken o.promotion ++ others) p.space_is b
-      (block_named x levels p.begun.listed (target_of p.was) b (contained_among (blocks_listed job.arrays) b there))
+      (block_named x levels p.going.begun.listed (target_of p.going.was) b (contained_among (blocks_listed job.arrays) b there))
 
   same_count : KeepsTaken (is_free o.space) f g → input_count g job ≡ input_count f job
   same_count keeps = count_same f g job (used_agree o.space (blocks_listed job.arrays) f g listed_used keeps)
 
-  pub sliced_open : SamePromotion o.promotion q → IsOpen q → TakesMore o.space space (extents_taken o.promotion) (extents_taken q) → AreAllUsed space (writers_of q)
-      → IsSliced f g job (entries_taken o.promotion + o.budget) q progress.More → entries_taken o.promotion + o.budget ≤ entries_taken q → KeepsTaken (is_free o.space) f g
-      → (length x.journal + 1 ≤ 2 * x.sb.mem - 2) × IsOpenOver g x (length x.journal + 1) sealed levels others (sliced_to o q space)
-  sliced_open same steady takes used sliced most keeps =
-      let left : entries_taken q < 2 * o.sum = omega (arith, sliced.1, p.sum_is) in
-      let on = goes_on_time x.sb.mem (length x.journal) o.sum o.budget (entries_taken o.promotion) (entries_taken q) p.on_time most left in (
-        on.0,
-        record {
-          was = p.was;
-          begun = p.begun;
-          same = record { task = same.task ∙ p.same.task };
-          steady = steady;
-          underway = sliced.0;
-          space_is = joined_beside o.space space x others (extents_taken o.promotion) (extents_taken q) p.space_is takes.first takes.used;
-          used = used;
-          some = p.some;
-          sum_is = p.sum_is ∙ sym (same_count keeps);
-          on_time = inl on.1;
-        },
-      )
+-- so a promotion may go on after it
+abbrev pub slice_goes : (old new : DiskView) (x : Contents) (sealed : List Entry) (levels : List (Option LevelDesc)) (o : OpenPromotion) (q : Promotion) (space : SpaceView) (m : MayBeSliced x sealed levels o)
+    → LeavesEntry old new (job_open x levels m.was) o q space → MayBeSliced x sealed levels (sliced_to o q space)
+slice_goes old new x sealed levels o q space m slice = record {
+  was = m.was;
+  begun = m.begun;
+  may = m.may;
+  same = record { task = slice.same.task ∙ m.same.task };
+  steady = slice.steady;
+  used = slice.used;
+  some = m.some;
+  reads = slice.reads m.reads;
+}
+
+pub sliced_open : (old new : DiskView) (f g : Image) (x : Contents) (sealed : List Entry) (levels : List (Option LevelDesc)) (others : List Extent) (o : OpenPromotion) (q : Promotion) (space : SpaceView)
+    → Exposes old f → Exposes new g → (p : IsOpenOver f x (length x.journal) sealed levels others o) → LeavesEntry old new (job_open x levels p.going.was) o q space
+    → (length x.journal + 1 ≤ 2 * x.sb.mem - 2) × IsOpenOver g x (length x.journal + 1) sealed levels others (sliced_to o q space)
+sliced_open old new f g x sealed levels others o q space told tells p slice =
+    let sliced = slice.sliced f g told tells in
+    let left : entries_taken q < 2 * o.sum = omega (arith, sliced.1, p.sum_is) in
+    let on = goes_on_time x.sb.mem (length x.journal) o.sum o.budget (entries_taken o.promotion) (entries_taken q) p.on_time slice.most left in (
+      on.0,
+      record {
+        going = slice_goes old new x sealed levels o q space p.going slice;
+        underway = sliced.0;
+        space_is = joined_beside o.space space x others (extents_taken o.promotion) (extents_taken q) p.space_is slice.takes.first slice.takes.used;
+        sum_is = p.sum_is ∙ sym (same_count f g x sealed levels others o p (slice.tears.content f g told tells));
+        on_time = inl on.1;
+      },
+    )
 
 -- a change that is appended behind a full region
 module _ (x : Contents) (batch : List Change) (full : x.sb.mem ≤ length x.journal) where
@@ -151,6 +162,19 @@ module _ (x : Contents) (batch : List Change) (full : x.sb.mem ≤ length x.jour
 
   pub same_job : (levels : List (Option LevelDesc)) (was : Promotion) → job_open (with_batch x batch) levels was ≡ job_open x levels was
   same_job levels was = ap (λ (s : State). job_of_state s levels (target_of was)) same_sealed
+
+  -- so a promotion may go on over the contents with it
+  abbrev pub change_goes : (sealed : List Entry) (levels : List (Option LevelDesc)) (o : OpenPromotion) → MayBeSliced x sealed levels o → MayBeSliced (with_batch x batch) sealed levels o
+  change_goes sealed levels o m = record {
+    was = m.was;
+    begun = begun_with sealed levels m.was m.begun;
+    may = subst (λ (s : State). MayRead sealed levels (length (versions_of s)) x.chained.manifest.next_array) (sym same_sealed) m.may;
+    same = m.same;
+    steady = m.steady;
+    used = m.used;
+    some = m.some;
+    reads = m.reads;
+  }
 
 -- blocks that are used lie behind the journal
 taken_used : (s : SpaceView) (x : Contents) (xs others : List Extent) (b : ℕ) → IsSpaceOf s x (xs ++ others) → Among b (blocks_of xs) → is_used s b ≡ true
@@ -178,12 +202,12 @@ not_in_front mem b le = elim (cases_Bool (ltb b (first_free mem))) [
 
 module _ (f g : Image) (x : Contents) (fill : ℕ) (sealed : List Entry) (levels : List (Option LevelDesc)) (others : List Extent) (o : OpenPromotion) (reads : ReadsAs f x)
     (p : IsOpenOver f x fill sealed levels others o) (keeps : KeepsBehind x.sb.mem f g) where
-  agree_read : AgreeOn (blocks_listed (job_open x levels p.was).arrays) f g
+  agree_read : AgreeOn (blocks_listed (job_open x levels p.going.was).arrays) f g
   agree_read b there =
-      let named = block_named x levels p.begun.listed (target_of p.was) b (contained_among (blocks_listed (job_open x levels p.was).arrays) b there) in
+      let named = block_named x levels p.going.begun.listed (target_of p.going.was) b (contained_among (blocks_listed (job_open x levels p.going.was).arrays) b there) in
       keeps b (not_in_front x.sb.mem b (named_behind x reads.lies.belonging b named))
 
-  pub blocks_stay : KeepsItsBlocks f g (job_open x levels p.was) o.promotion
+  pub blocks_stay : KeepsItsBlocks f g (job_open x levels p.going.was) o.promotion
   blocks_stay = record {
     read = agree_read;
     taken = λ b there.
@@ -192,25 +216,20 @@ module _ (f g : Image) (x : Contents) (fill : ℕ) (sealed : List Entry) (levels
         keeps b (not_in_front x.sb.mem b (omega (arith, behind, p.space_is.first)));
   }
 
-  pub count_stays : input_count g (job_open x levels p.was) ≡ input_count f (job_open x levels p.was)
-  count_stays = count_same f g (job_open x levels p.was) agree_read
+  pub count_stays : input_count g (job_open x levels p.going.was) ≡ input_count f (job_open x levels p.going.was)
+  count_stays = count_same f g (job_open x levels p.going.was) agree_read
 
 pub appended_open : (f g : Image) (x : Contents) (sealed : List Entry) (levels : List (Option LevelDesc)) (others : List Extent) (o : OpenPromotion) (change : Change) → ReadsAs f x
     → IsOpenOver f x (length x.journal + 1) sealed levels others o → KeepsBehind x.sb.mem f g
     → IsOpenOver g (with_batch x (change ∷ [])) (length (with_batch x (change ∷ [])).journal) sealed levels others o
 appended_open f g x sealed levels others o change reads p keeps =
     let batch : List Change = change ∷ [] in
-    let same = same_job x batch p.begun.full levels p.was in
+    let same = same_job x batch p.going.begun.full levels p.going.was in
     let long : length x.journal + 1 ≡ length (x.journal ++ batch) = omega (arith, length-append x.journal batch) in
     record {
-      was = p.was;
-      begun = begun_with x batch p.begun.full sealed levels p.was p.begun;
-      same = p.same;
-      steady = p.steady;
-      underway = subst (λ (j : Job). HasBegun g j o.promotion) (sym same) (goes_on f g (job_open x levels p.was) o.promotion (blocks_stay f g x (length x.journal + 1) sealed levels others o reads p keeps) p.underway);
+      going = change_goes x batch p.going.begun.full sealed levels o p.going;
+      underway = subst (λ (j : Job). HasBegun g j o.promotion) (sym same) (goes_on f g (job_open x levels p.going.was) o.promotion (blocks_stay f g x (length x.journal + 1) sealed levels others o reads p keeps) p.underway);
       space_is = record { first = p.space_is.first; used = p.space_is.used };
-      used = p.used;
-      some = p.some;
       sum_is = p.sum_is ∙ sym (count_stays f g x (length x.journal + 1) sealed levels others o reads p keeps) ∙ ap (λ (j : Job). input_count g j) (sym same);
-      on_time = subst (λ (n : ℕ). MaySlice x.sb.mem n o.sum o.budget (entries_taken o.promotion)) long p.on_time;
+      on_time = subst (λ (n : ℕ). EndsInTime x.sb.mem n o.sum o.budget (entries_taken o.promotion)) long p.on_time;
     }

@@ -24,8 +24,8 @@ use Rattle.strat_standing.proofs.OccupiedLemmas.{free_beside}
 use Rattle.strat_state.specs.Sound.{IsSound, Takes}
 
 module _ (v0 v1 v2 : DiskView) (x : Contents) (sealed : List Entry) (levels : List (Option LevelDesc)) (others : List Extent) (o : OpenPromotion) (q : Promotion) (space : SpaceView) (log : Log) (change : Change)
-    (s : StandsOpen v0 x sealed levels others o) (steps : StepsOpen v0 v1 v2 x (job_open x levels s.open_over.was) o q space log change) where
-  abbrev slice : LeavesEntry v0 v1 (job_open x levels s.open_over.was) o q space
+    (s : StandsOpen v0 x sealed levels others o) (steps : StepsOpen v0 v1 v2 x (job_open x levels s.open_over.going.was) o q space log change) where
+  abbrev slice : LeavesEntry v0 v1 (job_open x levels s.open_over.going.was) o q space
   slice = steps.slice
 
   abbrev append : AppendsOne v1 v2 log change
@@ -38,9 +38,7 @@ module _ (v0 v1 v2 : DiskView) (x : Contents) (sealed : List Entry) (levels : Li
   after = sliced_to o q space
 
   pub sliced : (length x.journal + 1 ≤ 2 * x.sb.mem - 2) × IsOpenOver stands1.content x (length x.journal + 1) sealed levels others after
-  sliced =
-      sliced_open s.stands.content stands1.content x sealed levels others o q space s.open_over slice.same slice.steady slice.takes slice.used
-      (slice.sliced s.stands.content stands1.content s.stands.exposed stands1.exposed) slice.most (slice.tears.content s.stands.content stands1.content s.stands.exposed stands1.exposed)
+  sliced = sliced_open v0 v1 s.stands.content stands1.content x sealed levels others o q space s.stands.exposed stands1.exposed s.open_over slice
 
   -- so the journal has room for the change
   pub takes : Takes (contents_state x) change

@@ -22,13 +22,13 @@ budget_for mem fill sum =
     if changes_left mem fill == 0 then 2 ^ 63
     else max 1 (div_ceil (2 * sum) (changes_left mem fill))
 
--- a promotion that has taken so many entries ends in time: a slice for each change that is left takes all the others
+-- a promotion that has taken so many entries is on time: a slice for each change that is left takes all the others
 abbrev pub IsOnTime : ℕ → ℕ → ℕ → ℕ → ℕ → Type 0
 IsOnTime mem fill sum b taken = 2 * sum ≤ taken + b * changes_left mem fill
 
--- what holds before a slice: the promotion is on time, or this slice takes all that it has
-abbrev pub MaySlice : ℕ → ℕ → ℕ → ℕ → ℕ → Type 0
-MaySlice mem fill sum b taken = IsOnTime mem fill sum b taken ⊎ (2 * sum ≤ b)
+-- a promotion that is to be sliced ends in time: it is on time, or this slice takes all that it has
+abbrev pub EndsInTime : ℕ → ℕ → ℕ → ℕ → ℕ → Type 0
+EndsInTime mem fill sum b taken = IsOnTime mem fill sum b taken ⊎ (2 * sum ≤ b)
 
 -- slices follow each other, each of which took its budget at least and left an entry: how many entries were taken after each
 abbrev pub LeaveOpen : ℕ → ℕ → ℕ → List ℕ → Type 0

@@ -18,13 +18,13 @@ use Rattle.strat_live.specs.Counting.{SameParents}
 use Rattle.strat_promote.specs.Budget.{count_of_key}
 use Rattle.strat_promote.specs.Closing.{AreAllUsed}
 use Rattle.strat_promote.specs.Job.{Job, AreReadable, arrays_to, input_count}
-use Rattle.strat_promote.specs.Promotions.{IsBegun, IsOpen, HasBegun, IsSliced, SamePromotion, extents_taken, writers_of, entries_taken, leads_listed, target_of}
+use Rattle.strat_promote.specs.Promotions.{IsBegun, IsOpen, HasBegun, IsSliced, SamePromotion, ReadsFrom, extents_taken, writers_of, entries_taken, leads_listed, target_of}
 use Rattle.strat_promote.specs.Spaces.{TakesMore}
 use Rattle.strat_promote.specs.StateInputs.{job_of_state}
 use Rattle.strat_promote.specs.Steps.{Inputs}
 use Rattle.strat_promote.specs.declared.promotion.Progress.TheVariants as progress
 use Rattle.strat_promote.specs.declared.promotion.Promotion.{Promotion}
-use Rattle.strat_slicing.specs.Budget.{MaySlice, SliceNumbers, budget_for}
+use Rattle.strat_slicing.specs.Budget.{EndsInTime, SliceNumbers, budget_for}
 use Rattle.strat_standing.specs.Appending.{AppendsBatch, IsLogOf}
 use Rattle.strat_standing.specs.Contents.{Contents, contents_state, sealed_state}
 use Rattle.strat_standing.specs.Occupied.{IsSpaceOf}
@@ -77,24 +77,42 @@ pub record OpenPromotion : Type 0 where
   pub budget : ℕ
   pub sum : ℕ
 
+-- a promotion that was begun over these leads of level 0 and of the levels, with a space and a budget
+abbrev pub opened_with : List ℕ → Promotion → SpaceView → ℕ → OpenPromotion
+opened_with leads p space budget = record {
+  promotion = p;
+  space = space;
+  budget = budget;
+  sum = leads_down_to leads (target_of p);
+}
+
 -- what a promotion that was begun so is to do
 abbrev pub job_open : Contents → List (Option LevelDesc) → Promotion → Job
 job_open x levels was = job_of_state (sealed_state x) levels (target_of was)
 
--- a promotion is open over contents, as an image has them, at this fill of the journal: it was begun of what they sealed and is
--- underway; the blocks that it has taken are used beside those of the contents and some others; and it ends in time
-pub record IsOpenOver (f : Image) (x : Contents) (fill : ℕ) (sealed : List Entry)
-    (levels : List (Option LevelDesc)) (others : List Extent) (o : OpenPromotion) : Type 0 where
+-- a promotion may go on over contents, whatever a disk has: it was begun of what they sealed, each slice may read that, the blocks
+-- that it has taken are used, and it has only blocks of its arrays still to read
+pub record MayBeSliced (x : Contents) (sealed : List Entry) (levels : List (Option LevelDesc))
+    (o : OpenPromotion) : Type 0 where
   pub was : Promotion
   pub begun : IsBegunOf x sealed levels was
+  pub may : MayRead sealed levels (length (versions_of (sealed_state x)))
+      x.chained.manifest.next_array
   pub same : SamePromotion was o.promotion
   pub steady : IsOpen o.promotion
-  pub underway : HasBegun f (job_open x levels was) o.promotion
-  pub space_is : IsSpaceOf o.space x (extents_taken o.promotion ++ others)
   pub used : AreAllUsed o.space (writers_of o.promotion)
   pub some : 1 ≤ o.budget
-  pub sum_is : o.sum ≡ input_count f (job_open x levels was)
-  pub on_time : MaySlice x.sb.mem fill o.sum o.budget (entries_taken o.promotion)
+  pub reads : ReadsFrom (job_open x levels was).arrays o.promotion
+
+-- a promotion is open over contents, as an image has them, at this fill of the journal: it may go on and is underway; the blocks
+-- that it has taken are used beside those of the contents and some others; and it ends in time
+pub record IsOpenOver (f : Image) (x : Contents) (fill : ℕ) (sealed : List Entry)
+    (levels : List (Option LevelDesc)) (others : List Extent) (o : OpenPromotion) : Type 0 where
+  pub going : MayBeSliced x sealed levels o
+  pub underway : HasBegun f (job_open x levels going.was) o.promotion
+  pub space_is : IsSpaceOf o.space x (extents_taken o.promotion ++ others)
+  pub sum_is : o.sum ≡ input_count f (job_open x levels going.was)
+  pub on_time : EndsInTime x.sb.mem fill o.sum o.budget (entries_taken o.promotion)
 
 -- contents stand on a disk, and a promotion is open over them
 pub record StandsOpen (v : DiskView) (x : Contents) (sealed : List Entry)
@@ -115,6 +133,7 @@ pub record LeavesEntry (old new : DiskView) (job : Job) (o : OpenPromotion) (q :
   pub steady : IsOpen q
   pub takes : TakesMore o.space space (extents_taken o.promotion) (extents_taken q)
   pub used : AreAllUsed space (writers_of q)
+  pub reads : ReadsFrom job.arrays o.promotion → ReadsFrom job.arrays q
   pub most : entries_taken o.promotion + o.budget ≤ entries_taken q
   pub sliced : (f g : Image) → Exposes old f → Exposes new g
       → IsSliced f g job (entries_taken o.promotion + o.budget) q progress.More

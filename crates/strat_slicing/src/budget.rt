@@ -1,7 +1,7 @@
 //! Laws of the budget of slices. Each is the contract of a function that does nothing.
 
 ghost use Rattle.std.specs.Prelude.{◌≡◌, ◌≤◌, ◌<◌, ℕ, ◌+◌, ◌-◌, ◌*◌, ◌^◌, List, length, None, Some};
-ghost use Rattle.strat_slicing.specs.Budget.{changes_left, IsBudget, budget_for, IsOnTime, MaySlice, LeaveOpen, KeepsToBudget};
+ghost use Rattle.strat_slicing.specs.Budget.{changes_left, IsBudget, budget_for, IsOnTime, EndsInTime, LeaveOpen, KeepsToBudget};
 
 /// A journal takes two changes fewer than both regions do: k behind a full region, `mem - 2 - k` are left.
 pub fn two_regions_take_two_changes_fewer()
@@ -29,8 +29,8 @@ pub fn five_entries_have_these_budgets()
 /// and the promotion on time after that change.
 pub fn a_slice_leaves_a_promotion_on_time()
     ensures begun { (mem fill sum b : ℕ) → IsBudget mem fill sum b → sum ≤ 2 ^ 24
-        → MaySlice mem fill sum b 0 }
-    ensures more { (mem fill sum b taken next : ℕ) → MaySlice mem fill sum b taken
+        → EndsInTime mem fill sum b 0 }
+    ensures more { (mem fill sum b taken next : ℕ) → EndsInTime mem fill sum b taken
         → taken + b ≤ next → next < 2 * sum
         → (fill + 1 ≤ 2 * mem - 2) × IsOnTime mem (fill + 1) sum b next }
 {}
@@ -39,13 +39,13 @@ pub fn a_slice_leaves_a_promotion_on_time()
 pub fn a_promotion_ends_in_time()
     ensures room { (mem fill sum b : ℕ) (counts : List ℕ) → IsBudget mem fill sum b → sum ≤ 2 ^ 24
         → fill ≤ 2 * mem - 2 → LeaveOpen sum b 0 counts → fill + length counts ≤ 2 * mem - 2 }
-    ensures last { (mem fill sum b taken next : ℕ) → MaySlice mem fill sum b taken
+    ensures last { (mem fill sum b taken next : ℕ) → EndsInTime mem fill sum b taken
         → changes_left mem fill ≡ 0 → taken + b ≤ next → 2 * sum ≤ next }
 {}
 
 /// A budget of all that both passes have may be given at any fill, and leaves no entry: a promotion then ends in its first slice.
 pub fn a_budget_of_all_ends_a_promotion_at_once()
-    ensures may { (mem fill sum b taken : ℕ) → 2 * sum ≤ b → MaySlice mem fill sum b taken }
+    ensures may { (mem fill sum b taken : ℕ) → 2 * sum ≤ b → EndsInTime mem fill sum b taken }
     ensures last { (sum b taken next : ℕ) → 2 * sum ≤ b → taken + b ≤ next → 2 * sum ≤ next }
 {}
 

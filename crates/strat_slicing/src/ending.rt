@@ -43,14 +43,14 @@ pub fn a_last_slice_may_be_published()
     ensures says { (f g : Image) (x : Contents) (fill : ℕ) (sealed : List Entry)
         (levels : List (Option LevelDesc)) (others : List Extent) (o : OpenPromotion)
         (q : Promotion) (inputs : Inputs) → (p : IsOpenOver f x fill sealed levels others o)
-        → SlicesLast f g x sealed levels (job_open x levels p.was) o q inputs
+        → SlicesLast f g x sealed levels (job_open x levels p.going.was) o q inputs
         → LeavesTheSame g (level_of q) (contents_state x) (λ fresh written next.
         grown_by (promoted (sealed_state x) (fresh ++ levels_behind (target_of q) x.levels)
         written next) (later_part x)) }
     ensures paid { (f g : Image) (x : Contents) (fill : ℕ) (sealed : List Entry)
         (levels : List (Option LevelDesc)) (others : List Extent) (o : OpenPromotion)
         (q : Promotion) (inputs : Inputs) → (p : IsOpenOver f x fill sealed levels others o)
-        → SlicesLast f g x sealed levels (job_open x levels p.was) o q inputs
+        → SlicesLast f g x sealed levels (job_open x levels p.going.was) o q inputs
         → IsPaid (contents_state x) → 0 < x.sb.mem
         → x.chained.manifest.updates ≤ x.chained.manifest.changes
         → LeavesPaid g (level_of q) (sealed_state x) (λ fresh written next.
@@ -63,15 +63,15 @@ pub fn a_last_slice_is_not_early()
     ensures late { (f g : Image) (x : Contents) (fill : ℕ) (sealed : List Entry)
         (levels : List (Option LevelDesc)) (others : List Extent) (o : OpenPromotion)
         (q : Promotion) (inputs : Inputs) → (p : IsOpenOver f x fill sealed levels others o)
-        → SlicesLast f g x sealed levels (job_open x levels p.was) o q inputs
+        → SlicesLast f g x sealed levels (job_open x levels p.going.was) o q inputs
         → (key : List ℕ) × (2 * o.sum < entries_taken o.promotion + o.budget
-        + count_of_key f (job_open x levels p.was) key) }
+        + count_of_key f (job_open x levels p.going.was) key) }
     ensures budget { (f g : Image) (x : Contents) (fill : ℕ) (sealed : List Entry)
         (levels : List (Option LevelDesc)) (others : List Extent) (o : OpenPromotion)
         (q : Promotion) (inputs : Inputs) (most : ℕ)
         → (p : IsOpenOver f x fill sealed levels others o)
-        → SlicesLast f g x sealed levels (job_open x levels p.was) o q inputs
-        → IsMostOfKey f (job_open x levels p.was) most
+        → SlicesLast f g x sealed levels (job_open x levels p.going.was) o q inputs
+        → IsMostOfKey f (job_open x levels p.going.was) most
         → KeepsToBudget (slice_numbers o) most None }
 {}
 
@@ -81,7 +81,7 @@ pub fn what_a_last_slice_made_is_prepared<D: Viewed>()
     ensures made { (f g : Image) (x : Contents) (fill : ℕ) (sealed : List Entry)
         (levels : List (Option LevelDesc)) (others : List Extent) (o : OpenPromotion)
         (q : Promotion) (inputs : Inputs) → (p : IsOpenOver f x fill sealed levels others o)
-        → SlicesLast f g x sealed levels (job_open x levels p.was) o q inputs
+        → SlicesLast f g x sealed levels (job_open x levels p.going.was) o q inputs
         → OwnsItsBlocks (writers_of q) (level_of q) → IsLastMade g x (target_of q) (level_of q) }
     ensures stays { (g h : Image) (x : Contents) (target : ℕ) (made : Option LevelDesc)
         (s : SpaceView) (q : Promotion) → IsLastMade g x target made

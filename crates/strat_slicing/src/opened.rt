@@ -6,9 +6,9 @@ ghost use Rattle.strat_base.specs.Change.{Change};
 ghost use Rattle.strat_base.specs.Entries.{Entry};
 ghost use Rattle.strat_base.specs.declared.descriptors.Extent.{Extent};
 ghost use Rattle.strat_base.specs.declared.descriptors.LevelDesc.{LevelDesc};
-ghost use Rattle.strat_crash.specs.Blocks.{KeepsTaken, TearsBlocks};
+ghost use Rattle.strat_crash.specs.Blocks.{TearsBlocks};
 ghost use Rattle.strat_crash.specs.Image.{Image};
-ghost use Rattle.strat_crash.specs.Moments.{DiskView};
+ghost use Rattle.strat_crash.specs.Moments.{Exposes};
 ghost use Rattle.strat_crash.specs.Trail.{Trail};
 ghost use Rattle.strat_extent.specs.Blocks.{SpaceView, is_free};
 ghost use Rattle.strat_journal.specs.Log.{Log};
@@ -16,16 +16,14 @@ ghost use Rattle.strat_level.specs.Levels.{level_numbered};
 ghost use Rattle.strat_level.specs.Memtable.{ItemList, ListStands};
 ghost use Rattle.strat_level.specs.Target.{leads_down_to};
 ghost use Rattle.strat_promote.specs.Closing.{AreAllUsed};
-ghost use Rattle.strat_promote.specs.Job.{Job};
-ghost use Rattle.strat_promote.specs.Promotions.{IsBegun, IsOpen, IsFed, IsItsJob, IsSliced, SamePromotion, extents_taken, writers_of, entries_taken, leads_listed, target_of};
-ghost use Rattle.strat_promote.specs.Spaces.{TakesMore};
+ghost use Rattle.strat_promote.specs.Job.{Job, arrays_to};
+ghost use Rattle.strat_promote.specs.Promotions.{IsBegun, IsOpen, IsFed, IsItsJob, ReadsFrom, writers_of, leads_listed, target_of};
 ghost use Rattle.strat_promote.specs.StateInputs.{IsBegunOver};
 ghost use Rattle.strat_promote.specs.Steps.{Inputs};
-ghost use Rattle.strat_promote.specs.declared.promotion.Progress.TheVariants as progress;
 ghost use Rattle.strat_promote.specs.declared.promotion.Promotion.{Promotion};
 ghost use Rattle.strat_recovery.specs.StateTable.{table_of};
 ghost use Rattle.strat_slicing.specs.Budget.{IsBudget, KeepsToBudget, budget_for};
-ghost use Rattle.strat_slicing.specs.Opened.{KeepsBehind, AreLent, IsBegunOf, MayRead, OpenPromotion, IsOpenOver, StandsOpen, LeavesEntry, StepsOpen, AreNumbersOf, job_open, sliced_to, slice_numbers};
+ghost use Rattle.strat_slicing.specs.Opened.{KeepsBehind, AreLent, IsBegunOf, MayRead, OpenPromotion, MayBeSliced, IsOpenOver, StandsOpen, LeavesEntry, StepsOpen, AreNumbersOf, job_open, opened_with, sliced_to, slice_numbers};
 ghost use Rattle.strat_standing.specs.Appending.{with_batch};
 ghost use Rattle.strat_standing.specs.Contents.{Contents, contents_state, sealed_state};
 ghost use Rattle.strat_standing.specs.Occupied.{IsSpaceOf};
@@ -51,35 +49,26 @@ pub fn a_begun_promotion_is_open()
     ensures ok { (f : Image) (x : Contents) (sealed : List Entry)
         (levels : List (Option LevelDesc)) (others : List Extent) (inputs : Inputs) (p : Promotion)
         (space : SpaceView) (n : ℕ) → ReadsAs f x → IsSound (contents_state x)
-        → IsBegunOf x sealed levels p → AreLent sealed levels (sealed_state x) inputs
+        → IsBegunOf x sealed levels p → MayRead sealed levels (length (versions_of (sealed_state x)))
+        x.chained.manifest.next_array → AreLent sealed levels (sealed_state x) inputs
         → IsSpaceOf space x others → IsBudget x.sb.mem (length x.journal)
         (leads_down_to (leads_listed inputs.zero levels) (target_of p)) n
-        → IsOpenOver f x (length x.journal) sealed levels others (record {
-          promotion = p;
-          space = space;
-          budget = n;
-          sum = leads_down_to (leads_listed inputs.zero levels) (target_of p);
-        }) }
+        → IsOpenOver f x (length x.journal) sealed levels others
+        (opened_with (leads_listed inputs.zero levels) p space n) }
     ensures whole { (f : Image) (x : Contents) (sealed : List Entry)
         (levels : List (Option LevelDesc)) (others : List Extent) (inputs : Inputs) (p : Promotion)
         (space : SpaceView) (n : ℕ) → ReadsAs f x → IsSound (contents_state x)
-        → IsBegunOf x sealed levels p → AreLent sealed levels (sealed_state x) inputs
+        → IsBegunOf x sealed levels p → MayRead sealed levels (length (versions_of (sealed_state x)))
+        x.chained.manifest.next_array → AreLent sealed levels (sealed_state x) inputs
         → IsSpaceOf space x others → 2 ^ 25 ≤ n
-        → IsOpenOver f x (length x.journal) sealed levels others (record {
-          promotion = p;
-          space = space;
-          budget = n;
-          sum = leads_down_to (leads_listed inputs.zero levels) (target_of p);
-        }) }
+        → IsOpenOver f x (length x.journal) sealed levels others
+        (opened_with (leads_listed inputs.zero levels) p space n) }
     ensures numbers { (zero : ItemList) (levels : List (Option LevelDesc))
         (mem versions id fill : ℕ) (p : Promotion) (space : SpaceView)
         → IsBegun zero levels mem versions id p
-        → AreNumbersOf mem fill (leads_listed zero levels) None (slice_numbers (record {
-          promotion = p;
-          space = space;
-          budget = budget_for mem fill (leads_down_to (leads_listed zero levels) (target_of p));
-          sum = leads_down_to (leads_listed zero levels) (target_of p);
-        })) }
+        → AreNumbersOf mem fill (leads_listed zero levels) None
+        (slice_numbers (opened_with (leads_listed zero levels) p space
+        (budget_for mem fill (leads_down_to (leads_listed zero levels) (target_of p))))) }
 {}
 
 /// What is lent to an open promotion is what it was begun with, so its job is that of what was sealed.
@@ -93,18 +82,39 @@ pub fn an_open_promotion_does_its_job()
         (inputs : Inputs) → ReadsAs f x → IsSound (contents_state x)
         → (p : IsOpenOver f x fill sealed levels others o)
         → AreLent sealed levels (sealed_state x) inputs
-        → IsItsJob f o.promotion inputs (job_open x levels p.was) }
+        → IsItsJob f o.promotion inputs (job_open x levels p.going.was) }
 {}
 
-/// It may be given to each slice, on any disk and however many versions came since.
-pub fn each_slice_of_an_open_promotion_is_fed()
-    ensures { (x : Contents) (sealed : List Entry) (levels : List (Option LevelDesc))
-        (was p : Promotion) (inputs : Inputs) → IsBegunOf x sealed levels was
-        → MayRead sealed levels (length (versions_of (sealed_state x)))
-        x.chained.manifest.next_array → AreLent sealed levels (sealed_state x) inputs
-        → ListStands inputs.pool inputs.zero
+/// It meets what `slice` asks for, on any disk and however many versions came since, and reads blocks of its arrays alone.
+pub fn an_open_promotion_may_be_sliced()
+    ensures ok { (x : Contents) (sealed : List Entry) (levels : List (Option LevelDesc))
+        (o : OpenPromotion) (inputs : Inputs) → MayBeSliced x sealed levels o
+        → AreLent sealed levels (sealed_state x) inputs → ListStands inputs.pool inputs.zero
         → length (versions_of (sealed_state x)) ≤ length inputs.parents
-        → SamePromotion was p → IsFed p inputs }
+        → IsOpen o.promotion × IsFed o.promotion inputs × (1 ≤ o.budget)
+        × AreAllUsed o.space (writers_of o.promotion) }
+    ensures reads { (x : Contents) (sealed : List Entry) (levels : List (Option LevelDesc))
+        (o : OpenPromotion) (inputs : Inputs) → MayBeSliced x sealed levels o
+        → AreLent sealed levels (sealed_state x) inputs
+        → ReadsFrom (arrays_to inputs.levels (target_of o.promotion)) o.promotion }
+{}
+
+/// On any disk it may go on: once it was begun, after a slice that left an entry, and while changes come.
+pub fn an_open_promotion_may_go_on<D: Viewed>()
+    ensures begun { (x : Contents) (sealed : List Entry) (levels : List (Option LevelDesc))
+        (zero : ItemList) (p : Promotion) (space : SpaceView) (n sum : ℕ)
+        → length zero.items ≡ length sealed → IsBegunOf x sealed levels p
+        → MayRead sealed levels (length (versions_of (sealed_state x)))
+        x.chained.manifest.next_array → 1 ≤ n → MayBeSliced x sealed levels
+        (record { promotion = p; space = space; budget = n; sum = sum }) }
+    ensures more { (old new : D) (x : Contents) (sealed : List Entry)
+        (levels : List (Option LevelDesc)) (o : OpenPromotion) (q : Promotion) (space : SpaceView)
+        (m : MayBeSliced x sealed levels o)
+        → LeavesEntry (D.view old) (D.view new) (job_open x levels m.was) o q space
+        → MayBeSliced x sealed levels (sliced_to o q space) }
+    ensures change { (x : Contents) (batch : List Change) (sealed : List Entry)
+        (levels : List (Option LevelDesc)) (o : OpenPromotion) → MayBeSliced x sealed levels o
+        → MayBeSliced (with_batch x batch) sealed levels o }
 {}
 
 /// A slice writes free blocks alone, so it is a trail of one table, wherever it ends; and the contents stand as they did.
@@ -124,17 +134,11 @@ pub fn a_slice_is_a_trail_of_one_table<D: Viewed>()
 /// A slice that leaves an entry leaves the promotion open, on time for one change more, for which the journal has room. It
 /// keeps to its budget.
 pub fn a_slice_leaves_a_promotion_open<D: Viewed>()
-    ensures ok { (f g : Image) (x : Contents) (sealed : List Entry)
+    ensures ok { (old new : D) (f g : Image) (x : Contents) (sealed : List Entry)
         (levels : List (Option LevelDesc)) (others : List Extent) (o : OpenPromotion)
-        (q : Promotion) (space : SpaceView)
+        (q : Promotion) (space : SpaceView) → Exposes (D.view old) f → Exposes (D.view new) g
         → (p : IsOpenOver f x (length x.journal) sealed levels others o)
-        → SamePromotion o.promotion q → IsOpen q
-        → TakesMore o.space space (extents_taken o.promotion) (extents_taken q)
-        → AreAllUsed space (writers_of q)
-        → IsSliced f g (job_open x levels p.was) (entries_taken o.promotion + o.budget) q
-        progress.More
-        → entries_taken o.promotion + o.budget ≤ entries_taken q
-        → KeepsTaken (is_free o.space) f g
+        → LeavesEntry (D.view old) (D.view new) (job_open x levels p.going.was) o q space
         → (length x.journal + 1 ≤ 2 * x.sb.mem - 2)
         × IsOpenOver g x (length x.journal + 1) sealed levels others (sliced_to o q space) }
     ensures budget { (old new : D) (job : Job) (o : OpenPromotion) (q : Promotion)
@@ -159,14 +163,14 @@ pub fn a_change_over_an_open_promotion_is_a_trail_of_two_tables<D: Viewed>()
         (levels : List (Option LevelDesc)) (others : List Extent) (o : OpenPromotion)
         (q : Promotion) (space : SpaceView) (log : Log) (change : Change)
         → (s : StandsOpen (D.view v0) x sealed levels others o)
-        → StepsOpen (D.view v0) (D.view v1) (D.view v2) x (job_open x levels s.open_over.was)
+        → StepsOpen (D.view v0) (D.view v1) (D.view v2) x (job_open x levels s.open_over.going.was)
         o q space log change
         → Takes (contents_state x) change }
     ensures trail { (v0 v1 v2 : D) (x : Contents) (sealed : List Entry)
         (levels : List (Option LevelDesc)) (others : List Extent) (o : OpenPromotion)
         (q : Promotion) (space : SpaceView) (log : Log) (change : Change)
         → (s : StandsOpen (D.view v0) x sealed levels others o)
-        → StepsOpen (D.view v0) (D.view v1) (D.view v2) x (job_open x levels s.open_over.was)
+        → StepsOpen (D.view v0) (D.view v1) (D.view v2) x (job_open x levels s.open_over.going.was)
         o q space log change
         → Trail ShowsTable (D.view v2) (D.view v0).moment (table_of (contents_state x)
         ∷ table_of (contents_state (with_batch x (change ∷ []))) ∷ []) 1 }
@@ -174,7 +178,7 @@ pub fn a_change_over_an_open_promotion_is_a_trail_of_two_tables<D: Viewed>()
         (levels : List (Option LevelDesc)) (others : List Extent) (o : OpenPromotion)
         (q : Promotion) (space : SpaceView) (log : Log) (change : Change)
         → (s : StandsOpen (D.view v0) x sealed levels others o)
-        → StepsOpen (D.view v0) (D.view v1) (D.view v2) x (job_open x levels s.open_over.was)
+        → StepsOpen (D.view v0) (D.view v1) (D.view v2) x (job_open x levels s.open_over.going.was)
         o q space log change
         → StandsOpen (D.view v2) (with_batch x (change ∷ [])) sealed levels others
         (sliced_to o q space) }
