@@ -7,3 +7,4 @@ pub mod StepLemmas
 pub mod LastLemmas
 pub mod MadeLemmas
 pub mod EndingLemmas
+pub mod DoneLemmas

@@ -25,14 +25,11 @@ use Rattle.strat_level.specs.Levels.{level_numbered}
 use Rattle.strat_level.specs.Memtable.{ItemList}
 use Rattle.strat_slicing.specs.Opened.{KeepsBehind, AreLent, IsBegunOf, MayRead, OpenPromotion, MayBeSliced, IsOpenOver, LeavesEntry, job_open, sliced_to}
 use Rattle.strat_promote.specs.Between.{KeepsItsBlocks}
-use Rattle.strat_promote.specs.Closing.{AreAllUsed}
 use Rattle.strat_promote.specs.Job.{Job, arrays_to, blocks_listed, input_count}
-use Rattle.strat_promote.specs.Promotions.{IsBegun, IsOpen, IsItsJob, HasBegun, IsSliced, SamePromotion, extents_taken, writers_of, entries_taken, leads_listed, target_of}
-use Rattle.strat_promote.specs.Spaces.{TakesMore}
+use Rattle.strat_promote.specs.Promotions.{IsBegun, IsItsJob, HasBegun, extents_taken, entries_taken, leads_listed, target_of}
 use Rattle.strat_promote.specs.StateInputs.{IsBegunOver, job_of_state}
 use Rattle.strat_promote.specs.Steps.{Inputs, IsTaskIn}
 use Rattle.strat_promote.specs.declared.promotion.Promotion.{Promotion}
-use Rattle.strat_promote.specs.declared.promotion.Progress.TheVariants as progress
 use Rattle.strat_promote.specs.declared.step.Task.{Task}
 use Rattle.strat_promote.proofs.BetweenLemmas.{goes_on}
 use Rattle.strat_promote.proofs.SliceLemmas.{count_same}
@@ -101,12 +98,11 @@ module _ (x : Contents) (levels : List (Option LevelDesc)) (listed : filter_map 
       (among_in_flat (λ (a : ArrayDesc). blocks_of a.extents) (descriptors x.chained.manifest) at.0 b there at.2)
 
 -- a slice that leaves an entry
-module _ (f g : Image) (x : Contents) (sealed : List Entry) (levels : List (Option LevelDesc)) (others : List Extent) (o : OpenPromotion)
-    (p : IsOpenOver f x (length x.journal) sealed levels others o) where
+module _ (f g : Image) (x : Contents) (fill : ℕ) (sealed : List Entry) (levels : List (Option LevelDesc)) (others : List Extent) (o : OpenPromotion) (p : IsOpenOver f x fill sealed levels others o) where
   abbrev job : Job
   job = job_open x levels p.going.was
 
-  listed_used : AreUsed o.space (blocks_listed job.arrays)
+  pub listed_used : AreUsed o.space (blocks_listed job.arrays)
   listed_used b there =
       named_used o.space x (extents_taken o.promotion ++ others) p.space_is b
       (block_named x levels p.going.begun.listed (target_of p.going.was) b (contained_among (blocks_listed job.arrays) b there))
@@ -140,7 +136,7 @@ sliced_open old new f g x sealed levels others o q space told tells p slice =
         going = slice_goes old new x sealed levels o q space p.going slice;
         underway = sliced.0;
         space_is = joined_beside o.space space x others (extents_taken o.promotion) (extents_taken q) p.space_is slice.takes.first slice.takes.used;
-        sum_is = p.sum_is ∙ sym (same_count f g x sealed levels others o p (slice.tears.content f g told tells));
+        sum_is = p.sum_is ∙ sym (same_count f g x (length x.journal) sealed levels others o p (slice.tears.content f g told tells));
         on_time = inl on.1;
       },
     )

@@ -1,41 +1,59 @@
 //! Laws of the change that ends an open promotion. Each is the contract of a function that does nothing.
 
 ghost use Rattle.std.specs.Prelude.{◌≡◌, ◌≤◌, ◌<◌, ℕ, ◌+◌, ◌*◌, List, [], ◌∷◌, ◌++◌, length, drop, Option, None};
+ghost use Rattle.strat_array.specs.Taking.{AreUsed};
 ghost use Rattle.strat_base.specs.Change.{Change};
 ghost use Rattle.strat_base.specs.Entries.{Entry};
 ghost use Rattle.strat_base.specs.declared.descriptors.Extent.{Extent};
 ghost use Rattle.strat_base.specs.declared.descriptors.LevelDesc.{LevelDesc};
-ghost use Rattle.strat_crash.specs.Blocks.{KeepsTaken};
+ghost use Rattle.strat_crash.specs.Blocks.{KeepsTaken, TearsBlocks};
 ghost use Rattle.strat_crash.specs.Image.{Image};
-ghost use Rattle.strat_crash.specs.Moments.{OnlyReads, IsDurable};
+ghost use Rattle.strat_crash.specs.Moments.{Exposes, OnlyReads, IsDurable};
 ghost use Rattle.strat_crash.specs.Trail.{Trail};
 ghost use Rattle.strat_extent.specs.Blocks.{SpaceView, is_free};
 ghost use Rattle.strat_journal.specs.Log.{Log};
 ghost use Rattle.strat_model.specs.Step.{step};
 ghost use Rattle.strat_promote.specs.Budget.{count_of_key};
 ghost use Rattle.strat_promote.specs.Closing.{AreAllUsed};
+ghost use Rattle.strat_promote.specs.Job.{Job, blocks_listed};
 ghost use Rattle.strat_promote.specs.Owned.{OwnsItsBlocks};
-ghost use Rattle.strat_promote.specs.Promotions.{writers_of, entries_taken, target_of, level_of};
+ghost use Rattle.strat_promote.specs.Promotions.{IsItsJob, HasBegun, IsSliced, SamePromotion, writers_of, entries_taken, target_of, level_of};
 ghost use Rattle.strat_promote.specs.Replacing.{LeavesTheSame};
 ghost use Rattle.strat_promote.specs.StateInputs.{LeavesPaid};
 ghost use Rattle.strat_promote.specs.Steps.{Inputs};
+ghost use Rattle.strat_promote.specs.declared.promotion.Progress.TheVariants as progress;
 ghost use Rattle.strat_promote.specs.declared.promotion.Promotion.{Promotion};
 ghost use Rattle.strat_promotion.specs.Promoted.{promoted, levels_behind};
 ghost use Rattle.strat_promotion.specs.Sealed.{grown_by};
 ghost use Rattle.strat_recovery.specs.StateTable.{table_of, request_for};
 ghost use Rattle.strat_slicing.specs.Budget.{KeepsToBudget};
 ghost use Rattle.strat_slicing.specs.Ending.{SlicesLast, IsLastMade, EndsOpen};
-ghost use Rattle.strat_slicing.specs.Opened.{OpenPromotion, IsOpenOver, StandsOpen, IsMostOfKey, job_open, slice_numbers};
+ghost use Rattle.strat_slicing.specs.Opened.{AreLent, OpenPromotion, IsOpenOver, StandsOpen, IsMostOfKey, job_open, slice_numbers};
 ghost use Rattle.strat_standing.specs.Appending.{with_batch};
 ghost use Rattle.strat_standing.specs.Contents.{Contents, contents_state, sealed_state, later_part};
 ghost use Rattle.strat_standing.specs.Next.{IsNextOf, HasManifest};
 ghost use Rattle.strat_standing.specs.Occupied.{IsSpaceOf};
 ghost use Rattle.strat_standing.specs.Publication.{IsPrepared};
-ghost use Rattle.strat_standing.specs.Standing.{ShowsTable, LeavesContent, ContentsStand};
-ghost use Rattle.strat_state.specs.Sound.{Takes};
+ghost use Rattle.strat_standing.specs.Standing.{ReadsAs, ShowsTable, LeavesContent, ContentsStand};
+ghost use Rattle.strat_state.specs.Sound.{IsSound, Takes};
 ghost use Rattle.strat_state.specs.State.{IsPaid};
 
 use strat_crash::laws::Viewed;
+
+/// Where `slice` answers Done over what is lent to an open promotion, it was the last one, by its clauses alone.
+pub fn a_slice_is_the_last_by_its_clauses<D: Viewed>()
+    ensures { (old new : D) (f g : Image) (x : Contents) (fill : ℕ) (sealed : List Entry)
+        (levels : List (Option LevelDesc)) (others : List Extent) (o : OpenPromotion)
+        (q : Promotion) (inputs : Inputs) → Exposes (D.view old) f → ReadsAs f x
+        → IsSound (contents_state x) → (p : IsOpenOver f x fill sealed levels others o)
+        → AreLent sealed levels (sealed_state x) inputs → Exposes (D.view new) g
+        → TearsBlocks (is_free o.space) (D.view old) (D.view new) × SamePromotion o.promotion q
+        → ((g h : Image) (job : Job) → Exposes (D.view old) g → Exposes (D.view new) h
+        → IsItsJob g o.promotion inputs job → AreUsed o.space (blocks_listed job.arrays)
+        → HasBegun g job o.promotion
+        → IsSliced g h job (entries_taken o.promotion + o.budget) q progress.Done)
+        → SlicesLast f g x sealed levels (job_open x levels p.going.was) o q inputs }
+{}
 
 /// The last slice: in the place of what was sealed and of the levels down to its target the level that was made leaves a sound
 /// state that says the same, with the later changes behind it; and it is paid for.

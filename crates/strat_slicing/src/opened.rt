@@ -2,6 +2,7 @@
 
 ghost use Rattle.std.specs.List.{filter_map, sum};
 ghost use Rattle.std.specs.Prelude.{◌≡◌, ◌≤◌, ◌<◌, ℕ, ◌+◌, ◌-◌, ◌*◌, ◌^◌, List, [], ◌∷◌, ◌++◌, length, Option, None, Some};
+ghost use Rattle.strat_array.specs.Taking.{AreUsed};
 ghost use Rattle.strat_base.specs.Change.{Change};
 ghost use Rattle.strat_base.specs.Entries.{Entry};
 ghost use Rattle.strat_base.specs.declared.descriptors.Extent.{Extent};
@@ -16,10 +17,12 @@ ghost use Rattle.strat_level.specs.Levels.{level_numbered};
 ghost use Rattle.strat_level.specs.Memtable.{ItemList, ListStands};
 ghost use Rattle.strat_level.specs.Target.{leads_down_to};
 ghost use Rattle.strat_promote.specs.Closing.{AreAllUsed};
-ghost use Rattle.strat_promote.specs.Job.{Job, arrays_to};
-ghost use Rattle.strat_promote.specs.Promotions.{IsBegun, IsOpen, IsFed, IsItsJob, ReadsFrom, writers_of, leads_listed, target_of};
+ghost use Rattle.strat_promote.specs.Job.{Job, arrays_to, blocks_listed};
+ghost use Rattle.strat_promote.specs.Promotions.{IsBegun, IsOpen, IsFed, IsItsJob, HasBegun, IsSliced, SamePromotion, ReadsFrom, extents_taken, writers_of, entries_taken, leads_listed, target_of};
+ghost use Rattle.strat_promote.specs.Spaces.{TakesMore};
 ghost use Rattle.strat_promote.specs.StateInputs.{IsBegunOver};
 ghost use Rattle.strat_promote.specs.Steps.{Inputs};
+ghost use Rattle.strat_promote.specs.declared.promotion.Progress.TheVariants as progress;
 ghost use Rattle.strat_promote.specs.declared.promotion.Promotion.{Promotion};
 ghost use Rattle.strat_recovery.specs.StateTable.{table_of};
 ghost use Rattle.strat_slicing.specs.Budget.{IsBudget, KeepsToBudget, budget_for};
@@ -115,6 +118,28 @@ pub fn an_open_promotion_may_go_on<D: Viewed>()
     ensures change { (x : Contents) (batch : List Change) (sealed : List Entry)
         (levels : List (Option LevelDesc)) (o : OpenPromotion) → MayBeSliced x sealed levels o
         → MayBeSliced (with_batch x batch) sealed levels o }
+{}
+
+/// Where `slice` answers More over what is lent to an open promotion, on a disk whose content reads as the contents, it left an
+/// entry: each premise is one of its clauses, and nothing else is asked.
+pub fn a_slice_leaves_an_entry_by_its_clauses<D: Viewed>()
+    ensures { (old new : D) (f : Image) (x : Contents) (fill : ℕ) (sealed : List Entry)
+        (levels : List (Option LevelDesc)) (others : List Extent) (o : OpenPromotion)
+        (q : Promotion) (space : SpaceView) (inputs : Inputs) → Exposes (D.view old) f
+        → ReadsAs f x → IsSound (contents_state x)
+        → (p : IsOpenOver f x fill sealed levels others o)
+        → AreLent sealed levels (sealed_state x) inputs
+        → IsOpen q × (entries_taken o.promotion + o.budget ≤ entries_taken q)
+        → ((g h : Image) (job : Job) → Exposes (D.view old) g → Exposes (D.view new) h
+        → IsItsJob g o.promotion inputs job → AreUsed o.space (blocks_listed job.arrays)
+        → HasBegun g job o.promotion
+        → IsSliced g h job (entries_taken o.promotion + o.budget) q progress.More)
+        → AreAllUsed space (writers_of q)
+        → TakesMore o.space space (extents_taken o.promotion) (extents_taken q)
+        → TearsBlocks (is_free o.space) (D.view old) (D.view new) × SamePromotion o.promotion q
+        → (ReadsFrom (arrays_to inputs.levels (target_of o.promotion)) o.promotion
+        → ReadsFrom (arrays_to inputs.levels (target_of o.promotion)) q)
+        → LeavesEntry (D.view old) (D.view new) (job_open x levels p.going.was) o q space }
 {}
 
 /// A slice writes free blocks alone, so it is a trail of one table, wherever it ends; and the contents stand as they did.
