@@ -52,7 +52,8 @@ pub fn a_begun_promotion_is_open()
     ensures ok { (f : Image) (x : Contents) (sealed : List Entry)
         (levels : List (Option LevelDesc)) (others : List Extent) (inputs : Inputs) (p : Promotion)
         (space : SpaceView) (n : ℕ) → ReadsAs f x → IsSound (contents_state x)
-        → IsBegunOf x sealed levels p → MayRead sealed levels (length (versions_of (sealed_state x)))
+        → IsBegunOf x sealed levels p
+        → MayRead sealed levels (length (versions_of (sealed_state x)))
         x.chained.manifest.next_array → AreLent sealed levels (sealed_state x) inputs
         → IsSpaceOf space x others → IsBudget x.sb.mem (length x.journal)
         (leads_down_to (leads_listed inputs.zero levels) (target_of p)) n
@@ -61,7 +62,8 @@ pub fn a_begun_promotion_is_open()
     ensures whole { (f : Image) (x : Contents) (sealed : List Entry)
         (levels : List (Option LevelDesc)) (others : List Extent) (inputs : Inputs) (p : Promotion)
         (space : SpaceView) (n : ℕ) → ReadsAs f x → IsSound (contents_state x)
-        → IsBegunOf x sealed levels p → MayRead sealed levels (length (versions_of (sealed_state x)))
+        → IsBegunOf x sealed levels p
+        → MayRead sealed levels (length (versions_of (sealed_state x)))
         x.chained.manifest.next_array → AreLent sealed levels (sealed_state x) inputs
         → IsSpaceOf space x others → 2 ^ 25 ≤ n
         → IsOpenOver f x (length x.journal) sealed levels others
