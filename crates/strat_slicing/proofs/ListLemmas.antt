@@ -1,9 +1,9 @@
 -- Level 0 and a sealed one.
-use Rattle.std.proofs.Common.{◌≡◌, ◌≤◌, ◌<◌, ◌+◌, ◌-◌, ℕ, List, [], ◌∷◌, ◌++◌, length, take, drop, Option, Some, None, refl, sym, ap, ◌∙◌, arith, length-append}
+use Rattle.std.proofs.Common.{◌≡◌, ◌≤◌, ◌<◌, ◌+◌, ◌-◌, ◌*◌, ℕ, List, [], ◌∷◌, ◌++◌, length, take, drop, Option, Some, None, refl, sym, ap, ◌∙◌, arith, length-append}
 use Rattle.std.specs.List.{filter_map}
 use Rattle.std.specs.Prelude.{option_and_then}
 use Rattle.std.specs.Option.{option_or, option_to_list}
-use Rattle.std.proofs.lemmas.List.{append-nil, take-append-drop, take_all, drop_all, take-append-le, drop-append-le}
+use Rattle.std.proofs.lemmas.List.{append-nil, length-drop, take-append-drop, take_all, drop_all, take-append-le, drop-append-le}
 use Rattle.strat_base.specs.Change.{Change, Put, Delete, Clone}
 use Rattle.strat_base.specs.Entries.{Entry, latest}
 use Rattle.strat_base.specs.Tree.{Parents, IsTree}
@@ -128,3 +128,9 @@ module _ (mem : ℕ) (journal : List Change) (c : Change) where
     h.2 ∙ entries_same (drop mem journal) c is ∙ ap entries_left (sym (more_back h.0)),
     omega (arith, long_back h.0, h.3),
   )
+
+-- level 0 has room for an update, while the journal has room for a change
+pub lists_room : (mem : ℕ) (journal : List Change) (entries : List Entry) (sealed : Option (List Entry)) (spare : ℕ) → HoldLists mem journal entries sealed spare → (sealed ≡ None → length journal < mem)
+    → length journal < 2 * mem - 2 → 1 ≤ spare
+lists_room mem journal entries None spare h room lt = omega (arith, h.2, room refl)
+lists_room mem journal entries (Some sealed) spare h room lt = omega (arith, h.3, h.0, lt, length-drop mem journal)

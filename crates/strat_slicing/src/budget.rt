@@ -16,13 +16,16 @@ pub fn the_budget_is_the_least_that_is_enough()
     ensures one { (mem fill sum b : ℕ) → IsBudget mem fill sum b → b ≡ budget_for mem fill sum }
 {}
 
-/// Twice five entries where a region takes four changes: in two slices, in one, or with no change left; and where nothing is merged.
+/// Twice five entries where a region takes four changes: in two slices, in one, or with no change left; and where nothing is
+/// merged. Five of them taken and one change left, the promotion is on time with a budget of five, and not with one of four.
 pub fn five_entries_have_these_budgets()
     ensures two { budget_for 4 4 5 ≡ 5 }
     ensures one { budget_for 4 5 5 ≡ 10 }
     ensures last { budget_for 4 6 5 ≡ 2 ^ 63 }
     ensures up { budget_for 5 5 5 ≡ 4 }
     ensures none { budget_for 4 4 0 ≡ 1 }
+    ensures time { IsOnTime 4 5 5 5 5 }
+    ensures late { IsOnTime 4 5 5 4 5 → ⊥ }
 {}
 
 /// A promotion that is begun with its budget may be sliced. A slice that leaves an entry leaves room for one change more,

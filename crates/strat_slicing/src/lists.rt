@@ -1,6 +1,6 @@
 //! Laws of level 0 and of a sealed one. Each is the contract of a function that does nothing.
 
-ghost use Rattle.std.specs.Prelude.{◌≡◌, ◌≤◌, ◌<◌, ℕ, ◌+◌, ◌-◌, List, [], ◌∷◌, ◌++◌, length, filter_map, Option, Some, None};
+ghost use Rattle.std.specs.Prelude.{◌≡◌, ◌≤◌, ◌<◌, ℕ, ◌+◌, ◌-◌, ◌*◌, List, [], ◌∷◌, ◌++◌, length, take, drop, filter_map, Option, Some, None};
 ghost use Rattle.strat_base.specs.Change.{Change, Put, Delete, Clone};
 ghost use Rattle.strat_base.specs.Entries.{Entry};
 ghost use Rattle.strat_crash.specs.Image.{Image};
@@ -30,6 +30,17 @@ pub fn an_unsealed_level_holds_the_whole_journal()
         → (sealed ≡ None) × (entries ≡ set_all (filter_map update_of journal)) }
 {}
 
+/// Both lists come from the journal: an opening that finds a full region makes them of its two parts. And once a publication has
+/// taken what was sealed, level 0 alone holds what came since.
+pub fn both_lists_come_from_the_journal()
+    ensures full { (mem : ℕ) (journal : List Change) → mem ≤ length journal
+        → HoldLists mem journal (set_all (filter_map update_of (drop mem journal)))
+        (Some (set_all (filter_map update_of (take mem journal)))) mem }
+    ensures left { (mem : ℕ) (journal : List Change) (entries sealed : List Entry) (spare : ℕ)
+        → HoldLists mem journal entries (Some sealed) spare → length (drop mem journal) ≤ mem
+        → HoldLists mem (drop mem journal) entries None spare }
+{}
+
 /// Where the journal just fills the region, level 0 may be sealed, and a new one without entries stands before it.
 pub fn sealing_changes_nothing()
     ensures { (mem : ℕ) (journal : List Change) (entries : List Entry) (spare : ℕ)
@@ -50,8 +61,12 @@ pub fn both_lists_are_read()
         ≡ value_of (pairs_at (table_of s) v) key }
 {}
 
-/// A change that comes is set in level 0 alone: while the active region has room, and in front of a sealed one.
+/// A change that comes is set in level 0 alone: while the active region has room, and in front of a sealed one. Level 0 has room
+/// for it, as the journal has.
 pub fn a_change_goes_to_the_newer_list()
+    ensures room { (mem : ℕ) (journal : List Change) (entries : List Entry)
+        (sealed : Option (List Entry)) (spare : ℕ) → HoldLists mem journal entries sealed spare
+        → (sealed ≡ None → length journal < mem) → length journal < 2 * mem - 2 → 1 ≤ spare }
     ensures update { (mem : ℕ) (journal : List Change) (entries : List Entry)
         (sealed : Option (List Entry)) (spare : ℕ) (c : Change) (e : Entry) → update_of c ≡ Some e
         → HoldLists mem journal entries sealed spare → (sealed ≡ None → length journal < mem)
