@@ -172,18 +172,24 @@ module _ (x : Contents) (batch : List Change) (full : x.sb.mem ≤ length x.jour
     reads = m.reads;
   }
 
--- blocks that are used lie behind the journal
-taken_used : (s : SpaceView) (x : Contents) (xs others : List Extent) (b : ℕ) → IsSpaceOf s x (xs ++ others) → Among b (blocks_of xs) → is_used s b ≡ true
-taken_used s x xs others b is among =
+-- the blocks of extents that a space has beside contents are used, and lie behind the journal
+extents_used : (s : SpaceView) (x : Contents) (all xs : List Extent) (b : ℕ) → IsSpaceOf s x all → times_in xs b ≤ times_in all b → Among b (blocks_of xs) → is_used s b ≡ true
+extents_used s x all xs b is few among =
     let some : 1 ≤ count_by (λ a. eqb a b) (blocks_of xs) = counted_some (blocks_of xs) b among in
     let here = is.used b in
-    let both = times_append xs others b in
     let listed = times_listed xs b in
-    by_test (is_used s b) refl (omega (arith, here, both, listed, some))
+    by_test (is_used s b) refl (omega (arith, here, few, listed, some))
   where
     by_test : (t : Bool) → is_used s b ≡ t → 1 ≤ uses s b → is_used s b ≡ true
     by_test true is le = is
     by_test false is le = absurd (let none : uses s b ≡ 0 = ap (λ (t : Bool). cond t 1 0) is in omega (arith, none, le))
+
+module _ (s : SpaceView) (x : Contents) (xs others : List Extent) (is : IsSpaceOf s x (xs ++ others)) where
+  pub taken_used : AreUsed s (blocks_of xs)
+  taken_used b there = extents_used s x (xs ++ others) xs b is (let both = times_append xs others b in omega (arith, both)) (contained_among (blocks_of xs) b there)
+
+  pub others_used : AreUsed s (blocks_of others)
+  others_used b there = extents_used s x (xs ++ others) others b is (let both = times_append xs others b in omega (arith, both)) (contained_among (blocks_of others) b there)
 
 used_behind : (s : SpaceView) (b : ℕ) → is_used s b ≡ true → s.first ≤ b
 used_behind s b used =
@@ -207,7 +213,7 @@ module _ (f g : Image) (x : Contents) (fill : ℕ) (sealed : List Entry) (levels
   blocks_stay = record {
     read = agree_read;
     taken = λ b there.
-        let used = taken_used o.space x (extents_taken o.promotion) others b p.space_is (contained_among (blocks_of (extents_taken o.promotion)) b there) in
+        let used = taken_used o.space x (extents_taken o.promotion) others p.space_is b there in
         let behind = used_behind o.space b used in
         keeps b (not_in_front x.sb.mem b (omega (arith, behind, p.space_is.first)));
   }

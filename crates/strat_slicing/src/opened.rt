@@ -12,6 +12,7 @@ ghost use Rattle.strat_crash.specs.Image.{Image};
 ghost use Rattle.strat_crash.specs.Moments.{Exposes};
 ghost use Rattle.strat_crash.specs.Trail.{Trail};
 ghost use Rattle.strat_extent.specs.Blocks.{SpaceView, is_free};
+ghost use Rattle.strat_format.specs.Arrays.{blocks_of};
 ghost use Rattle.strat_journal.specs.Log.{Log};
 ghost use Rattle.strat_level.specs.Levels.{level_numbered};
 ghost use Rattle.strat_level.specs.Memtable.{ItemList, ListStands};
@@ -120,6 +121,21 @@ pub fn an_open_promotion_may_go_on<D: Viewed>()
     ensures change { (x : Contents) (batch : List Change) (sealed : List Entry)
         (levels : List (Option LevelDesc)) (o : OpenPromotion) → MayBeSliced x sealed levels o
         → MayBeSliced (with_batch x batch) sealed levels o }
+{}
+
+/// The blocks of the arrays that it reads, those that it has taken and those of the others are used in its space.
+pub fn the_blocks_of_an_open_promotion_are_used()
+    ensures read { (f : Image) (x : Contents) (fill : ℕ) (sealed : List Entry)
+        (levels : List (Option LevelDesc)) (others : List Extent) (o : OpenPromotion)
+        → (p : IsOpenOver f x fill sealed levels others o)
+        → AreUsed o.space (blocks_listed (job_open x levels p.going.was).arrays) }
+    ensures taken { (f : Image) (x : Contents) (fill : ℕ) (sealed : List Entry)
+        (levels : List (Option LevelDesc)) (others : List Extent) (o : OpenPromotion)
+        → IsOpenOver f x fill sealed levels others o
+        → AreUsed o.space (blocks_of (extents_taken o.promotion)) }
+    ensures others { (f : Image) (x : Contents) (fill : ℕ) (sealed : List Entry)
+        (levels : List (Option LevelDesc)) (others : List Extent) (o : OpenPromotion)
+        → IsOpenOver f x fill sealed levels others o → AreUsed o.space (blocks_of others) }
 {}
 
 /// Where `slice` answers More over what is lent to an open promotion, on a disk whose content reads as the contents, it left an
