@@ -35,8 +35,8 @@ pub record SlicesLast (f g : Image) (x : Contents) (sealed : List Entry)
   pub same : SamePromotion o.promotion q
   pub sliced : IsSliced f g job (entries_taken o.promotion + o.budget) q progress.Done
 
--- what the last slice made stands in an image, in new arrays: in the place of what was sealed and of the levels down to the target
--- it leaves a sound state that says the same, with the later changes behind it
+-- what the last slice made stands in an image, in new arrays: in the place of what was sealed and of the levels down
+-- to the target it leaves a sound state that says the same, with the later changes behind it
 pub record IsLastMade (g : Image) (x : Contents) (target : ℕ) (made : Option LevelDesc)
     : Type 0 where
   pub says : LeavesTheSame g made (contents_state x) (λ fresh written next.
@@ -45,8 +45,8 @@ pub record IsLastMade (g : Image) (x : Contents) (target : ℕ) (made : Option L
   pub fresh : AreNewArrays x.chained.manifest.next_array (arrays_made made)
   pub numbered : (level : LevelDesc) → made ≡ Some level → level.number ≡ target
 
--- what a publication did that ended well: the last slice and the manifest wrote free blocks, the next superblock was laid, and the
--- journal was turned, so that the region which was full is shut
+-- what a publication did that ended well: the last slice and the manifest wrote free blocks, the next superblock was
+-- laid, and the journal was turned, so that the region which was full is shut
 pub record PublishesNext (old mid lay new : DiskView) (free : ℕ → Bool) (x y : Contents)
     (log : Log) : Type 0 where
   pub tears : TearsBlocks free old mid
@@ -59,8 +59,8 @@ pub record PublishesNext (old mid lay new : DiskView) (free : ℕ → Bool) (x y
   pub shut : IsRegionShut new log.mem log.active
   pub leaves : LeavesContent new
 
--- a change that ends an open promotion: the next contents were published, and then the record of the change, which the state
--- accepts, joined their journal
+-- a change that ends an open promotion: the next contents were published, and then the record of the change, which
+-- the state accepts, joined their journal
 pub record EndsOpen (v0 mid lay v1 v2 : DiskView) (x y : Contents) (o : OpenPromotion)
     (log turned : Log) (change : Change) : Type 0 where
   pub publishes : PublishesNext v0 mid lay v1 (is_free o.space) x y log

@@ -14,9 +14,9 @@ entries_left journal = set_all (filter_map update_of journal)
 abbrev pub lists_read : List Entry → Option (List Entry) → List (List Entry)
 lists_read entries sealed = entries ∷ option_to_list sealed
 
--- level 0, and a sealed one where there is one, hold what a journal says, whose regions take `mem` changes each: level 0 holds
--- all of it; or the sealed one what fills the active region, and level 0 what came since. Level 0 has room for `spare` updates
--- more, no fewer than its region has for changes
+-- level 0, and a sealed one where there is one, hold what a journal says, whose regions take `mem` changes each:
+-- level 0 holds all of it; or the sealed one what fills the active region, and level 0 what came since. Level 0 has
+-- room for `spare` updates more, no fewer than its region has for changes
 abbrev pub HoldLists : ℕ → List Change → List Entry → Option (List Entry) → ℕ → Type 0
 HoldLists mem journal entries None spare =
     (length journal ≤ mem) × (entries ≡ entries_left journal) × (mem ≤ spare + length journal)

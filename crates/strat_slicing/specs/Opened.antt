@@ -1,4 +1,5 @@
--- A promotion that is open over the contents of a store: what it was begun of, how far it is, and what a change does meanwhile.
+-- A promotion that is open over the contents of a store: what it was begun of, how far it is, and what a change does
+-- meanwhile.
 use Rattle.std.specs.Prelude.{◌≡◌, ◌≤◌, ℕ, ◌+◌, ◌^◌, ◌++◌, nat_lt, List, [], ◌∷◌, length, Option, None, Some, IsTrue}
 use Rattle.std.specs.List.{filter_map, list_all, sum}
 use Rattle.strat_base.specs.Change.{Change}
@@ -37,16 +38,16 @@ use Rattle.strat_state.specs.State.{State, versions_of, journal_updates}
 abbrev pub KeepsBehind : ℕ → Image → Image → Type 0
 KeepsBehind mem f g = KeepsTaken (λ b. nat_lt b (first_free mem)) f g
 
--- what is lent to a promotion: a memtable with these entries, these levels, and a tree in which the versions of a state have
--- their parents, whatever came since
+-- what is lent to a promotion: a memtable with these entries, these levels, and a tree in which the versions of a
+-- state have their parents, whatever came since
 pub record AreLent (sealed : List Entry) (levels : List (Option LevelDesc)) (s : State)
     (inputs : Inputs) : Type 0 where
   pub zero : entries_held inputs.pool inputs.zero ≡ sealed
   pub levels_are : inputs.levels ≡ levels
   pub parents : SameParents (length (versions_of s)) (versions_of s) inputs.parents
 
--- a promotion was begun of what fills the active region of contents, a memtable sealed with these entries, and of their levels.
--- It says nothing of a disk, and stays true while changes come
+-- a promotion was begun of what fills the active region of contents, a memtable sealed with these entries, and of
+-- their levels. It says nothing of a disk, and stays true while changes come
 pub record IsBegunOf (x : Contents) (sealed : List Entry) (levels : List (Option LevelDesc))
     (p : Promotion) : Type 0 where
   pub full : x.sb.mem ≤ length x.journal
@@ -60,8 +61,8 @@ pub record IsBegunOf (x : Contents) (sealed : List Entry) (levels : List (Option
   pub few : (zero : ItemList) → length zero.items ≡ length sealed
       → sum (leads_listed zero levels) ≤ 2 ^ 24
 
--- a sealed memtable and the levels may be read by each slice of a promotion that was begun over so many versions and from this
--- next number on: their versions are older, and numbers are left. It too says nothing of a disk
+-- a sealed memtable and the levels may be read by each slice of a promotion that was begun over so many versions and
+-- from this next number on: their versions are older, and numbers are left. It too says nothing of a disk
 pub record MayRead (sealed : List Entry) (levels : List (Option LevelDesc))
     (versions next_array : ℕ) : Type 0 where
   pub low : IsTrue (list_all (λ e. nat_lt e.version versions) sealed)
@@ -69,8 +70,8 @@ pub record MayRead (sealed : List Entry) (levels : List (Option LevelDesc))
   pub some : 1 ≤ versions
   pub first : next_array ≤ 2 ^ 63
 
--- an open promotion: the space from which it takes blocks, the budget of its slices, and how many entries each of its two passes
--- has
+-- an open promotion: the space from which it takes blocks, the budget of its slices, and how many entries each of its
+-- two passes has
 pub record OpenPromotion : Type 0 where
   pub promotion : Promotion
   pub space : SpaceView
@@ -90,8 +91,8 @@ opened_with leads p space budget = record {
 abbrev pub job_open : Contents → List (Option LevelDesc) → Promotion → Job
 job_open x levels was = job_of_state (sealed_state x) levels (target_of was)
 
--- a promotion may go on over contents, whatever a disk has: it was begun of what they sealed, each slice may read that, the blocks
--- that it has taken are used, and it has only blocks of its arrays still to read
+-- a promotion may go on over contents, whatever a disk has: it was begun of what they sealed, each slice may read
+-- that, the blocks that it has taken are used, and it has only blocks of its arrays still to read
 pub record MayBeSliced (x : Contents) (sealed : List Entry) (levels : List (Option LevelDesc))
     (o : OpenPromotion) : Type 0 where
   pub was : Promotion
@@ -104,8 +105,8 @@ pub record MayBeSliced (x : Contents) (sealed : List Entry) (levels : List (Opti
   pub some : 1 ≤ o.budget
   pub reads : ReadsFrom (job_open x levels was).arrays o.promotion
 
--- a promotion is open over contents, as an image has them, at this fill of the journal: it may go on and is underway; the blocks
--- that it has taken are used beside those of the contents and some others; and it ends in time
+-- a promotion is open over contents, as an image has them, at this fill of the journal: it may go on and is underway;
+-- the blocks that it has taken are used beside those of the contents and some others; and it ends in time
 pub record IsOpenOver (f : Image) (x : Contents) (fill : ℕ) (sealed : List Entry)
     (levels : List (Option LevelDesc)) (others : List Extent) (o : OpenPromotion) : Type 0 where
   pub going : MayBeSliced x sealed levels o
@@ -124,8 +125,8 @@ pub record StandsOpen (v : DiskView) (x : Contents) (sealed : List Entry)
 abbrev pub sliced_to : OpenPromotion → Promotion → SpaceView → OpenPromotion
 sliced_to o q space = record o { promotion = q; space = space }
 
--- what a slice did that left an entry, wherever it read and wrote: the promotion is the same one, further on, and took only blocks
--- that were free
+-- what a slice did that left an entry, wherever it read and wrote: the promotion is the same one, further on, and
+-- took only blocks that were free
 pub record LeavesEntry (old new : DiskView) (job : Job) (o : OpenPromotion) (q : Promotion)
     (space : SpaceView) : Type 0 where
   pub tears : TearsBlocks (is_free o.space) old new
@@ -145,7 +146,8 @@ pub record AppendsOne (old new : DiskView) (log : Log) (change : Change) : Type 
   pub stands : Stands new (batch_joined log)
   pub behind : (f g : Image) → Exposes old f → Exposes new g → KeepsBehind log.mem f g
 
--- a change over an open promotion: a slice that left an entry, and then the record of the change, which the state accepts
+-- a change over an open promotion: a slice that left an entry, and then the record of the change, which the state
+-- accepts
 pub record StepsOpen (v0 v1 v2 : DiskView) (x : Contents) (job : Job) (o : OpenPromotion)
     (q : Promotion) (space : SpaceView) (log : Log) (change : Change) : Type 0 where
   pub slice : LeavesEntry v0 v1 job o q space
@@ -160,8 +162,8 @@ abbrev pub slice_numbers : OpenPromotion → SliceNumbers
 slice_numbers o =
     record { budget = o.budget; sum = o.sum; taken = entries_taken o.promotion }
 
--- these are the numbers of the promotion that is open; or, where none is, of the one that a change begins at this fill over these
--- leads of level 0 and of the levels
+-- these are the numbers of the promotion that is open; or, where none is, of the one that a change begins at this
+-- fill over these leads of level 0 and of the levels
 abbrev pub AreNumbersOf : ℕ → ℕ → List ℕ → Option OpenPromotion → SliceNumbers → Type 0
 AreNumbersOf mem fill leads (Some o) n = n ≡ slice_numbers o
 AreNumbersOf mem fill leads None n =

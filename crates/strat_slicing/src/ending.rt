@@ -55,8 +55,8 @@ pub fn a_slice_is_the_last_by_its_clauses<D: Viewed>()
         → SlicesLast f g x sealed levels (job_open x levels p.going.was) o q inputs }
 {}
 
-/// The last slice: in the place of what was sealed and of the levels down to its target the level that was made leaves a sound
-/// state that says the same, with the later changes behind it; and it is paid for.
+/// The last slice: in the place of what was sealed and of the levels down to its target the level that was made
+/// leaves a sound state that says the same, with the later changes behind it; and it is paid for.
 pub fn a_last_slice_may_be_published()
     ensures says { (f g : Image) (x : Contents) (fill : ℕ) (sealed : List Entry)
         (levels : List (Option LevelDesc)) (others : List Extent) (o : OpenPromotion)
@@ -75,8 +75,8 @@ pub fn a_last_slice_may_be_published()
         promoted (sealed_state x) (fresh ++ levels_behind (target_of q) x.levels) written next) }
 {}
 
-/// It did not come early: with the entries of one key, both passes have fewer than were taken and the budget. So it keeps to
-/// its budget.
+/// It did not come early: with the entries of one key, both passes have fewer than were taken and the budget. So it
+/// keeps to its budget.
 pub fn a_last_slice_is_not_early()
     ensures late { (f g : Image) (x : Contents) (fill : ℕ) (sealed : List Entry)
         (levels : List (Option LevelDesc)) (others : List Extent) (o : OpenPromotion)
@@ -93,8 +93,8 @@ pub fn a_last_slice_is_not_early()
         → KeepsToBudget (slice_numbers o) most None }
 {}
 
-/// What the last slice made stands in new arrays; it stays where later writes, those of the manifest, go to free blocks; and a
-/// sync then prepares the contents that are computed of it.
+/// What the last slice made stands in new arrays; it stays where later writes, those of the manifest, go to free
+/// blocks; and a sync then prepares the contents that are computed of it.
 pub fn what_a_last_slice_made_is_prepared<D: Viewed>()
     ensures made { (f g : Image) (x : Contents) (fill : ℕ) (sealed : List Entry)
         (levels : List (Option LevelDesc)) (others : List Extent) (o : OpenPromotion)
@@ -115,9 +115,9 @@ pub fn what_a_last_slice_made_is_prepared<D: Viewed>()
         → LeavesContent (D.view w) → IsPrepared (D.view w) x y }
 {}
 
-/// A change that ends an open promotion publishes what it left, and then comes its record, in the region that is active then:
-/// there is room for it, and it is a trail of two tables, of which the later one is that of the step. The journal is shorter by
-/// a region, but for the change.
+/// A change that ends an open promotion publishes what it left, and then comes its record, in the region that is
+/// active then: there is room for it, and it is a trail of two tables, of which the later one is that of the step.
+/// The journal is shorter by a region, but for the change.
 pub fn a_change_that_ends_a_promotion_is_a_trail_of_two_tables<D: Viewed>()
     ensures takes { (v0 mid lay v1 v2 : D) (x y : Contents) (sealed : List Entry)
         (levels : List (Option LevelDesc)) (others : List Extent) (o : OpenPromotion)
@@ -153,8 +153,8 @@ pub fn a_change_that_ends_a_promotion_is_a_trail_of_two_tables<D: Viewed>()
         → length (with_batch y (change ∷ [])).journal + x.sb.mem ≡ length x.journal + 1 }
 {}
 
-/// A promotion that ends in its first slice is that of a whole journal: where the journal just fills its region, what was made takes
-/// the place of all of it, and after the change the journal has that change alone.
+/// A promotion that ends in its first slice is that of a whole journal: where the journal just fills its region, what
+/// was made takes the place of all of it, and after the change the journal has that change alone.
 pub fn a_first_slice_that_is_the_last_promotes_the_whole_journal<D: Viewed>()
     ensures says { (g : Image) (x : Contents) (target : ℕ) (made : Option LevelDesc)
         → length x.journal ≤ x.sb.mem → IsLastMade g x target made

@@ -1,5 +1,5 @@
-//! What a store stands on with a sealed level 0 and a promotion that is open, slice by slice. Definitions and laws: the crate
-//! has no code that runs.
+//! What a store stands on with a sealed level 0 and a promotion that is open, slice by slice. Definitions and laws:
+//! the crate has no code that runs.
 #![tactic(auto)]
 
 pub mod budget;

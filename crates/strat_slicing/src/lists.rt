@@ -18,8 +18,8 @@ ghost use Rattle.strat_state.specs.Setting.{set_entry, set_all};
 ghost use Rattle.strat_state.specs.Sound.{IsSound};
 ghost use Rattle.strat_state.specs.State.{State, versions_of, update_of, journal_updates};
 
-/// While a journal fits one region, level 0 may hold all of it, with as much room as the region has left. Below a full region
-/// this is the only way: nothing is sealed then.
+/// While a journal fits one region, level 0 may hold all of it, with as much room as the region has left. Below a
+/// full region this is the only way: nothing is sealed then.
 pub fn an_unsealed_level_holds_the_whole_journal()
     ensures ok { (mem : ℕ) (journal : List Change) (spare : ℕ) → length journal ≤ mem
         → mem ≤ spare + length journal
@@ -30,8 +30,8 @@ pub fn an_unsealed_level_holds_the_whole_journal()
         → (sealed ≡ None) × (entries ≡ set_all (filter_map update_of journal)) }
 {}
 
-/// Both lists come from the journal: an opening that finds a full region makes them of its two parts. And once a publication has
-/// taken what was sealed, level 0 alone holds what came since.
+/// Both lists come from the journal: an opening that finds a full region makes them of its two parts. And once a
+/// publication has taken what was sealed, level 0 alone holds what came since.
 pub fn both_lists_come_from_the_journal()
     ensures full { (mem : ℕ) (journal : List Change) → mem ≤ length journal
         → HoldLists mem journal (set_all (filter_map update_of (drop mem journal)))
@@ -61,8 +61,8 @@ pub fn both_lists_are_read()
         ≡ value_of (pairs_at (table_of s) v) key }
 {}
 
-/// A change that comes is set in level 0 alone: while the active region has room, and in front of a sealed one. Level 0 has room
-/// for it, as the journal has.
+/// A change that comes is set in level 0 alone: while the active region has room, and in front of a sealed one. Level
+/// 0 has room for it, as the journal has.
 pub fn a_change_goes_to_the_newer_list()
     ensures room { (mem : ℕ) (journal : List Change) (entries : List Entry)
         (sealed : Option (List Entry)) (spare : ℕ) → HoldLists mem journal entries sealed spare
@@ -84,7 +84,8 @@ pub fn what_is_sealed_is_what_is_promoted()
         → (x.sb.mem ≤ length x.journal) × (sealed ≡ set_all (journal_updates (sealed_state x))) }
 {}
 
-/// Five changes where a region takes four: the first three updates are sealed, and the fifth change alone is in level 0.
+/// Five changes where a region takes four: the first three updates are sealed, and the fifth change alone is in level
+/// 0.
 pub fn five_changes_are_in_two_lists()
     ensures { (entries sealed : List Entry) (spare : ℕ)
         → HoldLists 4 (Put 0 (98 ∷ []) (49 ∷ []) ∷ Put 0 (97 ∷ []) (50 ∷ []) ∷ Clone 0

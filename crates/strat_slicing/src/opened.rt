@@ -38,8 +38,8 @@ ghost use Rattle.strat_state.specs.State.{versions_of, journal_updates};
 
 use strat_crash::laws::Viewed;
 
-/// A promotion that was begun of what a full region sealed is open, with the budget for the fill, or with one of all that both
-/// passes have. Its numbers are those of the promotion that a change begins there.
+/// A promotion that was begun of what a full region sealed is open, with the budget for the fill, or with one of all
+/// that both passes have. Its numbers are those of the promotion that a change begins there.
 pub fn a_begun_promotion_is_open()
     ensures begun { (x : Contents) (sealed : List Entry) (levels : List (Option LevelDesc))
         (zero : ItemList) (p : Promotion) → x.sb.mem ≤ length x.journal
@@ -91,7 +91,8 @@ pub fn an_open_promotion_does_its_job()
         → IsItsJob f o.promotion inputs (job_open x levels p.going.was) }
 {}
 
-/// It meets what `slice` asks for, on any disk and however many versions came since, and reads blocks of its arrays alone.
+/// It meets what `slice` asks for, on any disk and however many versions came since, and reads blocks of its arrays
+/// alone.
 pub fn an_open_promotion_may_be_sliced()
     ensures ok { (x : Contents) (sealed : List Entry) (levels : List (Option LevelDesc))
         (o : OpenPromotion) (inputs : Inputs) → MayBeSliced x sealed levels o
@@ -138,8 +139,8 @@ pub fn the_blocks_of_an_open_promotion_are_used()
         → IsOpenOver f x fill sealed levels others o → AreUsed o.space (blocks_of others) }
 {}
 
-/// Where `slice` answers More over what is lent to an open promotion, on a disk whose content reads as the contents, it left an
-/// entry: each premise is one of its clauses, and nothing else is asked.
+/// Where `slice` answers More over what is lent to an open promotion, on a disk whose content reads as the contents,
+/// it left an entry: each premise is one of its clauses, and nothing else is asked.
 pub fn a_slice_leaves_an_entry_by_its_clauses<D: Viewed>()
     ensures { (old new : D) (f : Image) (x : Contents) (fill : ℕ) (sealed : List Entry)
         (levels : List (Option LevelDesc)) (others : List Extent) (o : OpenPromotion)
@@ -160,7 +161,8 @@ pub fn a_slice_leaves_an_entry_by_its_clauses<D: Viewed>()
         → LeavesEntry (D.view old) (D.view new) (job_open x levels p.going.was) o q space }
 {}
 
-/// A slice writes free blocks alone, so it is a trail of one table, wherever it ends; and the contents stand as they did.
+/// A slice writes free blocks alone, so it is a trail of one table, wherever it ends; and the contents stand as they
+/// did.
 pub fn a_slice_is_a_trail_of_one_table<D: Viewed>()
     ensures trail { (old new : D) (f : Image) (x : Contents) (fill : ℕ) (sealed : List Entry)
         (levels : List (Option LevelDesc)) (others : List Extent) (o : OpenPromotion)
@@ -174,8 +176,8 @@ pub fn a_slice_is_a_trail_of_one_table<D: Viewed>()
         → ContentsStand (D.view new) x }
 {}
 
-/// A slice that leaves an entry leaves the promotion open, on time for one change more, for which the journal has room. It
-/// keeps to its budget.
+/// A slice that leaves an entry leaves the promotion open, on time for one change more, for which the journal has
+/// room. It keeps to its budget.
 pub fn a_slice_leaves_a_promotion_open<D: Viewed>()
     ensures ok { (old new : D) (f g : Image) (x : Contents) (sealed : List Entry)
         (levels : List (Option LevelDesc)) (others : List Extent) (o : OpenPromotion)
@@ -189,7 +191,8 @@ pub fn a_slice_leaves_a_promotion_open<D: Viewed>()
         → KeepsToBudget (slice_numbers o) most (Some (slice_numbers (sliced_to o q space)).taken) }
 {}
 
-/// The promotion stays open while a change is appended, which writes in front of all blocks that it reads and has taken.
+/// The promotion stays open while a change is appended, which writes in front of all blocks that it reads and has
+/// taken.
 pub fn a_change_leaves_a_promotion_open()
     ensures { (f g : Image) (x : Contents) (sealed : List Entry) (levels : List (Option LevelDesc))
         (others : List Extent) (o : OpenPromotion) (change : Change) → ReadsAs f x
@@ -199,8 +202,8 @@ pub fn a_change_leaves_a_promotion_open()
         (length (with_batch x (change ∷ [])).journal) sealed levels others o }
 {}
 
-/// A change over an open promotion is one slice, which leaves an entry, and its record: the journal has room for it, it is a
-/// trail of two tables, and after it the promotion is open over the contents with the change.
+/// A change over an open promotion is one slice, which leaves an entry, and its record: the journal has room for it,
+/// it is a trail of two tables, and after it the promotion is open over the contents with the change.
 pub fn a_change_over_an_open_promotion_is_a_trail_of_two_tables<D: Viewed>()
     ensures takes { (v0 v1 v2 : D) (x : Contents) (sealed : List Entry)
         (levels : List (Option LevelDesc)) (others : List Extent) (o : OpenPromotion)
