@@ -8,8 +8,15 @@
 # wrong words, no store, and a file that can't be opened.
 
 refuse() {
+    forget_lock
     printf 'castle: %s\n' "$2" >&2
     exit "$1"
+}
+
+# Takes FILE.lock away where this run has made it, since no store came of it. Who opens one later makes another.
+forget_lock() {
+    [ -z "${made_lock-}" ] || rm -f -- "$real.lock"
+    made_lock=
 }
 
 # The program's own line. It stands here too, so that nothing has to be built to say it.
@@ -142,11 +149,11 @@ is_at() {
 
 # Locks FILE.lock, and FILE itself, which may have other names. The program inherits both, so they last until its end.
 take_locks() {
-    was_there=no
-    [ ! -e "$real.lock" ] || was_there=yes
+    is_new=yes
+    [ ! -e "$real.lock" ] || is_new=
     (exec 8<>"$real.lock") 2>/dev/null || refuse 125 "$real.lock: the lock can't be opened; look at it and at its folder"
     exec 8<>"$real.lock"
-    if [ "$was_there" = no ]; then
+    if [ -n "$is_new" ]; then
         chmod --reference="$real" -- "$real.lock" 2>/dev/null  # who may open the store may lock it
     fi
     if ! lock -n 8; then
@@ -159,6 +166,7 @@ take_locks() {
         take_locks "$1"  # whoever had it took it away; there is another one, or none
         return
     fi
+    made_lock=$is_new
     echo "$$" >"$real.lock" 2>/dev/null
     if [ -r "$real" ]; then
         exec 9<"$real"
@@ -179,6 +187,7 @@ show_growth() {
 give_up() {
     trap '' HUP INT TERM
     { kill "$!"; wait "$!"; } 2>/dev/null
+    forget_lock
     exit "$1"
 }
 
@@ -199,6 +208,8 @@ make_store() {
     # with 7 the store is there as well, and only what is said of it could not be written
     if [ "$status" -eq 0 ] || [ "$status" -eq 7 ]; then
         rm -f -- "$real.names" || echo "castle: $real.names: these names are of the store before; remove them" >&2
+    else
+        forget_lock
     fi
     exit "$status"
 }
@@ -235,6 +246,11 @@ run() {
         case $1 in
             format | workload) make_store "$@" ;;
         esac
+        # Behind `exec` nobody takes it away. `levels` is refused what `serve` is, and changes nothing. Where `serve` runs
+        # none the less, the lock on FILE itself keeps others away.
+        if [ -n "$made_lock" ] && ! "$program" levels "$2" </dev/null >/dev/null 2>&1; then
+            forget_lock
+        fi
     fi
     exec "$program" "$@"
 }

@@ -548,6 +548,35 @@ def a_lock_that_can_not_be_opened_is_told(folder):
     expect("whether a store was made", os.path.exists(path), False)
 
 
+def a_lock_file_that_was_made_for_no_store_is_taken_away(folder):
+    slot, small, linked = (os.path.join(folder, name) for name in ("slot", "small", "linked"))
+    with open(slot, "wb") as file:  # as far as the launcher sees this is a store
+        file.write(b"\0STRATBT1")
+    damaged, store = StoreFile(folder), StoreFile(folder)
+    with open(damaged.path, "r+b") as file:
+        file.seek(44 * BLOCK)  # docs/FORMATS.md: the manifest of a new store with M 64
+        file.write(b"\xff" * BLOCK)
+    os.link(store.path, linked)
+    tries = [(["serve", slot], 2, None), (["serve", damaged.path], 9, None), (["format", small, "4", "100", "10"], 5, 5000),
+             (["--overwrite", "workload", small, "1", "10"], 5, 5000), (["serve", linked], REFUSED, None)]
+    with served(store.path):
+        for had in (False, True):  # one that was there before stays
+            for words, status, most in tries:
+                lock = f"{next(path for path in words if path.startswith(folder))}.lock"
+                if had:
+                    with open(lock, "w"):
+                        pass
+                got = launch(words, preexec_fn=lambda most=most: most and limited(most))
+                expect(f"{words}", (got[0], got[1], os.path.exists(lock)), (b"", status, had))
+        expect("the lock of the open store", os.path.exists(f"{store.path}.lock"), True)
+    os.remove(f"{store.path}.lock")
+    with served(store.path) as child:
+        expect("a new lock of a store that opens", bytes_of(f"{store.path}.lock"), b"%d\n" % child.pid)
+    with served(store.path):  # somebody else had made it
+        os.remove(f"{linked}.lock")
+        expect("a lock that is another's", (launch(["serve", store.path])[1], os.path.exists(f"{store.path}.lock")), (REFUSED, True))
+
+
 def the_client_and_the_launcher_lock_each_other_out(folder):
     store = StoreFile(folder)
     with castle.Store(store.path, program=PROGRAM):
@@ -777,6 +806,7 @@ def a_workload_is_ended_with_its_launcher(folder):
             else:
                 os.kill(int(bytes_of(f"{path}.lock")), number)
             expect(f"{name}, its end", run.end(), (status, b"", []))
+        expect(f"{name}, the lock that it made", os.path.exists(f"{path}.lock"), name != "Ctrl-C")
         expect(f"{name}, the lock is free", launch(["serve", path])[1:], (0, b""))
 
 
@@ -803,6 +833,7 @@ CHECKS = [
     what_is_taken_away_while_it_is_locked_is_looked_at_again,
     locks_are_taken_without_flock_too,
     a_lock_that_can_not_be_opened_is_told,
+    a_lock_file_that_was_made_for_no_store_is_taken_away,
     the_client_and_the_launcher_lock_each_other_out,
     a_caller_that_has_the_locks_hands_them_on,
     locks_that_the_caller_has_not_are_taken,
