@@ -12,7 +12,6 @@ import os
 import struct
 import sys
 import threading
-import weakref
 from collections import deque
 from itertools import islice
 from typing import Callable, Deque, Iterator, List, NamedTuple, NoReturn, Optional, Sequence, Tuple, Union
@@ -20,7 +19,7 @@ from typing import Callable, Deque, Iterator, List, NamedTuple, NoReturn, Option
 from . import errors, forks, frames
 from .frames import NUMBER_MAX
 from .lock import Lock
-from .process import CHUNK, Process, find_program  # noqa: F401
+from .process import CHUNK, Process
 
 KEPT = 4096  # answered commands that are kept at most, before the list of commands is cut
 FAILURES = errno.EBADF, errno.EINVAL, errno.EIO  # of a pipe
