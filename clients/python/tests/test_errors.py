@@ -115,15 +115,7 @@ class RefusalsTest(StoreCase):
         self.assertEqual(self.opened().get(0, b"a"), b"1")
 
     def test_a_damaged_block_is_named_and_ends_the_run(self) -> None:
-        # docs/FORMATS.md: thirteen puts into a store with M 4 leave one array, in block 7
-        store = self.made(4, 100, 10)
-        for number in range(1, 14):
-            store.put(0, f"k{number:02}", b"")
-        store.close()
-        with open(self.path, "r+b") as file:
-            file.seek(7 * 4096)
-            file.write(b"\xff" * 4096)
-        store = self.opened()
+        store = self.damaged()
         self.assertEqual(store.get(0, "k13"), b"")
         with self.assertRaises(errors.Damaged) as caught:
             store.get(0, "k01")

@@ -16,9 +16,9 @@ import tempfile
 import threading
 import traceback
 import warnings
-from typing import Any, Callable, Dict, Iterator, List, NoReturn, Optional, Set, Tuple
+from typing import Any, Callable, Dict, Iterator, List, NoReturn, Optional, Tuple
 
-from support import StoreCase, is_gone
+from support import StoreCase, in_child, is_gone
 
 from castle import CastleError, Scan, Store, errors
 
@@ -341,22 +341,6 @@ class World:
                     it.file.versions[version][key] = plain[key]
         it.file.changes = store.stat().changes
 
-    def in_child(self, run: Callable[[], object]) -> int:
-        """Runs this in a child, and gives its number."""
-        pid = os.fork()
-        if pid == 0:
-            status = 1
-            try:
-                signal.signal(signal.SIGALRM, signal.SIG_DFL)
-                signal.alarm(LIMIT)
-                run()
-                status = 0
-            except BaseException:
-                traceback.print_exc()
-            finally:
-                os._exit(status)
-        return pid
-
     def not_spoken(self) -> None:
         """In a child: no open store speaks, and none that is open can be opened."""
         for it in self.holders:
@@ -378,13 +362,13 @@ class World:
 
     def fork(self) -> None:
         """A child is refused, and ends."""
-        pid = self.in_child(self.not_spoken)
+        pid = in_child(self.not_spoken, LIMIT)
         expect(os.waitpid(pid, 0)[1] == 0, "a child")
 
     def linger(self) -> None:
         """A child stays, with copies of whatever is open; or the ones that stay are ended."""
         if len(self.lingering) < 3:
-            self.lingering.append(self.in_child(lambda: (signal.alarm(0), signal.pause())))
+            self.lingering.append(in_child(lambda: (signal.alarm(0), signal.pause()), LIMIT))
         else:
             self.end_lingering()
 
@@ -412,7 +396,7 @@ class World:
                 os.write(tells, b"x")
                 os.read(hears, 1)
 
-        pid = self.in_child(run)
+        pid = in_child(run, LIMIT)
         os.close(tells)
         os.close(hears)
         answered = os.read(told, 1)
