@@ -737,6 +737,8 @@ class Terminal:
         self.pid, self.own = pty.fork()
         if self.pid == 0:
             try:
+                for number in (signal.SIGINT, signal.SIGHUP):  # as a terminal has them, and not a job in the background
+                    signal.signal(number, signal.SIG_DFL)
                 os.chdir(cwd)
                 if most is not None:
                     limited(most)

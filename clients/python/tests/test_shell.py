@@ -292,7 +292,7 @@ class ScanningTest(StoreCase):
         self.made().close()
         with subprocess.Popen([sys.executable, SHELL, self.path], stdin=subprocess.PIPE, stdout=subprocess.PIPE,
                               stderr=subprocess.PIPE, env=UNBUFFERED) as shell:
-            assert shell.stdin and shell.stdout and shell.stderr
+            assert shell.stdin and shell.stdout
             shell.stdin.write(b"put a 1\n")
             shell.stdin.flush()
             self.assertEqual(shell.stdout.readline(), b"done\n")
@@ -301,7 +301,8 @@ class ScanningTest(StoreCase):
                 with contextlib.suppress(subprocess.TimeoutExpired):
                     shell.wait(5)
                     break
-            self.assertEqual((shell.stderr.read(), shell.wait(DEADLINE)), (b"castle-shell: stopped before line 2\n", 130))
+            said = shell.communicate(timeout=DEADLINE)[1]  # where none ended it, the end of its input does
+            self.assertEqual((said, shell.returncode), (b"castle-shell: stopped before line 2\n", 130))
 
     def test_a_file_in_place_of_a_version_is_told_where_it_stands(self) -> None:
         store = self.made()
