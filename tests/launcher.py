@@ -784,6 +784,15 @@ class Terminal:
                     yield int(process), name
 
 
+def serve_says_at_a_terminal_what_it_waits_for(folder):
+    path = StoreFile(folder).path
+    said = f"castle: {path} is open for frames on standard input, which is a terminal here; people use castle-shell\n"
+    with Terminal([LAUNCHER, "serve", path]) as run:
+        run.read_until(b"people use castle-shell\r\n")
+        run.type(b"\x04")
+        expect("what it says, at its end", run.end(), (0, said.encode(), []))
+
+
 def a_workload_that_fails_at_a_terminal_tells_its_status(folder):
     path = os.path.join(folder, "a.store")
     with Terminal([LAUNCHER, "workload", path, "1", "2000"], most=5000) as run:
@@ -842,6 +851,7 @@ CHECKS = [
     a_build_keeps_the_locks_of_the_caller,
     what_a_file_holds_is_not_overwritten_unasked,
     names_stay_where_no_store_was_made,
+    serve_says_at_a_terminal_what_it_waits_for,
     a_workload_that_fails_at_a_terminal_tells_its_status,
     a_workload_is_ended_with_its_launcher,
 ]
