@@ -384,7 +384,7 @@ class Program:
         status = self.process.finish(LIMIT)
         heard = self._heard
         asked = next((frame for frame in heard.commands[heard.done:] if type(frame) is not Unheard), b"")
-        raise self._ended(errors.ended(status, self.file, frames.describe(asked) if asked else ""))
+        raise self._ended(errors.ended(status, self.file, frames.describe(asked) if asked else "")) from None  # and not from the pipe
 
     def _ended(self, error: errors.CastleError) -> errors.CastleError:
         """Takes no more commands. What is kept is a copy: one that is raised has the frames that it passed, and so all this."""

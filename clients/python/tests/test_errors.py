@@ -6,6 +6,7 @@ import signal
 import struct
 import subprocess
 import sys
+import traceback
 import unittest
 from typing import Type
 
@@ -229,8 +230,10 @@ class EndsTest(StoreCase):
         store = self.made()
         store.put(0, b"a", b"1")
         os.kill(store.pid, 9)
-        with self.assertRaisesRegex(errors.Killed, "get a at version 0: the program was ended by SIGKILL. All that was ack"):
+        self.assertTrue(is_gone(store.pid))
+        with self.assertRaisesRegex(errors.Killed, "get a at version 0: the program was ended by SIGKILL. All that was ack") as caught:
             store.get(0, b"a")
+        self.assertNotIn("BrokenPipeError", "".join(traceback.format_exception(errors.Killed, caught.exception, None)))
         with self.assertRaises(errors.Killed) as caught:
             store.get(0, b"a")
         self.assertEqual(caught.exception.status, -9)

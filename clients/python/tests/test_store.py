@@ -37,8 +37,9 @@ class CommandsTest(StoreCase):
         self.assertEqual(store.get(0, b"\xc3\xa9"), "日本".encode())
         store.put(0, bytearray(b"x"), memoryview(b"y"))
         self.assertEqual(store.get(0, "x"), b"y")
-        for words in ((0, 5, b""), (0, b"a", None), (None, b"a", b""), (1.0, b"a", b"")):
-            with self.assertRaises(TypeError):
+        for words, what in (((0, 5, b""), "bytes or text, and no int"), ((0, b"a", None), "bytes or text, and no NoneType"),
+                            ((None, b"a", b""), "a number or a name"), ((1.0, b"a", b""), "a number or a name")):
+            with self.assertRaisesRegex(TypeError, what):
                 store.put(*words)  # type: ignore[arg-type]
         self.assertEqual(store.stat().changes, 2)
 
@@ -62,7 +63,10 @@ class CommandsTest(StoreCase):
 
     def test_a_closed_store_says_so(self) -> None:
         store = self.made()
+        store.names["base"] = 0
+        self.assertEqual((repr(store), repr(store.names)), (f"<store {self.path}>", "<names {'base': 0}>"))
         store.close()
+        self.assertEqual(repr(store), f"<closed store {self.path}>")
         store.close()
         for _ in range(2):
             with self.assertRaises(errors.StoreClosed):
