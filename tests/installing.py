@@ -83,6 +83,9 @@ def an_installed_shell_finds_client_and_program(folder):
     run("castle", "format", "a.store", "64", "100", "10")
     got = run("castle-shell", "a.store", input=b"put a 1\nget a\n")
     expect("a script", got, (b"done\n1\n", 0, b""))
+    elsewhere = {"cwd": folder, "env": {"PATH": os.environ["PATH"], "HOME": folder}}
+    got = launch(["a.store"], f"{prefix}/bin/castle-shell", input=b"get a\n", **elsewhere)
+    expect("a script, by its path alone", got, (b"1\n", 0, b""))
     os.remove(f"{prefix}/lib/castle/castle")
     expect("without the program", run("castle-shell", "a.store", input=b"get a\n")[1], 1)
 

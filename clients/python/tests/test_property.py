@@ -497,6 +497,7 @@ class World:
         it.scans.clear()
         with contextlib.suppress(errors.Killed):
             it.store.close()
+            expect(it.is_dead or not it.store._program.process.was_killed, f"the program of {it.path} did not see the end of its input")
         self.holders.remove(it)
 
     def close(self) -> None:

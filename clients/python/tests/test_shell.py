@@ -3,6 +3,7 @@
 import contextlib
 import io
 import os
+import resource
 import signal
 import subprocess
 import sys
@@ -249,6 +250,20 @@ class ScanningTest(StoreCase):
         told = int(out.split(", with ")[1].split()[0])
         self.assertIn(told, range(2 * PIECE, 3 * PIECE + 1))
         self.assertIn(len(self.opened().at(0)) - told, range(PIECE))
+
+    def test_a_load_that_fills_the_device_says_how_far_it_came(self) -> None:
+        if not hasattr(resource, "prlimit"):
+            self.skipTest("no prlimit here")
+        store = self.made(64, 100000, 10)
+        self.written("many.dump", dumped(*(f"{key:04}\t1" for key in range(1000))))
+        resource.prlimit(store.pid, resource.RLIMIT_FSIZE, (9000, 9000))  # bytes of the file, as on a full device
+        complaint, status = carried_out(store, f"load {self.folder}/many.dump")[1:]
+        self.assertEqual(status, 1)
+        self.assertRegex(complaint, r"^castle-shell: line 1: .*, with \d+ of 1,000 pairs loaded: the file or its folder could not be")
+        told = int(complaint.split(", with ")[1].split()[0])
+        store.close()
+        self.assertIn(len(self.opened().at(0)) - told, (0, 1))  # the put that met it was made or not
+        self.assertTrue(told % PIECE, told)
 
     def test_ctrl_c_stops_a_load_behind_a_piece(self) -> None:
         self.made(64, 100000, 10).close()
