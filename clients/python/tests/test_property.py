@@ -568,6 +568,8 @@ class World:
                 self.end_child(it, False)
             elif isinstance(it, Open) and it.store is not None:
                 self.free(it)
+            elif isinstance(it, Open):
+                it.scans.clear()  # which alone hold its store
         self.holders.clear()
         gc.collect()
         self.end_lingering()
@@ -600,9 +602,8 @@ def run(folder: str, steps: int, seed: int) -> None:
             signal.setitimer(signal.ITIMER_REAL, 6 * LIMIT)
             world.log.append("end")
             world.end()
-    except BaseException as error:
-        error.args = (*error.args, f"seed {seed}, step {len(world.log)} of {steps}: {' '.join(world.log[-30:])}")
-        raise
+    except (Exception, Hang) as error:
+        raise AssertionError(f"{error}: seed {seed}, step {len(world.log)} of {steps}: {' '.join(world.log[-30:])}") from error
     finally:
         signal.setitimer(signal.ITIMER_REAL, 0)
         signal.signal(signal.SIGALRM, before)
