@@ -156,12 +156,13 @@ def an_installation_overwrites_nothing_of_others(folder):
 
 
 def an_installation_is_staged_below_destdir(folder):
-    stage = os.path.join(folder, "stage")
+    stage, prefix = os.path.join(folder, "stage"), os.path.join(folder, "usr")  # where a DESTDIR that is lost does no harm
     expect("a relative prefix", install("usr", env={"DESTDIR": stage}), (b"", 1, b"install: with DESTDIR the PREFIX begins with /\n"))
-    expect("staged", install("/usr", env={"DESTDIR": stage})[1], 0)
-    expect("staged, the command", launch(["--version"], f"{stage}/usr/bin/castle"), launch(["--version"]))
-    expect("staged, away", install("--uninstall", "/usr", env={"DESTDIR": stage})[1], 0)
-    expect_files("staged, what stays", f"{stage}/usr", [])
+    expect("staged", install(prefix, env={"DESTDIR": stage})[1], 0)
+    expect("staged, the command", launch(["--version"], f"{stage}{prefix}/bin/castle"), launch(["--version"]))
+    expect("staged, the prefix itself", os.path.exists(prefix), False)
+    expect("staged, away", install("--uninstall", prefix, env={"DESTDIR": stage})[1], 0)
+    expect_files("staged, what stays", f"{stage}{prefix}", [])
     expect("a relative prefix without it", install("here", cwd=folder)[1], 0)
     expect("a relative prefix without it, the command", launch(["--version"], f"{folder}/here/bin/castle"), launch(["--version"]))
 
