@@ -183,10 +183,15 @@ show_growth() {
     done
 }
 
-# Ends what was started last, and then this shell.
+# Ends what was started and waits for its end. A shell that is just forked may lose a weaker signal, and then go on for ever.
+end() {
+    { kill -KILL "$1"; wait "$1"; } 2>/dev/null
+}
+
+# Ends the program, and then this shell.
 give_up() {
     trap '' HUP INT TERM
-    { kill "$!"; wait "$!"; } 2>/dev/null
+    end "$!"
     forget_lock
     exit "$1"
 }
@@ -200,7 +205,7 @@ make_store() {
     if [ "$1" = workload ] && [ -t 2 ]; then
         (show_growth "$real") 8>&- 9>&- </dev/null >/dev/null &
         growth=$!
-        trap 'kill "$growth" 2>/dev/null; wait "$growth" 2>/dev/null; printf "\r\033[K" >&2' EXIT
+        trap 'end "$growth"; printf "\r\033[K" >&2' EXIT
     fi
     "$program" "$@" &
     wait "$!"

@@ -797,6 +797,9 @@ def a_workload_that_fails_at_a_terminal_tells_its_status(folder):
     path = os.path.join(folder, "a.store")
     with Terminal([LAUNCHER, "workload", path, "1", "2000"], most=5000) as run:
         expect("a full device", run.end(), (5, complaint(5), []))
+    # where a weaker signal does not end what shows the growth; so too where that has just begun, and loses it
+    with Terminal(["sh", "-c", 'trap "" TERM; exec "$@"', "sh", LAUNCHER, "workload", path, "1", "2000"], most=5000) as run:
+        expect("a full device, where SIGTERM is ignored", run.end(), (5, complaint(5), []))
     text = os.path.join(folder, "text")
     with open(text, "w") as file:
         file.write("a text")
