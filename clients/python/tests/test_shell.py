@@ -11,7 +11,7 @@ from typing import Callable, List, Tuple
 from unittest import mock
 
 from session import carried_out
-from support import DEADLINE, SHELL, TOP, StoreCase, unprivileged
+from support import DEADLINE, SHELL, TOP, StoreCase, comes_to, unprivileged
 
 import castle
 from castle import Batch, Store
@@ -312,6 +312,7 @@ class ScanningTest(StoreCase):
             shell.stdin.flush()
             self.assertEqual(shell.stdout.readline(), b"done\n")
             for _ in range(10):  # a signal that comes just before the wait begins is seen at the next one alone
+                self.assertTrue(comes_to(shell.pid, "S", "Z"))  # it waits, so that none comes between two lines
                 shell.send_signal(signal.SIGINT)
                 with contextlib.suppress(subprocess.TimeoutExpired):
                     shell.wait(5)
