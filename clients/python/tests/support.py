@@ -13,6 +13,7 @@ import time
 import traceback
 import unittest
 from typing import Callable, Iterator, List, Optional, Tuple
+from unittest import mock
 
 TOP = pathlib.Path(__file__).resolve().parents[3]
 SHELL = str(TOP / "castle-shell")
@@ -25,6 +26,7 @@ NOBODY = 65534  # the number of a user and a group without rights
 sys.path.insert(0, PACKAGE)
 
 from castle import Store  # noqa: E402
+from castle.process import Process  # noqa: E402
 
 
 @contextlib.contextmanager
@@ -66,6 +68,23 @@ def stop(pid: int) -> None:
     """Has a process stand still, and waits until it does. SIGCONT has it go on."""
     os.kill(pid, signal.SIGSTOP)
     assert comes_to(pid, "T", "Z")
+
+
+@contextlib.contextmanager
+def alarm_amid(store: Store) -> Iterator[None]:
+    """Within it the store's program stands still, and SIGALRM comes once, as soon as a command waits for its answer."""
+    ready, has_come = Process.ready, False
+
+    def waiting(process: Process, writes: bool) -> List[int]:
+        nonlocal has_come
+        if not (writes or has_come) and process.pid == store.pid:
+            has_come = True
+            signal.setitimer(signal.ITIMER_REAL, 0.01)  # seconds
+        return ready(process, writes)
+
+    stop(store.pid)
+    with mock.patch.object(Process, "ready", waiting):
+        yield
 
 
 def in_child(run: Callable[[], object], limit: int = CHILD, fork: Callable[[], int] = os.fork) -> int:

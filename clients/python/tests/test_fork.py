@@ -7,7 +7,6 @@ import os
 import pickle
 import signal
 import threading
-import time
 from typing import Callable, List
 from unittest import mock
 
@@ -69,7 +68,8 @@ class ForkTest(StoreCase):
         holds, waits = os.pipe()
         pid = in_child(lambda: os.read(holds, 1) and None)
         program = store.pid
-        store.close()
+        with mock.patch("castle.store.LIMIT", 3 * CHILD):  # seconds, so that no loaded machine has it killed
+            store.close()
         self.assertFalse(store._program.process.was_killed)
         self.assertTrue(is_gone(program))
         with self.opened() as store:
@@ -112,24 +112,25 @@ class ForkTest(StoreCase):
     def test_a_child_may_open_the_store_once_it_is_closed(self) -> None:
         store = self.filled()
         ready, go = os.pipe()
+        told, tells = os.pipe()
 
         def reopen() -> None:
-            with_lock = 0
             try:
                 Store(self.path)
             except errors.StoreLocked as error:
-                with_lock = f"by process {os.getppid()}." in str(error)
-            assert with_lock
+                assert f"by process {os.getppid()}." in str(error)
+                os.write(tells, b"x")
             assert os.read(ready, 1)
             with Store(self.path) as own:
                 own.put(0, "child", "1")
 
         pid = in_child(reopen)
-        time.sleep(0.2)
+        os.close(tells)
+        self.assertEqual(os.read(told, 1), b"x")
         store.close()
         os.write(go, b"x")
         self.waited(pid)
-        for end in (ready, go):
+        for end in (ready, go, told):
             os.close(end)
         self.assertEqual(self.opened().get(0, "child"), b"1")
 

@@ -12,7 +12,7 @@ import warnings
 from types import FrameType
 from typing import Any, Callable, Dict, Iterator, List, Optional, Set, Tuple
 
-from support import PACKAGE, StoreCase, stop
+from support import PACKAGE, StoreCase, alarm_amid
 
 from castle import Batch, Scan, Store, errors
 
@@ -231,9 +231,7 @@ class SignalsTest(StoreCase):
         for kind in (TimeoutError, ZeroDivisionError, MemoryError, OSError, KeyboardInterrupt, SystemExit):
             scan = store.scan(0)
             for call in (lambda: store.get(0, "a"), lambda: next(scan)):
-                stop(store.pid)
-                signal.setitimer(signal.ITIMER_REAL, 0.02)
-                with self.assertRaises(kind):
+                with alarm_amid(store), self.assertRaises(kind):
                     call()
                 os.kill(store.pid, signal.SIGCONT)
             self.assertEqual(store.get(0, "a"), b"1")

@@ -279,6 +279,7 @@ class GarbageTest(StoreCase):
 
         def interrupt(*_: object) -> None:
             if os.path.exists(self.path + ".child") and os.path.getsize(self.path + ".child"):
+                signal.setitimer(signal.ITIMER_REAL, 0)
                 raise KeyboardInterrupt
 
         before = signal.signal(signal.SIGALRM, interrupt)
@@ -287,7 +288,6 @@ class GarbageTest(StoreCase):
         self.addCleanup(signal.setitimer, signal.ITIMER_REAL, 0)
         with self.assertRaises(KeyboardInterrupt):
             Store(self.path, program=stub)
-        signal.setitimer(signal.ITIMER_REAL, 0)
         self.assertTrue(is_gone(int(self.bytes_of("a.store.child"))))
         self.opened()
 

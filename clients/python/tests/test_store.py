@@ -8,7 +8,7 @@ from pathlib import Path
 from typing import Any
 from unittest import mock
 
-from support import StoreCase, stop
+from support import StoreCase, alarm_amid
 
 from castle import Info, Stat, Store, errors
 
@@ -98,11 +98,9 @@ class CommandsTest(StoreCase):
 
         before = signal.signal(signal.SIGALRM, interrupt)
         self.addCleanup(signal.signal, signal.SIGALRM, before)
-        stop(store.pid)
         # the first is sent, and those behind it wait for its reply and are not
         for call in (lambda: store.put(0, "a", "2"), lambda: store.get(0, "b"), lambda: store.clone(0)):
-            signal.setitimer(signal.ITIMER_REAL, 0.05)
-            with self.assertRaises(KeyboardInterrupt):
+            with alarm_amid(store), self.assertRaises(KeyboardInterrupt):
                 call()
         os.kill(store.pid, signal.SIGCONT)
         self.assertEqual((store.get(0, "a"), store.get(0, "b"), store.stat()), (b"2", b"1", Stat(1, 3, 3, 0)))

@@ -10,7 +10,7 @@ import threading
 import time
 from typing import Any, Callable, Dict, List, Optional, Tuple, Type
 
-from support import StoreCase, stop
+from support import StoreCase, alarm_amid
 
 from castle import Store, errors
 
@@ -186,9 +186,8 @@ class AmidTest(StoreCase):
 
         before = signal.signal(signal.SIGALRM, handle)
         try:
-            stop(store.pid)
-            signal.setitimer(signal.ITIMER_REAL, 0.05)
-            self.assertEqual(store.get(0, "a"), b"1")
+            with alarm_amid(store):
+                self.assertEqual(store.get(0, "a"), b"1")
         finally:
             signal.signal(signal.SIGALRM, before)
         self.assertEqual(len(raised), 1)
