@@ -769,9 +769,11 @@ class Terminal:
         return re.search(pattern, self.shown)
 
     def end(self):
-        """The status, what was shown but for progress, and the processes that are left, but for `sleep`, which ends by itself."""
+        """The status, what was shown but for progress, and the names of processes that are left and do not end."""
         status = int(self.read_until(rb"ended with (\d+)\r\n")[1])
-        left = [name for _, name in self.left() if name != "sleep"]
+        deadline = time.monotonic() + DEADLINE
+        while (left := [name for _, name in self.left()]) and time.monotonic() < deadline:
+            time.sleep(0.05)  # what was just left alone ends soon, as `sleep 1` does
         return status, re.sub(rb"\r\x1b\[K(castle: \d+ MB\r)?|\^C|ended with \d+\r\n|\r", b"", self.shown), left
 
     def left(self):
