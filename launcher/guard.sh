@@ -258,7 +258,7 @@ run() {
         fi
     fi
     if [ "$1" = serve ] && [ -t 0 ]; then
-        echo "castle: $2 is open for frames on standard input, which is a terminal here; people use castle-shell" >&2
+        echo "castle: serve reads frames from standard input, which is a terminal here; people use castle-shell" >&2
     fi
     exec "$program" "$@"
 }

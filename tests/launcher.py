@@ -788,7 +788,7 @@ class Terminal:
 
 def serve_says_at_a_terminal_what_it_waits_for(folder):
     path = StoreFile(folder).path
-    said = f"castle: {path} is open for frames on standard input, which is a terminal here; people use castle-shell\n"
+    said = "castle: serve reads frames from standard input, which is a terminal here; people use castle-shell\n"
     with Terminal([LAUNCHER, "serve", path]) as run:
         run.read_until(b"people use castle-shell\r\n")
         run.type(b"\x04")
