@@ -249,8 +249,7 @@ class SignalsTest(StoreCase):
 
         def put(number: int) -> None:
             key, value = b"%d" % chance.randrange(20), b"%d" % number
-            before = unsure.pop(key, [plain.get(key)])
-            unsure[key] = before + [value]  # made or not, until it returns
+            unsure[key] = unsure.get(key, [plain.get(key)]) + [value]  # made or not, until it returns
             store.put(0, key, value)
             plain[key] = value
             del unsure[key]
