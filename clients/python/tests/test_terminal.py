@@ -7,12 +7,13 @@ import select
 import shutil
 import signal
 import subprocess
+import time
 import unittest
 from typing import Dict, Optional, Tuple
 from unittest import mock
 
 from session import CTRL_C, CTRL_D, PROMPT, Session
-from support import StoreCase, stop
+from support import DEADLINE, StoreCase, stop
 
 from castle.shell import Shell
 
@@ -181,8 +182,8 @@ class InterruptTest(TerminalCase):
     @unittest.skipUnless(shutil.which("ps"), "ps is not here")
     def test_a_command_whose_program_stands_still_can_be_left(self) -> None:
         session, program = self.waiting("put a 1")
-        said = ""
-        while "left" not in said:
+        said, deadline = "", time.monotonic() + DEADLINE
+        while "left" not in said and time.monotonic() < deadline:
             # one that comes before the last was noted counts as that
             session.send(CTRL_C)
             said += session.until(r"answered\n$", 0.5)
@@ -208,10 +209,11 @@ class InterruptTest(TerminalCase):
     def test_an_exchange_that_an_interrupt_cuts_off_costs_nothing(self) -> None:
         """A KeyboardInterrupt comes while the shell waits for an answer, and the next command gets its own."""
         session, program = self.waiting("get a")
-        said = ""
-        while "stopped" not in said and "left" not in said:
+        said, deadline = "", time.monotonic() + DEADLINE
+        while "stopped" not in said and "left" not in said and time.monotonic() < deadline:
             session.send(CTRL_C)
             said += session.until(r"or it was not\n$", 1)
+        self.assertRegex(said, "stopped|left")
         goes_on(program)
         if "left" not in said:  # as where a machine is so slow that three came before the second was told
             session.until(PROMPT)
