@@ -8,8 +8,15 @@
 # wrong words, no store, and a file that can't be opened.
 
 refuse() {
+    forget_lock
     printf 'castle: %s\n' "$2" >&2
     exit "$1"
+}
+
+# Takes FILE.lock away where this run has made it, since no store came of it. Who opens one later makes another.
+forget_lock() {
+    [ -z "${made_lock-}" ] || rm -f -- "$real.lock"
+    made_lock=
 }
 
 # The program's own line. It stands here too, so that nothing has to be built to say it.
@@ -142,11 +149,11 @@ is_at() {
 
 # Locks FILE.lock, and FILE itself, which may have other names. The program inherits both, so they last until its end.
 take_locks() {
-    was_there=no
-    [ ! -e "$real.lock" ] || was_there=yes
+    is_new=yes
+    [ ! -e "$real.lock" ] || is_new=
     (exec 8<>"$real.lock") 2>/dev/null || refuse 125 "$real.lock: the lock can't be opened; look at it and at its folder"
     exec 8<>"$real.lock"
-    if [ "$was_there" = no ]; then
+    if [ -n "$is_new" ]; then
         chmod --reference="$real" -- "$real.lock" 2>/dev/null  # who may open the store may lock it
     fi
     if ! lock -n 8; then
@@ -159,6 +166,7 @@ take_locks() {
         take_locks "$1"  # whoever had it took it away; there is another one, or none
         return
     fi
+    made_lock=$is_new
     echo "$$" >"$real.lock" 2>/dev/null
     if [ -r "$real" ]; then
         exec 9<"$real"
@@ -175,10 +183,16 @@ show_growth() {
     done
 }
 
-# Ends what was started last, and then this shell.
+# Ends what was started and waits for its end. A shell that is just forked may lose a weaker signal, and then go on for ever.
+end() {
+    { kill -KILL "$1"; wait "$1"; } 2>/dev/null
+}
+
+# Ends the program, and then this shell.
 give_up() {
     trap '' HUP INT TERM
-    { kill "$!"; wait "$!"; } 2>/dev/null
+    end "$!"
+    forget_lock
     exit "$1"
 }
 
@@ -191,7 +205,7 @@ make_store() {
     if [ "$1" = workload ] && [ -t 2 ]; then
         (show_growth "$real") 8>&- 9>&- </dev/null >/dev/null &
         growth=$!
-        trap 'kill "$growth" 2>/dev/null; wait "$growth" 2>/dev/null; printf "\r\033[K" >&2' EXIT
+        trap 'end "$growth"; printf "\r\033[K" >&2' EXIT
     fi
     "$program" "$@" &
     wait "$!"
@@ -199,6 +213,8 @@ make_store() {
     # with 7 the store is there as well, and only what is said of it could not be written
     if [ "$status" -eq 0 ] || [ "$status" -eq 7 ]; then
         rm -f -- "$real.names" || echo "castle: $real.names: these names are of the store before; remove them" >&2
+    else
+        forget_lock
     fi
     exit "$status"
 }
@@ -235,6 +251,14 @@ run() {
         case $1 in
             format | workload) make_store "$@" ;;
         esac
+        # Behind `exec` nobody takes it away. `levels` is refused what `serve` is, and changes nothing. Where `serve` runs
+        # none the less, the lock on FILE itself keeps others away.
+        if [ -n "$made_lock" ] && ! "$program" levels "$2" </dev/null >/dev/null 2>&1; then
+            forget_lock
+        fi
+    fi
+    if [ "$1" = serve ] && [ -t 0 ]; then
+        echo "castle: serve reads frames from standard input, which is a terminal here; people use castle-shell" >&2
     fi
     exec "$program" "$@"
 }

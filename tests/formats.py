@@ -9,7 +9,7 @@ import itertools
 import struct
 
 import model
-from model import BLOCK, CLONE, DELETE, KEY_MAX, PUT, VALUE_MAX, sized
+from model import BLOCK, CLONE, DELETE, PUT, VALUE_MAX, sized
 
 OPEN = 0xa7
 RECORD_MAX = 1288

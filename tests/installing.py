@@ -83,6 +83,9 @@ def an_installed_shell_finds_client_and_program(folder):
     run("castle", "format", "a.store", "64", "100", "10")
     got = run("castle-shell", "a.store", input=b"put a 1\nget a\n")
     expect("a script", got, (b"done\n1\n", 0, b""))
+    elsewhere = {"cwd": folder, "env": {"PATH": os.environ["PATH"], "HOME": folder}}
+    got = launch(["a.store"], f"{prefix}/bin/castle-shell", input=b"get a\n", **elsewhere)
+    expect("a script, by its path alone", got, (b"1\n", 0, b""))
     os.remove(f"{prefix}/lib/castle/castle")
     expect("without the program", run("castle-shell", "a.store", input=b"get a\n")[1], 1)
 
@@ -153,12 +156,13 @@ def an_installation_overwrites_nothing_of_others(folder):
 
 
 def an_installation_is_staged_below_destdir(folder):
-    stage = os.path.join(folder, "stage")
+    stage, prefix = os.path.join(folder, "stage"), os.path.join(folder, "usr")  # where a DESTDIR that is lost does no harm
     expect("a relative prefix", install("usr", env={"DESTDIR": stage}), (b"", 1, b"install: with DESTDIR the PREFIX begins with /\n"))
-    expect("staged", install("/usr", env={"DESTDIR": stage})[1], 0)
-    expect("staged, the command", launch(["--version"], f"{stage}/usr/bin/castle"), launch(["--version"]))
-    expect("staged, away", install("--uninstall", "/usr", env={"DESTDIR": stage})[1], 0)
-    expect_files("staged, what stays", f"{stage}/usr", [])
+    expect("staged", install(prefix, env={"DESTDIR": stage})[1], 0)
+    expect("staged, the command", launch(["--version"], f"{stage}{prefix}/bin/castle"), launch(["--version"]))
+    expect("staged, the prefix itself", os.path.exists(prefix), False)
+    expect("staged, away", install("--uninstall", prefix, env={"DESTDIR": stage})[1], 0)
+    expect_files("staged, what stays", f"{stage}{prefix}", [])
     expect("a relative prefix without it", install("here", cwd=folder)[1], 0)
     expect("a relative prefix without it, the command", launch(["--version"], f"{folder}/here/bin/castle"), launch(["--version"]))
 

@@ -548,6 +548,35 @@ def a_lock_that_can_not_be_opened_is_told(folder):
     expect("whether a store was made", os.path.exists(path), False)
 
 
+def a_lock_file_that_was_made_for_no_store_is_taken_away(folder):
+    slot, small, linked = (os.path.join(folder, name) for name in ("slot", "small", "linked"))
+    with open(slot, "wb") as file:  # as far as the launcher sees this is a store
+        file.write(b"\0STRATBT1")
+    damaged, store = StoreFile(folder), StoreFile(folder)
+    with open(damaged.path, "r+b") as file:
+        file.seek(44 * BLOCK)  # docs/FORMATS.md: the manifest of a new store with M 64
+        file.write(b"\xff" * BLOCK)
+    os.link(store.path, linked)
+    tries = [(["serve", slot], 2, None), (["serve", damaged.path], 9, None), (["format", small, "4", "100", "10"], 5, 5000),
+             (["--overwrite", "workload", small, "1", "10"], 5, 5000), (["serve", linked], REFUSED, None)]
+    with served(store.path):
+        for had in (False, True):  # one that was there before stays
+            for words, status, most in tries:
+                lock = f"{next(path for path in words if path.startswith(folder))}.lock"
+                if had:
+                    with open(lock, "w"):
+                        pass
+                got = launch(words, preexec_fn=lambda most=most: most and limited(most))
+                expect(f"{words}", (got[0], got[1], os.path.exists(lock)), (b"", status, had))
+        expect("the lock of the open store", os.path.exists(f"{store.path}.lock"), True)
+    os.remove(f"{store.path}.lock")
+    with served(store.path) as child:
+        expect("a new lock of a store that opens", bytes_of(f"{store.path}.lock"), b"%d\n" % child.pid)
+    with served(store.path):  # somebody else had made it
+        os.remove(f"{linked}.lock")
+        expect("a lock that is another's", (launch(["serve", store.path])[1], os.path.exists(f"{store.path}.lock")), (REFUSED, True))
+
+
 def the_client_and_the_launcher_lock_each_other_out(folder):
     store = StoreFile(folder)
     with castle.Store(store.path, program=PROGRAM):
@@ -708,6 +737,8 @@ class Terminal:
         self.pid, self.own = pty.fork()
         if self.pid == 0:
             try:
+                for number in (signal.SIGINT, signal.SIGHUP):  # as a terminal has them, and not a job in the background
+                    signal.signal(number, signal.SIG_DFL)
                 os.chdir(cwd)
                 if most is not None:
                     limited(most)
@@ -738,9 +769,11 @@ class Terminal:
         return re.search(pattern, self.shown)
 
     def end(self):
-        """The status, what was shown but for progress, and the processes that are left, but for `sleep`, which ends by itself."""
+        """The status, what was shown but for progress, and the names of processes that are left and do not end."""
         status = int(self.read_until(rb"ended with (\d+)\r\n")[1])
-        left = [name for _, name in self.left() if name != "sleep"]
+        deadline = time.monotonic() + DEADLINE
+        while (left := [name for _, name in self.left()]) and time.monotonic() < deadline:
+            time.sleep(0.05)  # what was just left alone ends soon, as `sleep 1` does
         return status, re.sub(rb"\r\x1b\[K(castle: \d+ MB\r)?|\^C|ended with \d+\r\n|\r", b"", self.shown), left
 
     def left(self):
@@ -753,10 +786,22 @@ class Terminal:
                     yield int(process), name
 
 
+def serve_says_at_a_terminal_what_it_waits_for(folder):
+    path = StoreFile(folder).path
+    said = "castle: serve reads frames from standard input, which is a terminal here; people use castle-shell\n"
+    with Terminal([LAUNCHER, "serve", path]) as run:
+        run.read_until(b"people use castle-shell\r\n")
+        run.type(b"\x04")
+        expect("what it says, at its end", run.end(), (0, said.encode(), []))
+
+
 def a_workload_that_fails_at_a_terminal_tells_its_status(folder):
     path = os.path.join(folder, "a.store")
     with Terminal([LAUNCHER, "workload", path, "1", "2000"], most=5000) as run:
         expect("a full device", run.end(), (5, complaint(5), []))
+    # where a weaker signal does not end what shows the growth; so too where that has just begun, and loses it
+    with Terminal(["sh", "-c", 'trap "" TERM; exec "$@"', "sh", LAUNCHER, "workload", path, "1", "2000"], most=5000) as run:
+        expect("a full device, where SIGTERM is ignored", run.end(), (5, complaint(5), []))
     text = os.path.join(folder, "text")
     with open(text, "w") as file:
         file.write("a text")
@@ -777,6 +822,7 @@ def a_workload_is_ended_with_its_launcher(folder):
             else:
                 os.kill(int(bytes_of(f"{path}.lock")), number)
             expect(f"{name}, its end", run.end(), (status, b"", []))
+        expect(f"{name}, the lock that it made", os.path.exists(f"{path}.lock"), name != "Ctrl-C")
         expect(f"{name}, the lock is free", launch(["serve", path])[1:], (0, b""))
 
 
@@ -803,12 +849,14 @@ CHECKS = [
     what_is_taken_away_while_it_is_locked_is_looked_at_again,
     locks_are_taken_without_flock_too,
     a_lock_that_can_not_be_opened_is_told,
+    a_lock_file_that_was_made_for_no_store_is_taken_away,
     the_client_and_the_launcher_lock_each_other_out,
     a_caller_that_has_the_locks_hands_them_on,
     locks_that_the_caller_has_not_are_taken,
     a_build_keeps_the_locks_of_the_caller,
     what_a_file_holds_is_not_overwritten_unasked,
     names_stay_where_no_store_was_made,
+    serve_says_at_a_terminal_what_it_waits_for,
     a_workload_that_fails_at_a_terminal_tells_its_status,
     a_workload_is_ended_with_its_launcher,
 ]

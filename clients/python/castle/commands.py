@@ -18,6 +18,8 @@ def data_of(data: Data) -> bytes:
         return data.encode() if isinstance(data, str) else bytes(memoryview(data))
     except UnicodeEncodeError:
         raise errors.TextFault("text with half a surrogate pair has no UTF-8", "Give bytes.") from None
+    except TypeError:
+        raise TypeError(f"a key or a value is bytes or text, and no {type(data).__name__}") from None
 
 
 class Commands:

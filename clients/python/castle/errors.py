@@ -132,10 +132,7 @@ class Damaged(Refused):
     block: Optional[int] = None
 
 
-REFUSALS: Dict[int, Type[Refused]] = {
-    kind.status: kind for kind in (
-        UnknownVersion, Frozen, UnknownCursor, VersionLimit, ChangeLimit, CursorLimit, Malformed, KeySize, ValueSize,
-        ScanSize, FrameTooLong, NoMemory, DeviceFault, Damaged)}
+REFUSALS: Dict[int, Type[Refused]] = {kind.status: kind for kind in Refused.__subclasses__()}
 
 
 def refusal(status: int, fields: bytes, file: str, command: str) -> Refused:
@@ -273,10 +270,7 @@ class Interrupted(Ended):
     remedy = "Open the store again, and look whether changes without a reply are there."
 
 
-ENDS: Dict[int, Type[Ended]] = {
-    kind.status: kind for kind in (
-        WrongUsage, NotAStore, InputTooLong, InputCutOff, DeviceFailed, InputFailed, OutputFailed, OutOfMemory,
-        StoreDamaged, InputBudget, Unsound, LauncherRefused, NotBuilt, NoKit)}
+ENDS: Dict[int, Type[Ended]] = {kind.status: kind for kind in Ended.__subclasses__() if kind.status}
 
 
 def ended(status: int, file: str, command: str, printed: str = "") -> Ended:

@@ -100,6 +100,9 @@ class Names(MutableMapping[str, int]):
     def __len__(self) -> int:
         return len(self._versions)
 
+    def __repr__(self) -> str:
+        return f"<names {dict(self)}>"
+
     def __setitem__(self, name: str, version: int) -> None:
         self._guard()
         self.check(name)

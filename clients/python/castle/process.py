@@ -9,7 +9,7 @@ import signal
 import subprocess
 import sys
 import time
-from typing import Dict, Iterable, List, Optional, Sequence, Tuple
+from typing import Any, Dict, Iterable, List, Optional, Sequence, Tuple
 
 from . import errors, forks
 from .lock import Lock
@@ -39,18 +39,24 @@ def _others(lines: Iterable[bytes], words: Sequence[str]) -> List[bytes]:
     return [line for line in lines if line not in told]
 
 
-def _environment(lock: Optional[Lock]) -> Dict[str, str]:
-    """The environment of the program. CASTLE_LOCKS tells the launcher which open files hold the locks already."""
-    given = {name: value for name, value in os.environ.items() if name != "CASTLE_LOCKS"}
-    return given if lock is None else {**given, "CASTLE_LOCKS": lock.told}
+def _surroundings(lock: Optional[Lock]) -> Dict[str, Any]:
+    """What each run of the program inherits.
+
+    CASTLE_LOCKS tells the launcher which open files hold the locks already. In a session of its own the terminal's
+    Ctrl-C reaches the client alone. SIGXFSZ stays ignored, as Python has it, so that a file that may grow no more is a
+    fault that the program tells.
+    """
+    environment = {name: value for name, value in os.environ.items() if name != "CASTLE_LOCKS"}
+    if lock is not None:
+        environment["CASTLE_LOCKS"] = lock.told
+    return {"env": environment, "pass_fds": lock.descriptors if lock else (), "restore_signals": False, "start_new_session": True}
 
 
 def printed(program: str, words: Sequence[str], file: str, lock: Optional[Lock] = None) -> Tuple[str, int]:
     """What a run of the program prints that reads no input, and its status."""
     try:
         ran = subprocess.run([program, *words], stdin=subprocess.DEVNULL, stdout=subprocess.PIPE, stderr=subprocess.PIPE,
-                             env=_environment(lock), pass_fds=lock.descriptors if lock else (), restore_signals=False,
-                             start_new_session=True)
+                             **_surroundings(lock))
     except OSError as error:
         raise errors.ProgramMissing(f"the program {program} can't be run: {error.strerror}", file=file) from error
     pass_on(_others(ran.stderr.splitlines(), words))
@@ -68,12 +74,8 @@ class Process:
         self.was_killed = False  # since it did not end in time
         with forks.starting:
             try:
-                # In a session of its own the terminal's Ctrl-C reaches the client alone. SIGXFSZ stays ignored, as
-                # Python has it, so that a file that may grow no more is a fault that the program tells.
-                self._child = subprocess.Popen(
-                    [program, *words], stdin=subprocess.PIPE, stdout=subprocess.PIPE, stderr=subprocess.PIPE, bufsize=0,
-                    env=_environment(lock), pass_fds=lock.descriptors if lock else (), restore_signals=False,
-                    start_new_session=True)
+                self._child = subprocess.Popen([program, *words], stdin=subprocess.PIPE, stdout=subprocess.PIPE,
+                                               stderr=subprocess.PIPE, bufsize=0, **_surroundings(lock))
             except OSError as error:
                 raise errors.ProgramMissing(f"the program {program} can't be run: {error.strerror}", file=file) from error
             try:

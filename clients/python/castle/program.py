@@ -12,7 +12,6 @@ import os
 import struct
 import sys
 import threading
-import weakref
 from collections import deque
 from itertools import islice
 from typing import Callable, Deque, Iterator, List, NamedTuple, NoReturn, Optional, Sequence, Tuple, Union
@@ -20,7 +19,7 @@ from typing import Callable, Deque, Iterator, List, NamedTuple, NoReturn, Option
 from . import errors, forks, frames
 from .frames import NUMBER_MAX
 from .lock import Lock
-from .process import CHUNK, Process, find_program  # noqa: F401
+from .process import CHUNK, Process
 
 KEPT = 4096  # answered commands that are kept at most, before the list of commands is cut
 FAILURES = errno.EBADF, errno.EINVAL, errno.EIO  # of a pipe
@@ -385,7 +384,7 @@ class Program:
         status = self.process.finish(LIMIT)
         heard = self._heard
         asked = next((frame for frame in heard.commands[heard.done:] if type(frame) is not Unheard), b"")
-        raise self._ended(errors.ended(status, self.file, frames.describe(asked) if asked else ""))
+        raise self._ended(errors.ended(status, self.file, frames.describe(asked) if asked else "")) from None  # and not from the pipe
 
     def _ended(self, error: errors.CastleError) -> errors.CastleError:
         """Takes no more commands. What is kept is a copy: one that is raised has the frames that it passed, and so all this."""

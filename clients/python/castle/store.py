@@ -133,6 +133,11 @@ class Store:
             raise
         lock.release()
 
+    def __repr__(self) -> str:
+        program = getattr(self, "_program", None)  # there is none yet amid an opening
+        is_closed = program is not None and isinstance(program.end, errors.StoreClosed)
+        return f"<{'closed ' if is_closed else ''}store {self.path}>"
+
     def __reduce__(self) -> NoReturn:
         raise TypeError("a store can't be copied or pickled: open it in the process that uses it")
 

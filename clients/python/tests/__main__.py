@@ -8,6 +8,7 @@ from __future__ import annotations
 
 import faulthandler
 import pathlib
+import signal
 import sys
 import traceback
 import unittest
@@ -73,6 +74,7 @@ def main(wanted: List[str]) -> int:
         print("client: FAILED: the program isn't built\n0 passed, 1 failed")
         return 1
     faulthandler.dump_traceback_later(DEADLINE, exit=True)
+    signal.signal(signal.SIGINT, signal.default_int_handler)  # a job in the background has it ignored, and all that it starts
     found = unittest.defaultTestLoader.discover(str(pathlib.Path(__file__).resolve().parent))
     lines = Lines()
     for test in cases(found):

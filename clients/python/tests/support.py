@@ -10,19 +10,23 @@ import subprocess
 import sys
 import tempfile
 import time
+import traceback
 import unittest
-from typing import Iterator, List, Optional, Tuple
+from typing import Callable, Iterator, List, Optional, Tuple
+from unittest import mock
 
 TOP = pathlib.Path(__file__).resolve().parents[3]
 SHELL = str(TOP / "castle-shell")
 PRETENDER = str(pathlib.Path(__file__).resolve().parent / "pretender")
 PACKAGE = str(TOP / "clients" / "python")
 DEADLINE = 120  # seconds that a run of the shell may take
+CHILD = 20  # seconds that a child may take
 NOBODY = 65534  # the number of a user and a group without rights
 
 sys.path.insert(0, PACKAGE)
 
 from castle import Store  # noqa: E402
+from castle.process import Process  # noqa: E402
 
 
 @contextlib.contextmanager
@@ -66,6 +70,40 @@ def stop(pid: int) -> None:
     assert comes_to(pid, "T", "Z")
 
 
+@contextlib.contextmanager
+def alarm_amid(store: Store) -> Iterator[None]:
+    """Within it the store's program stands still, and SIGALRM comes once, as soon as a command waits for its answer."""
+    ready, has_come = Process.ready, False
+
+    def waiting(process: Process, writes: bool) -> List[int]:
+        nonlocal has_come
+        if not (writes or has_come) and process.pid == store.pid:
+            has_come = True
+            signal.setitimer(signal.ITIMER_REAL, 0.01)  # seconds
+        return ready(process, writes)
+
+    stop(store.pid)
+    with mock.patch.object(Process, "ready", waiting):
+        yield
+
+
+def in_child(run: Callable[[], object], limit: int = CHILD, fork: Callable[[], int] = os.fork) -> int:
+    """Runs this in a child, and gives its number. The child's status is 0 where no exception came; it ends after so many seconds."""
+    pid = fork()
+    if pid == 0:
+        status = 1
+        try:
+            signal.signal(signal.SIGALRM, signal.SIG_DFL)
+            signal.alarm(limit)
+            run()
+            status = 0
+        except BaseException:
+            traceback.print_exc()
+        finally:
+            os._exit(status)
+    return pid
+
+
 class StoreCase(unittest.TestCase):
     """A test with a folder of its own and the path of a store in it."""
 
@@ -89,6 +127,16 @@ class StoreCase(unittest.TestCase):
         store = Store(self.path)
         self.addCleanup(lambda: store.__exit__(ValueError, ValueError(), None))
         return store
+
+    def damaged(self) -> Store:
+        """A store of the keys `k01` to `k13`, of which all but the last are in block 7, which is damaged."""
+        with self.made(4, 100, 10) as store:  # docs/FORMATS.md: so many puts with M 4 leave one array, in that block
+            for number in range(1, 14):
+                store.put(0, f"k{number:02}", "")
+        with open(self.path, "r+b") as file:
+            file.seek(7 * 4096)
+            file.write(b"\xff" * 4096)
+        return self.opened()
 
     def written(self, name: str, text: str) -> str:
         """The path of a new file with this text."""

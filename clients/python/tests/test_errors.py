@@ -6,6 +6,7 @@ import signal
 import struct
 import subprocess
 import sys
+import traceback
 import unittest
 from typing import Type
 
@@ -115,15 +116,7 @@ class RefusalsTest(StoreCase):
         self.assertEqual(self.opened().get(0, b"a"), b"1")
 
     def test_a_damaged_block_is_named_and_ends_the_run(self) -> None:
-        # docs/FORMATS.md: thirteen puts into a store with M 4 leave one array, in block 7
-        store = self.made(4, 100, 10)
-        for number in range(1, 14):
-            store.put(0, f"k{number:02}", b"")
-        store.close()
-        with open(self.path, "r+b") as file:
-            file.seek(7 * 4096)
-            file.write(b"\xff" * 4096)
-        store = self.opened()
+        store = self.damaged()
         self.assertEqual(store.get(0, "k13"), b"")
         with self.assertRaises(errors.Damaged) as caught:
             store.get(0, "k01")
@@ -237,8 +230,10 @@ class EndsTest(StoreCase):
         store = self.made()
         store.put(0, b"a", b"1")
         os.kill(store.pid, 9)
-        with self.assertRaisesRegex(errors.Killed, "get a at version 0: the program was ended by SIGKILL. All that was ack"):
+        self.assertTrue(is_gone(store.pid))
+        with self.assertRaisesRegex(errors.Killed, "get a at version 0: the program was ended by SIGKILL. All that was ack") as caught:
             store.get(0, b"a")
+        self.assertNotIn("BrokenPipeError", "".join(traceback.format_exception(errors.Killed, caught.exception, None)))
         with self.assertRaises(errors.Killed) as caught:
             store.get(0, b"a")
         self.assertEqual(caught.exception.status, -9)

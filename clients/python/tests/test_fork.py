@@ -7,32 +7,12 @@ import os
 import pickle
 import signal
 import threading
-import time
-import traceback
 from typing import Callable, List
 from unittest import mock
 
-from support import StoreCase, is_gone
+from support import CHILD, StoreCase, in_child, is_gone
 
 from castle import Store, errors
-
-DEADLINE = 20  # seconds that a child may take
-
-
-def in_child(run: Callable[[], object], fork: Callable[[], int] = os.fork) -> int:
-    """Runs this in a child, and gives its number. The child's status is 0 where no exception came."""
-    pid = fork()
-    if pid == 0:
-        status = 1
-        try:
-            signal.alarm(DEADLINE)
-            run()
-            status = 0
-        except BaseException:
-            traceback.print_exc()
-        finally:
-            os._exit(status)
-    return pid
 
 
 class ForkTest(StoreCase):
@@ -88,7 +68,8 @@ class ForkTest(StoreCase):
         holds, waits = os.pipe()
         pid = in_child(lambda: os.read(holds, 1) and None)
         program = store.pid
-        store.close()
+        with mock.patch("castle.store.LIMIT", 3 * CHILD):  # seconds, so that no loaded machine has it killed
+            store.close()
         self.assertFalse(store._program.process.was_killed)
         self.assertTrue(is_gone(program))
         with self.opened() as store:
@@ -131,24 +112,25 @@ class ForkTest(StoreCase):
     def test_a_child_may_open_the_store_once_it_is_closed(self) -> None:
         store = self.filled()
         ready, go = os.pipe()
+        told, tells = os.pipe()
 
         def reopen() -> None:
-            with_lock = 0
             try:
                 Store(self.path)
             except errors.StoreLocked as error:
-                with_lock = f"by process {os.getppid()}." in str(error)
-            assert with_lock
+                assert f"by process {os.getppid()}." in str(error)
+                os.write(tells, b"x")
             assert os.read(ready, 1)
             with Store(self.path) as own:
                 own.put(0, "child", "1")
 
         pid = in_child(reopen)
-        time.sleep(0.2)
+        os.close(tells)
+        self.assertEqual(os.read(told, 1), b"x")
         store.close()
         os.write(go, b"x")
         self.waited(pid)
-        for end in (ready, go):
+        for end in (ready, go, told):
             os.close(end)
         self.assertEqual(self.opened().get(0, "child"), b"1")
 
@@ -160,7 +142,7 @@ class ForkTest(StoreCase):
             worker.start()
         self.assertEqual(store.get(0, "k5"), b"value 5")
         for worker in workers:
-            worker.join(DEADLINE)
+            worker.join(CHILD)
             self.assertEqual(worker.exitcode, 0)
         for call in (pickle.dumps, copy.copy, copy.deepcopy):
             with self.assertRaisesRegex(TypeError, "open it in the process that uses it"):
@@ -186,7 +168,7 @@ class ForkTest(StoreCase):
         finally:
             stop.set()
         for thread in threads:
-            thread.join(DEADLINE)
+            thread.join(CHILD)
         self.assertEqual(wrong, [])
 
     def test_locks_that_threads_have_at_a_fork_hold_up_no_child(self) -> None:
@@ -196,15 +178,15 @@ class ForkTest(StoreCase):
         def hold() -> None:
             with store._program.lock, self.scan._reading:
                 has.set()
-                go.wait(DEADLINE)
+                go.wait(CHILD)
 
         thread = threading.Thread(target=hold)
         thread.start()
-        has.wait(DEADLINE)
+        has.wait(CHILD)
         pid = in_child(lambda: self.refused(store))
         self.waited(pid)
         go.set()
-        thread.join(DEADLINE)
+        thread.join(CHILD)
         self.assertEqual((store.get(0, "k1"), len(list(self.scan))), (b"value 1", 344))
 
     def test_a_fork_amid_an_opening_keeps_no_store_open(self) -> None:
@@ -224,7 +206,7 @@ class ForkTest(StoreCase):
         thread.start()
         while thread.is_alive() and len(pids) < 100:
             pids.append(in_child(lambda: os.read(holds, 1) and None))
-        thread.join(DEADLINE)
+        thread.join(CHILD)
         os.close(waits)
         os.write(os.open(f"/proc/self/fd/{holds}", os.O_WRONLY), b"x" * len(pids))
         for pid in pids:
@@ -240,14 +222,14 @@ class ForkTest(StoreCase):
             self.refused(store)
             store.close()
 
-        self.waited(in_child(run, library.fork))
+        self.waited(in_child(run, fork=library.fork))
         with self.assertRaises(errors.StoreLocked):
             Store(self.path)
         self.assertEqual(store.get(0, "k7"), b"value 7")
 
     def test_a_child_that_python_does_not_see_keeps_no_store_open(self) -> None:
         store = self.filled()
-        pid = in_child(lambda: (signal.alarm(0), signal.pause()), ctypes.CDLL(None).fork)
+        pid = in_child(lambda: (signal.alarm(0), signal.pause()), fork=ctypes.CDLL(None).fork)
         with mock.patch("castle.store.LIMIT", 0.3):  # seconds; the child has the program's input open
             store.close()
         self.opened().close()

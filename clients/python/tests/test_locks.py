@@ -12,7 +12,7 @@ from pathlib import Path
 from typing import Any, List, Union
 from unittest import mock
 
-from support import PACKAGE, PRETENDER, StoreCase, is_gone, stop, unprivileged
+from support import PACKAGE, PRETENDER, StoreCase, in_child, is_gone, stop, unprivileged
 
 from castle import Store, errors
 from castle.process import find_program
@@ -279,6 +279,7 @@ class GarbageTest(StoreCase):
 
         def interrupt(*_: object) -> None:
             if os.path.exists(self.path + ".child") and os.path.getsize(self.path + ".child"):
+                signal.setitimer(signal.ITIMER_REAL, 0)
                 raise KeyboardInterrupt
 
         before = signal.signal(signal.SIGALRM, interrupt)
@@ -287,7 +288,6 @@ class GarbageTest(StoreCase):
         self.addCleanup(signal.setitimer, signal.ITIMER_REAL, 0)
         with self.assertRaises(KeyboardInterrupt):
             Store(self.path, program=stub)
-        signal.setitimer(signal.ITIMER_REAL, 0)
         self.assertTrue(is_gone(int(self.bytes_of("a.store.child"))))
         self.opened()
 
@@ -448,10 +448,7 @@ class ReadOnlyTest(StoreCase):
         self.filled()
         store = Store(self.path, read_only=True)
         served = store._served
-        if os.fork() == 0:
-            store.close()
-            os._exit(0)
-        os.wait()
+        self.assertEqual(os.waitpid(in_child(store.close), 0)[1], 0)
         self.assertTrue(os.path.exists(served))
         with self.assertWarns(ResourceWarning):
             del store
@@ -462,12 +459,14 @@ class ReadOnlyTest(StoreCase):
             store.get(0, "a")
         store.close()
         self.assertFalse(os.path.exists(os.path.dirname(store._served)))
-        before = set(os.listdir("/tmp"))
-        with self.assertRaises(errors.NotAStore):
-            Store(self.written("text", "no store"), read_only=True)
-        with self.assertRaises(errors.ProgramMissing):
-            Store(self.path, read_only=True, program="/none")
-        self.assertEqual([name for name in set(os.listdir("/tmp")) - before if name.startswith("castle-")], [])
+        copies = os.path.join(self.folder, "copies")
+        os.mkdir(copies)
+        with mock.patch("tempfile.tempdir", copies):  # where nobody else makes any
+            with self.assertRaises(errors.NotAStore):
+                Store(self.written("text", "no store"), read_only=True)
+            with self.assertRaises(errors.ProgramMissing):
+                Store(self.path, read_only=True, program="/none")
+        self.assertEqual(os.listdir(copies), [])
         ran = self.python("store = castle.Store(sys.argv[1], read_only=True); print(store._served)")
         self.assertFalse(os.path.exists(os.path.dirname(ran.stdout.decode().strip())))
 

@@ -16,9 +16,10 @@ import tempfile
 import threading
 import traceback
 import warnings
-from typing import Any, Callable, Dict, Iterator, List, NoReturn, Optional, Set, Tuple
+from typing import Any, Callable, Dict, Iterator, List, NoReturn, Optional, Tuple
+from unittest import mock
 
-from support import StoreCase, is_gone
+from support import StoreCase, in_child, is_gone
 
 from castle import CastleError, Scan, Store, errors
 
@@ -341,22 +342,6 @@ class World:
                     it.file.versions[version][key] = plain[key]
         it.file.changes = store.stat().changes
 
-    def in_child(self, run: Callable[[], object]) -> int:
-        """Runs this in a child, and gives its number."""
-        pid = os.fork()
-        if pid == 0:
-            status = 1
-            try:
-                signal.signal(signal.SIGALRM, signal.SIG_DFL)
-                signal.alarm(LIMIT)
-                run()
-                status = 0
-            except BaseException:
-                traceback.print_exc()
-            finally:
-                os._exit(status)
-        return pid
-
     def not_spoken(self) -> None:
         """In a child: no open store speaks, and none that is open can be opened."""
         for it in self.holders:
@@ -378,13 +363,13 @@ class World:
 
     def fork(self) -> None:
         """A child is refused, and ends."""
-        pid = self.in_child(self.not_spoken)
+        pid = in_child(self.not_spoken, LIMIT)
         expect(os.waitpid(pid, 0)[1] == 0, "a child")
 
     def linger(self) -> None:
         """A child stays, with copies of whatever is open; or the ones that stay are ended."""
         if len(self.lingering) < 3:
-            self.lingering.append(self.in_child(lambda: (signal.alarm(0), signal.pause())))
+            self.lingering.append(in_child(lambda: (signal.alarm(0), signal.pause()), LIMIT))
         else:
             self.end_lingering()
 
@@ -412,7 +397,7 @@ class World:
                 os.write(tells, b"x")
                 os.read(hears, 1)
 
-        pid = self.in_child(run)
+        pid = in_child(run, LIMIT)
         os.close(tells)
         os.close(hears)
         answered = os.read(told, 1)
@@ -554,16 +539,18 @@ class World:
         store, version = it.store, self.chance.choice(it.file.ends())
         key, value = self.chance.choice(KEYS), b"%d" % next(self.counter)
         clones = self.chance.random() < 0.2 and len(it.file.versions) < 150 and not it.strays
-        self.due = KeyboardInterrupt()
-        signal.setitimer(signal.ITIMER_REAL, self.chance.random() * 0.003 + 1e-5)
-        with contextlib.suppress(KeyboardInterrupt):
+        self.due, seconds = KeyboardInterrupt(), self.chance.random() * 0.003 + 1e-5
+        try:
             try:
+                signal.setitimer(signal.ITIMER_REAL, seconds)
                 if clones:
                     store.clone(version)
                 else:
                     store.put(version, key, value)
             finally:
                 signal.setitimer(signal.ITIMER_REAL, LIMIT)
+        except KeyboardInterrupt:
+            pass
         self.due = None
         if clones:
             if store.stat().versions > len(it.file.versions):
@@ -583,6 +570,8 @@ class World:
                 self.end_child(it, False)
             elif isinstance(it, Open) and it.store is not None:
                 self.free(it)
+            elif isinstance(it, Open):
+                it.scans.clear()  # which alone hold its store
         self.holders.clear()
         gc.collect()
         self.end_lingering()
@@ -593,11 +582,11 @@ class World:
 
 @contextlib.contextmanager
 def quiet() -> Iterator[None]:
-    """Stores that nobody closes are no matter here, nor interrupts amid the end of an object."""
+    """Stores that nobody closes are no matter here, nor interrupts amid the end of an object. No program is killed that does not end."""
     before = sys.unraisablehook
     sys.unraisablehook = lambda _: None
     try:
-        with warnings.catch_warnings():
+        with warnings.catch_warnings(), mock.patch("castle.store.LIMIT", 6 * LIMIT):  # one that does not end is a hang
             warnings.simplefilter("ignore", ResourceWarning)
             yield
     finally:
@@ -615,9 +604,8 @@ def run(folder: str, steps: int, seed: int) -> None:
             signal.setitimer(signal.ITIMER_REAL, 6 * LIMIT)
             world.log.append("end")
             world.end()
-    except BaseException as error:
-        error.args = (*error.args, f"seed {seed}, step {len(world.log)} of {steps}: {' '.join(world.log[-30:])}")
-        raise
+    except (Exception, Hang) as error:
+        raise AssertionError(f"{error}: seed {seed}, step {len(world.log)} of {steps}: {' '.join(world.log[-30:])}") from error
     finally:
         signal.setitimer(signal.ITIMER_REAL, 0)
         signal.signal(signal.SIGALRM, before)

@@ -433,14 +433,7 @@ class CursorTest(Filled):
             store.put(0, "a", "b")
 
     def test_a_damaged_block_is_told_where_a_piece_meets_it(self) -> None:
-        # docs/FORMATS.md: thirteen puts into a store with M 4 leave one array, in block 7
-        store = self.made(4, 100, 10)
-        self.filled(store, [b"k%02d" % number for number in range(13)])
-        store.close()
-        with open(self.path, "r+b") as file:
-            file.seek(7 * 4096)
-            file.write(b"\xff" * 4096)
-        store = self.opened()
+        store = self.damaged()
         scan = store.scan(0)
         self.assertEqual(self.cursors(store), 1)
         with self.assertRaises(errors.Damaged) as caught:
@@ -451,13 +444,7 @@ class CursorTest(Filled):
             store.scan(0)
 
     def test_differences_that_meet_a_damaged_block_give_both_cursors_back(self) -> None:
-        store = self.made(4, 100, 10)
-        self.filled(store, [b"k%02d" % number for number in range(13)])
-        store.close()
-        with open(self.path, "r+b") as file:
-            file.seek(7 * 4096)
-            file.write(b"\xff" * 4096)
-        store = self.opened()
+        store = self.damaged()
         found = store.diff(0, 0)
         self.assertEqual(self.cursors(store), 2)
         with self.assertRaises(errors.Damaged):

@@ -3,6 +3,7 @@
 import contextlib
 import io
 import os
+import resource
 import signal
 import subprocess
 import sys
@@ -10,7 +11,7 @@ from typing import Callable, List, Tuple
 from unittest import mock
 
 from session import carried_out
-from support import DEADLINE, SHELL, TOP, StoreCase, unprivileged
+from support import DEADLINE, SHELL, TOP, StoreCase, comes_to, unprivileged
 
 import castle
 from castle import Batch, Store
@@ -250,6 +251,20 @@ class ScanningTest(StoreCase):
         self.assertIn(told, range(2 * PIECE, 3 * PIECE + 1))
         self.assertIn(len(self.opened().at(0)) - told, range(PIECE))
 
+    def test_a_load_that_fills_the_device_says_how_far_it_came(self) -> None:
+        if not hasattr(resource, "prlimit"):
+            self.skipTest("no prlimit here")
+        store = self.made(64, 100000, 10)
+        self.written("many.dump", dumped(*(f"{key:04}\t1" for key in range(1000))))
+        resource.prlimit(store.pid, resource.RLIMIT_FSIZE, (9000, 9000))  # bytes of the file, as on a full device
+        complaint, status = carried_out(store, f"load {self.folder}/many.dump")[1:]
+        self.assertEqual(status, 1)
+        self.assertRegex(complaint, r"^castle-shell: line 1: .*, with \d+ of 1,000 pairs loaded: the file or its folder could not be")
+        told = int(complaint.split(", with ")[1].split()[0])
+        store.close()
+        self.assertIn(len(self.opened().at(0)) - told, (0, 1))  # the put that met it was made or not
+        self.assertTrue(told % PIECE, told)
+
     def test_ctrl_c_stops_a_load_behind_a_piece(self) -> None:
         self.made(64, 100000, 10).close()
         self.written("many.dump", dumped(*(f"{key:04}\t1" for key in range(1000))))
@@ -292,16 +307,18 @@ class ScanningTest(StoreCase):
         self.made().close()
         with subprocess.Popen([sys.executable, SHELL, self.path], stdin=subprocess.PIPE, stdout=subprocess.PIPE,
                               stderr=subprocess.PIPE, env=UNBUFFERED) as shell:
-            assert shell.stdin and shell.stdout and shell.stderr
+            assert shell.stdin and shell.stdout
             shell.stdin.write(b"put a 1\n")
             shell.stdin.flush()
             self.assertEqual(shell.stdout.readline(), b"done\n")
             for _ in range(10):  # a signal that comes just before the wait begins is seen at the next one alone
+                self.assertTrue(comes_to(shell.pid, "S", "Z"))  # it waits, so that none comes between two lines
                 shell.send_signal(signal.SIGINT)
                 with contextlib.suppress(subprocess.TimeoutExpired):
                     shell.wait(5)
                     break
-            self.assertEqual((shell.stderr.read(), shell.wait(DEADLINE)), (b"castle-shell: stopped before line 2\n", 130))
+            said = shell.communicate(timeout=DEADLINE)[1]  # where none ended it, the end of its input does
+            self.assertEqual((said, shell.returncode), (b"castle-shell: stopped before line 2\n", 130))
 
     def test_a_file_in_place_of_a_version_is_told_where_it_stands(self) -> None:
         store = self.made()

@@ -8,7 +8,7 @@ from pathlib import Path
 from typing import Any
 from unittest import mock
 
-from support import StoreCase, stop
+from support import StoreCase, alarm_amid
 
 from castle import Info, Stat, Store, errors
 
@@ -37,8 +37,9 @@ class CommandsTest(StoreCase):
         self.assertEqual(store.get(0, b"\xc3\xa9"), "日本".encode())
         store.put(0, bytearray(b"x"), memoryview(b"y"))
         self.assertEqual(store.get(0, "x"), b"y")
-        for words in ((0, 5, b""), (0, b"a", None), (None, b"a", b""), (1.0, b"a", b"")):
-            with self.assertRaises(TypeError):
+        for words, what in (((0, 5, b""), "bytes or text, and no int"), ((0, b"a", None), "bytes or text, and no NoneType"),
+                            ((None, b"a", b""), "a number or a name"), ((1.0, b"a", b""), "a number or a name")):
+            with self.assertRaisesRegex(TypeError, what):
                 store.put(*words)  # type: ignore[arg-type]
         self.assertEqual(store.stat().changes, 2)
 
@@ -62,7 +63,10 @@ class CommandsTest(StoreCase):
 
     def test_a_closed_store_says_so(self) -> None:
         store = self.made()
+        store.names["base"] = 0
+        self.assertEqual((repr(store), repr(store.names)), (f"<store {self.path}>", "<names {'base': 0}>"))
         store.close()
+        self.assertEqual(repr(store), f"<closed store {self.path}>")
         store.close()
         for _ in range(2):
             with self.assertRaises(errors.StoreClosed):
@@ -94,11 +98,9 @@ class CommandsTest(StoreCase):
 
         before = signal.signal(signal.SIGALRM, interrupt)
         self.addCleanup(signal.signal, signal.SIGALRM, before)
-        stop(store.pid)
         # the first is sent, and those behind it wait for its reply and are not
         for call in (lambda: store.put(0, "a", "2"), lambda: store.get(0, "b"), lambda: store.clone(0)):
-            signal.setitimer(signal.ITIMER_REAL, 0.05)
-            with self.assertRaises(KeyboardInterrupt):
+            with alarm_amid(store), self.assertRaises(KeyboardInterrupt):
                 call()
         os.kill(store.pid, signal.SIGCONT)
         self.assertEqual((store.get(0, "a"), store.get(0, "b"), store.stat()), (b"2", b"1", Stat(1, 3, 3, 0)))

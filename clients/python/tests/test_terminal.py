@@ -7,12 +7,13 @@ import select
 import shutil
 import signal
 import subprocess
+import time
 import unittest
-from typing import Dict, Optional
+from typing import Dict, Optional, Tuple
 from unittest import mock
 
 from session import CTRL_C, CTRL_D, PROMPT, Session
-from support import StoreCase
+from support import DEADLINE, StoreCase, stop
 
 from castle.shell import Shell
 
@@ -120,6 +121,17 @@ def program_of(session: Session) -> int:
 class InterruptTest(TerminalCase):
     """Ctrl-C is a signal here, since the terminal controls the shell."""
 
+    def waiting(self, line: str) -> Tuple[Session, int]:
+        """A shell that waits for the answer to a line, and its program, which stands still."""
+        self.made().close()
+        session = self.session()
+        program = program_of(session)
+        stop(program)
+        self.addCleanup(goes_on, program)
+        session.send(line.encode() + b"\n")
+        session.until(f"{line}\n$")
+        return session, program
+
     def test_ctrl_c_drops_the_line_at_the_prompt(self) -> None:
         self.made().close()
         session = self.session()
@@ -169,15 +181,9 @@ class InterruptTest(TerminalCase):
 
     @unittest.skipUnless(shutil.which("ps"), "ps is not here")
     def test_a_command_whose_program_stands_still_can_be_left(self) -> None:
-        self.made().close()
-        session = self.session()
-        program = program_of(session)
-        os.kill(program, signal.SIGSTOP)
-        self.addCleanup(goes_on, program)
-        session.send(b"put a 1\n")
-        session.until("put a 1\n$")
-        said = ""
-        while "left" not in said:
+        session, program = self.waiting("put a 1")
+        said, deadline = "", time.monotonic() + DEADLINE
+        while "left" not in said and time.monotonic() < deadline:
             # one that comes before the last was noted counts as that
             session.send(CTRL_C)
             said += session.until(r"answered\n$", 0.5)
@@ -202,17 +208,12 @@ class InterruptTest(TerminalCase):
 
     def test_an_exchange_that_an_interrupt_cuts_off_costs_nothing(self) -> None:
         """A KeyboardInterrupt comes while the shell waits for an answer, and the next command gets its own."""
-        self.made().close()
-        session = self.session()
-        program = program_of(session)
-        os.kill(program, signal.SIGSTOP)
-        self.addCleanup(goes_on, program)
-        session.send(b"get a\n")
-        session.until("get a\n$")
-        said = ""
-        while "stopped" not in said and "left" not in said:
+        session, program = self.waiting("get a")
+        said, deadline = "", time.monotonic() + DEADLINE
+        while "stopped" not in said and "left" not in said and time.monotonic() < deadline:
             session.send(CTRL_C)
             said += session.until(r"or it was not\n$", 1)
+        self.assertRegex(said, "stopped|left")
         goes_on(program)
         if "left" not in said:  # as where a machine is so slow that three came before the second was told
             session.until(PROMPT)

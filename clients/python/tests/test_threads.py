@@ -8,9 +8,9 @@ import signal
 import sys
 import threading
 import time
-from typing import Any, Callable, Dict, List, Optional
+from typing import Any, Callable, Dict, List, Optional, Tuple, Type
 
-from support import StoreCase, stop
+from support import StoreCase, alarm_amid
 
 from castle import Store, errors
 
@@ -121,42 +121,32 @@ class ThreadsTest(StoreCase):
         store.close()
         self.assertEqual(len(self.opened().names), 36)
 
-    def test_a_store_that_is_closed_amid_the_work_of_threads_is_told_to_each(self) -> None:
-        store = self.made()
+    def looked_at(self, end: Type[errors.CastleError]) -> Tuple[Store, Threads]:
+        """A store, and four threads that look at it until this error comes."""
+        store, began = self.made(), threading.Barrier(5)
         store.put(0, "a", "1")
-        began = threading.Barrier(5)
-
-        def work() -> None:
-            began.wait()
-            try:
-                for _ in range(100000):
-                    assert store.get(0, "a") == b"1"
-            except errors.StoreClosed:
-                return
-            raise AssertionError("it was not closed")
-
-        threads = Threads(*[work] * 4)
-        began.wait()
-        time.sleep(0.05)
-        store.close()
-        self.assertEqual(threads.join(), [])
-        self.opened()
-
-    def test_a_program_that_is_killed_is_told_to_each_thread(self) -> None:
-        store = self.made()
-        store.put(0, "a", "1")
-        began = threading.Barrier(5)
 
         def work() -> None:
             began.wait()
             try:
                 while True:
                     assert store.get(0, "a") == b"1"
-            except errors.Killed:
+            except end:
                 pass
 
         threads = Threads(*[work] * 4)
         began.wait()
+        return store, threads
+
+    def test_a_store_that_is_closed_amid_the_work_of_threads_is_told_to_each(self) -> None:
+        store, threads = self.looked_at(errors.StoreClosed)
+        time.sleep(0.05)
+        store.close()
+        self.assertEqual(threads.join(), [])
+        self.opened()
+
+    def test_a_program_that_is_killed_is_told_to_each_thread(self) -> None:
+        store, threads = self.looked_at(errors.Killed)
         os.kill(store.pid, signal.SIGKILL)
         self.assertEqual(threads.join(), [])
         store.close()
@@ -196,9 +186,8 @@ class AmidTest(StoreCase):
 
         before = signal.signal(signal.SIGALRM, handle)
         try:
-            stop(store.pid)
-            signal.setitimer(signal.ITIMER_REAL, 0.05)
-            self.assertEqual(store.get(0, "a"), b"1")
+            with alarm_amid(store):
+                self.assertEqual(store.get(0, "a"), b"1")
         finally:
             signal.signal(signal.SIGALRM, before)
         self.assertEqual(len(raised), 1)

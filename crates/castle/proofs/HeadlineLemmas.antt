@@ -113,6 +113,7 @@ module _ (x y : Streams) (v w : DiskView) (f : Image) (t : Table) (shows : Shows
     ended = refl;
     run = nothing;
     is = record { run = refl; interrupted = tt };
+    region = inl refl;
     taken = [];
     took = took_nothing x.left y.left gave.source;
     within = omega arith;

@@ -10,7 +10,7 @@ use Rattle.strat_crash.proofs.TrailLemmas.{trail_of_one, at_either, at_below}
 use Rattle.strat_format.specs.Damage.{Read}
 use Rattle.strat_model.specs.declared.ended.Ended.{Ended}
 use Rattle.strat_model.specs.declared.ended.Ended.TheVariants as ended
-use Rattle.strat_model.specs.Run.{Position, Response, Exchange, Interruption, IsTranscript, bodies_of, tables_of, of_interruption}
+use Rattle.strat_model.specs.Run.{Position, Response, Exchange, Interruption, IsTranscript, UsesOneRegion, bodies_of, tables_of, of_interruption}
 use Rattle.strat_model.specs.Stream.{Splits, Whole, Rest, ending_of}
 use Rattle.strat_model.specs.Table.{Table, fresh, bare}
 use Rattle.strat_recovery.specs.Head.{Head}
@@ -173,6 +173,7 @@ module _ (d0 d1 d2 : DiskView) (later : Passes d0 d1) (passes : Passes d1 d2)
   none_carried seed count how early follows = record {
     transcript = record { exchanges = []; after = workload_start; interruption = None };
     run = record { run = refl; interrupted = tt };
+    region = inl refl;
     front = refl;
     all = λ is. absurd (early is);
     follows = follows;
@@ -260,6 +261,7 @@ module _ (d0 d1 d2 : DiskView) (later : Passes d0 d1) (passes : Passes d1 d2)
           record {
             transcript = run.transcript;
             run = subst (λ (m : ℕ). IsTranscript m workload_start run.transcript) mem_is (subst (λ (p : Position). IsTranscript run.mem p run.transcript) start_is run.is);
+            region = subst (λ (m : ℕ). UsesOneRegion m run.transcript) mem_is run.region;
             front = front_of_front (workload_bodies seed count) s.bodies (bodies_of run.transcript) (front_of seed count s.taken gave.rest s.bodies s.rest few gave.parts served.is.splits).0 run.front;
             all = λ is. (bodies_are (done is), unbroken (done is));
             follows = from_follows (tables_of run.transcript) (length run.transcript.exchanges) run.follows;

@@ -59,6 +59,7 @@ module _ (seed count : ℕ) (d0 d2 d3 : DiskView) (reads : OnlyReads d2 d3) wher
   carried_on how c = record {
     transcript = c.transcript;
     run = c.run;
+    region = c.region;
     front = c.front;
     all = λ is. c.all tt;
     follows = follows_on c.transcript (c.all tt).1 c.follows;

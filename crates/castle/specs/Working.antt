@@ -6,7 +6,7 @@ use Rattle.strat_crash.specs.Trail.{At, Trail}
 use Rattle.strat_io.specs.Streams.{Appends}
 use Rattle.strat_model.specs.declared.ended.Ended.{Ended}
 use Rattle.strat_model.specs.declared.ended.Ended.TheVariants as ended
-use Rattle.strat_model.specs.Run.{Position, Transcript, IsTranscript, bodies_of, tables_of}
+use Rattle.strat_model.specs.Run.{Position, Transcript, IsTranscript, UsesOneRegion, bodies_of, tables_of}
 use Rattle.strat_model.specs.Table.{Table, fresh, bare}
 use Rattle.strat_recovery.specs.Head.{Head}
 use Rattle.strat_recovery.specs.Texts as texts
@@ -69,6 +69,7 @@ pub record FollowsNew (before now : DiskView) (tables : List Table) (n : ℕ) : 
 pub record CarriesOutWorkload (seed count : ℕ) (how : Ended) (before now : DiskView) : Type 0 where
   pub transcript : Transcript
   pub run : IsTranscript 64 workload_start transcript
+  pub region : UsesOneRegion 64 transcript
   -- the bodies that were answered are the first of the workload, and in the end all of them
   pub front : take (length (bodies_of transcript)) (workload_bodies seed count)
       ≡ bodies_of transcript

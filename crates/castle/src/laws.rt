@@ -9,7 +9,7 @@ ghost use Rattle.strat_crash.specs.Trail.{At};
 ghost use Rattle.strat_format.specs.SuperBlock.{newest_in};
 ghost use Rattle.strat_io.specs.Streams.{Appends};
 ghost use Rattle.strat_model.specs.Ended.{status_of};
-ghost use Rattle.strat_model.specs.Run.{Transcript, IsTranscript, bodies_of, tables_of};
+ghost use Rattle.strat_model.specs.Run.{Transcript, IsTranscript, UsesOneRegion, bodies_of, tables_of};
 ghost use Rattle.strat_model.specs.Table.{fresh, bare};
 ghost use Rattle.strat_recovery.specs.Head.{Head};
 ghost use Rattle.strat_recovery.specs.Opening.{recover, reads_as};
@@ -118,8 +118,8 @@ pub fn a_run_of_a_workload_is_a_run_of_a_new_table<D: Viewed>()
         → Runs (Some (Workload path seed count)) 1099511627776 status
         (beside x (D.view d)) (beside y (D.view e)) → Exposes (D.view d) f
         → (status ≡ 0) ⊎ (status ≡ 7) → (run : Transcript)
-        × IsTranscript 64 workload_start run × (bodies_of run ≡ workload_bodies seed count)
-        × (run.interruption ≡ None)
+        × IsTranscript 64 workload_start run × UsesOneRegion 64 run
+        × (bodies_of run ≡ workload_bodies seed count) × (run.interruption ≡ None)
         × ((c : Image) → Images (D.view e) c → ShowsTable c (bare run.after.table)) }
     ensures text { (path : List ℕ) (seed count status : ℕ) (x y : Streams) (d e : D) (g : Image)
         → Runs (Some (Workload path seed count)) 1099511627776 status
@@ -133,7 +133,7 @@ pub fn a_run_of_a_workload_is_a_run_of_a_new_table<D: Viewed>()
         → Runs (Some (Workload path seed count)) 1099511627776 status
         (beside x (D.view d)) (beside y (D.view e)) → Exposes (D.view d) f
         → (status ≡ 5) ⊎ (status ≡ 8)
-        ⊎ ((run : Transcript) × IsTranscript 64 workload_start run
+        ⊎ ((run : Transcript) × IsTranscript 64 workload_start run × UsesOneRegion 64 run
         × (take (length (bodies_of run)) (workload_bodies seed count) ≡ bodies_of run)
         × EndsAtTables run (D.view e)) }
     ensures trail { (path : List ℕ) (seed count status : ℕ) (x y : Streams) (d e : D) (f : Image)
@@ -142,7 +142,7 @@ pub fn a_run_of_a_workload_is_a_run_of_a_new_table<D: Viewed>()
         → (((status ≡ 5) ⊎ (status ≡ 8))
         × (IsBlank (D.view d) → (c : Image) → Since (D.view e) (D.view d).moment c
         → (newest_in c ≡ Ok None) ⊎ ShowsTable c (fresh 16777216 16384)))
-        ⊎ ((run : Transcript) × IsTranscript 64 workload_start run
+        ⊎ ((run : Transcript) × IsTranscript 64 workload_start run × UsesOneRegion 64 run
         × GoesThroughNewTables run (D.view d) (D.view e)) }
     ensures space { (path : List ℕ) (seed count status : ℕ) (x y : Streams) (d e : D) (f c : Image)
         → Runs (Some (Workload path seed count)) 1099511627776 status

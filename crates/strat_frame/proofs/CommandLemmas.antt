@@ -1,5 +1,5 @@
 -- A command that is read is the command that was spelled, and what was spelled is read again.
-use Rattle.std.proofs.Common.{◌≡◌, ℕ, ◌^◌, ◌<◌, true, cond, leb, eqb, List, [], ◌∷◌, ◌++◌, length, Option, Some, None, refl, sym, ap, subst, ◌∙◌, length-append, arith, inl, inr, ◌⊎◌}
+use Rattle.std.proofs.Common.{◌≡◌, ℕ, ◌^◌, ◌<◌, ◌≤◌, true, cond, leb, eqb, List, [], ◌∷◌, ◌++◌, length, Option, Some, None, refl, sym, ap, subst, ◌∙◌, length-append, arith, inl, inr, ◌⊎◌}
 use Rattle.std.proofs.lemmas.Bool.{le-leb, eqb-true}
 use Rattle.std.proofs.lemmas.List.{nil_from_length}
 use Rattle.std.proofs.lemmas.Option.{cond_some, same_Some, none-some}
@@ -10,7 +10,8 @@ use Rattle.strat_model.specs.declared.replies.Refusal.{Refusal}
 use Rattle.strat_model.specs.declared.replies.Refusal.TheVariants as why
 use Rattle.strat_model.specs.Answer.{refusal}
 use Rattle.strat_model.specs.Request.{Request, Put, Delete, Get, Clone, Scan, Info, OpenCursor, NextPairs, CloseCursor, Stat}
-use Rattle.strat_model.specs.Run.{Position, Response, Answers, position_after}
+use Rattle.strat_model.specs.Run.{Position, Response, Answers, IsAfter}
+use Rattle.strat_model.proofs.FillLemmas.{one_after}
 use Rattle.strat_model.specs.Spelling.{counted, command_bytes, command_body, size_refusal, FitsFields, HasForm, Spells, IsMalformed, HasUnlawfulSize, IsRefusedAs, tag_of}
 use Rattle.strat_model.specs.Step.{step}
 use Rattle.strat_frame.specs.Fields.{number_then, sole_number, sole_long, cursor_limit_in, version_key_in, version_pair_in, version_range_in, request_in, command_in}
@@ -177,17 +178,21 @@ no_refusal body tag other_tag request cause is refused =
 
 -- two answers to one body at one position are the same, but for want of memory, which changes nothing
 pub one_answer : (mem : ℕ) (at : Position) (body : List ℕ) (response other : Response) (after others : Position) → Answers mem at body response after → Answers mem at body other others
-    → ((response ≡ other) × (after ≡ others)) ⊎ ((response.answer ≡ refusal why.NoMemory) × (after ≡ at)) ⊎ ((other.answer ≡ refusal why.NoMemory) × (others ≡ at))
+    → ((response ≡ other) × (after.table ≡ others.table) × (at.fill ≤ mem → after.fill ≤ mem → others.fill ≤ mem → after ≡ others)) ⊎ ((response.answer ≡ refusal why.NoMemory) × (after ≡ at)) ⊎ ((other.answer ≡ refusal why.NoMemory) × (others ≡ at))
 one_answer mem at body response other after others (inl x) (inl y) =
     let same = one_refusal body response.tag other.tag x.cause y.cause x.refused y.refused in
     let told : response.answer ≡ other.answer = x.answer ∙ ap (λ (r : Refusal). refusal r) same.1 ∙ sym y.answer in
-    inl (λ j. record { tag = same.0 j; answer = told j }, x.same ∙ sym y.same)
+    inl (λ j. record { tag = same.0 j; answer = told j }, ap (λ (p : Position). p.table) (x.same ∙ sym y.same), λ few still other_few. x.same ∙ sym y.same)
 one_answer mem at body response other after others (inl x) (inr (inl y)) = absurd (no_refusal body other.tag response.tag y.request x.cause y.spelled x.refused)
 one_answer mem at body response other after others (inl x) (inr (inr y)) = inr (inr (y.answer, y.same))
 one_answer mem at body response other after others (inr (inl x)) (inl y) = absurd (no_refusal body response.tag other.tag x.request y.cause x.spelled y.refused)
 one_answer mem at body response other after others (inr (inl x)) (inr (inl y)) =
     let same = one_form body response.tag other.tag x.request y.request x.spelled.form y.spelled.form in
     let told : response.answer ≡ other.answer = x.answer ∙ ap (λ (r : Request). (step at.table r).answer) same.1 ∙ sym y.answer in
-    inl (λ j. record { tag = same.0 j; answer = told j }, x.place ∙ ap (position_after mem at) same.1 ∙ sym y.place)
+    inl (
+      λ j. record { tag = same.0 j; answer = told j },
+      x.place.table ∙ ap (λ (r : Request). (step at.table r).table) same.1 ∙ sym y.place.table,
+      λ few still other_few. one_after mem at x.request after others x.place (subst (λ (r : Request). IsAfter mem at r others) (sym same.1) y.place) few still other_few,
+    )
 one_answer mem at body response other after others (inr (inl x)) (inr (inr y)) = inr (inr (y.answer, y.same))
 one_answer mem at body response other after others (inr (inr x)) b = inr (inl (x.answer, x.same))

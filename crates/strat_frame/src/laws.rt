@@ -1,6 +1,6 @@
 //! Laws of the bytes of commands and replies. Each is the contract of a function that does nothing.
 
-ghost use Rattle.std.specs.Prelude.{◌≡◌, ◌⊎◌, ℕ, List};
+ghost use Rattle.std.specs.Prelude.{◌≡◌, ◌≤◌, ◌⊎◌, ℕ, List};
 ghost use Rattle.strat_model.specs.declared.replies.Refusal.{Refusal};
 ghost use Rattle.strat_model.specs.declared.replies.Refusal.TheVariants as why;
 ghost use Rattle.strat_model.specs.Answer.{Answer, refusal};
@@ -26,13 +26,14 @@ pub fn bodies_are_refused_for_one_reason()
         → Spells body tag request → IsRefusedAs body other_tag cause → ⊥ }
 {}
 
-/// Two answers that a body may get at one position are the same, but for want of memory, which changes
-/// nothing.
+/// Two answers that a body may get at one position are the same and lead to one table, and to one position where one region
+/// of the journal is in use; but for want of memory, which changes nothing.
 pub fn bodies_have_one_answer()
     ensures { (mem : ℕ) (at : Position) (body : List ℕ)
         (response other : Response) (after others : Position)
         → Answers mem at body response after → Answers mem at body other others
-        → ((response ≡ other) × (after ≡ others))
+        → ((response ≡ other) × (after.table ≡ others.table)
+        × (at.fill ≤ mem → after.fill ≤ mem → others.fill ≤ mem → after ≡ others))
         ⊎ ((response.answer ≡ refusal why.NoMemory) × (after ≡ at))
         ⊎ ((other.answer ≡ refusal why.NoMemory) × (others ≡ at)) }
 {}

@@ -4,3 +4,5 @@ pub mod TableLemmas
 pub mod StreamLemmas
 pub mod SpellingLemmas
 pub mod RunLemmas
+pub mod FillLemmas
+pub mod BatchLemmas

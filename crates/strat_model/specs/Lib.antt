@@ -8,6 +8,7 @@ pub mod Answer
 pub mod Spelling
 pub mod Stream
 pub mod Run
+pub mod Batch
 pub mod Plain
 pub mod PlainView
 pub mod Examples

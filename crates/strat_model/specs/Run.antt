@@ -1,6 +1,6 @@
 -- A run answers the bodies of a stream in order.
-use Rattle.std.specs.Prelude.{◌≡◌, ◌≤◌, ℕ, ◌+◌, nat_lt, if◌then◌else◌, Bool, true, false, List, [], ◌∷◌, ◌++◌, map, Option, Some, None, IfSome, ◌⊎◌}
-use Rattle.std.specs.List.{flat_map}
+use Rattle.std.specs.Prelude.{◌≡◌, ◌≤◌, ◌<◌, ℕ, ◌+◌, ◌-◌, ◌*◌, nat_lt, if◌then◌else◌, Bool, ◌&&◌, true, false, List, [], ◌∷◌, ◌++◌, map, Option, Some, None, IfSome, ◌⊎◌}
+use Rattle.std.specs.List.{flat_map, AllByRecursion}
 use Rattle.strat_model.specs.declared.replies.Refusal.{Refusal}
 use Rattle.strat_model.specs.declared.replies.Refusal.TheVariants as why
 use Rattle.strat_model.specs.Request.{Request, Put, Delete, Get, Clone, Scan, OpenCursor, NextPairs}
@@ -29,7 +29,14 @@ reaches_disk (Scan version lo hi limit) = true
 reaches_disk (NextPairs cursor limit) = true
 reaches_disk request = is_change request
 
--- the fill, how many changes the journal holds, after one more: a full journal begins anew
+-- the fill, how many changes the journal holds, after one more, where each of its two regions takes so many: it grows by one
+-- up to two fewer than both take; or, once one region is full, that one is emptied
+abbrev pub MayFill : ℕ → ℕ → ℕ → Type 0
+MayFill mem before after =
+    ((before < 2 * mem - 2) × (after ≡ before + 1))
+    ⊎ ((mem ≤ before) × (after + mem ≡ before + 1))
+
+-- of these fills the one where a region that is full is emptied at once
 abbrev pub fill_after : ℕ → ℕ → ℕ
 fill_after mem fill = if nat_lt fill mem then fill + 1 else 1
 
@@ -47,17 +54,20 @@ pub record Response : Type 0 where
 abbrev pub response_bytes : Response → List ℕ
 response_bytes response = frame (reply_body response.tag response.answer)
 
--- the position after a command was carried out
-abbrev pub position_after : ℕ → Position → Request → Position
-position_after mem at request =
-    let outcome = step at.table request in
-    record {
-      table = outcome.table;
-      fill =
-          if accepts outcome.answer.reply
-          then (if is_change request then fill_after mem at.fill else at.fill)
-          else at.fill;
-    }
+-- a command is carried out that is a change and that the table accepts
+abbrev pub is_carried_out : Position → Request → Bool
+is_carried_out at request = is_change request && accepts (step at.table request).answer.reply
+
+-- a position after a command: the table is that of the step, and a change that is carried out is one more in the journal
+pub record IsAfter (mem : ℕ) (at : Position) (request : Request) (after : Position) : Type 0 where
+  pub table : after.table ≡ (step at.table request).table
+  pub fill : is_carried_out at request ≡ true → MayFill mem at.fill after.fill
+  pub same : is_carried_out at request ≡ false → after.fill ≡ at.fill
+
+-- a change that was carried out at a full region left that region empty, and itself in the other
+abbrev pub EmptiesAtOnce : ℕ → Position → Request → Position → Type 0
+EmptiesAtOnce mem at request after =
+    is_carried_out at request ≡ true → after.fill ≡ fill_after mem at.fill
 
 -- a body that is no command is refused for what is wrong with it, and changes nothing
 pub record AnswersNoCommand (at : Position) (body : List ℕ) (response : Response)
@@ -73,7 +83,7 @@ pub record AnswersByTable (mem : ℕ) (at : Position) (body : List ℕ) (respons
   pub request : Request
   pub spelled : Spells body response.tag request
   pub answer : response.answer ≡ (step at.table request).answer
-  pub place : after ≡ position_after mem at request
+  pub place : IsAfter mem at request after
 
 -- a command that the table accepts is refused because memory ran out, and changes nothing; a
 -- change only where the journal is full
@@ -118,7 +128,7 @@ pub record AnswersFault (mem : ℕ) (at : Position) (body : List ℕ) (response 
   pub reaches : reaches_disk request ≡ true
   pub accepted : accepts (step at.table request).answer.reply ≡ true
   pub answer : IsFault response.answer
-  pub place : done ≡ position_after mem at request
+  pub place : IsAfter mem at request done
 
 -- an interruption: a body that met a fault, its response, and the position if it was carried out
 pub record Interruption : Type 0 where
@@ -162,6 +172,19 @@ tables_of transcript =
     map (λ x. bare x.at.table) transcript.exchanges
     ++ (bare transcript.after.table
     ∷ of_interruption (λ h. bare h.done.table) transcript.interruption)
+
+-- the positions of a transcript, before the first body and after each; an interruption counts as carried out
+abbrev pub positions_of : Transcript → List Position
+positions_of transcript =
+    map (λ x. x.at) transcript.exchanges
+    ++ (transcript.after ∷ of_interruption (λ h. h.done) transcript.interruption)
+
+-- one region of the journal is in use at a time: where a body is answered there are never more changes than one takes, so
+-- that a full one is emptied at once
+abbrev pub UsesOneRegion : ℕ → Transcript → Type 0
+UsesOneRegion mem transcript =
+    (bodies_of transcript ≡ [])
+    ⊎ AllByRecursion (λ p. p.fill ≤ mem) (positions_of transcript)
 
 -- the bytes of all responses
 abbrev pub sent_bytes : List Response → List ℕ

@@ -1,7 +1,7 @@
 //! Examples that the definitions compute, and laws that they have. Each is a call that does nothing, and
 //! its clause is what it says.
 
-ghost use Rattle.std.specs.Prelude.{◌≡◌, ◌≢◌, ◌<◌, ◌≤◌, ◌↔◌, ℕ, List, length, Some, None, true};
+ghost use Rattle.std.specs.Prelude.{◌≡◌, ◌≢◌, ◌<◌, ◌≤◌, ◌↔◌, ℕ, ◌+◌, List, [], length, take, Some, None, true};
 ghost use Rattle.strat_base.specs.declared.limits.TheConstants.{CHANGES_MAX, VERSIONS_MAX};
 ghost use Rattle.strat_model.specs.Pairs.{Pairs, value_of, set, unset};
 ghost use Rattle.strat_model.specs.Request.{Request, Clone};
@@ -9,7 +9,8 @@ ghost use Rattle.strat_model.specs.Table.{Table, fresh};
 ghost use Rattle.strat_model.specs.Answer.{accepts, refusal};
 ghost use Rattle.strat_model.specs.Step.{step, pairs_at, is_frozen};
 ghost use Rattle.strat_model.specs.Kept.{IsMap, IsTable, updated};
-ghost use Rattle.strat_model.specs.Run.{Position, Response, Answers, AnswersFault, takes_memory, reaches_disk, position_after};
+ghost use Rattle.strat_model.specs.Run.{Position, Response, Answers, AnswersFault, MayFill, fill_after, IsAfter, EmptiesAtOnce, Exchange, Transcript, tables_of, takes_memory, reaches_disk};
+ghost use Rattle.strat_model.specs.Batch.{Continuation, tables_continued};
 ghost use Rattle.strat_model.specs.Spelling.{has_lawful_sizes, size_refusal, HasForm, Spells, IsRefusedAs};
 ghost use Rattle.strat_model.specs.Stream.{Splits};
 ghost use Rattle.strat_model.specs.declared.replies.Refusal.{Refusal};
@@ -120,5 +121,29 @@ pub fn interruptions_have_causes()
         → (request : Request) × Spells body response.tag request
         × (reaches_disk request ≡ true)
         × (accepts (step at.table request).answer.reply ≡ true)
-        × (done ≡ position_after mem at request) }
+        × IsAfter mem at request done }
+{}
+
+/// Where no more changes are in the journal than one region takes, before a change and after it, it left the fill of a store
+/// that empties a full region at once; and a store may do so.
+pub fn one_region_leaves_one_fill()
+    ensures ok { (mem : ℕ) (at after : Position) (request : Request) → IsAfter mem at request after
+        → at.fill ≤ mem → after.fill ≤ mem → EmptiesAtOnce mem at request after }
+    ensures room { (mem fill : ℕ) → 2 ≤ mem → fill ≤ mem
+        → MayFill mem fill (fill_after mem fill) × (fill_after mem fill ≤ mem) }
+{}
+
+/// A run may be continued over nothing, and has its own tables then, as each run has that was not interrupted. A continued run goes
+/// through its own tables up to its interruption, and then through sixteen at most.
+pub fn continued_runs_begin_with_their_own_tables()
+    ensures none { (mem : ℕ) (t : Transcript)
+        → (c : Continuation mem t) × (c.more ≡ [])
+        × (tables_continued t c.more c.end ≡ tables_of t) }
+    ensures same { (t : Transcript) (more : List Exchange) (end : Position)
+        → t.interruption ≡ None → tables_continued t more end ≡ tables_of t }
+    ensures front { (t : Transcript) (more : List Exchange) (end : Position)
+        → take (length t.exchanges + 1) (tables_continued t more end)
+        ≡ take (length t.exchanges + 1) (tables_of t) }
+    ensures few { (mem : ℕ) (t : Transcript) (c : Continuation mem t)
+        → length (tables_continued t c.more c.end) ≤ length t.exchanges + 17 }
 {}

@@ -8,6 +8,7 @@ pub mod crashes;
 pub mod disks;
 pub mod formats;
 pub mod frames;
+pub mod journals;
 pub mod limits;
 pub mod look_ups;
 pub mod openings;

@@ -1,10 +1,11 @@
 //! Which commands change a store, take memory or reach the disk, and how many changes a journal holds after one
 //! more. Each is the contract of a function that does nothing.
 
-ghost use Rattle.std.specs.Prelude.{◌≡◌, ◌≤◌, ℕ, List, [], ◌∷◌, Some, None, true, false};
+ghost use Rattle.std.specs.Prelude.{◌≡◌, ◌≤◌, ℕ, List, [], ◌∷◌, length, Some, None, true, false};
 ghost use Rattle.strat_model.specs.Answer.{accepts, refusal};
-ghost use Rattle.strat_model.specs.Request.{Put, Delete, Get, Clone, Scan, Info, OpenCursor, NextPairs, CloseCursor, Stat};
-ghost use Rattle.strat_model.specs.Run.{is_change, takes_memory, reaches_disk, fill_after, position_after, Position, Response, AnswersNoCommand, AnswersNoMemory, AnswersFault, Exchange, Interruption, IsTranscript, bodies_of, responses_of, tables_of, AnswersByTable, IsFault, IsRun, Transcript};
+ghost use Rattle.strat_model.specs.Batch.{Continuation, IsChangeMade, tables_continued};
+ghost use Rattle.strat_model.specs.Request.{Request, Put, Delete, Get, Clone, Scan, Info, OpenCursor, NextPairs, CloseCursor, Stat};
+ghost use Rattle.strat_model.specs.Run.{is_change, takes_memory, reaches_disk, MayFill, fill_after, is_carried_out, IsAfter, EmptiesAtOnce, Position, Response, AnswersNoCommand, AnswersNoMemory, AnswersFault, Exchange, Interruption, IsTranscript, bodies_of, responses_of, tables_of, positions_of, UsesOneRegion, AnswersByTable, IsFault, IsRun, Transcript};
 ghost use Rattle.strat_model.specs.Step.{step};
 ghost use Rattle.strat_model.specs.Table.{fresh, bare};
 ghost use Rattle.strat_model.specs.Spelling.{Spells};
@@ -51,7 +52,7 @@ pub fn troubles_come_where_they_may()
         (met : AnswersFault mem at body response done)
         → (reaches_disk met.request ≡ true)
         × (accepts (step at.table met.request).answer.reply ≡ true)
-        × (done ≡ position_after mem at met.request) }
+        × IsAfter mem at met.request done }
 {}
 
 /// After the exchanges of a transcript come the body and the response of its interruption, which was met behind them all,
@@ -83,22 +84,73 @@ pub fn six_commands_reach_the_disk()
         × (reaches_disk (CloseCursor 1) ≡ false) × (reaches_disk Stat ≡ false) }
 {}
 
-/// A journal for four changes holds one more up to the fourth, and begins anew with the fifth.
+/// A journal of two regions of four changes each holds one more up to the sixth. From the fourth on a region may be emptied
+/// instead, and behind the sixth it has to be.
+pub fn a_full_region_may_be_emptied()
+    ensures some { MayFill 4 0 1 × MayFill 4 3 4 × MayFill 4 5 6 }
+    ensures full { MayFill 4 4 5 × MayFill 4 4 1 × MayFill 4 6 3 }
+    ensures below { (n : ℕ) → MayFill 4 3 n → n ≡ 4 }
+    ensures last { (n : ℕ) → MayFill 4 6 n → n ≡ 3 }
+    ensures none { ¬ MayFill 4 4 4 × ¬ MayFill 4 5 1 × ¬ MayFill 4 7 8 }
+{}
+
+/// A journal that uses one region at a time holds one more up to the fourth, and begins anew with the fifth.
 pub fn a_full_journal_begins_anew()
     ensures some { (fill_after 4 0 ≡ 1) × (fill_after 4 3 ≡ 4) }
     ensures full { fill_after 4 4 ≡ 1 }
+    ensures anew { (at after : Position) (request : Request) → at.fill ≡ 4
+        → is_carried_out at request ≡ true → EmptiesAtOnce 4 at request after → after.fill ≡ 1 }
 {}
 
 /// A change that is accepted is one more in the journal. One that is refused is none, nor is a look-up.
 pub fn accepted_changes_are_journalled()
-    ensures put { (position_after 4 (record { table = fresh 2 2; fill = 2 })
-        (Put 0 (97 ∷ []) [])).fill ≡ 3 }
-    ensures clone { (position_after 4 (record { table = fresh 2 2; fill = 2 })
-        (Clone 0)).fill ≡ 3 }
-    ensures refused { (position_after 4 (record { table = fresh 2 2; fill = 2 })
-        (Put 1 (97 ∷ []) [])).fill ≡ 2 }
-    ensures get { (position_after 4 (record { table = fresh 2 2; fill = 2 })
-        (Get 0 (97 ∷ []))).fill ≡ 2 }
+    ensures put { (after : Position) → IsAfter 4 (record { table = fresh 2 2; fill = 2 })
+        (Put 0 (97 ∷ []) []) after → after.fill ≡ 3 }
+    ensures clone { (after : Position) → IsAfter 4 (record { table = fresh 2 2; fill = 2 })
+        (Clone 0) after → after.fill ≡ 3 }
+    ensures refused { (after : Position) → IsAfter 4 (record { table = fresh 2 2; fill = 2 })
+        (Put 1 (97 ∷ []) []) after → after.fill ≡ 2 }
+    ensures get { (after : Position) → IsAfter 4 (record { table = fresh 2 2; fill = 2 })
+        (Get 0 (97 ∷ [])) after → after.fill ≡ 2 }
+    ensures table { (mem : ℕ) (at after : Position) (request : Request)
+        → IsAfter mem at request after → after.table ≡ (step at.table request).table }
+{}
+
+/// A run of one body uses one region where neither its position nor the one after it, nor that of an interruption, has more
+/// changes than four.
+pub fn runs_that_use_one_region_stay_below_it()
+    ensures few { (x : Exchange) (after : Position) (h : Interruption)
+        → UsesOneRegion 4 (record { exchanges = x ∷ []; after = after; interruption = Some h })
+        → (x.at.fill ≤ 4) × (after.fill ≤ 4) × (h.done.fill ≤ 4) }
+    ensures positions { (x : Exchange) (after : Position) (h : Interruption)
+        → positions_of (record { exchanges = x ∷ []; after = after; interruption = Some h })
+        ≡ x.at ∷ after ∷ h.done ∷ [] }
+{}
+
+/// A batch of two changes that fails leaves the tables before it, between them and behind both; the second body is one that was
+/// carried out as the table says, and at most fifteen follow the first.
+pub fn batches_go_through_the_tables_between()
+    ensures tables { (x y : Exchange) (after end : Position) (h : Interruption)
+        → tables_continued (record { exchanges = x ∷ []; after = after; interruption = Some h })
+        (y ∷ []) end
+        ≡ bare x.at.table ∷ bare after.table ∷ bare y.at.table ∷ bare end.table ∷ [] }
+    ensures none { (x y : Exchange) (after end : Position)
+        → tables_continued (record { exchanges = x ∷ []; after = after; interruption = None })
+        (y ∷ []) end ≡ bare x.at.table ∷ bare after.table ∷ [] }
+    ensures next { (mem : ℕ) (xs : List Exchange) (after : Position) (h : Interruption)
+        (y : Exchange)
+        (c : Continuation mem (record { exchanges = xs; after = after; interruption = Some h }))
+        → c.more ≡ y ∷ [] → (y.at ≡ h.done) × IsChangeMade mem y }
+    ensures few { (mem : ℕ) (xs : List Exchange) (after : Position) (h : Interruption)
+        (c : Continuation mem (record { exchanges = xs; after = after; interruption = Some h }))
+        → (length c.more ≤ 15) × IsRun mem h.done c.more c.end }
+    ensures damaged { (mem : ℕ) (xs : List Exchange) (after : Position) (h : Interruption) (b : ℕ)
+        (c : Continuation mem (record { exchanges = xs; after = after; interruption = Some h }))
+        → h.response.answer ≡ refusal (why.Damaged b) → c.more ≡ [] }
+    ensures whole { (mem : ℕ) (t : Transcript) (c : Continuation mem t) → t.interruption ≡ None
+        → c.more ≡ [] }
+    ensures made { (mem : ℕ) (x : Exchange) (made : IsChangeMade mem x)
+        → is_carried_out x.at made.by.request ≡ true }
 {}
 
 /// A transcript is a run from where it begins to where its exchanges lead, and the first of these stands at its beginning.
@@ -116,7 +168,7 @@ pub fn commands_are_answered_by_the_table()
         (by : AnswersByTable mem at body response after)
         → Spells body response.tag by.request
         × (response.answer ≡ (step at.table by.request).answer)
-        × (after ≡ position_after mem at by.request) }
+        × IsAfter mem at by.request after }
 {}
 
 /// Want of memory is told, and ends no run.

@@ -14,7 +14,7 @@ use strat_base::{Entry, NoMemory, Val, Version, entry_order};
 /// The key and the version of an entry, if there is one, so that the entry behind it can be compared with it once its
 /// block is no more in memory. The key is copied into a buffer that has room for any.
 #[derive(Drop)]
-pub(crate) struct LastRead {
+pub struct LastRead {
     bytes: Vec<u8>,
     len: usize,
     version: Version,
@@ -44,7 +44,7 @@ fn copy_front(into: &mut [u8], from: &[u8])
 
 impl LastRead {
     /// None yet. The buffer of 255 bytes is taken here; the only error is want of memory.
-    pub(crate) fn new(alloc: Global) -> Result<LastRead, NoMemory>
+    pub fn new(alloc: Global) -> Result<LastRead, NoMemory>
         ensures ok { IfOk result (λ last. last ≡ None) }
     {
         let mut bytes = Vec::with_capacity(alloc, KEY_MAX)?;
@@ -58,14 +58,14 @@ impl LastRead {
     }
 
     /// Forgets the entry. O(1).
-    pub(crate) fn clear(&mut self)
+    pub fn clear(&mut self)
         ensures ok { self.new ≡ None }
     {
         self.is_some = false;
     }
 
     /// Takes an entry's key and version. O(key).
-    pub(crate) fn set(&mut self, e: &Entry<'_>)
+    pub fn set(&mut self, e: &Entry<'_>)
         requires { IsTrue (fits_fields (entry_of e.now)) }
         ensures ok { self.new ≡ key_alone (Some (entry_of e.now)) }
     {
@@ -76,7 +76,7 @@ impl LastRead {
     }
 
     /// Whether an entry comes after this one, if there is one. O(key).
-    pub(crate) fn is_before(&self, e: &Entry<'_>) -> bool
+    pub fn is_before(&self, e: &Entry<'_>) -> bool
         ensures ok { result ≡ comes_after self.now (entry_of e.now ∷ []) }
     {
         if !self.is_some {

@@ -25,7 +25,7 @@ use strat_disk::Disk;
 /// The blocks of an array, of which the last that was read is in memory. Its entries come after those of the blocks
 /// before it. After an error it is spent: no block is at hand, and none is left.
 #[derive(Drop)]
-pub(crate) struct LeadBlocks {
+pub struct LeadBlocks {
     numbers: BlockNumbers,
     is_spent: bool,
     scratch: Scratch,
@@ -93,7 +93,7 @@ fn read_after<D: Disk>(
 impl LeadBlocks {
     /// The blocks of an array, of which none is read yet. What is taken here is a block, a key and a copy of the
     /// extents; the only error is want of memory.
-    pub(crate) fn new(alloc: Global, desc: &ArrayDesc) -> Result<LeadBlocks, NoMemory>
+    pub fn new(alloc: Global, desc: &ArrayDesc) -> Result<LeadBlocks, NoMemory>
         requires fits { AreWithin desc.now.extents }
         ensures ok { IfOk result (λ r. r
             ≡ record { entries = []; blocks = blocks_of desc.now.extents }) }
@@ -108,7 +108,7 @@ impl LeadBlocks {
     }
 
     /// How many entries the block at hand has: none before the first block is read. O(1).
-    pub(crate) fn count(&self) -> u16
+    pub fn count(&self) -> u16
         ensures ok { result ≡ length self.now.entries }
         ensures fits { result ≤ 454 }
         ensures kept { IsTrue (is_ascending self.now.entries) }
@@ -117,7 +117,7 @@ impl LeadBlocks {
     }
 
     /// An entry of the block at hand. O(1).
-    pub(crate) fn entry(&self, index: u16) -> Entry<'_>
+    pub fn entry(&self, index: u16) -> Entry<'_>
         requires { index < length self.now.entries }
         ensures ok { (d : TheEntry) → entry_of result ≡ slice_index_or self.now.entries index d }
         ensures fits { IsTrue (fits_fields (entry_of result)) }
@@ -127,7 +127,7 @@ impl LeadBlocks {
 
     /// Reads the next block, and answers whether there was one. Device: the disk counted a fault. Damaged: the block
     /// holds no entries, or none that come after those before it.
-    pub(crate) fn next<D: Disk>(&mut self, disk: &mut D) -> Result<bool, Fault>
+    pub fn next<D: Disk>(&mut self, disk: &mut D) -> Result<bool, Fault>
         ensures ok { IfOk result (λ there. Turns (D.view disk.old) self.old self.new there) }
         ensures err { OnErr result (self.new ≡ read_out) }
         ensures damaged { (b : ℕ) → IsErrOf result (Damaged b) → Contains self.old.blocks b

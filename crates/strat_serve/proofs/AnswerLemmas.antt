@@ -1,5 +1,5 @@
 -- One body, answered.
-use Rattle.std.proofs.Common.{◌≡◌, ◌≤◌, ℕ, zero, suc, Bool, true, false, List, [], ◌∷◌, Option, Some, None, refl, sym, ap, subst, ◌∙◌, ◌⊎◌, inl, inr, arith}
+use Rattle.std.proofs.Common.{◌≡◌, ◌≤◌, ℕ, zero, suc, Bool, true, false, List, [], ◌∷◌, length, Option, Some, None, refl, sym, ap, subst, ◌∙◌, ◌⊎◌, inl, inr, arith}
 use Rattle.std.specs.Prelude.{if◌then◌else◌, is_some}
 use Rattle.strat_base.specs.declared.failures.Fault.{Fault}
 use Rattle.strat_base.specs.declared.failures.Fault.TheVariants as fault
@@ -21,14 +21,15 @@ use Rattle.strat_model.specs.Spelling.{Spells, IsRefusedAs, reply_body}
 use Rattle.strat_model.specs.Step.{step}
 use Rattle.strat_model.specs.Stream.{frame}
 use Rattle.strat_model.specs.Table.{Cursor, Table, bare}
-use Rattle.strat_model.specs.Run.{Position, Response, position_after}
+use Rattle.strat_model.specs.Run.{Response}
+use Rattle.strat_model.proofs.FillLemmas.{emptied_after, emptied_few, emptied_is_after}
 use Rattle.strat_recovery.specs.StateTable.{table_of}
 use Rattle.strat_standing.specs.Contents.{Contents, contents_state}
 use Rattle.strat_standing.specs.Standing.{ShowsTable}
 use Rattle.strat_standing.proofs.FreeLemmas.{shows_contents}
 use Rattle.strat_store.specs.Applying.{is_fault, ran_short, FollowsStep, FailsAsTold}
 use Rattle.strat_store.specs.Cursoring.{IsAnsweredAt, IsShortAt, IsBrokenAt, IsAppliedAt}
-use Rattle.strat_store.specs.Held.{Held, StandsAt, StandsWith, position_at}
+use Rattle.strat_store.specs.Held.{Held, IsConsistent, StandsAt, StandsWith, position_at}
 use Rattle.strat_serve.proofs.BareLemmas.{step_bare}
 use Rattle.strat_serve.specs.Session.{IsAnswered, IsToldBy, ContinuesWith, StopsWith, FailsAsMet, fault_told}
 
@@ -147,7 +148,7 @@ module _ (before now : DiskView) (old new : Held) (bytes : List ℕ) (tag : ℕ)
       → ContinuesWith before now old x rows bytes told new
   goes_on x rows is trail =
       let next : bare (step (table_of (contents_state x)) request).table ≡ table_of (contents_state is.after) =
-      sym (step_bare (table_of (contents_state x)) rows old.memory.cursors.next request) ∙ ap (λ (p : Position). bare p.table) (sym is.place) in
+      sym (step_bare (table_of (contents_state x)) rows old.memory.cursors.next request) ∙ ap bare (sym is.place.table) in
       let n : ℕ = if accepts r then 1 else 0 in
       record {
         going = is.going;
@@ -171,34 +172,45 @@ module _ (before now : DiskView) (old new : Held) (bytes : List ℕ) (tag : ℕ)
         (subst (λ (a : Answer). FollowsStep before now x request a) is.told trail) (stands_table now new x is.stands.stands);
   }
 
-  breaks : (x : Contents) (rows : List Cursor) → IsBrokenAt old x rows request (as_told r pairs) new → FollowsStep before now x request (as_told r pairs)
+  breaks : (x : Contents) (rows : List Cursor) → IsConsistent old → IsBrokenAt old x rows request (as_told r pairs) new → FollowsStep before now x request (as_told r pairs)
       → StopsWith before now old x rows bytes told
-  breaks x rows is trail = record {
-    done = position_after old.log.mem (position_at old x rows) request;
-    fault = record { request = request; spelled = spelled; reaches = is.reached; accepted = is.acceptable; answer = inl is.told; place = refl };
-    answer = is.told;
-    trail = subst (λ (t : Table). Trail ShowsTable now before.moment (table_of (contents_state x) ∷ t ∷ []) 0)
-        (sym (step_bare (table_of (contents_state x)) rows old.memory.cursors.next request))
-        (subst (λ (a : Answer). FollowsStep before now x request a) is.told trail);
-  }
+  breaks x rows whole is trail =
+      let some : 2 ≤ old.log.mem = omega (arith, whole.lawful.mem_least, whole.log.mem) in
+      let few : length old.log.list ≤ old.log.mem = omega (arith, whole.log.few, whole.log.mem) in
+      record {
+        done = emptied_after old.log.mem (position_at old x rows) request;
+        fault = record {
+          request = request;
+          spelled = spelled;
+          reaches = is.reached;
+          accepted = is.acceptable;
+          answer = inl is.told;
+          place = emptied_is_after old.log.mem (position_at old x rows) request some few;
+        };
+        few = emptied_few old.log.mem (position_at old x rows) request (omega (arith, some)) few;
+        answer = is.told;
+        trail = subst (λ (t : Table). Trail ShowsTable now before.moment (table_of (contents_state x) ∷ t ∷ []) 0)
+            (sym (step_bare (table_of (contents_state x)) rows old.memory.cursors.next request))
+            (subst (λ (a : Answer). FollowsStep before now x request a) is.told trail);
+      }
 
-  applied : (x : Contents) (rows : List Cursor) → IsAppliedAt now old x rows request (as_told r pairs) new → FollowsStep before now x request (as_told r pairs)
+  applied : (x : Contents) (rows : List Cursor) → IsConsistent old → IsAppliedAt now old x rows request (as_told r pairs) new → FollowsStep before now x request (as_told r pairs)
       → ContinuesWith before now old x rows bytes told new ⊎ StopsWith before now old x rows bytes told
-  applied x rows (inl is) trail = inl (goes_on x rows is trail)
-  applied x rows (inr (inl is)) trail = inl (falls_short x rows is trail)
-  applied x rows (inr (inr is)) trail = inr (breaks x rows is trail)
+  applied x rows whole (inl is) trail = inl (goes_on x rows is trail)
+  applied x rows whole (inr (inl is)) trail = inl (falls_short x rows is trail)
+  applied x rows whole (inr (inr is)) trail = inr (breaks x rows whole is trail)
 
   -- a command that the store answered
   pub answered : (met : Option Fault) (out : List ℕ) → met ≡ fault_told r → out ≡ frame (reply_body tag (as_told r pairs)) → IsToldBy before now old bytes told new
-      → ((x : Contents) (rows : List Cursor) → StandsAt before old x rows → IsAppliedAt now old x rows request (as_told r pairs) new)
+      → IsConsistent old → ((x : Contents) (rows : List Cursor) → StandsAt before old x rows → IsAppliedAt now old x rows request (as_told r pairs) new)
       → ((x : Contents) → StandsWith before old x → FollowsStep before now x request (as_told r pairs))
       → IsAnswered before now old bytes met new out
-  answered met out is sent_bytes by ok trail = record {
+  answered met out is sent_bytes by whole ok trail = record {
     response = told;
     spelled = sent_bytes;
     responds = inr by;
     tells = is;
-    run = λ x rows stands. applied x rows (ok x rows stands) (trail x stands.stands);
+    run = λ x rows stands. applied x rows whole (ok x rows stands) (trail x stands.stands);
   }
 
 -- a body that is no command

@@ -6,10 +6,12 @@ pub mod DrawingLemmas
 pub mod FramingLemmas
 pub mod GeneratedLemmas
 pub mod GiveUpLemmas
+pub mod BatchedLemmas
 pub mod ProgressLemmas
 pub mod PublishedLemmas
 pub mod SendLemmas
 pub mod SessionLemmas
+pub mod SeveralLemmas
 pub mod StreamLemmas
 pub mod StreamedLemmas
 pub mod TableLemmas

@@ -26,6 +26,7 @@ use Rattle.strat_model.specs.declared.replies.Reply.TheVariants as reply
 use Rattle.strat_model.specs.Answer.{Answer}
 use Rattle.strat_model.specs.Stream.{frame, IsBody, is_partial}
 use Rattle.strat_model.specs.Table.{Cursor, Table, bare}
+use Rattle.strat_model.specs.Batch.{tables_before}
 use Rattle.strat_model.specs.Run.{Position, Response, response_bytes, Exchange, Answers, IsRun, is_change, sent_bytes}
 use Rattle.strat_promote.specs.Job.{blocks_listed}
 use Rattle.strat_recovery.specs.Opening.{recover}
@@ -46,10 +47,6 @@ use Rattle.strat_serve.proofs.AnswerLemmas.{told_damaged}
 use Rattle.strat_serve.proofs.BeginLemmas.{opens_begins, stands_bare}
 use Rattle.strat_serve.proofs.PublishedLemmas.{held_at_first, held_then}
 
--- the tables at which bodies were answered
-abbrev pub tables_before : List Exchange → List Table
-tables_before xs = map (λ (x : Exchange). bare x.at.table) xs
-
 -- a serving run so far, where the disk exposes a content that shows a table: these bodies were answered so by the table, and the store stands where
 -- that leads
 pub record RunSoFar (start current : Held) (before now : DiskView) (f : Image) (t : Table) (bodies : List (List ℕ)) (answers : List Response) : Type 0 where
@@ -60,6 +57,7 @@ pub record RunSoFar (start current : Held) (before now : DiskView) (f : Image) (
   pub rows : List Cursor
   pub exchanges : List Exchange
   pub run : IsRun start.log.mem from exchanges (position_at current contents rows)
+  pub region : AllByRecursion (λ (x : Exchange). x.at.fill ≤ start.log.mem) exchanges
   pub bodies_are : map (λ (x : Exchange). x.body) exchanges ≡ bodies
   pub answers_are : map (λ (x : Exchange). x.response) exchanges ≡ answers
   pub stands : StandsAt now current contents rows
@@ -132,6 +130,21 @@ pub run_more : (mem : ℕ) (p q r : Position) (xs : List Exchange) (body : List 
 run_more mem p q r [] body response run answers = (run, (r, subst (λ (x : Position). Answers mem x body response r) run answers, refl))
 run_more mem p q r (x ∷ xs) body response run answers = (run.0, (run.1.0, run.1.1, run_more mem run.1.0 q r xs body response run.1.2 answers))
 
+-- one more position at which no more changes are in the journal than a region takes
+few_more : (mem : ℕ) (xs : List Exchange) (x : Exchange) → AllByRecursion (λ (y : Exchange). y.at.fill ≤ mem) xs → x.at.fill ≤ mem → AllByRecursion (λ (y : Exchange). y.at.fill ≤ mem) (xs ++ x ∷ [])
+few_more mem [] x each few = (few, tt)
+few_more mem (y ∷ ys) x each few = (each.0, few_more mem ys x each.1 few)
+
+-- and so at all positions of a run
+pub few_all : (mem : ℕ) (xs : List Exchange) (ps : List Position) → AllByRecursion (λ (x : Exchange). x.at.fill ≤ mem) xs → AllByRecursion (λ (p : Position). p.fill ≤ mem) ps
+    → AllByRecursion (λ (p : Position). p.fill ≤ mem) (map (λ (x : Exchange). x.at) xs ++ ps)
+few_all mem [] ps each last = last
+few_all mem (x ∷ xs) ps each last = (each.0, few_all mem xs ps each.1 last)
+
+-- a store holds no more changes than a region takes, where its run began with as many in a region
+pub few_held : (start current : Held) → current.log.mem ≡ start.log.mem → IsConsistent current → length current.log.list ≤ start.log.mem
+few_held start current mem whole = omega (arith, mem, whole.log.few, whole.log.mem)
+
 -- one more body that fits
 pub each_more : (xs : List (List ℕ)) (x : List ℕ) → AllByRecursion IsBody xs → IsBody x → AllByRecursion IsBody (xs ++ x ∷ [])
 each_more [] x each fits = (fits, tt)
@@ -186,6 +199,7 @@ begins s held before disk faults empty calm opened time lawful leaves = record {
         rows = [];
         exchanges = [];
         run = refl;
+        region = tt;
         bodies_are = refl;
         answers_are = refl;
         stands = stands_bare disk s there.0 opened.closed there.1;
@@ -459,6 +473,7 @@ module _ (start old new : Held) (count : ℕ) (held rest body : List ℕ) (met :
         exchanges = so_far.exchanges ++ latest ∷ [];
         run = run_more start.log.mem so_far.from at (position_at new is.after is.left) so_far.exchanges body response so_far.run
             (subst (λ (m : ℕ). Answers m at body response (position_at new is.after is.left)) p.mem is.answers);
+        region = few_more start.log.mem so_far.exchanges latest so_far.region (few_held start old p.mem p.lawful);
         bodies_are = map-append (λ (x : Exchange). x.body) so_far.exchanges (latest ∷ []) ∙ ap (λ (l : List (List ℕ)). l ++ body ∷ []) so_far.bodies_are;
         answers_are = map-append (λ (x : Exchange). x.response) so_far.exchanges (latest ∷ []) ∙ ap (λ (l : List Response). l ++ response ∷ []) so_far.answers_are;
         stands = is.stands;

@@ -17,6 +17,7 @@ use Rattle.strat_model.specs.declared.ended.Ended.{Ended}
 use Rattle.strat_model.specs.declared.ended.Ended.TheVariants as ended
 use Rattle.strat_model.specs.Stream.{frame, IsBody, is_partial, is_too_long, Splits, Whole, Rest, Long, ending_of}
 use Rattle.strat_model.specs.Table.{Table, bare}
+use Rattle.strat_model.specs.Batch.{tables_before}
 use Rattle.strat_model.specs.Run.{Response, response_bytes, AnswersFault, Exchange, Interruption, Transcript, bodies_of, sent_bytes}
 use Rattle.strat_recovery.specs.StateTable.{table_of}
 use Rattle.strat_standing.specs.Contents.{contents_state}
@@ -26,7 +27,7 @@ use Rattle.strat_store.specs.Held.{Held, IsConsistent, IsOnDisk, head_held, posi
 use Rattle.strat_store.proofs.PayingLemmas.{paid_now}
 use Rattle.strat_serve.specs.Session.{Took, IsAtEnd, SendsPrefix, too_long_bytes, AreAnsweredBy, AreCalm, ContinuesWith, StopsWith, fault_told, broken_by, Session, IsSession, AnswersAll, all_responses, output, last_output, Sends, EndsFor, FollowsRun, Served, WaitsForNone}
 use Rattle.strat_serve.specs.World.{World}
-use Rattle.strat_serve.proofs.ProgressLemmas.{Progress, RunSoFar, Answered, tables_before, follows_more, text_more, ahead_more, ahead_within, answered_more, step_responds, step_damaged, step_paid, step_reads, gate_still, calm_front, calm_parts, answers}
+use Rattle.strat_serve.proofs.ProgressLemmas.{Progress, RunSoFar, Answered, few_all, few_held, follows_more, text_more, ahead_more, ahead_within, answered_more, step_responds, step_damaged, step_paid, step_reads, gate_still, calm_front, calm_parts, answers}
 use Rattle.strat_serve.proofs.PublishedLemmas.{published_still}
 use Rattle.strat_serve.proofs.StreamLemmas.{partial_not_long, frames_of}
 
@@ -104,6 +105,7 @@ module _ (start current : Held) (count budget : ℕ) (held : List ℕ) (before n
         table = so_far.table;
         transcript = transcript;
         is = record { run = so_far.run; interrupted = tt };
+        region = inr (few_all start.log.mem so_far.exchanges (transcript.after ∷ []) so_far.region (few_held start current p.mem p.lawful, tt));
         front = take_at p.bodies others (length (bodies_of transcript)) (sym (ap length bodies_all)) ∙ sym bodies_all;
         answers_are = sym so_far.answers_are;
         broken_is = refl;
@@ -355,6 +357,7 @@ module _ (start old new : Held) (count budget : ℕ) (held rest body : List ℕ)
           table = so_far.table;
           transcript = transcript;
           is = record { run = so_far.run; interrupted = subst (λ (m : ℕ). AnswersFault m (position_at old so_far.contents so_far.rows) body response stops.done) p.mem stops.fault };
+          region = inr (few_all start.log.mem so_far.exchanges (transcript.after ∷ stops.done ∷ []) so_far.region (few_held start old p.mem p.lawful, (omega (arith, stops.few, p.mem), tt)));
           front = take_at (p.bodies ++ body ∷ []) s.bodies (length (bodies_of transcript)) (sym (ap length bodies_all)) ∙ sym bodies_all;
           answers_are = sym so_far.answers_are;
           broken_is = refl;

@@ -16,7 +16,7 @@ use Rattle.strat_model.specs.declared.ended.Ended.TheVariants as ended
 use Rattle.strat_model.specs.declared.replies.Refusal.TheVariants as why
 use Rattle.strat_model.specs.Answer.{Answer, refusal}
 use Rattle.strat_model.specs.Ended.{status_of}
-use Rattle.strat_model.specs.Run.{Position, Response, Exchange, Interruption, Transcript, IsTranscript, bodies_of, responses_of, tables_of, of_interruption, sent_bytes}
+use Rattle.strat_model.specs.Run.{Position, Response, Exchange, Interruption, Transcript, IsTranscript, UsesOneRegion, bodies_of, responses_of, tables_of, of_interruption, sent_bytes}
 use Rattle.strat_model.specs.Stream.{frame, Splits, Whole, Rest, Long, ending_of, is_too_long}
 use Rattle.strat_model.specs.Table.{Table}
 use Rattle.strat_standing.specs.Standing.{ShowsTable}
@@ -121,11 +121,16 @@ module _ (f : Image) (t : Table) (shows : ShowsTable f t) (mem : ℕ) (start : P
   state_is : begins.shows.state ≡ shows.state
   state_is = let e : Some begins.shows.state ≡ Some shows.state = sym begins.shows.reads ∙ shows.reads in cc
 
+  mem_is : mem ≡ shows.state.mem
+  mem_is = begins.mem_is ∙ ap (λ (u : State). u.mem) state_is
+
+  pub region_there : (run : Transcript) → UsesOneRegion mem run → UsesOneRegion shows.state.mem run
+  region_there run uses = subst (λ (m : ℕ). UsesOneRegion m run) mem_is uses
+
   pub begins_there : (run : Transcript) → IsTranscript mem start run → IsTranscript shows.state.mem (begins_at f t shows) run
   begins_there run is =
       let fill : start.fill ≡ length shows.state.journal = begins.fill ∙ ap (λ (u : State). length u.journal) state_is in
       let same : start ≡ begins_at f t shows = (λ i. record { table = table i; fill = fill i }) in
-      let mem_is : mem ≡ shows.state.mem = begins.mem_is ∙ ap (λ (u : State). u.mem) state_is in
       subst (λ (m : ℕ). IsTranscript m (begins_at f t shows) run) mem_is (subst (λ (p : Position). IsTranscript mem p run) same is)
 
 module _ (v w : DiskView) (f : Image) (t : Table) (s : Session) (run : FollowsRun v w f t s) where
@@ -186,7 +191,7 @@ module _ (v w : DiskView) (f : Image) (t : Table) (s : Session) (run : FollowsRu
         inr (refl, next_long s.rest long, sym (bodies_are (record { all = eqb-true _ _ all; unbroken = is })), unbroken is)
 
     -- a session that was cut off
-    until_cut : (before now : Option (List ℕ)) (sends : SendsAllButLast before now s) → AnswersUntilCut tr s.taken sends.cut.sent
+    until_cut : (before now : Option (List ℕ)) (sends : SendsAllButLast before now s) → AnswersUntilCut 1 tr s.taken sends.cut.sent
     until_cut before now sends = record {
       bodies = s.bodies;
       rest = s.rest;
@@ -244,6 +249,7 @@ module _ (budget : ℕ) (before now : Streams) (v w : DiskView) (f : Image) (t :
         ended = refl;
         run = run.transcript;
         is = begins_there f t shows run.mem run.start run.begins run.table run.transcript run.is;
+        region = region_there f t shows run.mem run.start run.begins run.table run.transcript run.region;
         taken = served.session.taken;
         took = served.took;
         within = served.is.within;
@@ -363,6 +369,12 @@ pub fits_few : (bodies : List (List ℕ)) (responses : List Response) → AreAns
 fits_few bodies [] all = omega arith
 fits_few [] (t ∷ ts) all = absurd all
 fits_few (b ∷ bs) (t ∷ ts) all = omega (arith, fits_few bs ts all.1)
+
+-- at each place of positions of which none has more changes in the journal than a region takes
+pub few_at : (mem : ℕ) (ps : List Position) (i : ℕ) (p : Position) → AllByRecursion (λ (q : Position). q.fill ≤ mem) ps → slice_get ps i ≡ Some p → p.fill ≤ mem
+few_at mem [] i p each there = absurd (let e : ◌≡◌ {A = Option Position} None (Some p) = there in cc)
+few_at mem (q ∷ ps) zero p each there = let same : q ≡ p = (let e : ◌≡◌ {A = Option Position} (Some q) (Some p) = there in cc) in subst (λ (r : Position). r.fill ≤ mem) same each.0
+few_at mem (q ∷ ps) (suc i) p each there = few_at mem ps i p each.1 there
 
 -- no response of these tells of a fault
 pub calm_at : (answers : List Response) (i : ℕ) (r : Response) → AllByRecursion (λ (t : Response). fault_told t.answer.reply ≡ None) answers → slice_get answers i ≡ Some r → fault_told r.answer.reply ≡ None

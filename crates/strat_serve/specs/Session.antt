@@ -24,7 +24,8 @@ use Rattle.strat_model.specs.Request.{Request}
 use Rattle.strat_model.specs.Spelling.{Spells, IsRefusedAs, reply_body}
 use Rattle.strat_model.specs.Stream.{frame, Splits, Whole, Rest, Long, ending_of, is_partial, is_too_long}
 use Rattle.strat_model.specs.Table.{Cursor, Table, bare}
-use Rattle.strat_model.specs.Run.{is_change, reaches_disk, takes_memory, Position, Response, response_bytes, Answers, AnswersFault, Transcript, IsTranscript, bodies_of, tables_of, sent_bytes}
+use Rattle.strat_model.specs.Batch.{Continuation, tables_continued}
+use Rattle.strat_model.specs.Run.{is_change, reaches_disk, takes_memory, Position, Response, response_bytes, Answers, AnswersFault, Transcript, IsTranscript, UsesOneRegion, bodies_of, tables_of, sent_bytes}
 use Rattle.strat_promote.specs.Job.{blocks_listed}
 use Rattle.strat_recovery.specs.Head.{Head, descriptors}
 use Rattle.strat_recovery.specs.Opening.{recover}
@@ -127,6 +128,7 @@ pub record StopsWith (before now : DiskView) (old : Held) (x : Contents) (rows :
     (body : List ℕ) (response : Response) : Type 0 where
   pub done : Position
   pub fault : AnswersFault old.log.mem (position_at old x rows) body response done
+  pub few : done.fill ≤ old.log.mem
   pub answer : response.answer ≡ refusal why.DeviceFault
   pub trail : Trail ShowsTable now before.moment
       (table_of (contents_state x) ∷ bare done.table ∷ []) 0
@@ -264,16 +266,24 @@ abbrev pub output : Session → List ℕ
 output s = sent_bytes (all_responses s)
     ++ last_output s.broken (length s.answers == length s.bodies) (is_too_long s.rest)
 
--- a sink that failed took a prefix of what a session sends: so many replies whole, and at most one body
--- was answered that none of these replies to; the last piece was read when each frame that stood whole in
--- front of it had its reply among these
-pub record SendsAllButLast (before now : Option (List ℕ)) (s : Session) : Type 0 where
+-- a sink that failed took a prefix of what a session sends: so many replies whole, and no more bodies than
+-- that were answered that none of these replies to; the last piece was read when each frame that stood whole
+-- in front of it had its reply among these
+pub record SendsAllBut (most : ℕ) (before now : Option (List ℕ)) (s : Session) : Type 0 where
   pub cut : SendsPrefix before now (output s)
   pub whole : ℕ
-  pub last : length (all_responses s) ≤ whole + 1
+  pub last : length (all_responses s) ≤ whole + most
   pub part : List ℕ
   pub replied : cut.sent ≡ sent_bytes (take whole (all_responses s)) ++ part
   pub ahead : WaitsForNone s.taken s.bodies whole
+
+-- it took all replies but the last, as the next body is answered once a reply was sent
+abbrev pub SendsAllButLast : Option (List ℕ) → Option (List ℕ) → Session → Type 0
+SendsAllButLast before now s = SendsAllBut 1 before now s
+
+-- or, where changes become durable in batches whose replies wait, all but the last sixteen
+abbrev pub SendsAllButBatch : Option (List ℕ) → Option (List ℕ) → Session → Type 0
+SendsAllButBatch before now s = SendsAllBut 16 before now s
 
 -- what the sink took of what a session sends: all of it, where it did not fail
 abbrev pub Sends : Ended → Option (List ℕ) → Option (List ℕ) → Session → Type 0
@@ -313,11 +323,23 @@ pub record FollowsRun (before now : DiskView) (f : Image) (t : Table) (s : Sessi
   -- which is the device's: a disk that shows a table is never found damaged
   pub transcript : Transcript
   pub is : IsTranscript mem start transcript
+  -- a full region of the journal was emptied at once
+  pub region : UsesOneRegion mem transcript
   pub front : take (length (bodies_of transcript)) s.bodies ≡ bodies_of transcript
   pub answers_are : s.answers ≡ map (λ x. x.response) transcript.exchanges
   pub broken_is : s.broken ≡ option_map (λ h. h.response) transcript.interruption
   pub device : IfSome s.broken (λ r. r.answer ≡ refusal why.DeviceFault)
   pub follows : FollowsFrom before now f (tables_of transcript) (length transcript.exchanges)
+
+-- the disk followed the tables of a run that is continued, behind its interruption, over bodies that became
+-- durable with it or not at all: the next ones of the session
+pub record FollowsContinued (before now : DiskView) (f : Image) (mem : ℕ) (s : Session)
+    (transcript : Transcript) : Type 0 where
+  pub continued : Continuation mem transcript
+  pub next : take (length (bodies_of transcript) + length continued.more) s.bodies
+      ≡ bodies_of transcript ++ map (λ x. x.body) continued.more
+  pub follows : FollowsFrom before now f (tables_continued transcript continued.more continued.end)
+      (length transcript.exchanges)
 
 -- a serving run opened the store, and ended so
 pub record Served (budget : ℕ) (how : Ended) (before now : World) : Type 0 where

@@ -10,7 +10,7 @@ use Rattle.strat_model.specs.declared.ended.Ended.TheVariants as ended
 use Rattle.strat_model.specs.declared.replies.Refusal.TheVariants as why
 use Rattle.strat_model.specs.Answer.{refusal}
 use Rattle.strat_model.specs.Ended.{status_of}
-use Rattle.strat_model.specs.Run.{Position, Interruption, Transcript, IsTranscript, bodies_of, responses_of, tables_of, sent_bytes}
+use Rattle.strat_model.specs.Run.{Position, Interruption, Transcript, IsTranscript, UsesOneRegion, bodies_of, responses_of, tables_of, sent_bytes}
 use Rattle.strat_model.specs.Stream.{Splits, Rest, Long, ending_of}
 use Rattle.strat_model.specs.Table.{Table}
 use Rattle.strat_recovery.specs.Opening.{reads_as}
@@ -48,9 +48,9 @@ abbrev pub RefusesNext : Transcript → List (List ℕ) → List ℕ → List �
 RefusesNext run bodies rest more = (more ≡ []) ⊎ ((more ≡ too_long_bytes)
     × (ending_of rest ≡ Long) × (bodies_of run ≡ bodies) × (run.interruption ≡ None))
 
--- a run answered the first frames that were taken, and a front of its replies was sent, all of them whole but the one at
--- which the sink failed. The last piece was read when each frame that stood whole in front of it had a whole reply
-pub record AnswersUntilCut (run : Transcript) (taken sent : List ℕ) : Type 0 where
+-- a run answered the first frames that were taken, and a front of its replies was sent, all of them whole but no more than
+-- so many at the end. The last piece was read when each frame that stood whole in front of it had a whole reply
+pub record AnswersUntilCut (most : ℕ) (run : Transcript) (taken sent : List ℕ) : Type 0 where
   pub bodies : List (List ℕ)
   pub rest : List ℕ
   pub splits : Splits taken bodies rest
@@ -61,7 +61,7 @@ pub record AnswersUntilCut (run : Transcript) (taken sent : List ℕ) : Type 0 w
   pub some : 0 < length unsent
   pub cut : sent_bytes (responses_of run) ++ more ≡ sent ++ unsent
   pub whole : ℕ
-  pub last : length (responses_of run) ≤ whole + 1
+  pub last : length (responses_of run) ≤ whole + most
   pub part : List ℕ
   pub replies : sent ≡ sent_bytes (take whole (responses_of run)) ++ part
   pub ahead : WaitsForNone taken bodies whole
@@ -91,7 +91,7 @@ AnswersUntil ended.Source budget run taken left sent =
     (rest : List ℕ) × AnswersAllTaken run taken rest sent [] × (ending_of rest ≢ Long)
 AnswersUntil ended.Device budget run taken left sent =
     AnswersNothing run taken sent ⊎ AnswersUntilFault run taken sent
-AnswersUntil ended.Sink budget run taken left sent = AnswersUntilCut run taken sent
+AnswersUntil ended.Sink budget run taken left sent = AnswersUntilCut 1 run taken sent
 AnswersUntil ended.NoMemory budget run taken left sent = AnswersNothing run taken sent
 AnswersUntil _ budget run taken left sent = ⊥
 
@@ -107,6 +107,7 @@ pub record AnswersAsTable (budget mem : ℕ) (start : Position) (status : ℕ) (
   pub ended : status ≡ status_of how
   pub run : Transcript
   pub is : IsTranscript mem start run
+  pub region : UsesOneRegion mem run
   pub taken : List ℕ
   pub took : Took before.left now.left taken
   pub within : length taken ≤ budget

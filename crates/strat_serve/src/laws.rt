@@ -2,12 +2,13 @@
 //! that does nothing.
 
 ghost use Rattle.std.specs.List.{flat_map};
-ghost use Rattle.std.specs.Prelude.{◌≡◌, ◌≢◌, ◌<◌, ◌≤◌, ◌⊎◌, ◌+◌, ℕ, List, Contains, IsSome, None, Ok, Some, length, slice_get, take, true};
+ghost use Rattle.std.specs.Prelude.{◌≡◌, ◌≢◌, ◌<◌, ◌≤◌, ◌⊎◌, ◌+◌, ℕ, List, [], ◌++◌, Contains, IsSome, None, Ok, Option, Some, length, map, slice_get, take, true};
 ghost use Rattle.strat_base.specs.declared.descriptors.ArrayDesc.{ArrayDesc};
 ghost use Rattle.strat_crash.specs.Blocks.{AgreeOn};
 ghost use Rattle.strat_crash.specs.Faults.{Rose};
 ghost use Rattle.strat_crash.specs.Image.{Image, Outside};
 ghost use Rattle.strat_crash.specs.Moments.{Exposes, Images, Since};
+ghost use Rattle.strat_crash.specs.Trail.{At};
 ghost use Rattle.strat_format.specs.Layout.{region_at, other_region};
 ghost use Rattle.strat_format.specs.SuperBlock.{Super, newest_in};
 ghost use Rattle.strat_model.specs.declared.ended.Ended.{Ended};
@@ -18,18 +19,21 @@ ghost use Rattle.strat_model.specs.declared.replies.Reply.TheVariants as reply;
 ghost use Rattle.strat_model.specs.Answer.{refusal};
 ghost use Rattle.strat_model.specs.Ended.{status_of};
 ghost use Rattle.strat_model.specs.Request.{Request};
-ghost use Rattle.strat_model.specs.Run.{Position, Response, reaches_disk, takes_memory};
+ghost use Rattle.strat_model.specs.Batch.{tables_continued};
+ghost use Rattle.strat_model.specs.Run.{Position, Response, Transcript, bodies_of, positions_of, reaches_disk, tables_of, takes_memory};
 ghost use Rattle.strat_model.specs.Spelling.{Spells, IsRefusedAs};
 ghost use Rattle.strat_model.specs.Stream.{frame};
 ghost use Rattle.strat_model.specs.Table.{Table};
 ghost use Rattle.strat_promote.specs.Job.{blocks_listed};
 ghost use Rattle.strat_recovery.specs.Head.{Head};
 ghost use Rattle.strat_recovery.specs.Opening.{recover};
-ghost use Rattle.strat_standing.specs.Standing.{ShowsTable};
+ghost use Rattle.strat_standing.specs.Several.{EachShows, ShowOneOfSince, ShowsOneOf};
+ghost use Rattle.strat_standing.specs.Standing.{LeavesContent, ShowsTable};
 ghost use Rattle.strat_store.specs.Applying.{IsDamagedIn, is_fault};
+ghost use Rattle.strat_store.specs.Following.{IsOpenedAs, LeavesOpening};
 ghost use Rattle.strat_store.specs.Held.{Held, IsConsistent, IsOnDisk, arrays_held};
 ghost use Rattle.strat_store.specs.Ranging.{HasPairsFor};
-ghost use Rattle.strat_serve.specs.Session.{Begins, AreCalm, IsSession, IsTaggedFor, RespondsTo, Served, Session, WasPublished, all_responses, fault_told};
+ghost use Rattle.strat_serve.specs.Session.{Begins, AreCalm, FollowsContinued, FollowsRun, IsSession, IsTaggedFor, RespondsTo, SendsAllButBatch, SendsAllButLast, Served, Session, WasPublished, all_responses, fault_told};
 ghost use Rattle.strat_serve.specs.Tables.{AnswersAsTable, EndsAtTables, GoesThroughTables, KeepsSpace, begins_at};
 ghost use Rattle.strat_serve.specs.World.{Streams, beside};
 
@@ -67,6 +71,14 @@ pub fn a_served_run_is_a_run_of_its_table<D: Viewed>()
         → ShowsTable f t → Exposes (D.view d) f
         → Served budget how (beside x (D.view d)) (beside y (D.view e))
         → KeepsSpace f (D.view d) (D.view e) }
+{}
+
+/// Where a run answers anything, no more changes are in its journal at any of its positions than one region takes: a full
+/// region is emptied by the next change.
+pub fn a_run_uses_one_region_of_its_journal()
+    ensures { (budget mem status i : ℕ) (start p : Position) (x y : Streams)
+        (a : AnswersAsTable budget mem start status x y) → bodies_of a.run ≢ []
+        → slice_get (positions_of a.run) i ≡ Some p → p.fill ≤ mem }
 {}
 
 /// Whatever the disk shows, fewer than 6,148 bytes were taken behind the frames that were answered otherwise than
@@ -143,4 +155,46 @@ pub fn a_damaged_block_is_of_an_array_that_was_published<D: Viewed>()
         → WasPublished (D.view d) (D.view e) a)
         × ((then : Image) × IsDamagedIn (Some then) store.memory store.levels block
         × AgreeOn (blocks_listed (arrays_held store.memory store.levels)) then g) }
+{}
+
+/// A disk may be opened and served each of whose images shows a table, though not all of them one. What a crash leaves
+/// at each moment shows the table of an image that the disk had at the start, or one of the run's.
+pub fn runs_may_begin_at_any_image<D: Viewed>()
+    ensures opened { (before now : D) (s : Held) (f : Image) → Exposes (D.view before) f
+        → LeavesContent (D.view before) → EachShows (D.view before)
+        → IsOpenedAs (D.view before) (D.view now) s → ShowOneOfSince (D.view before) (D.view now) }
+    ensures one { (before now : D) (s : Held) (f : Image) → Exposes (D.view before) f
+        → LeavesContent (D.view before) → EachShows (D.view before)
+        → IsOpenedAs (D.view before) (D.view now) s
+        → (t : Table) × ((c : Image) → Images (D.view now) c → ShowsTable c t) }
+    ensures err { (before now : D) (f : Image) → Exposes (D.view before) f
+        → LeavesContent (D.view before) → EachShows (D.view before)
+        → LeavesOpening (D.view before) (D.view now) f
+        → ShowOneOfSince (D.view before) (D.view now) }
+    ensures served { (x y : Streams) (d e : D) (budget : ℕ) (how : Ended) (f : Image) (t : Table)
+        (shows : ShowsTable f t) → Exposes (D.view d) f → LeavesContent (D.view d)
+        → EachShows (D.view d) → Served budget how (beside x (D.view d)) (beside y (D.view e))
+        → (a : AnswersAsTable budget shows.state.mem (begins_at f t shows) (status_of how) x y)
+        × ((c : Image) → Since (D.view e) (D.view d).moment c
+        → ShowsOneOf (D.view d) c ⊎ ((i : ℕ) × At (tables_of a.run) i (ShowsTable c))) }
+{}
+
+/// What a run promises that makes each change durable by itself is what one promises that makes up to sixteen durable together:
+/// the run is continued over nothing, and no more replies are missing than the last. A continued run goes on over the
+/// next bodies of the session, and a crash at its end leaves the table after all that was answered, or a later one.
+pub fn a_run_of_single_changes_is_one_of_batches<D: Viewed>()
+    ensures sends { (before now : Option (List ℕ)) (s : Session) → SendsAllButLast before now s
+        → SendsAllButBatch before now s }
+    ensures follows { (d e : D) (f : Image) (t : Table) (s : Session)
+        (run : FollowsRun (D.view d) (D.view e) f t s)
+        → (c : FollowsContinued (D.view d) (D.view e) f run.mem s run.transcript)
+        × (c.continued.more ≡ []) }
+    ensures next { (d e : D) (f : Image) (mem : ℕ) (s : Session) (run : Transcript)
+        (c : FollowsContinued (D.view d) (D.view e) f mem s run)
+        → take (length (bodies_of run) + length c.continued.more) s.bodies
+        ≡ bodies_of run ++ map (λ x. x.body) c.continued.more }
+    ensures left { (d e : D) (f image : Image) (mem : ℕ) (s : Session) (run : Transcript)
+        (c : FollowsContinued (D.view d) (D.view e) f mem s run) → Images (D.view e) image
+        → (i : ℕ) × (length run.exchanges ≤ i)
+        × At (tables_continued run c.continued.more c.continued.end) i (ShowsTable image) }
 {}

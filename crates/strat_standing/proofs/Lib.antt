@@ -19,3 +19,4 @@ pub mod OccupiedLemmas
 pub mod ComputedLemmas
 pub mod TurnLemmas
 pub mod WorkedLemmas
+pub mod BatchLemmas

@@ -1,6 +1,8 @@
 pub mod Contents
 pub mod Standing
+pub mod Several
 pub mod Appending
+pub mod Batches
 pub mod Publication
 pub mod Next
 pub mod Occupied

@@ -1,5 +1,5 @@
 -- A change at a store with open cursors: it does to the table with its cursors what it does to the one without.
-use Rattle.std.proofs.Common.{◌≡◌, ◌≢◌, ◌≤◌, ◌+◌, ℕ, Bool, true, false, not, eqb, inl, inr, ◌⊎◌, List, [], ◌∷◌, ◌++◌, length, Contains, Some, refl, sym, ap, subst, ◌∙◌, arith, true≢false}
+use Rattle.std.proofs.Common.{◌≡◌, ◌≢◌, ◌≤◌, ◌+◌, ◌&&◌, ℕ, Bool, true, false, not, eqb, inl, inr, ◌⊎◌, List, [], ◌∷◌, ◌++◌, length, Contains, Some, refl, sym, ap, subst, ◌∙◌, arith, true≢false}
 use Rattle.std.specs.Prelude.{if◌then◌else◌}
 use Rattle.strat_base.specs.Change.{Change}
 use Rattle.strat_base.specs.Change as change
@@ -17,7 +17,7 @@ use Rattle.strat_format.specs.Chained.{Chained}
 use Rattle.strat_format.specs.Manifest.{Manifest}
 use Rattle.strat_model.specs.Answer.{Answer, accepts, plain}
 use Rattle.strat_model.specs.Pairs.{Pairs, set, unset}
-use Rattle.strat_model.specs.Run.{Position, fill_after, is_change, position_after, takes_memory}
+use Rattle.strat_model.specs.Run.{Position, is_carried_out, is_change, takes_memory}
 use Rattle.strat_model.specs.Step.{Outcome, clone, has_row, is_frozen, pairs_at, refuses, step, update, with_pairs}
 use Rattle.strat_model.specs.Table.{Cursor, Table}
 use Rattle.strat_model.specs.declared.replies.Refusal.TheVariants as why
@@ -87,11 +87,9 @@ change_beside t rows next (change.Clone v) = clone_beside t rows next v
 abbrev place_beside : Position → List Cursor → ℕ → Position
 place_beside p rows next = record { table = beside p.table rows next; fill = p.fill }
 
-after_beside : (mem : ℕ) (p : Position) (rows : List Cursor) (next : ℕ) (c : Change)
-    → position_after mem (place_beside p rows next) (request_for c) ≡ place_beside (position_after mem p (request_for c)) rows next
-after_beside mem p rows next c =
-    let r = request_for c in
-    ap (λ (o : Outcome). record { table = o.table; fill = if accepts o.answer.reply then (if is_change r then fill_after mem p.fill else p.fill) else p.fill }) (change_beside p.table rows next c)
+-- it is carried out beside any cursors, or beside none
+carried_beside : (p : Position) (rows : List Cursor) (next : ℕ) (c : Change) → is_carried_out (place_beside p rows next) (request_for c) ≡ is_carried_out p (request_for c)
+carried_beside p rows next c = ap (λ (o : Outcome). is_change (request_for c) && accepts o.answer.reply) (change_beside p.table rows next c)
 
 -- a change takes memory
 takes_for : (c : Change) → takes_memory (request_for c) ≡ true
@@ -157,6 +155,7 @@ module _ (v now : DiskView) (s new : Held) (x : Contents) (rows : List Cursor) (
   pub change_applied : new.spent ≡ is_fault answer.reply → IsAppliedTo now s x (request_for c) answer new → IsAppliedAt now s x rows (request_for c) answer new
   change_applied spent applied =
       let same = change_beside t rows s.memory.cursors.next c in
+      let carried = carried_beside (position_with s x) rows s.memory.cursors.next c in
       elim applied [
         | inl is ↦ inl (record {
           told = is.told ∙ sym (ap (λ (o : Outcome). o.answer) same);
@@ -164,8 +163,14 @@ module _ (v now : DiskView) (s new : Held) (x : Contents) (rows : List Cursor) (
           after = is.after;
           left = rows;
           stands = stands_after is.after (calm_of spent is.going) is.stands;
-          place = place_after is.after (position_after s.log.mem (position_with s x) (request_for c)) is.place
-              ∙ sym (after_beside s.log.mem (position_with s x) rows s.memory.cursors.next c);
+          place = record {
+            table = ap (λ (n : ℕ). beside (table_of (contents_state is.after)) rows n) kept_cursors.1
+                ∙ ap (λ (u : Table). beside u rows s.memory.cursors.next) is.place.table
+                ∙ sym (ap (λ (o : Outcome). o.table) same);
+            fill = λ done. is.place.fill (sym carried ∙ done);
+            same = λ off. is.place.same (sym carried ∙ off);
+          };
+          fill = λ done. is.fill (sym carried ∙ done);
         })
         | inr (inl is) ↦ inr (inl (record {
           takes = takes_for c;

@@ -20,6 +20,7 @@ use Rattle.strat_cursor.specs.Cursors.{is_opened}
 use Rattle.strat_format.specs.Arrays.{block_on}
 use Rattle.strat_cursor.specs.Looking.{AreOfOldArrays, LooksThrough, ReadsArrays, arrays_there}
 use Rattle.strat_format.specs.Damage.{Read}
+use Rattle.strat_journal.specs.Log.{Log}
 use Rattle.strat_model.specs.declared.replies.Reply.{Reply}
 use Rattle.strat_model.specs.declared.replies.Reply.TheVariants as reply
 use Rattle.strat_model.specs.declared.replies.Refusal.{Refusal}
@@ -31,7 +32,8 @@ use Rattle.strat_array.specs.Told.{TheirPairs}
 use Rattle.strat_model.specs.Answer.{Answer, plain, accepts, as_told, refusal}
 use Rattle.strat_model.specs.Pairs.{range, value_of}
 use Rattle.strat_model.specs.Request.{Request, Put, Delete, Get, Clone, Scan, Info, OpenCursor, NextPairs, CloseCursor, Stat}
-use Rattle.strat_model.specs.Run.{Position, is_change, reaches_disk, takes_memory, position_after, fill_after}
+use Rattle.strat_model.specs.Run.{is_change, reaches_disk, takes_memory}
+use Rattle.strat_model.proofs.FillLemmas.{empties_none, not_carried, stays}
 use Rattle.strat_model.specs.Spelling.{is_bound, is_limit, has_lawful_sizes}
 use Rattle.strat_model.specs.Step.{Outcome, advanced, step, replies_with, refuses, has_row, pairs_at, found, page}
 use Rattle.strat_model.specs.Table.{Cursor, Table, bare}
@@ -365,30 +367,22 @@ module _ (v : DiskView) (s : Held) (x : Contents) (rows : List Cursor) (whole : 
   stat_here =
       sym (store_told_with here (contents_head x) (contents_state x) s.memory state_here memory_here rows s.memory.cursors.next (rows_length here s.memory.parents s.memory.cursors.opened rows at.rows_are))
 
--- the position after a command that changes nothing
-place_kept : (mem : ℕ) (at : Position) (r : Request) → (step at.table r).table ≡ at.table → is_change r ≡ false → position_after mem at r ≡ at
-place_kept mem at r table still = λ i. record { table = table i; fill = fill i }
-  where
-    by_accept : (b : Bool) → (if b then (if is_change r then fill_after mem at.fill else at.fill) else at.fill) ≡ at.fill
-    by_accept true = ap (λ (c : Bool). if c then fill_after mem at.fill else at.fill) still
-    by_accept false = refl
-
-    fill : (position_after mem at r).fill ≡ at.fill
-    fill = by_accept (accepts (step at.table r).answer.reply)
-
 -- a command that was looked up as the table says is answered as a store may answer it
 told_at : (now : DiskView) (s new : Held) (x : Contents) (rows : List Cursor) (r : Request) (answer : Answer) → is_of_cursor r ≡ false → change_wanted r ≡ None → new.log ≡ s.log → new.memory ≡ s.memory
     → new.spent ≡ is_fault answer.reply → answer ≡ (step (table_at s x rows) r).answer → StandsAt now new x rows → IsAppliedAt now s x rows r answer new
 told_at now s new x rows r answer other none log memory spent told stands =
     let t = table_at s x rows in
+    let off = not_carried (position_at s x rows) r (look_no_change r none) in
     inl (record {
       told = told;
       going = spent ∙ ap (λ (a : Answer). is_fault a.reply) told ∙ look_no_fault t r other none;
       after = x;
       left = rows;
       stands = stands;
-      place = (λ i. record { table = record (table_of (contents_state x)) { cursors = rows; next_cursor = (memory i).cursors.next }; fill = length (log i).list })
-          ∙ sym (place_kept s.log.mem (position_at s x rows) r (look_kept t r other none) (look_no_change r none));
+      place = stays s.log.mem (position_at s x rows) (position_at new x rows) r off
+          ((λ i. record (table_of (contents_state x)) { cursors = rows; next_cursor = (memory i).cursors.next }) ∙ sym (look_kept t r other none))
+          (ap (λ (l : Log). length l.list) log);
+      fill = empties_none s.log.mem (position_at s x rows) (position_at new x rows) r off;
     })
 
 -- without a look at the disk

@@ -1,11 +1,11 @@
 -- A block that is called damaged is bad.
-use Rattle.std.proofs.Common.{◌≡◌, ◌<◌, ◌∙◌, ◌⊎◌, ◌-◌, ◌&&◌, inl, inr, ℕ, suc, Bool, true, false, eqb, ltb, leb, List, [], ◌∷◌, ◌++◌, length, Option, Some, None, append_assoc, refl, sym, ap, subst, arith}
+use Rattle.std.proofs.Common.{◌≡◌, ◌∙◌, ◌⊎◌, ◌-◌, ◌&&◌, inl, inr, ℕ, suc, Bool, false, eqb, ltb, leb, List, [], ◌∷◌, ◌++◌, length, Option, Some, None, append_assoc, refl, sym, ap, subst, arith}
 use Rattle.std.specs.List.{list_all, slice_get}
 use Rattle.std.specs.Option.{option_map, option_and_then}
 use Rattle.std.proofs.lemmas.Bool.{cases_Bool, eq-eqb}
 use Rattle.std.proofs.lemmas.List.{append-nil}
 use Rattle.strat_array.proofs.EntriesOnLemmas.{entries_on-append}
-use Rattle.strat_base.proofs.ListFacts.{Among, among_flat, any_from}
+use Rattle.strat_base.proofs.ListFacts.{among_flat, any_from}
 use Rattle.strat_base.proofs.TreeLemmas.{option_cases}
 use Rattle.strat_base.specs.Entries.{Entry, lead_entries}
 use Rattle.strat_base.specs.declared.descriptors.ArrayDesc.{ArrayDesc}

@@ -1,7 +1,7 @@
 -- A change that is carried out on a store that stands.
-use Rattle.std.proofs.Common.{◌≡◌, ◌≢◌, ◌<◌, ◌+◌, ◌*◌, ℕ, suc, Bool, true, false, inl, inr, not, ltb, if◌then◌else◌, List, [], ◌∷◌, ◌++◌, length, Option, Some, None, refl, sym, ap, ◌∙◌, subst, arith, length-append}
+use Rattle.std.proofs.Common.{◌≡◌, ◌≢◌, ◌<◌, ◌+◌, ◌-◌, ◌*◌, ℕ, suc, Bool, true, false, inl, inr, not, if◌then◌else◌, List, [], ◌∷◌, ◌++◌, length, Option, Some, None, refl, sym, ap, ◌∙◌, subst, true≢false, arith, length-append}
 use Rattle.std.specs.List.{list_all}
-use Rattle.std.proofs.lemmas.Bool.{and_parts, and_from, le-ltb, lt-ltb}
+use Rattle.std.proofs.lemmas.Bool.{and_parts, and_from, le-ltb}
 use Rattle.std.proofs.lemmas.List.Folds.{list_all-append}
 use Rattle.std.specs.Prelude.{fold, is_some, option_map, flat_map}
 use Rattle.strat_array.specs.Kept.{Blocks}
@@ -25,7 +25,8 @@ use Rattle.strat_format.specs.SuperBlock.{Super}
 use Rattle.strat_gate.specs.SuperView.{super_of}
 use Rattle.strat_journal.specs.Log.{Log}
 use Rattle.strat_model.specs.Answer.{plain, accepts}
-use Rattle.strat_model.specs.Run.{position_after, fill_after, reaches_disk, is_change}
+use Rattle.strat_model.specs.Run.{is_carried_out, is_change, reaches_disk}
+use Rattle.strat_model.proofs.FillLemmas.{carried, filled_below}
 use Rattle.strat_model.specs.Step.{step}
 use Rattle.strat_model.specs.Table.{Table, bare}
 use Rattle.strat_model.specs.declared.replies.Refusal.TheVariants as why
@@ -95,10 +96,11 @@ cursors_stay m (change.Put v key value) = refl
 cursors_stay m (change.Delete v key) = refl
 cursors_stay m (change.Clone v) = refl
 
-kept_still : (sb : Super) (next : ℕ) (levels : List (Option LevelDesc)) (m k : Memory) → k.cursors ≡ m.cursors → AreKept sb next levels m → AreKept sb next levels k
-kept_still sb next levels m k same kept =
-    let here : AreKept sb next levels (record k { cursors = m.cursors }) = record { named = kept.named; needed = kept.needed; ids = kept.ids; below = kept.below; behind = kept.behind } in
-    subst (λ (cs : HeldCursors). AreKept sb next levels (record k { cursors = cs })) (sym same) here
+kept_still : (sb : Super) (chained : Chained) (levels : List (Option LevelDesc)) (m k : Memory) → k.cursors ≡ m.cursors → AreKept sb chained levels m → AreKept sb chained levels k
+kept_still sb chained levels m k same kept =
+    let here : AreKept sb chained levels (record k { cursors = m.cursors }) =
+    record { named = kept.named; needed = kept.needed; ids = kept.ids; below = kept.below; within = kept.within; once = kept.once } in
+    subst (λ (cs : HeldCursors). AreKept sb chained levels (record k { cursors = cs })) (sym same) here
 
 -- the cursors of a table stay while the versions do
 pub rows_stay : (m k : Memory) → k.parents ≡ m.parents → KeepsRows m k
@@ -158,7 +160,7 @@ module _ (r : Recovered) (cached : Blocks) (kept : IsConsistent (held_of r cache
               subst (λ (m : Memory). IsMemoryOf (record (head_held (held_of r cached)) { journal = j.list }) m) (sym follows)
               (subst (λ (cs : List Change). IsMemoryOf (record (head_held (held_of r cached)) { journal = cs }) (memory_after r.memory c)) list of);
           placed = kept.placed;
-          kept = kept_still (super_of r.sb) (chained_of r.published).manifest.next_array r.published.levels r.memory m (ap (λ (k : Memory). k.cursors) follows ∙ cursors_stay r.memory c) kept.kept;
+          kept = kept_still (super_of r.sb) (chained_of r.published) r.published.levels r.memory m (ap (λ (k : Memory). k.cursors) follows ∙ cursors_stay r.memory c) kept.kept;
         }
 
   -- and what stands on the disk answers as its table does
@@ -212,15 +214,18 @@ module _ (r : Recovered) (cached : Blocks) (kept : IsConsistent (held_of r cache
             ap (λ (y : Contents). with_batch y (c ∷ [])) stands.held
             ∙ ap (λ (cs : List Change). record { slot = r.slot; sb = super_of r.sb; chained = chained_of r.published; journal = cs; levels = x.levels }) (sym (ap (λ (l : Log). l.list) grown))
 
-        filled : (j : Log) → j ≡ record r.journal { list = r.journal.list ++ c ∷ [] } → length j.list ≡ (position_after r.journal.mem (position_with (held_of r cached) x) (request_for c)).fill
-        filled j grown =
-            let fill : ℕ = length r.journal.list in
-            let more : length j.list ≡ fill + 1 = ap (λ (l : Log). length l.list) grown ∙ length-append r.journal.list (c ∷ []) in
-            let lt : ltb fill r.journal.mem ≡ true = lt-ltb fill r.journal.mem (omega (arith, room, kept.log.mem)) in
-            more
-            ∙ sym (ap (λ (b : Bool). if b then (if is_change (request_for c) then fill_after r.journal.mem fill else fill) else fill) acceptable
-            ∙ ap (λ (b : Bool). if b then fill_after r.journal.mem fill else fill) (changes_it c)
-            ∙ ap (λ (b : Bool). if b then fill + 1 else 1) lt)
+        -- one change more is in the journal, and that is carried out
+        one_more : (j : Log) → j ≡ record r.journal { list = r.journal.list ++ c ∷ [] } → length j.list ≡ length r.journal.list + 1
+        one_more j grown = ap (λ (l : Log). length l.list) grown ∙ length-append r.journal.list (c ∷ [])
+
+        under : length r.journal.list < r.journal.mem
+        under = omega (arith, room, kept.log.mem)
+
+        low : length r.journal.list < 2 * r.journal.mem - 2
+        low = omega (arith, room, kept.log.mem, kept.lawful.mem_least)
+
+        done_so : is_carried_out (position_with (held_of r cached) x) (request_for c) ≡ true
+        done_so = carried (position_with (held_of r cached) x) (request_for c) (changes_it c) acceptable
 
         -- the change is carried out
         pub carries : (w : DiskView) (j : Log) (m : Memory) (told : Reply) → j ≡ record r.journal { list = r.journal.list ++ c ∷ [] } → told ≡ reply_to r.memory c → ContentsStand w (with_batch x (c ∷ []))
@@ -239,5 +244,10 @@ module _ (r : Recovered) (cached : Blocks) (kept : IsConsistent (held_of r cache
                 keeps stands.stands.content now.content stands.stands.exposed now.exposed b
                 (le-ltb b (first_free r.journal.mem) (omega (arith, behind, ap first_free kept.log.mem)))) stands.cached;
           };
-          place = λ i. record { table = sym (steps_to (contents_state x) c takes) i; fill = filled j grown i };
+          place = record {
+            table = sym (steps_to (contents_state x) c takes);
+            fill = λ done. inl (low, one_more j grown);
+            same = λ off. absurd (true≢false (sym done_so ∙ off));
+          };
+          fill = λ done. one_more j grown ∙ sym (filled_below r.journal.mem (length r.journal.list) under);
         })

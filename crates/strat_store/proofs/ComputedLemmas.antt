@@ -1,5 +1,5 @@
 -- The next contents of a store, from what was promoted and written.
-use Rattle.std.proofs.Common.{◌≡◌, ◌+◌, ℕ, Bool, true, false, not, cond, leb, ltb, ◌&&◌, List, ◌++◌, map, Contains, flat_map, Option, None, Some, IsSome, refl, sym, ap, ◌∙◌, subst, arith, true≢false}
+use Rattle.std.proofs.Common.{◌≡◌, ◌+◌, ℕ, Bool, true, false, not, cond, leb, ltb, ◌&&◌, List, [], ◌++◌, map, Contains, flat_map, Option, None, Some, IsSome, refl, sym, ap, ◌∙◌, subst, arith, true≢false}
 use Rattle.std.specs.List.{sum_by}
 use Rattle.std.proofs.lemmas.Bool.{and_parts, and_from, not-true, false_from_ne_true}
 use Rattle.std.proofs.lemmas.List.Elements.{Contains-append_right}
@@ -22,21 +22,23 @@ use Rattle.strat_promote.specs.Promotions.{entries_if_any}
 use Rattle.strat_promotion.specs.Promoted.{levels_behind, promoted}
 use Rattle.strat_recovery.specs.Head.{descriptors}
 use Rattle.strat_recovery.specs.Opened.{level_on}
-use Rattle.strat_standing.proofs.FreeLemmas.{Told, still_told}
+use Rattle.strat_standing.proofs.FreeLemmas.{free_stands}
 use Rattle.strat_standing.proofs.ListLemmas.{contained_among}
-use Rattle.strat_standing.proofs.OccupiedLemmas.{named_used, taken_beside}
+use Rattle.strat_standing.proofs.LongLemmas.{bytes_few}
+use Rattle.strat_standing.proofs.NextLemmas.{changes_bound, next_lawful, next_most, written_most}
+use Rattle.strat_standing.proofs.OccupiedLemmas.{free_beside, named_used, taken_beside}
 use Rattle.strat_standing.proofs.PromotedLemmas.{promoted_state, promoted_whole}
 use Rattle.strat_standing.specs.Contents.{Contents, contents_state, named_blocks}
-use Rattle.strat_standing.specs.Next.{IsNextOf, HasManifest, arrays_made}
+use Rattle.strat_standing.specs.Next.{IsNextOf, MayBeNext, HasManifest, arrays_made}
 use Rattle.strat_standing.specs.Occupied.{IsSpaceOf, UsesMore, extents_of, arrays_in}
-use Rattle.strat_standing.specs.Standing.{ReadsAs, LeavesContent}
+use Rattle.strat_standing.specs.Standing.{ContentsStand, LeavesContent}
 use Rattle.strat_state.specs.Sound.{IsSound}
 use Rattle.strat_state.specs.State.{State, IsPaid}
 use Rattle.strat_cursor.specs.Looking.{arrays_there}
 use Rattle.strat_store.specs.Memory.{Memory}
 use Rattle.strat_store.specs.Promoting.{HoldInMemory, IsPromotedTo}
-use Rattle.strat_store.specs.Publishing.{MayCompute, IsComputedBy, IsWrittenBeside, IsWrittenTo, manifest_after, contents_after, descs_to, descs_behind}
-use Rattle.strat_store.proofs.NextContentsLemmas.{after_next, computed, numbers_rise}
+use Rattle.strat_store.specs.Publishing.{MayBeWritten, MayCompute, IsComputedBy, IsWrittenBeside, IsWrittenTo, manifest_after, contents_after, descs_to, descs_behind}
+use Rattle.strat_store.proofs.NextContentsLemmas.{after_next, computed, next_here, numbers_rise}
 use Rattle.strat_store.proofs.WritingLemmas.{space_written}
 
 -- where more is used no more is free
@@ -64,23 +66,19 @@ uses_both s t u xs ys first second = record {
   used = λ b. omega (arith, first.used b, second.used b, times_append ys xs b);
 }
 
-entries_counted : (made : Option LevelDesc) → entries_if_any made ≡ sum_by (λ (a : ArrayDesc). a.entries) (arrays_made made)
+pub entries_counted : (made : Option LevelDesc) → entries_if_any made ≡ sum_by (λ (a : ArrayDesc). a.entries) (arrays_made made)
 entries_counted None = refl
 entries_counted (Some level) = refl
 
-module _ (v w u : DiskView) (s t r : SpaceView) (m : Memory) (levels : List (Option LevelDesc)) (log : Log) (x : Contents) (others : List Extent) (may : MayCompute v s m levels log x others) (mem : ℕ) (mem_is : x.sb.mem ≡ mem)
-    (old : Manifest) (old_is : x.chained.manifest ≡ old) (target : ℕ) (made : Option LevelDesc) (first size : ℕ) (chain : List Extent) (promoting : TearsBlocks (is_free s) v w)
-    (taken : UsesMore s (extents_of (arrays_made made)) t) (writing : TearsBlocks (is_free t) w u) (marked : IsMarked t chain r) (between : LeavesContent w) (after : LeavesContent u) where
+-- what a store has that may compute its next contents
+module _ (v : DiskView) (s : SpaceView) (m : Memory) (levels : List (Option LevelDesc)) (log : Log) (x : Contents) (others : List Extent) (may : MayCompute v s m levels log x others) where
   abbrev f : Image
   f = may.stands.content
-
-  here : ReadsAs f x
-  here = may.stands.reads f may.stands.left
 
   holds : HoldInMemory f (contents_state x) m levels
   holds = record {
     entries = may.memory.entries;
-    levels_are = ap (all_some (level_on f)) may.placed.listed_are ∙ here.lies.arrays;
+    levels_are = ap (all_some (level_on f)) may.placed.listed_are ∙ (may.stands.reads f may.stands.left).lies.arrays;
     numbered = may.placed.numbered;
     parents = may.memory.parents;
   }
@@ -91,70 +89,108 @@ module _ (v w u : DiskView) (s t r : SpaceView) (m : Memory) (levels : List (Opt
       let there = subst (λ (rs : List ArrayDesc). Contains (blocks_listed rs) b) listed of in
       named_used s x others may.space b (contained_among (named_blocks x) b (Contains-append_right x.chained.blocks (blocks_listed (descriptors x.chained.manifest)) b there))
 
-  module _ (promotes : (f g : Image) (st : State) → Exposes v f → Exposes w g → IsSound st → st.mem ≡ mem → HoldInMemory f st m levels → AreUsed s (blocks_listed (arrays_there levels)) → IsPromotedTo g st old.next_array target made)
-      (manifest : Manifest) (manifest_is : manifest ≡ manifest_after old m target made)
-      (stored : IsSome w.content → (g : Image) → Exposes u g → (new : Contents) → IsWrittenTo first size chain manifest new → HasManifest g new) where
-    told : Told w
-    told = still_told v w f promoting.time may.stands.exposed between
+  -- no bound is reached that none of its images gives
+  pub none_reached : (mem : ℕ) → x.sb.mem ≡ mem
+      → ((g : Image) (st : State) → Exposes v g → IsSound st → st.mem ≡ mem → HoldInMemory g st m levels → AreUsed s (blocks_listed (arrays_there levels)) → ⊥) → ⊥
+  none_reached mem mem_is never = never f (contents_state x) may.stands.exposed may.stands.sound mem_is holds used
 
-    made_here : IsPromotedTo told.content (contents_state x) x.chained.manifest.next_array target made
+  -- a promotion made a level of it
+  module _ (w : DiskView) (mem : ℕ) (mem_is : x.sb.mem ≡ mem) (old : Manifest) (old_is : x.chained.manifest ≡ old) (target : ℕ) (made : Option LevelDesc) (promoting : TearsBlocks (is_free s) v w) (between : LeavesContent w)
+      (promotes : (f g : Image) (st : State) → Exposes v f → Exposes w g → IsSound st → st.mem ≡ mem → HoldInMemory f st m levels → AreUsed s (blocks_listed (arrays_there levels)) → IsPromotedTo g st old.next_array target made) where
+    at : ContentsStand w x
+    at = free_stands (is_free s) x (free_beside s x others may.space) v w promoting may.stands between
+
+    made_here : IsPromotedTo at.content (contents_state x) x.chained.manifest.next_array target made
     made_here =
-        subst (λ (k : Manifest). IsPromotedTo told.content (contents_state x) k.next_array target made) (sym old_is)
-        (promotes f told.content (contents_state x) may.stands.exposed told.exposed may.stands.sound mem_is holds used)
-
-    abbrev new : Contents
-    new = contents_after x m target made (made_here.says.fresh ++ levels_behind target x.levels) first size (blocks_of chain)
+        subst (λ (k : Manifest). IsPromotedTo at.content (contents_state x) k.next_array target made) (sym old_is)
+        (promotes f at.content (contents_state x) may.stands.exposed at.exposed may.stands.sound mem_is holds used)
 
     rising : is_rising (map (λ (d : LevelDesc). d.number) x.chained.manifest.levels) ≡ true
     rising = numbers_rise x.chained.manifest may.lawful
 
-    next : IsNextOf x new made (descs_to target x.chained.manifest.levels) (descs_behind target x.chained.manifest.levels)
-    next = after_next x m target made (made_here.says.fresh ++ levels_behind target x.levels) first size (blocks_of chain) may.memory (omega (arith, may.full)) rising
+    -- the next contents, with a manifest of so many bytes in these blocks
+    module _ (first size : ℕ) (blocks : List ℕ) where
+      abbrev new : Contents
+      new = contents_after x m target made (made_here.says.fresh ++ levels_behind target x.levels) first size blocks
 
-    used_after : (gone : List Extent) → blocks_of gone ≡ x.chained.blocks → IsSpaceOf r new (gone ++ (extents_of (arrays_in (descs_to target x.chained.manifest.levels)) ++ others))
-    used_after gone gone_is =
-        space_written t r chain marked x new made (descs_to target x.chained.manifest.levels) (descs_behind target x.chained.manifest.levels) gone others next refl gone_is
-        (taken_beside s t x others (extents_of (arrays_made made)) may.space taken)
+      next : IsNextOf x new made (descs_to target x.chained.manifest.levels) (descs_behind target x.chained.manifest.levels)
+      next = after_next x m target made (made_here.says.fresh ++ levels_behind target x.levels) first size blocks may.memory (omega (arith, may.full)) rising
 
-    beside : IsWrittenBeside v w u s t r x new target made others (may.chain ++ (extents_of (arrays_in (descs_to target x.chained.manifest.levels)) ++ others))
-    beside = record {
-      stands = may.stands;
-      full = may.full;
-      space = may.space;
-      promoting = promoting;
-      taken = taken;
-      writing = writing;
-      between = between;
-      after = after;
-      used = used_after may.chain may.chain_is;
-      manifest = λ g now. stored (some_told w.content told.content told.exposed) g now new (record {
-        chained = λ i. record { manifest = (ap (λ (k : Manifest). manifest_after k m target made) old_is ∙ sym manifest_is) i; blocks = blocks_of chain };
-        first_is = refl;
-        length_is = refl;
-      });
-      next = next;
-      content = told.content;
-      exposed = told.exposed;
-      promoted = made_here;
-      levels = refl;
-    }
-      where
-        some_told : (o : Option Image) (g : Image) → o ≡ Some g → IsSome o
-        some_told None g e = absurd (cc)
-        some_told (Some h) g e = refl
+      follows : MayBeNext at.content at.content x new made (descs_to target x.chained.manifest.levels) (descs_behind target x.chained.manifest.levels)
+      follows = (next_here at.content x new target made (at.reads at.content at.left) may.stands.sound may.full made_here.says made_here.fresh refl next rising).0
 
-    pub computed_by : IsComputedBy u r x m log target made first size chain others
-    computed_by = record {
-      levels = made_here.says.fresh ++ levels_behind target x.levels;
-      computed = computed v w u s t r x new target made others (may.chain ++ (extents_of (arrays_in (descs_to target x.chained.manifest.levels)) ++ others)) beside rising log may.log_is;
-      used = used_after;
-      paid = λ paid honest full.
-          let p = made_here.paid paid honest full in
-          let both : Some p.fresh ≡ Some made_here.says.fresh = sym p.read ∙ made_here.says.read in
-          let same : p.fresh ≡ made_here.says.fresh = cc in
-          let sum = entries_counted made in
-          let state = promoted_state x new may.stands.sound next.promoted ∙ promoted_whole x new (omega (arith, may.full)) in
-          subst IsPaid
-          ((λ i. promoted (contents_state x) (same i ++ levels_behind target x.levels) (x.chained.manifest.written + sum i) new.chained.manifest.next_array) ∙ sym state)
-          (p.paid new.chained.manifest.next_array);
-    }
+    -- its manifest may be written
+    pub may_be_written : MayBeWritten (manifest_after old m target made)
+    may_be_written =
+        let c = at.content in
+        let to = descs_to target x.chained.manifest.levels in
+        let behind = descs_behind target x.chained.manifest.levels in
+        let y : Contents = new 0 0 [] in
+        let n = follows 0 0 [] in
+        let bound = changes_bound c c x y made to behind n in
+        let written = written_most c c x y made to behind n in
+        let numbers = next_most c c x y made to behind n in
+        let short = bytes_few c c x y made to behind n in
+        let here : MayBeWritten y.chained.manifest = record {
+          lawful = next_lawful c c x y made to behind n;
+          short = omega (arith, short);
+          written = omega (arith, written, bound);
+          next_array = omega (arith, numbers, bound);
+        } in
+        subst (λ (k : Manifest). MayBeWritten (manifest_after k m target made)) old_is here
+
+    -- and where it was, they are computed
+    module _ (u : DiskView) (t r : SpaceView) (first size : ℕ) (chain : List Extent) (taken : UsesMore s (extents_of (arrays_made made)) t) (writing : TearsBlocks (is_free t) w u) (marked : IsMarked t chain r)
+        (after : LeavesContent u) (manifest : Manifest) (manifest_is : manifest ≡ manifest_after old m target made)
+        (stored : IsSome w.content → (g : Image) → Exposes u g → (new : Contents) → IsWrittenTo first size chain manifest new → HasManifest g new) where
+      abbrev later : Contents
+      later = new first size (blocks_of chain)
+
+      used_after : (gone : List Extent) → blocks_of gone ≡ x.chained.blocks → IsSpaceOf r later (gone ++ (extents_of (arrays_in (descs_to target x.chained.manifest.levels)) ++ others))
+      used_after gone gone_is =
+          space_written t r chain marked x later made (descs_to target x.chained.manifest.levels) (descs_behind target x.chained.manifest.levels) gone others (next first size (blocks_of chain)) refl gone_is
+          (taken_beside s t x others (extents_of (arrays_made made)) may.space taken)
+
+      beside : IsWrittenBeside v w u s t r x later target made others (may.chain ++ (extents_of (arrays_in (descs_to target x.chained.manifest.levels)) ++ others))
+      beside = record {
+        stands = may.stands;
+        full = may.full;
+        space = may.space;
+        promoting = promoting;
+        taken = taken;
+        writing = writing;
+        between = between;
+        after = after;
+        used = used_after may.chain may.chain_is;
+        manifest = λ g now. stored (some_told w.content at.content at.exposed) g now later (record {
+          chained = λ i. record { manifest = (ap (λ (k : Manifest). manifest_after k m target made) old_is ∙ sym manifest_is) i; blocks = blocks_of chain };
+          first_is = refl;
+          length_is = refl;
+        });
+        next = next first size (blocks_of chain);
+        content = at.content;
+        exposed = at.exposed;
+        promoted = made_here;
+        levels = refl;
+      }
+        where
+          some_told : (o : Option Image) (g : Image) → o ≡ Some g → IsSome o
+          some_told None g e = absurd (cc)
+          some_told (Some h) g e = refl
+
+      pub computed_by : IsComputedBy u r x m log target made first size chain others
+      computed_by = record {
+        levels = made_here.says.fresh ++ levels_behind target x.levels;
+        computed = computed v w u s t r x later target made others (may.chain ++ (extents_of (arrays_in (descs_to target x.chained.manifest.levels)) ++ others)) beside rising log may.log_is;
+        used = used_after;
+        fresh = made_here.fresh;
+        paid = λ paid honest full.
+            let p = made_here.paid paid honest full in
+            let both : Some p.fresh ≡ Some made_here.says.fresh = sym p.read ∙ made_here.says.read in
+            let same : p.fresh ≡ made_here.says.fresh = cc in
+            let sum = entries_counted made in
+            let state = promoted_state x later may.stands.sound (next first size (blocks_of chain)).promoted ∙ promoted_whole x later (omega (arith, may.full)) in
+            subst IsPaid
+            ((λ i. promoted (contents_state x) (same i ++ levels_behind target x.levels) (x.chained.manifest.written + sum i) later.chained.manifest.next_array) ∙ sym state)
+            (p.paid later.chained.manifest.next_array);
+      }

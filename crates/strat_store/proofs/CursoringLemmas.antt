@@ -30,7 +30,8 @@ use Rattle.strat_format.specs.Arrays.{blocks_of, block_on}
 use Rattle.strat_model.specs.Answer.{Answer, accepts, as_told, plain, refusal}
 use Rattle.strat_model.specs.Pairs.{Pairs, range}
 use Rattle.strat_model.specs.Request.{Request, OpenCursor, NextPairs, CloseCursor}
-use Rattle.strat_model.specs.Run.{Position, fill_after, is_change, position_after}
+use Rattle.strat_model.specs.Run.{IsAfter, Position, is_change}
+use Rattle.strat_model.proofs.FillLemmas.{not_carried, stays}
 use Rattle.strat_model.specs.Step.{Outcome, advanced, has_row, page, pairs_at, refuses, step}
 use Rattle.strat_model.specs.Table.{Cursor, Table}
 use Rattle.strat_model.specs.declared.replies.Refusal.TheVariants as why
@@ -99,12 +100,8 @@ agree_of arrays f g a of agree = λ b there.
     agree b (among_contained (blocks_listed arrays) b (among_in_flat (λ (d : ArrayDesc). blocks_of d.extents) arrays a b (contained_among arrays a of) (contained_among (blocks_of a.extents) b there)))
 
 -- the position after a command that is no change
-place_of : (mem : ℕ) (at : Position) (r : Request) (o : Outcome) → step at.table r ≡ o → is_change r ≡ false → position_after mem at r ≡ record { table = o.table; fill = at.fill }
-place_of mem at r o is still = λ i. record { table = (is i).table; fill = by (accepts (step at.table r).answer.reply) i }
-  where
-    by : (b : Bool) → (if b then (if is_change r then fill_after mem at.fill else at.fill) else at.fill) ≡ at.fill
-    by true = ap (λ (c : Bool). if c then fill_after mem at.fill else at.fill) still
-    by false = refl
+place_of : (mem : ℕ) (at : Position) (r : Request) (o : Outcome) → step at.table r ≡ o → is_change r ≡ false → IsAfter mem at r (record { table = o.table; fill = at.fill })
+place_of mem at r o is still = stays mem at (record { table = o.table; fill = at.fill }) r (not_carried at r still) (ap (λ (z : Outcome). z.table) (sym is)) refl
 
 -- a store that stands, with its cursors
 module _ (v : DiskView) (s : Held) (x : Contents) (rows : List Cursor) (whole : IsConsistent s) (at : StandsAt v s x rows) where
@@ -256,7 +253,8 @@ module _ (v : DiskView) (s : Held) (x : Contents) (rows : List Cursor) (whole : 
         after = x;
         left = rows;
         stands = stands_still s.memory false rows at.rows_are at.going;
-        place = sym (place_of s.log.mem (position_at s x rows) (OpenCursor n lo hi) (refuses t why.UnknownVersion) o refl);
+        place = place_of s.log.mem (position_at s x rows) (OpenCursor n lo hi) (refuses t why.UnknownVersion) o refl;
+        fill = λ done. absurd (true≢false (sym done));
       })
 
   known_opened : (n : ℕ) (lo hi : List ℕ) (r : Result ℕ CursorFault) (m : Memory) → is_known s.memory.parents n ≡ true
@@ -273,7 +271,8 @@ module _ (v : DiskView) (s : Held) (x : Contents) (rows : List Cursor) (whole : 
         left = started n lo hi;
         stands = stands_still (one_more n lo hi) false (started n lo hi)
             (table_started f s.memory.parents opened rows (cursor_from s.memory s.levels n lo hi) lo (pairs_at t n) at.rows_are refl (reads_map n lo hi is)) (all_go_on n lo hi);
-        place = sym (place_of s.log.mem (position_at s x rows) (OpenCursor n lo hi) (outcome_of_start n lo hi) o refl);
+        place = place_of s.log.mem (position_at s x rows) (OpenCursor n lo hi) (outcome_of_start n lo hi) o refl;
+        fill = λ done. absurd (true≢false (sym done));
       }))
   known_opened n lo hi (Err start_fault.CursorLimit) m is opens same limit =
       let o = refused_of_limit n lo hi is (limit.0 refl) in
@@ -284,7 +283,8 @@ module _ (v : DiskView) (s : Held) (x : Contents) (rows : List Cursor) (whole : 
         after = x;
         left = rows;
         stands = stands_still s.memory false rows at.rows_are at.going;
-        place = sym (place_of s.log.mem (position_at s x rows) (OpenCursor n lo hi) (refuses t why.CursorLimit) o refl);
+        place = place_of s.log.mem (position_at s x rows) (OpenCursor n lo hi) (refuses t why.CursorLimit) o refl;
+        fill = λ done. absurd (true≢false (sym done));
       }))
   known_opened n lo hi (Err start_fault.NoMemory) m is opens same limit =
       let room : length opened ≢ 64 = λ full. (let e : ◌≡◌ {A = Result ℕ CursorFault} (Err start_fault.NoMemory) (Err start_fault.CursorLimit) = limit.1 full in cc) in
@@ -311,7 +311,8 @@ module _ (v : DiskView) (s : Held) (x : Contents) (rows : List Cursor) (whole : 
         after = x;
         left = rows;
         stands = stands_still s.memory false rows at.rows_are at.going;
-        place = sym (place_of s.log.mem (position_at s x rows) (CloseCursor n) (refuses t why.UnknownCursor) o refl);
+        place = place_of s.log.mem (position_at s x rows) (CloseCursor n) (refuses t why.UnknownCursor) o refl;
+        fill = λ done. absurd (true≢false (sym done));
       })
 
   closed_done : (n : ℕ) → is_opened n opened ≡ true → IsAppliedAt v s x rows (CloseCursor n) (plain reply.Done) (record s { memory = record s.memory { cursors = closed_at n s.memory.cursors }; spent = false })
@@ -325,7 +326,8 @@ module _ (v : DiskView) (s : Held) (x : Contents) (rows : List Cursor) (whole : 
         left = filter (λ (c : Cursor). not (eqb c.number n)) rows;
         stands = stands_still (record s.memory { cursors = closed_at n s.memory.cursors }) false (filter (λ (c : Cursor). not (eqb c.number n)) rows)
             (rows_less f s.memory.parents n opened rows at.rows_are) (goes_on_without f next s.cached n opened at.going);
-        place = sym (place_of s.log.mem (position_at s x rows) (CloseCursor n) (record { answer = plain reply.Done; table = record t { cursors = filter (λ (c : Cursor). not (eqb c.number n)) rows } }) o refl);
+        place = place_of s.log.mem (position_at s x rows) (CloseCursor n) (record { answer = plain reply.Done; table = record t { cursors = filter (λ (c : Cursor). not (eqb c.number n)) rows } }) o refl;
+        fill = λ done. absurd (true≢false (sym done));
       })
 
   -- so the answers say which of these it was
@@ -412,8 +414,9 @@ module _ (v : DiskView) (s : Held) (x : Contents) (rows : List Cursor) (whole : 
           left = advanced rows n limit;
           stands = stands_now now d looks leaves (record s.memory { cursors = record s.memory.cursors { opened = moved_at n more out opened } }) false (advanced rows n limit) told.1
               (goes_on_moved f next d n more out opened (still_going now d looks leaves));
-          place = sym (place_of s.log.mem (position_at s x rows) (NextPairs n limit)
-              (record { answer = as_told (reply.Pairs more) out; table = record t { cursors = advanced rows n limit } }) told.0 refl);
+          place = place_of s.log.mem (position_at s x rows) (NextPairs n limit)
+              (record { answer = as_told (reply.Pairs more) out; table = record t { cursors = advanced rows n limit } }) told.0 refl;
+          fill = λ done. absurd (true≢false (sym done));
         }))
       where
         by_open : (b : Bool) → (b ≡ false → IsErrOf (Ok more) next_fault.UnknownCursor) → b ≡ true
@@ -428,7 +431,8 @@ module _ (v : DiskView) (s : Held) (x : Contents) (rows : List Cursor) (whole : 
           after = x;
           left = rows;
           stands = stands_now now d looks leaves s.memory false rows at.rows_are (still_going now d looks leaves);
-          place = sym (place_of s.log.mem (position_at s x rows) (NextPairs n limit) (refuses t why.UnknownCursor) o refl);
+          place = place_of s.log.mem (position_at s x rows) (NextPairs n limit) (refuses t why.UnknownCursor) o refl;
+          fill = λ done. absurd (true≢false (sym done));
         }))
     page_applied n limit out (Err next_fault.Device) m tells moves unknown same names =
         let on : is_opened n opened ≡ true = by_open (is_opened n opened) unknown.1 in

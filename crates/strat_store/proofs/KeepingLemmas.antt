@@ -1,7 +1,8 @@
 -- What open cursors hold on to stays there, as a store goes on.
-use Rattle.std.proofs.Common.{◌≡◌, ◌<◌, ℕ, Bool, true, false, inl, inr, List, [], ◌∷◌, ◌++◌, Contains, flat_map, Option, refl, sym, ap, subst, ◌∙◌, append-nil}
+use Rattle.std.proofs.Common.{◌≡◌, ◌≤◌, ◌<◌, ℕ, Bool, true, false, cond, leb, inl, inr, List, [], ◌∷◌, ◌++◌, filter, Contains, flat_map, Option, refl, sym, ap, subst, ◌∙◌, append-nil, arith}
+use Rattle.std.specs.List.{list_all}
 use Rattle.std.specs.Prelude.{fold, if◌then◌else◌}
-use Rattle.std.proofs.lemmas.Bool.{ltb-true}
+use Rattle.std.proofs.lemmas.Bool.{and_parts, ltb-true}
 use Rattle.std.proofs.lemmas.List.Concat.{flat_map-append}
 use Rattle.std.proofs.lemmas.List.Elements.{Contains-append_left}
 use Rattle.strat_base.proofs.ListFacts.{Among, among_left, among_right, among_split}
@@ -12,10 +13,13 @@ use Rattle.strat_base.specs.declared.descriptors.LevelDesc.{LevelDesc}
 use Rattle.strat_cursor.proofs.HoldingLemmas.{names_moved, names_without}
 use Rattle.strat_cursor.proofs.PinLemmas.{asked_there}
 use Rattle.strat_cursor.proofs.RetiredLemmas.{closed_from, closed_ids, closed_keeps_named}
-use Rattle.strat_cursor.specs.Cursors.{are_named, arrays_named, closed_at, moved_at, without_cursor}
+use Rattle.strat_cursor.specs.Cursors.{are_named, arrays_named, closed_at, is_array_named, moved_at, without_cursor}
 use Rattle.strat_cursor.specs.Held.{HeldCursor, HeldCursors, no_cursors}
 use Rattle.strat_cursor.specs.Looking.{HaveOwnIds, arrays_there, arrays_asked}
+use Rattle.strat_extent.proofs.CountLemmas.{times_append}
+use Rattle.strat_extent.specs.Blocks.{times_in}
 use Rattle.strat_format.proofs.ManifestLemmas.{pass_at}
+use Rattle.strat_format.specs.Layout.{first_free}
 use Rattle.strat_format.specs.Chained.{Chained}
 use Rattle.strat_format.specs.Manifest.{is_lawful_manifest, versions_in}
 use Rattle.strat_format.specs.SuperBlock.{Super}
@@ -30,13 +34,26 @@ use Rattle.strat_model.specs.Request.{Request, OpenCursor, NextPairs, CloseCurso
 use Rattle.strat_model.specs.declared.replies.Reply.{Reply}
 use Rattle.strat_model.specs.declared.replies.Reply.TheVariants as reply
 use Rattle.strat_standing.proofs.ListLemmas.{among_contained, contained_among}
+use Rattle.strat_standing.specs.Occupied.{extents_of}
+use Rattle.strat_state.specs.Level.{is_distinct}
+use Rattle.strat_store.proofs.OwnLemmas.{once_counted}
 use Rattle.strat_store.proofs.NeededLemmas.{needed_still, needed_those}
 use Rattle.strat_store.proofs.WholeLemmas.{array_lawful}
 use Rattle.strat_store.specs.Cursoring.{cursors_after, paged_at}
-use Rattle.strat_store.specs.Held.{AreKept, ArePlaced, IsConsistent, arrays_held}
+use Rattle.strat_store.specs.Held.{AreKept, ArePlaced, IsConsistent, arrays_held, blocks_named}
 use Rattle.strat_store.specs.Memory.{Memory, memory_after, cursor_from, with_cursor}
 use Rattle.strat_store.specs.Recovering.{chained_of, held_of}
 use Rattle.strat_store.specs.declared.recovering.Recovered.{Recovered}
+
+-- some of the arrays have no more blocks than all
+times_filtered : (p : ArrayDesc → Bool) (arrays : List ArrayDesc) (b : ℕ) → times_in (extents_of (filter p arrays)) b ≤ times_in (extents_of arrays) b
+times_filtered p [] b = omega arith
+times_filtered p (a ∷ arrays) b = by (p a) (times_filtered p arrays b)
+  where
+    by : (t : Bool) → times_in (extents_of (filter p arrays)) b ≤ times_in (extents_of arrays) b
+        → times_in (extents_of (cond t (a ∷ filter p arrays) (filter p arrays))) b ≤ times_in (extents_of (a ∷ arrays)) b
+    by true rest = omega (arith, rest, times_append a.extents (extents_of (filter p arrays)) b, times_append a.extents (extents_of arrays) b)
+    by false rest = omega (arith, rest, times_append a.extents (extents_of arrays) b)
 
 -- the arrays of a manifest that belongs have numbers of their own, below the next one
 module _ (sb : Super) (chained : Chained) (levels : List (Option LevelDesc)) (placed : ArePlaced chained.manifest.levels levels)
@@ -54,7 +71,7 @@ module _ (sb : Super) (chained : Chained) (levels : List (Option LevelDesc)) (pl
       (lawful a (contained_among (descriptors chained.manifest) a (subst (λ (rs : List ArrayDesc). Contains rs a) listed of))).0)
 
   -- without cursors all that is named is there
-  pub kept_without : (m : Memory) → m.cursors ≡ no_cursors → AreKept sb chained.manifest.next_array levels m
+  pub kept_without : (m : Memory) → m.cursors ≡ no_cursors → AreKept sb chained levels m
   kept_without m none =
       let all : arrays_held m levels ≡ arrays_there levels = ap (λ (c : HeldCursors). arrays_there levels ++ c.retired) none ∙ append-nil (arrays_there levels) in
       record {
@@ -62,12 +79,18 @@ module _ (sb : Super) (chained : Chained) (levels : List (Option LevelDesc)) (pl
         needed = ap (λ (c : HeldCursors). are_named c.opened c.retired) none;
         ids = subst HaveOwnIds (sym all) own_numbers;
         below = λ a of. low_numbers a (subst (λ (rs : List ArrayDesc). Contains rs a) all of);
-        behind = λ a b of. absurd (contained_among [] a (subst (λ (c : HeldCursors). Contains c.retired a) none of));
+        within = λ b some.
+            let few : times_in (extents_of m.cursors.retired) b ≡ 0 = ap (λ (c : HeldCursors). times_in (extents_of c.retired) b) none in
+            absurd (omega (arith, some, few));
+        once = λ b.
+            let few : times_in (extents_of m.cursors.retired) b ≡ 0 = ap (λ (c : HeldCursors). times_in (extents_of c.retired) b) none in
+            let own = and_parts (is_distinct (blocks_named chained)) (list_all (λ k. leb (first_free sb.mem) k) (blocks_named chained)) (pass_at (belonging_tests sb chained) 0 belonging) in
+            omega (arith, once_counted (blocks_named chained) b own.0, few);
       }
 
 -- what commands about cursors leave of that
-module _ (sb : Super) (next : ℕ) (levels : List (Option LevelDesc)) (m : Memory) (kept : AreKept sb next levels m) where
-  pub kept_more : (v : ℕ) (lo hi : List ℕ) → AreKept sb next levels (record m { cursors = with_cursor m.cursors (cursor_from m levels v lo hi) })
+module _ (sb : Super) (chained : Chained) (levels : List (Option LevelDesc)) (m : Memory) (kept : AreKept sb chained levels m) where
+  pub kept_more : (v : ℕ) (lo hi : List ℕ) → AreKept sb chained levels (record m { cursors = with_cursor m.cursors (cursor_from m levels v lo hi) })
   kept_more v lo hi = record {
     named = λ a of.
         let asked = arrays_asked m.parents levels v in
@@ -86,20 +109,22 @@ module _ (sb : Super) (next : ℕ) (levels : List (Option LevelDesc)) (m : Memor
         (Contains-append_left (arrays_named m.cursors.opened) (arrays_asked m.parents levels v ++ []) a of)) kept.needed;
     ids = kept.ids;
     below = kept.below;
-    behind = kept.behind;
+    within = kept.within;
+    once = kept.once;
   }
 
-  pub kept_paged : (n : ℕ) (more : Bool) (told : Pairs) → AreKept sb next levels (record m { cursors = record m.cursors { opened = moved_at n more told m.cursors.opened } })
+  pub kept_paged : (n : ℕ) (more : Bool) (told : Pairs) → AreKept sb chained levels (record m { cursors = record m.cursors { opened = moved_at n more told m.cursors.opened } })
   kept_paged n more told = record {
     named = λ a of. kept.named a (subst (λ (rs : List ArrayDesc). Contains rs a) (names_moved n more told m.cursors.opened) of);
     needed = needed_still m.cursors.opened (moved_at n more told m.cursors.opened) m.cursors.retired
         (λ a of. subst (λ (rs : List ArrayDesc). Contains rs a) (sym (names_moved n more told m.cursors.opened)) of) kept.needed;
     ids = kept.ids;
     below = kept.below;
-    behind = kept.behind;
+    within = kept.within;
+    once = kept.once;
   }
 
-  pub kept_closed : (n : ℕ) → AreKept sb next levels (record m { cursors = closed_at n m.cursors })
+  pub kept_closed : (n : ℕ) → AreKept sb chained levels (record m { cursors = closed_at n m.cursors })
   kept_closed n = record {
     named = λ a of.
         let left = (closed_at n m.cursors).retired in
@@ -112,9 +137,13 @@ module _ (sb : Super) (next : ℕ) (levels : List (Option LevelDesc)) (m : Memor
     needed = needed_those (without_cursor n m.cursors.opened) m.cursors.retired;
     ids = closed_ids m.cursors n (arrays_there levels) kept.ids;
     below = λ a of. kept.below a (still a of);
-    behind = λ a b of. kept.behind a b (closed_from m.cursors n a of);
+    within = λ b some. kept.within b (omega (arith, some, closed_times b));
+    once = λ b. omega (arith, kept.once b, closed_times b);
   }
     where
+      closed_times : (b : ℕ) → times_in (extents_of (closed_at n m.cursors).retired) b ≤ times_in (extents_of m.cursors.retired) b
+      closed_times b = times_filtered (λ (a : ArrayDesc). is_array_named (without_cursor n m.cursors.opened) a.id) m.cursors.retired b
+
       still : (a : ArrayDesc) → Contains (arrays_there levels ++ (closed_at n m.cursors).retired) a → Contains (arrays_held m levels) a
       still a of =
           let left = (closed_at n m.cursors).retired in
@@ -134,7 +163,7 @@ cursors_redone (Clone version ∷ changes) m = cursors_redone changes (memory_af
 
 -- so a store stays consistent
 consistent_with : (r : Recovered) (m : Memory) (cached : Blocks) (c : HeldCursors) → IsConsistent (held_of r cached) → m ≡ record r.memory { cursors = c }
-    → AreKept (super_of r.sb) (chained_of r.published).manifest.next_array r.published.levels (record r.memory { cursors = c }) → IsConsistent (held_of (record r { memory = m }) cached)
+    → AreKept (super_of r.sb) (chained_of r.published) r.published.levels (record r.memory { cursors = c }) → IsConsistent (held_of (record r { memory = m }) cached)
 consistent_with r m cached c whole is kept =
     subst (λ (z : Memory). IsConsistent (held_of (record r { memory = z }) cached)) (sym is)
     (record {
@@ -163,7 +192,7 @@ pub consistent_after : (r : Recovered) (m : Memory) (request : Request) (answer 
 consistent_after r m request answer whole is cached = consistent_with r m cached (cursors_after r.memory r.published.levels request answer) (whole cached) is (by request answer)
   where
     Kept : HeldCursors → Type 0
-    Kept c = AreKept (super_of r.sb) (chained_of r.published).manifest.next_array r.published.levels (record r.memory { cursors = c })
+    Kept c = AreKept (super_of r.sb) (chained_of r.published) r.published.levels (record r.memory { cursors = c })
 
     kept : Kept r.memory.cursors
     kept = (whole cached).kept
@@ -173,14 +202,14 @@ consistent_after r m request answer whole is cached = consistent_with r m cached
     by_accept false c more = kept
 
     by_page : (n : ℕ) (told : Reply) (pairs : Pairs) → Kept (paged_at n told pairs r.memory.cursors)
-    by_page n (reply.Pairs more) pairs = kept_paged (super_of r.sb) (chained_of r.published).manifest.next_array r.published.levels r.memory kept n more pairs
+    by_page n (reply.Pairs more) pairs = kept_paged (super_of r.sb) (chained_of r.published) r.published.levels r.memory kept n more pairs
     by_page n _ pairs = kept
 
     by : (request : Request) (answer : Answer) → Kept (cursors_after r.memory r.published.levels request answer)
     by (OpenCursor v lo hi) answer =
         by_accept (accepts answer.reply) (with_cursor r.memory.cursors (cursor_from r.memory r.published.levels v lo hi))
-        (kept_more (super_of r.sb) (chained_of r.published).manifest.next_array r.published.levels r.memory kept v lo hi)
+        (kept_more (super_of r.sb) (chained_of r.published) r.published.levels r.memory kept v lo hi)
     by (NextPairs n limit) answer = by_page n answer.reply answer.pairs
     by (CloseCursor n) answer =
-        by_accept (accepts answer.reply) (closed_at n r.memory.cursors) (kept_closed (super_of r.sb) (chained_of r.published).manifest.next_array r.published.levels r.memory kept n)
+        by_accept (accepts answer.reply) (closed_at n r.memory.cursors) (kept_closed (super_of r.sb) (chained_of r.published) r.published.levels r.memory kept n)
     by _ answer = kept

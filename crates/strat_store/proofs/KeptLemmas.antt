@@ -1,12 +1,14 @@
 -- The arrays that a store holds after a publication: those of its levels, and those that are kept for cursors.
-use Rattle.std.proofs.Common.{◌≡◌, ◌≤◌, ◌<◌, ℕ, true, leb, inl, inr, ◌⊎◌, List, [], ◌++◌, append-nil, Contains, flat_map, Option, None, Some, refl, sym, ap, ◌∙◌, subst, arith}
+use Rattle.std.proofs.Common.{◌≡◌, ◌≤◌, ◌<◌, ◌+◌, ℕ, Bool, true, false, cond, leb, ltb, inl, inr, ◌⊎◌, List, [], ◌∷◌, ◌++◌, append-nil, Contains, flat_map, Option, None, Some, refl, sym, ap, ◌∙◌, subst, arith}
 use Rattle.std.specs.List.{list_all}
 use Rattle.std.specs.Option.{option_to_list}
-use Rattle.std.proofs.lemmas.Bool.{and_parts, leb-true, ltb-true, le-ltb}
+use Rattle.std.specs.Prelude.{if◌then◌else◌}
+use Rattle.std.proofs.lemmas.Bool.{and_parts, cases_Bool, leb-true, ltb-true, ltb-false, le-ltb}
 use Rattle.std.proofs.lemmas.List.{map-append}
 use Rattle.std.proofs.lemmas.List.Concat.{flat_map-append}
 use Rattle.strat_base.proofs.ListFacts.{Among, all_at, among_flat, among_in_flat, among_left, among_right, among_split, filter_among}
 use Rattle.strat_base.specs.declared.descriptors.ArrayDesc.{ArrayDesc}
+use Rattle.strat_base.specs.declared.descriptors.Extent.{Extent}
 use Rattle.strat_base.specs.declared.descriptors.LevelDesc.{LevelDesc}
 use Rattle.strat_crash.specs.Blocks.{AgreeOn, KeepsTaken}
 use Rattle.strat_crash.specs.Image.{Image}
@@ -14,6 +16,9 @@ use Rattle.strat_cursor.proofs.RetiredLemmas.{named_id, retired_from, retired_id
 use Rattle.strat_cursor.specs.Cursors.{are_named, arrays_named, is_array_named, retired_all}
 use Rattle.strat_cursor.specs.Held.{HeldCursor, HeldCursors}
 use Rattle.strat_cursor.specs.Looking.{arrays_there}
+use Rattle.strat_extent.proofs.BlockLemmas.{times_listed}
+use Rattle.strat_extent.proofs.CountLemmas.{times_append}
+use Rattle.strat_extent.specs.Blocks.{SpaceView, is_used, times_in, uses}
 use Rattle.strat_format.proofs.ManifestLemmas.{pass_at}
 use Rattle.strat_format.specs.Arrays.{blocks_of}
 use Rattle.strat_format.specs.Chained.{Chained}
@@ -27,20 +32,23 @@ use Rattle.strat_recovery.proofs.PassedLemmas.{array_tests, belonging_tests}
 use Rattle.strat_recovery.specs.Head.{descriptors}
 use Rattle.strat_recovery.specs.Opening.{belongs}
 use Rattle.strat_standing.proofs.ListLemmas.{contained_among, among_contained}
-use Rattle.strat_standing.specs.Contents.{named_blocks}
+use Rattle.strat_standing.proofs.OccupiedLemmas.{named_times}
+use Rattle.strat_standing.specs.Contents.{Contents, named_blocks}
 use Rattle.strat_standing.specs.Next.{arrays_made}
-use Rattle.strat_standing.specs.Occupied.{arrays_in}
+use Rattle.strat_standing.specs.Occupied.{IsSpaceOf, UsesMore, arrays_in, extents_of}
 use Rattle.strat_state.specs.Level.{is_distinct}
+use Rattle.strat_store.proofs.AdmitLemmas.{extents_lawful}
 use Rattle.strat_store.proofs.IdLemmas.{ids}
 use Rattle.strat_store.proofs.NextContentsLemmas.{numbers_rise, parted}
+use Rattle.strat_store.proofs.OwnLemmas.{below_end, counted_among}
 use Rattle.strat_store.proofs.RetiringLemmas.{distinct_parts}
-use Rattle.strat_store.proofs.SettlingLemmas.{listed_arrays, named_there}
+use Rattle.strat_store.proofs.SettlingLemmas.{extents_have, listed_arrays, named_there}
 use Rattle.strat_store.proofs.NeededLemmas.{needed_retired}
 use Rattle.strat_store.proofs.WholeLemmas.{array_lawful}
 use Rattle.strat_store.specs.Held.{Held, AreKept, ArePlaced, IsConsistent, arrays_held, contents_held}
 use Rattle.strat_store.specs.Memory.{renewed}
-use Rattle.strat_store.specs.Publishing.{descs_to, descs_behind, is_in_front}
-use Rattle.strat_store.specs.Settling.{ArePublishedTo, arrays_taken}
+use Rattle.strat_store.specs.Publishing.{descs_to, descs_behind, is_in_front, manifest_after}
+use Rattle.strat_store.specs.Settling.{ArePublishedTo, StandApart, arrays_taken}
 
 -- a block of an array that a manifest names is named
 pub array_named : (s : Held) (a : ArrayDesc) (b : ℕ) → Contains (descriptors s.chained.manifest) a → Contains (blocks_of a.extents) b → Contains (named_blocks (contents_held s [])) b
@@ -65,7 +73,7 @@ held_behind s whole b of =
     elim (among_split (arrays_there s.levels) retired one.0 one.1) [
       | inl there ↦
           named_behind s whole b (named_there s whole.placed b (among_contained (blocks_listed (arrays_there s.levels)) b (among_in_flat blocks (arrays_there s.levels) one.0 b there one.2)))
-      | inr kept ↦ whole.kept.behind one.0 b (among_contained retired one.0 kept) (among_contained (blocks_of one.0.extents) b one.2)
+      | inr kept ↦ (whole.kept.within b (extents_have retired one.0 b kept one.2)).0
     ]
 
 -- these blocks stay where those behind the journal do
@@ -97,8 +105,72 @@ left_held s target a placed of =
       | inr gone ↦ among_left (arrays_there s.levels) s.memory.cursors.retired a (taken_there s target a placed (contained_among taken a gone))
     ])
 
+-- the blocks of two lists of arrays
+times_both : (xs ys : List ArrayDesc) (b : ℕ) → times_in (extents_of (xs ++ ys)) b ≡ times_in (extents_of xs) b + times_in (extents_of ys) b
+times_both xs ys b = ap (λ (es : List Extent). times_in es b) (flat_map-append (λ (a : ArrayDesc). a.extents) xs ys) ∙ times_append (extents_of xs) (extents_of ys) b
+
+-- arrays that are kept are among those of before and those that were taken
+retired_times : (arrays : List ArrayDesc) (c : HeldCursors) (b : ℕ) → times_in (extents_of (retired_all arrays c).retired) b ≤ times_in (extents_of arrays) b + times_in (extents_of c.retired) b
+unfolding retired_all
+retired_times [] c b = omega arith
+retired_times (a ∷ arrays) c b = by (is_array_named (retired_all arrays c).opened a.id) (retired_times arrays c b)
+  where
+    by : (t : Bool) → times_in (extents_of (retired_all arrays c).retired) b ≤ times_in (extents_of arrays) b + times_in (extents_of c.retired) b
+        → times_in (extents_of (if t then record (retired_all arrays c) { retired = (retired_all arrays c).retired ++ a ∷ [] } else retired_all arrays c).retired) b
+        ≤ times_in (extents_of (a ∷ arrays)) b + times_in (extents_of c.retired) b
+    by true rest = omega (
+      arith,
+      rest,
+      times_both (retired_all arrays c).retired (a ∷ []) b,
+      times_both (a ∷ []) [] b,
+      times_append a.extents [] b,
+      times_append a.extents (extents_of arrays) b,
+    )
+    by false rest = omega (arith, rest, times_append a.extents (extents_of arrays) b)
+
+-- after a publication no block stands twice among those of the next manifest, of the arrays that were taken, and of those kept
+pub stand_apart : (s : Held) (space after : SpaceView) (target : ℕ) (made : Option LevelDesc) (chain : List Extent) (m : Manifest) → IsConsistent s
+    → IsSpaceOf space (contents_held s []) (extents_of s.memory.cursors.retired) → UsesMore space (chain ++ extents_of (arrays_made made)) after
+    → m ≡ manifest_after s.chained.manifest s.memory target made → StandApart target s (record { manifest = m; blocks = blocks_of chain })
+stand_apart s space after target made chain m whole own more m_is =
+    let old : Manifest = s.chained.manifest in
+    let x : Contents = contents_held s [] in
+    let y : Contents = record x { chained = record { manifest = m; blocks = blocks_of chain } } in
+    let taken : List ArrayDesc = arrays_taken target old in
+    let behind : List ArrayDesc = arrays_in (descs_behind target old.levels) in
+    let were : descriptors old ≡ taken ++ behind =
+    ap arrays_in (parted (λ (d : LevelDesc). d.number) target old.levels (numbers_rise old whole.spelled))
+    ∙ flat_map-append (λ (l : LevelDesc). l.arrays) (descs_to target old.levels) (descs_behind target old.levels) in
+    let are : descriptors m ≡ arrays_made made ++ behind =
+    ap (λ (k : Manifest). arrays_in k.levels) m_is
+    ∙ flat_map-append (λ (l : LevelDesc). l.arrays) (option_to_list made) (descs_behind target old.levels)
+    ∙ ap (λ (xs : List ArrayDesc). xs ++ behind) (arrays_of_made made) in
+    record {
+      once = λ b. omega (
+        arith,
+        used_once after b,
+        more.used b,
+        own.used b,
+        named_times x b,
+        named_times y b,
+        ap (λ (xs : List ArrayDesc). times_in (extents_of xs) b) were,
+        ap (λ (xs : List ArrayDesc). times_in (extents_of xs) b) are,
+        times_both taken behind b,
+        times_both (arrays_made made) behind b,
+        times_listed chain b,
+        times_append chain (extents_of (arrays_made made)) b,
+      );
+    }
+  where
+    used_once : (t : SpaceView) (b : ℕ) → uses t b ≤ 1
+    used_once t b = by (is_used t b)
+      where
+        by : (u : Bool) → cond {A = ℕ} u 1 0 ≤ 1
+        by true = omega arith
+        by false = omega arith
+
 module _ (s : Held) (target : ℕ) (sb : Super) (chained : Chained) (levels : List (Option LevelDesc)) (whole : IsConsistent s) (are : ArePublishedTo target s.sb s.chained.manifest s.memory sb chained.manifest)
-    (mem_is : sb.mem ≡ s.sb.mem) (spelled : is_lawful_manifest chained.manifest ≡ true) (belonging : belongs sb chained ≡ true) (placed : ArePlaced chained.manifest.levels levels) where
+    (mem_is : sb.mem ≡ s.sb.mem) (spelled : is_lawful_manifest chained.manifest ≡ true) (belonging : belongs sb chained ≡ true) (placed : ArePlaced chained.manifest.levels levels) (apart : StandApart target s chained) where
   abbrev old : Manifest
   old = s.chained.manifest
 
@@ -207,12 +279,25 @@ module _ (s : Held) (target : ℕ) (sb : Super) (chained : Chained) (levels : Li
       let lawful = (array_lawful (versions_in next) next.next_array next.levels (pass_at (manifest_tests next) 8 spelled) (pass_at (belonging_tests sb chained) 2 belonging) a there).0 in
       ltb-true a.id next.next_array (pass_at (array_tests next.next_array a) 1 lawful)
 
-  taken_named : (a : ArrayDesc) (b : ℕ) → Among a taken → Contains (blocks_of a.extents) b → first_free s.sb.mem ≤ b
-  taken_named a b among here =
-      let there : Among a (descriptors old) = subst (λ (xs : List ArrayDesc). Among a xs) (sym were ∙ listed_arrays s whole.placed) (among_left taken behind a among) in
-      named_behind s whole b (array_named s a b (among_contained (descriptors old) a there) here)
+  -- where the blocks of the arrays that were taken lie
+  taken_within : (b : ℕ) → 0 < times_in (extents_of taken) b → (first_free s.sb.mem ≤ b) × (b < 4294967295)
+  taken_within b some =
+      let y : Contents = contents_held s [] in
+      let all : descriptors old ≡ taken ++ behind = sym (listed_arrays s whole.placed) ∙ were in
+      let more : 0 < times_in (extents_of (descriptors old)) b = omega (
+        arith,
+        some,
+        ap (λ (xs : List ArrayDesc). times_in (extents_of xs) b) all,
+        times_both taken behind b,
+      ) in (
+        named_behind s whole b (among_contained (named_blocks y) b (counted_among (named_blocks y) b (omega (arith, more, named_times y b)))),
+        below_end (extents_of (descriptors old)) b (extents_lawful old whole.spelled) more,
+      )
 
-  pub kept_next : AreKept sb next.next_array levels (renewed s.sb.mem taken s.memory)
+  left_times : (b : ℕ) → times_in (extents_of left) b ≤ times_in (extents_of taken) b + times_in (extents_of c.retired) b
+  left_times b = retired_times taken c b
+
+  pub kept_next : AreKept sb chained levels (renewed s.sb.mem taken s.memory)
   kept_next = record {
     named = λ a of.
         let opened : (retired_all taken c).opened ≡ c.opened = (retired_rest c taken).0 in
@@ -237,8 +322,9 @@ module _ (s : Held) (target : ℕ) (sb : Super) (chained : Chained) (levels : Li
       | inl there ↦ next_low a there
       | inr kept ↦ let under = low a (left_were a kept) in let more = later in omega (arith, under, more)
     ];
-    behind = λ a b of here. subst (λ (n : ℕ). first_free n ≤ b) (sym mem_is) (elim (retired_from c taken a of) [
-      | inl before ↦ whole.kept.behind a b before here
-      | inr gone ↦ taken_named a b (contained_among taken a gone) here
+    within = λ b some. subst (λ (n : ℕ). (first_free n ≤ b) × (b < 4294967295)) (sym mem_is) (elim (cases_Bool (ltb 0 (times_in (extents_of taken) b))) [
+      | inl gone ↦ taken_within b (ltb-true 0 (times_in (extents_of taken) b) gone)
+      | inr no' ↦ whole.kept.within b (let none = ltb-false 0 (times_in (extents_of taken) b) no' in omega (arith, some, left_times b, none))
     ]);
+    once = λ b. omega (arith, apart.once b, left_times b);
   }

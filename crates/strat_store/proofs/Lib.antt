@@ -35,6 +35,7 @@ pub mod RecoverLemmas
 pub mod OpenLemmas
 pub mod ThreeTests
 pub mod ApplyLemmas
+pub mod ObstacleLemmas
 pub mod SettlingLemmas
 pub mod RetiringLemmas
 pub mod KeptLemmas

@@ -23,9 +23,10 @@ use Rattle.strat_standing.proofs.PromotedLemmas.{none_later, promoted_whole, sea
 use Rattle.strat_standing.proofs.OccupiedLemmas.{array_blocks_used, taken_beside, free_beside}
 use Rattle.strat_standing.specs.Appending.{IsLogOf}
 use Rattle.strat_standing.specs.Contents.{Contents, contents_head, contents_state}
-use Rattle.strat_standing.specs.Next.{IsNextOf, IsPromotion, arrays_made, state_after}
+use Rattle.strat_promote.specs.Replacing.{LeavesTheSame}
+use Rattle.strat_standing.specs.Next.{AreNewArrays, IsNextOf, IsPromotion, MayBeNext, arrays_made, state_after}
 use Rattle.strat_standing.specs.Occupied.{IsSpaceOf, extents_of}
-use Rattle.strat_standing.specs.Standing.{ContentsStand}
+use Rattle.strat_standing.specs.Standing.{ContentsStand, ReadsAs}
 use Rattle.strat_state.specs.Level.{Level}
 use Rattle.strat_state.specs.Sound.{IsSound}
 use Rattle.strat_state.specs.State.{changes_of, updates_of, versions_of}
@@ -123,6 +124,31 @@ after_next old m target made levels first size blocks of few rising = record {
   levels_are = refl;
 }
 
+-- contents with a level that was made may be the next ones, in an image that has it
+module _ (c : Image) (old new : Contents) (target : ℕ) (made : Option LevelDesc) (reads : ReadsAs c old) (sound : IsSound (contents_state old)) (full : length old.journal ≡ old.sb.mem)
+    (left : LeavesTheSame c made (contents_state old) (λ fresh written next. promoted (contents_state old) (fresh ++ levels_behind target old.levels) written next))
+    (numbered : AreNewArrays old.chained.manifest.next_array (arrays_made made)) (levels : new.levels ≡ left.fresh ++ levels_behind target old.levels)
+    (next : IsNextOf old new made (descs_to target old.chained.manifest.levels) (descs_behind target old.chained.manifest.levels))
+    (rising : is_rising (map (λ (d : LevelDesc). d.number) old.chained.manifest.levels) ≡ true) where
+  promotion_here : IsPromotion c old new made (descs_to target old.chained.manifest.levels)
+  promotion_here =
+      let same : promoted (contents_state old) (left.fresh ++ levels_behind target old.levels) new.chained.manifest.written new.chained.manifest.next_array ≡ state_after old new =
+      ap (λ (ls : List Level). promoted (contents_state old) ls new.chained.manifest.written new.chained.manifest.next_array) (sym levels)
+      ∙ sym (promoted_whole old new (omega (arith, full))) in
+      record {
+        fresh = left.fresh;
+        lies = reads.lies;
+        read = left.read;
+        levels = levels ∙ ap (λ (ls : List Level). left.fresh ++ ls) (behind_dropped c old.chained.manifest.levels old.levels target reads.lies.arrays rising);
+        sound = subst IsSound same (left.sound new.chained.manifest.written new.chained.manifest.next_array);
+        says = subst (SaysTheSame (contents_state old)) same (left.says new.chained.manifest.written new.chained.manifest.next_array);
+      }
+
+  pub next_here : MayBeNext c c old new made (descs_to target old.chained.manifest.levels) (descs_behind target old.chained.manifest.levels) × SaysTheSame (contents_state old) (contents_state new)
+  next_here =
+      promotion_next c c old new made (descs_to target old.chained.manifest.levels) (descs_behind target old.chained.manifest.levels)
+      reads (omega (arith, full)) sound next numbered promotion_here
+
 -- what was written beside contents is computed
 module _ (v w u : DiskView) (s t r : SpaceView) (old new : Contents) (target : ℕ) (made : Option LevelDesc) (besides others : List Extent) (b : IsWrittenBeside v w u s t r old new target made besides others)
     (rising : is_rising (map (λ (d : LevelDesc). d.number) old.chained.manifest.levels) ≡ true) (log : Log) (is_log : IsLogOf old log) where
@@ -141,25 +167,11 @@ module _ (v w u : DiskView) (s t r : SpaceView) (old new : Contents) (target : �
       b.writing.content b.content at_end.content b.exposed at_end.exposed c (array_blocks_used s t made c b.taken among))
       ∙ b.promoted.says.read
 
-  promotion : IsPromotion at_end.content old new made (descs_to target old.chained.manifest.levels)
-  promotion =
-      let lies = (at_end.reads at_end.content at_end.left).lies in
-      let same : promoted (contents_state old) (b.promoted.says.fresh ++ levels_behind target old.levels) new.chained.manifest.written new.chained.manifest.next_array ≡ state_after old new =
-      ap (λ (ls : List Level). promoted (contents_state old) ls new.chained.manifest.written new.chained.manifest.next_array) (sym b.levels)
-      ∙ sym (promoted_whole old new (omega (arith, b.full))) in
-      record {
-        fresh = b.promoted.says.fresh;
-        lies = lies;
-        read = made_read;
-        levels = b.levels ∙ ap (λ (ls : List Level). b.promoted.says.fresh ++ ls) (behind_dropped at_end.content old.chained.manifest.levels old.levels target lies.arrays rising);
-        sound = subst IsSound same (b.promoted.says.sound new.chained.manifest.written new.chained.manifest.next_array);
-        says = subst (SaysTheSame (contents_state old)) same (b.promoted.says.says new.chained.manifest.written new.chained.manifest.next_array);
-      }
-
   pub computed : IsComputed u new.slot new.sb log old new
   computed =
-      let may = promotion_next at_end.content at_end.content old new made (descs_to target old.chained.manifest.levels) (descs_behind target old.chained.manifest.levels)
-      (at_end.reads at_end.content at_end.left) (omega (arith, b.full)) at_end.sound b.next b.promoted.fresh promotion in
+      let left : LeavesTheSame at_end.content made (contents_state old) (λ fresh written next. promoted (contents_state old) (fresh ++ levels_behind target old.levels) written next) =
+      record { fresh = b.promoted.says.fresh; read = made_read; says = b.promoted.says.says; sound = b.promoted.says.sound } in
+      let may = next_here at_end.content old new target made (at_end.reads at_end.content at_end.left) at_end.sound b.full left b.promoted.fresh b.levels b.next rising in
       record {
         stands = at_end;
         log_is = is_log;

@@ -161,7 +161,7 @@ just_used s x is = record {
 }
 
 -- the blocks of lawful extents have numbers
-below_end : (xs : List Extent) (b : ℕ) → list_all is_lawful_extent xs ≡ true → 0 < times_in xs b → b < 4294967295
+pub below_end : (xs : List Extent) (b : ℕ) → list_all is_lawful_extent xs ≡ true → 0 < times_in xs b → b < 4294967295
 below_end [] b lawful some = absurd (omega (arith, some))
 below_end (x ∷ xs) b lawful some =
     let parts = and_parts (is_lawful_extent x) (list_all is_lawful_extent xs) lawful in

@@ -25,10 +25,10 @@ use Rattle.strat_format.specs.Arrays.{blocks_of}
 use Rattle.strat_level.specs.Levels.{level_numbered, leads_if_any}
 use Rattle.strat_level.specs.Memtable.{ItemList, ListStands, entries_held}
 use Rattle.strat_promote.proofs.ReplacingLemmas.{made_arrays, made_promotes}
-use Rattle.strat_promote.proofs.StateInputsLemmas.{begun_nothing, begun_takes, begun_job, begun_its_job, begun_leaves, begun_paid}
+use Rattle.strat_promote.proofs.StateInputsLemmas.{begun_takes, begun_job, begun_its_job, begun_leaves, begun_paid}
 use Rattle.strat_promote.specs.Job.{Job, IsBadInput, arrays_to, blocks_listed}
 use Rattle.strat_promote.specs.Owned.{OwnsItsBlocks, extents_made}
-use Rattle.strat_promote.specs.Promotions.{IsBegun, IsFed, IsItsJob, HasBegun, ReadsFrom, ReadsOf, ReadsItsBlocks, SamePromotion, inputs_given, target_of, extents_taken, blocks_to_read, writers_of}
+use Rattle.strat_promote.specs.Promotions.{IsBegun, IsFed, IsItsJob, ReadsFrom, ReadsOf, ReadsItsBlocks, SamePromotion, inputs_given, target_of, extents_taken, blocks_to_read, writers_of}
 use Rattle.strat_promote.specs.Closing.{all_extents}
 use Rattle.strat_promote.specs.Spaces.{TakesMore}
 use Rattle.strat_promote.specs.Stages.{IsMade, IsPlanMade, IsReadFrom, IsReadOf, stage_writers, blocks_due}

@@ -69,7 +69,7 @@ chain_low c before b (suc n) blocks low e = by_test (may_follow (b ∷ before) (
         (and_from (ltb b 4294967295) (list_all (λ x. ltb x 4294967295) parts.0) (lt-ltb b 4294967295 low)
         (later parts.0 (ltb-true (link_at c b) 4294967295 less.1) parts.1))
 
-manifest_low : (c : Image) (first n : ℕ) (y : Chained) → first < 4294967295 → manifest_at c first n ≡ Ok y → list_all (λ x. ltb x 4294967295) y.blocks ≡ true
+pub manifest_low : (c : Image) (first n : ℕ) (y : Chained) → first < 4294967295 → manifest_at c first n ≡ Ok y → list_all (λ x. ltb x 4294967295) y.blocks ≡ true
 manifest_low c first n y low e =
     let chain = and_then_ok (chain_from c [] first (chain_length n - 1)) (manifest_in_chain c first n) y e in
     let made = map_some (λ m. record { manifest = m; blocks = chain.0 }) (manifest_filled n (chained_bytes c chain.0)) y (found_ok first (option_map (λ m. record { manifest = m; blocks = chain.0 }) (manifest_filled n (chained_bytes c chain.0))) y chain.2) in

@@ -1,6 +1,5 @@
 -- A change that meets a full journal, which a publication empties first.
-use Rattle.std.proofs.Common.{◌≡◌, ◌+◌, ℕ, Bool, true, false, inl, inr, ltb, eqb, not, if◌then◌else◌, [], ◌∷◌, length, Some, None, refl, sym, ap, ◌∙◌, subst, arith}
-use Rattle.std.proofs.lemmas.Bool.{le-ltb}
+use Rattle.std.proofs.Common.{◌≡◌, ◌≤◌, ◌+◌, ℕ, Bool, true, false, inl, inr, eqb, not, if◌then◌else◌, [], ◌∷◌, length, Some, None, refl, sym, ap, ◌∙◌, subst, true≢false, arith}
 use Rattle.strat_array.specs.Kept.{Blocks}
 use Rattle.strat_base.specs.Change.{Change}
 use Rattle.strat_base.specs.Change as change
@@ -12,7 +11,8 @@ use Rattle.strat_crash.specs.Trail.{Trail}
 use Rattle.strat_crash.proofs.MomentLemmas.{since_now}
 use Rattle.strat_crash.proofs.TrailLemmas.{trail_of_one, trail_join, trail_more}
 use Rattle.strat_model.specs.Answer.{plain, accepts}
-use Rattle.strat_model.specs.Run.{position_after, fill_after, is_change}
+use Rattle.strat_model.specs.Run.{MayFill, is_carried_out}
+use Rattle.strat_model.proofs.FillLemmas.{carried, empties_none, filled_full, first_fill, refused_not, stays}
 use Rattle.strat_model.specs.Step.{Outcome, step}
 use Rattle.strat_model.specs.Table.{Table}
 use Rattle.strat_model.specs.declared.replies.Refusal.{Refusal}
@@ -56,17 +56,17 @@ module _ (r : Recovered) (cached : Blocks) (kept : IsConsistent (held_of r cache
     (c : Change) (q : Refusal) (refused : refusal_of_change r.memory c ≡ Some q) where
   pub refused_well : IsAppliedTo v (held_of r cached) x (request_for c) (plain (reply.Refused q)) (held_after r cached (reply.Refused q))
   refused_well =
-      let fill : ℕ = length r.journal.list in
       let same = change_refused stands.stands.content (head_held (held_of r cached)) (contents_state x) r.memory (state_held r cached kept v x stands) kept.memory c q refused in
+      let at = position_with (held_of r cached) x in
+      let after = position_with (held_after r cached (reply.Refused q)) x in
+      let off : is_carried_out at (request_for c) ≡ false = refused_not at (request_for c) (ap (λ (o : Outcome). accepts o.answer.reply) same) in
       inl (record {
         told = sym (ap (λ (o : Outcome). o.answer) same);
         going = refused_calm r.memory c q refused;
         after = x;
         stands = record { stands = stands.stands; held = stands.held; cached = stands.cached };
-        place = λ i. record {
-          table = (sym same i).table;
-          fill = if accepts (sym same i).answer.reply then (if is_change (request_for c) then fill_after r.journal.mem fill else fill) else fill;
-        };
+        place = stays r.journal.mem at after (request_for c) off (λ i. (sym same i).table) refl;
+        fill = empties_none r.journal.mem at after (request_for c) off;
       })
 
   pub refused_trail : FollowsStep v v x (request_for c) (plain (reply.Refused q))
@@ -85,23 +85,6 @@ pub short_of : (t : Trouble) (told : Refusal) → told ≡ refusal_of_trouble t 
 short_of trouble.NoMemory told is short = refl
 short_of trouble.Device told is short = absurd (let e : reply.Refused why.DeviceFault ≡ reply.Refused why.NoMemory = sym (ap reply.Refused is) ∙ short in cc)
 short_of (trouble.Damaged b) told is short = absurd (let e : reply.Refused (why.Damaged b) ≡ reply.Refused why.NoMemory = sym (ap reply.Refused is) ∙ short in cc)
-
--- a journal that has room for none begins anew, and so does an empty one
-begun : (mem n : ℕ) → n ≡ 0 → fill_after mem n ≡ 1
-begun mem n none = ap (fill_after mem) none ∙ by_test (ltb 0 mem)
-  where
-    by_test : (b : Bool) → (if b then 0 + 1 else 1) ≡ 1
-    by_test true = refl
-    by_test false = refl
-
-begun_anew : (mem n : ℕ) → n ≡ mem → fill_after mem n ≡ 1
-begun_anew mem n full = ap (λ (b : Bool). if b then n + 1 else 1) (le-ltb n mem (omega (arith, full)))
-
--- how full the journal is after a change that is accepted
-filled_by : (mem fill : ℕ) (c : Change) (b : Bool) → b ≡ true → (if b then (if is_change (request_for c) then fill_after mem fill else fill) else fill) ≡ fill_after mem fill
-filled_by mem fill c b taken =
-    ap (λ (t : Bool). if t then (if is_change (request_for c) then fill_after mem fill else fill) else fill) taken
-    ∙ ap (λ (t : Bool). if t then fill_after mem fill else fill) (changes_it c)
 
 module _ (r : Recovered) (cached : Blocks) (kept : IsConsistent (held_of r cached)) (v : DiskView) (x : Contents) (stands : StandsWith v (held_of r cached) x)
     (c : Change) (free : refusal_of_change r.memory c ≡ None) (full : length r.journal.list ≡ r.sb.mem) where
@@ -135,16 +118,21 @@ module _ (r : Recovered) (cached : Blocks) (kept : IsConsistent (held_of r cache
 
   -- or other contents that mean the same table stand, and the journal is empty
   module _ (mid : Recovered) (u : DiskView) (held : IsConsistent (held_of mid cached)) (empty : mid.journal.list ≡ []) (p : IsPublishedAs u x (held_of mid cached)) where
-    same_place : position_after mid.journal.mem (position_with (held_of mid cached) p.after) (request_for c) ≡ position_after r.journal.mem (position_with (held_of r cached) x) (request_for c)
-    same_place =
-        let there : accepts (step (table_of (contents_state p.after)) (request_for c)).answer.reply ≡ true =
-        ap (λ (t : Table). accepts (step t (request_for c)).answer.reply) p.table ∙ accepted in
-        let none : length mid.journal.list ≡ 0 = ap length empty in
-        let all : length r.journal.list ≡ r.journal.mem = full ∙ sym kept.log.mem in
-        let fills =
-        filled_by mid.journal.mem (length mid.journal.list) c _ there ∙ begun mid.journal.mem (length mid.journal.list) none
-        ∙ sym (filled_by r.journal.mem (length r.journal.list) c _ accepted ∙ begun_anew r.journal.mem (length r.journal.list) all) in
-        λ i. record { table = (step (p.table i) (request_for c)).table; fill = fills i }
+    -- it is accepted there too, and so carried out
+    there : is_carried_out (position_with (held_of mid cached) p.after) (request_for c) ≡ true
+    there = carried (position_with (held_of mid cached) p.after) (request_for c) (changes_it c) (ap (λ (t : Table). accepts (step t (request_for c)).answer.reply) p.table ∙ accepted)
+
+    here : is_carried_out (position_with (held_of r cached) x) (request_for c) ≡ true
+    here = carried (position_with (held_of r cached) x) (request_for c) (changes_it c) accepted
+
+    whole : r.journal.mem ≤ length r.journal.list
+    whole = omega (arith, full, kept.log.mem)
+
+    -- and is the one change of the journal then
+    alone : (n : ℕ) → MayFill mid.journal.mem (length mid.journal.list) n → n ≡ 1
+    alone n may =
+        first_fill mid.journal.mem n (omega (arith, held.log.mem, held.lawful.mem_least))
+        (subst (λ (k : ℕ). MayFill mid.journal.mem k n) (ap length empty) may)
 
     -- the change is carried out on these
     pub renewed : (new : Recovered) (w : DiskView) (told : Reply) → IsAppliedTo w (held_of mid cached) p.after (request_for c) (plain told) (held_after new cached told)
@@ -154,7 +142,15 @@ module _ (r : Recovered) (cached : Blocks) (kept : IsConsistent (held_of r cache
       going = a.going;
       after = a.after;
       stands = a.stands;
-      place = a.place ∙ same_place;
+      place = record {
+        table = a.place.table ∙ ap (λ (t : Table). (step t (request_for c)).table) p.table;
+        fill = λ done.
+            let one : length new.journal.list ≡ 1 = alone (length new.journal.list) (a.place.fill there) in
+            let sum : length new.journal.list + r.journal.mem ≡ length r.journal.list + 1 = omega (arith, one, full, kept.log.mem) in
+            inr (whole, sum);
+        same = λ off. absurd (true≢false (sym here ∙ off));
+      };
+      fill = λ done. alone (length new.journal.list) (a.place.fill there) ∙ sym (filled_full r.journal.mem (length r.journal.list) whole);
     })
     renewed new w told (inr (inl short)) = absurd (omega (arith, short.full, held.log.mem, held.lawful.mem_least, ap length empty))
     renewed new w told (inr (inr broken)) = inr (inr (record { reached = broken.reached; acceptable = accepted; told = broken.told; spent = broken.spent }))

@@ -1,9 +1,8 @@
 -- A publication of a store: what stands before it, between its calls and after it.
-use Rattle.std.proofs.Common.{◌≡◌, ◌≤◌, ◌+◌, ◌-◌, ◌*◌, ℕ, Bool, true, false, eqb, ◌&&◌, ◌||◌, inl, inr, ◌⊎◌, List, [], ◌∷◌, ◌++◌, length, length-append, Contains, flat_map, fold, map, Option, None, Some, refl, sym, ap, ◌∙◌, subst, arith, true≢false}
-use Rattle.std.specs.List.{list_all, sum_by}
+use Rattle.std.proofs.Common.{◌≡◌, ◌≤◌, ◌+◌, ◌-◌, ◌*◌, ℕ, Bool, true, false, eqb, ◌&&◌, ◌||◌, inl, inr, ◌⊎◌, List, [], ◌∷◌, ◌++◌, length, Contains, flat_map, fold, map, Option, None, Some, refl, sym, ap, ◌∙◌, subst, arith, true≢false}
+use Rattle.std.specs.List.{list_all}
 use Rattle.std.specs.Option.{option_to_list}
 use Rattle.std.proofs.lemmas.Bool.{and_parts, eqb-true, le-ltb}
-use Rattle.std.proofs.lemmas.List.Sums.{sum_by-cons, sum_by-append}
 use Rattle.std.proofs.lemmas.Option.{slice_get_within, get_or_from_slice_get}
 use Rattle.strat_array.specs.Kept.{Blocks}
 use Rattle.strat_base.proofs.ListFacts.{Among, all_at, among_flat, among_in_flat, among_split, among_right, range_among}
@@ -27,9 +26,8 @@ use Rattle.strat_format.specs.Manifest.{Manifest, is_lawful_manifest}
 use Rattle.strat_format.specs.SuperBlock.{Super}
 use Rattle.strat_plan.proofs.ListLemmas.{among_map}
 use Rattle.strat_promote.proofs.LeadLemmas.{read_whole}
-use Rattle.strat_promote.specs.Job.{IsBadInput, arrays_to, blocks_listed}
-use Rattle.strat_promote.specs.Leads.{leads_in, misfit_in}
-use Rattle.strat_plan.specs.Groups.{grouped_entries}
+use Rattle.strat_promote.specs.Job.{IsBadInput, blocks_listed}
+use Rattle.strat_promote.specs.Leads.{misfit_in}
 use Rattle.strat_recovery.proofs.OpeningLemmas.{map_some}
 use Rattle.strat_recovery.specs.Head.{Head, head_versions, head_updates, parent_numbers, descriptors}
 use Rattle.strat_recovery.specs.Opened.{array_on, level_on}
@@ -47,11 +45,9 @@ use Rattle.strat_state.specs.Sound.{IsSound, is_described, has_ascending_entries
 use Rattle.strat_state.specs.State.{State, versions_of, tree_after}
 use Rattle.strat_store.proofs.LookLawLemmas.{made_of}
 use Rattle.strat_store.proofs.MemoryLawLemmas.{memory_emptied}
-use Rattle.strat_store.proofs.PromotingLemmas.{to_front, array_there}
 use Rattle.strat_store.proofs.KeptLemmas.{array_named, held_behind, kept_next, named_behind}
 use Rattle.strat_store.proofs.RetiringLemmas.{retired_room}
 use Rattle.strat_store.proofs.SettlingLemmas.{listed_arrays, named_there}
-use Rattle.strat_store.proofs.WholeLemmas.{leads_summed, whole_promotes}
 use Rattle.strat_store.specs.Applying.{IsDamagedIn, IsPublishedAs}
 use Rattle.strat_store.specs.Held.{Held, AreKept, ArePlaced, IsConsistent, StandsWith, arrays_held, contents_held, head_held}
 use Rattle.strat_cursor.specs.Cursors.{retired_all}
@@ -59,7 +55,7 @@ use Rattle.strat_cursor.specs.Held.{HeldCursors}
 use Rattle.strat_cursor.specs.Looking.{AreCachedFrom, arrays_there}
 use Rattle.strat_store.specs.Memory.{Memory, IsMemoryOf, emptied, prepared, renewed}
 use Rattle.strat_store.specs.Publishing.{is_in_front, manifest_after}
-use Rattle.strat_store.specs.Settling.{held_next, contents_next, MayFollow, WritesBeside, IsReadied, ArePublishedAfter, ArePublishedTo, arrays_taken}
+use Rattle.strat_store.specs.Settling.{held_next, contents_next, MayFollow, StandApart, WritesBeside, IsReadied, ArePublishedAfter, ArePublishedTo, arrays_taken}
 
 -- memory that is prepared for a publication, or is not
 pub consistent_ready : (s : Held) (o : Option ℕ) (n : ℕ) (m : Memory) → m ≡ prepared s.memory o n → IsConsistent s → IsConsistent (record s { memory = m })
@@ -73,12 +69,13 @@ consistent_ready s o n m is whole =
       entries = whole.memory.entries;
       room = whole.memory.room;
     } in
-    let kept : AreKept s.sb s.chained.manifest.next_array s.levels (prepared s.memory o n) = record {
+    let kept : AreKept s.sb s.chained s.levels (prepared s.memory o n) = record {
       named = whole.kept.named;
       needed = whole.kept.needed;
       ids = whole.kept.ids;
       below = whole.kept.below;
-      behind = whole.kept.behind;
+      within = whole.kept.within;
+      once = whole.kept.once;
     } in
     record {
       slot = whole.slot;
@@ -89,7 +86,7 @@ consistent_ready s o n m is whole =
       accepted = whole.accepted;
       memory = subst (λ (k : Memory). IsMemoryOf (head_held s) k) (sym is) of;
       placed = whole.placed;
-      kept = subst (λ (k : Memory). AreKept s.sb s.chained.manifest.next_array s.levels k) (sym is) kept;
+      kept = subst (λ (k : Memory). AreKept s.sb s.chained s.levels k) (sym is) kept;
     }
 
 pub stands_ready : (v : DiskView) (s : Held) (x : Contents) (m : Memory) → StandsWith v s x → StandsWith v (record s { memory = m }) x
@@ -315,8 +312,8 @@ versions_back h =
 -- what a store holds after a publication is consistent
 pub consistent_next : (s : Held) (target : ℕ) (sb : Super) (chained : Chained) (levels : List (Option LevelDesc)) → IsConsistent s → MayFollow s sb chained
     → ArePublishedTo target s.sb s.chained.manifest s.memory sb chained.manifest → is_lawful_manifest chained.manifest ≡ true → belongs sb chained ≡ true
-    → ArePlaced chained.manifest.levels levels → IsConsistent (held_next s target sb chained levels)
-consistent_next s target sb chained levels whole follows are spelled belonging placed =
+    → ArePlaced chained.manifest.levels levels → StandApart target s chained → IsConsistent (held_next s target sb chained levels)
+consistent_next s target sb chained levels whole follows are spelled belonging placed apart =
     let h : Head = head_held s in
     let new : Head = record { sb = sb; manifest = chained.manifest; journal = [] } in
     let versions : head_versions new ≡ head_versions h =
@@ -349,7 +346,7 @@ consistent_next s target sb chained levels whole follows are spelled belonging p
           } in
           subst (λ (n : ℕ). IsMemoryOf new (renewed n (arrays_taken target s.chained.manifest) s.memory)) follows.mem all;
       placed = placed;
-      kept = kept_next s target sb chained levels whole are follows.mem spelled belonging placed;
+      kept = kept_next s target sb chained levels whole are follows.mem spelled belonging placed apart;
     }
 
 -- the arrays of a sound state are read whole, in order, and have as many leads as their descriptors say

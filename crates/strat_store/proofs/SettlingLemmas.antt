@@ -1,10 +1,10 @@
 -- A publication of a store: what is written beside it, and what then takes its place.
-use Rattle.std.proofs.Common.{◌≡◌, ◌≤◌, ◌<◌, ◌-◌, ◌&&◌, ℕ, Bool, true, false, not, cond, leb, ltb, inl, inr, List, [], ◌∷◌, ◌++◌, append-nil, length, Contains, flat_map, Option, refl, sym, ap, ◌∙◌, subst, arith}
-use Rattle.std.specs.List.{list_all}
-use Rattle.std.proofs.lemmas.Bool.{and_parts, leb-true, not-true, false_from_ne_true}
+use Rattle.std.proofs.Common.{◌≡◌, ◌≤◌, ◌<◌, ◌-◌, ◌^◌, ◌&&◌, ℕ, Bool, true, false, not, cond, leb, ltb, inl, inr, List, [], ◌∷◌, ◌++◌, append-nil, length, Contains, flat_map, Option, Ok, refl, sym, ap, ◌∙◌, subst, arith, true≢false}
+use Rattle.std.specs.List.{list_all, range_with_len}
+use Rattle.std.proofs.lemmas.Bool.{and_parts, leb-true, le-leb, lt-ltb, not-true, false_from_ne_true}
 use Rattle.std.proofs.lemmas.List.Elements.{Contains-append_right}
 use Rattle.strat_array.specs.Taking.{AreUsed}
-use Rattle.strat_base.proofs.ListFacts.{Among, all_at, among_flat, among_in_flat, among_left}
+use Rattle.strat_base.proofs.ListFacts.{Among, all_at, all_from, each_of, among_flat, among_in_flat, among_left, range_among}
 use Rattle.strat_base.specs.declared.descriptors.ArrayDesc.{ArrayDesc}
 use Rattle.strat_base.specs.declared.descriptors.Extent.{Extent}
 use Rattle.strat_base.specs.declared.descriptors.LevelDesc.{LevelDesc}
@@ -13,30 +13,38 @@ use Rattle.strat_crash.specs.Blocks.{TearsBlocks}
 use Rattle.strat_crash.specs.Image.{Image}
 use Rattle.strat_crash.specs.Moments.{DiskView, Exposes}
 use Rattle.strat_extent.proofs.BlockLemmas.{times_listed}
+use Rattle.strat_extent.proofs.ChangeLemmas.{is_free_of, uses_unused}
 use Rattle.strat_extent.proofs.CountLemmas.{times_append}
 use Rattle.strat_extent.specs.Blocks.{SpaceView, is_free, is_used, times_in, uses}
+use Rattle.strat_extent.specs.Change.{CanMark}
 use Rattle.strat_format.specs.Arrays.{blocks_of}
-use Rattle.strat_format.specs.Chained.{Chained}
-use Rattle.strat_format.specs.Manifest.{Manifest}
+use Rattle.strat_format.specs.Chained.{Chained, manifest_at}
+use Rattle.strat_format.specs.Manifest.{Manifest, is_lawful_extent}
+use Rattle.strat_format.proofs.ManifestLemmas.{pass_at}
 use Rattle.strat_format.specs.SuperBlock.{Super}
 use Rattle.strat_journal.specs.Log.{Log}
 use Rattle.strat_promote.specs.Job.{IsBadInput, blocks_listed}
 use Rattle.strat_recovery.specs.Head.{descriptors}
+use Rattle.strat_recovery.specs.Opening.{has_own_blocks}
+use Rattle.strat_plan.proofs.ListLemmas.{among_map}
 use Rattle.strat_standing.proofs.ListLemmas.{contained_among, among_contained}
-use Rattle.strat_standing.proofs.OccupiedLemmas.{counted_some, free_beside, named_used, taken_beside}
-use Rattle.strat_recovery.proofs.PassedLemmas.{read_passes}
+use Rattle.strat_standing.proofs.BelongLemmas.{next_belongs}
+use Rattle.strat_standing.proofs.OccupiedLemmas.{counted_some, free_beside, named_used, own_blocks, taken_beside}
+use Rattle.strat_recovery.proofs.PassedLemmas.{belonging_tests, read_passes}
 use Rattle.strat_standing.proofs.PartsLemmas.{reads_state}
 use Rattle.strat_standing.specs.Contents.{Contents, contents_state, named_blocks}
-use Rattle.strat_standing.specs.Next.{arrays_made}
-use Rattle.strat_standing.specs.Occupied.{IsSpaceOf, UsesMore, extents_of}
+use Rattle.strat_standing.specs.Next.{AreNewArrays, arrays_made}
+use Rattle.strat_standing.specs.Occupied.{IsSpaceOf, UsesMore, arrays_in, extents_of}
 use Rattle.strat_state.specs.Level.{Level}
 use Rattle.strat_state.specs.State.{IsPaid}
 use Rattle.strat_store.specs.Applying.{IsDamagedIn}
 use Rattle.strat_store.specs.Held.{Held, ArePlaced, IsConsistent, StandsWith, contents_held}
 use Rattle.strat_cursor.specs.Looking.{arrays_there}
 use Rattle.strat_store.specs.Publishing.{IsComputed, IsComputedBy, MayCompute, contents_after, manifest_after}
-use Rattle.strat_store.specs.Settling.{super_after, contents_next, WritesBeside, IsReadied}
-use Rattle.strat_store.proofs.WholeLemmas.{whole_computes}
+use Rattle.strat_store.specs.Settling.{super_after, contents_next, MayBeAdmitted, WritesBeside, IsReadied}
+use Rattle.strat_store.proofs.AdmitLemmas.{extents_lawful}
+use Rattle.strat_store.proofs.RecoverLemmas.{manifest_low}
+use Rattle.strat_store.proofs.WholeLemmas.{generation_left, whole_computes}
 
 -- nothing was written
 pub unwritten : (v : DiskView) (s : Held) → WritesBeside v v s
@@ -118,7 +126,7 @@ pub readied : (v w : DiskView) (s : Held) (x : Contents) (space after : SpaceVie
     → ((y : Contents) (log : Log) (besides : List Extent) → MayCompute v space s.memory s.levels log y besides → y.chained.manifest ≡ s.chained.manifest → y.sb.mem ≡ s.sb.mem
     → IsComputedBy w after y s.memory log target made first size chain besides)
     → m ≡ manifest_after s.chained.manifest s.memory target made
-    → IsReadied w s x (super_after s.sb first size) (record { manifest = m; blocks = blocks_of chain })
+    → IsReadied w s x (super_after s.sb first size) (record { manifest = m; blocks = blocks_of chain }) × AreNewArrays s.chained.manifest.next_array (arrays_made made)
 readied v w s x space after old_chain others target made first size chain m whole stands full chain_is own by m_is =
     let here : IsSpaceOf space x others = subst (λ (y : Contents). IsSpaceOf space y others) (sym stands.held) (own x.levels) in
     let c = by x s.log others (whole_computes v s x old_chain others space whole stands full chain_is here) (ap (λ (y : Contents). y.chained.manifest) stands.held) (ap (λ (y : Contents). y.sb.mem) stands.held) in
@@ -127,15 +135,72 @@ readied v w s x space after old_chain others target made first size chain m whol
     let same : new ≡ contents_next s sb (record { manifest = m; blocks = blocks_of chain }) c.levels =
     ap (λ (y : Contents). contents_after y s.memory target made c.levels first size (blocks_of chain)) stands.held
     ∙ ap (λ (k : Manifest). contents_next s sb (record { manifest = k; blocks = blocks_of chain }) c.levels) (sym m_is) in
-    let slot : 1 - x.slot ≡ 1 - s.slot = ap (λ (y : Contents). 1 - y.slot) stands.held in
+    let slot : 1 - x.slot ≡ 1 - s.slot = ap (λ (y : Contents). 1 - y.slot) stands.held in (
+      record {
+        levels = c.levels;
+        computed = subst (λ (n : Contents). IsComputed w (1 - s.slot) n.sb s.log x n) same (subst (λ (k : ℕ). IsComputed w k new.sb s.log x new) slot c.computed);
+        paid = λ paid long.
+            let f = stands.stands.content in
+            let passed = read_passes f (contents_state x) (reads_state f x (stands.stands.reads f stands.stands.left)) in
+            subst (λ (n : Contents). IsPaid (contents_state n)) same
+            (c.paid paid passed.few_updates (omega (arith, long, ap (λ (y : Contents). y.sb.mem) stands.held, ap (λ (y : Contents). length y.journal) stands.held)));
+      },
+      subst (λ (y : Contents). AreNewArrays y.chained.manifest.next_array (arrays_made made)) stands.held c.fresh,
+    )
+
+-- where a store stands it may compute, so what no store that may compute meets it doesn't meet
+pub computes_all : (v : DiskView) (s : Held) (x : Contents) (space : SpaceView) (old_chain others : List Extent) → IsConsistent s → StandsWith v s x → length s.log.list ≡ s.sb.mem → blocks_of old_chain ≡ s.chained.blocks
+    → ((levels : List Level) → IsSpaceOf space (contents_held s levels) others)
+    → ((y : Contents) (log : Log) (besides : List Extent) → MayCompute v space s.memory s.levels log y besides → y.chained.manifest ≡ s.chained.manifest → y.sb.mem ≡ s.sb.mem → ⊥) → ⊥
+computes_all v s x space old_chain others whole stands full chain_is own never =
+    let here : IsSpaceOf space x others = subst (λ (y : Contents). IsSpaceOf space y others) (sym stands.held) (own x.levels) in
+    never x s.log others (whole_computes v s x old_chain others space whole stands full chain_is here) (ap (λ (y : Contents). y.chained.manifest) stands.held) (ap (λ (y : Contents). y.sb.mem) stands.held)
+
+-- the blocks of its chain have numbers
+pub chain_numbered : (v : DiskView) (s : Held) (x : Contents) → IsConsistent s → StandsWith v s x → list_all (λ b. ltb b 4294967295) s.chained.blocks ≡ true
+chain_numbered v s x whole stands =
+    let f : Image = stands.stands.content in
+    manifest_low f s.sb.manifest s.sb.length s.chained whole.lawful.manifest_most
+    (subst (λ (y : Contents). manifest_at f y.sb.manifest y.sb.length ≡ Ok y.chained) stands.held (stands.stands.reads f stands.stands.left).lies.chain)
+
+-- and with those of its levels they are its own
+pub owns_blocks : (s : Held) (levels : List LevelDesc) → IsConsistent s → levels ≡ s.chained.manifest.levels → list_all (λ b. ltb b 4294967295) s.chained.blocks ≡ true
+    → ((sb : Super) (m : Manifest) → sb.mem ≡ s.sb.mem → m.levels ≡ levels → list_all (λ b. ltb b 4294967295) s.chained.blocks ≡ true
+    → list_all is_lawful_extent (extents_of (arrays_in levels)) ≡ true → has_own_blocks sb s.chained.blocks m ≡ false) → ⊥
+owns_blocks s levels whole same low never =
+    let m : Manifest = s.chained.manifest in
+    let lawful = ap (λ (ls : List LevelDesc). list_all is_lawful_extent (extents_of (arrays_in ls))) same ∙ extents_lawful m whole.spelled in
+    true≢false (sym (pass_at (belonging_tests s.sb s.chained) 0 whole.belonging) ∙ never s.sb m refl (sym same) low lawful)
+
+-- the blocks of the arrays that are kept can be marked beside them
+pub keeps_own : (s : Held) (space : SpaceView) → IsConsistent s → IsSpaceOf space (contents_held s []) [] → CanMark space (extents_of s.memory.cursors.retired)
+keeps_own s space whole own = record {
+  free = λ b some.
+      let lies = whole.kept.within b some in
+      let none : uses space b ≡ 0 = omega (arith, own.used b, some, whole.kept.once b) in
+      is_free_of space b (omega (arith, own.first, lies.0)) lies.1 (uses_unused space b none);
+  once = λ b. omega (arith, whole.kept.once b);
+}
+
+-- the next superblock and manifest pass all tests
+pub may_admit : (w : DiskView) (s : Held) (x : Contents) (made : Option LevelDesc) (sb : Super) (chained : Chained) → IsConsistent s → IsReadied w s x sb chained
+    → AreNewArrays s.chained.manifest.next_array (arrays_made made) → MayBeAdmitted s.sb s.chained.manifest made sb chained
+may_admit w s x made sb chained whole ready fresh =
+    let c = ready.computed in
+    let new : Contents = contents_next s sb chained ready.levels in
+    let first : ℕ = s.chained.manifest.next_array in
+    let arrays : List ArrayDesc = arrays_made made in
+    let blocks : List ℕ = sb.manifest ∷ c.manifest.others in
     record {
-      levels = c.levels;
-      computed = subst (λ (n : Contents). IsComputed w (1 - s.slot) n.sb s.log x n) same (subst (λ (k : ℕ). IsComputed w k new.sb s.log x new) slot c.computed);
-      paid = λ paid long.
-          let f = stands.stands.content in
-          let passed = read_passes f (contents_state x) (reads_state f x (stands.stands.reads f stands.stands.left)) in
-          subst (λ (n : Contents). IsPaid (contents_state n)) same
-          (c.paid paid passed.few_updates (omega (arith, long, ap (λ (y : Contents). y.sb.mem) stands.held, ap (λ (y : Contents). length y.journal) stands.held)));
+      numbered = all_from (λ (a : ArrayDesc). leb first a.id) arrays (λ a among.
+          let there : Among a.id (range_with_len first (length arrays)) = subst (Among a.id) fresh.numbered (among_map (λ (d : ArrayDesc). d.id) arrays a among) in
+          le-leb first a.id (range_among first (length arrays) a.id there).0);
+      generation = generation_left s whole;
+      low = subst (λ (bs : List ℕ). list_all (λ b. ltb b 4294967295) bs ≡ true) (sym c.manifest.blocks)
+          (all_from (λ b. ltb b 4294967295) blocks (λ b among.
+          let one = each_of (λ (k : ℕ). (1 ≤ k) × (k < 2 ^ 32 - 1)) blocks b c.manifest.chain.named among in
+          lt-ltb b 4294967295 (omega (arith, one.1))));
+      belonging = next_belongs c.was c.stands.content x new c.made c.taken c.kept c.next (own_blocks c.space new c.others c.used);
     }
 
 -- the same of a superblock and a manifest that are these

@@ -1,5 +1,5 @@
 -- A whole store may promote: what it holds is known, may be read, and is no more than any store has.
-use Rattle.std.proofs.Common.{◌≡◌, ◌<◌, ◌≤◌, ◌+◌, ◌*◌, ◌^◌, ℕ, zero, suc, Bool, true, not, eqb, ltb, leb, ◌&&◌, inl, inr, List, [], ◌∷◌, append-nil, length, map, Contains, flat_map, fold, filter_map, get_or, Option, None, Some, refl, sym, ap, ◌∙◌, subst, arith}
+use Rattle.std.proofs.Common.{◌≡◌, ◌<◌, ◌≤◌, ◌+◌, ◌*◌, ◌^◌, ℕ, zero, suc, Bool, true, not, eqb, ltb, leb, ◌&&◌, inl, inr, List, [], ◌∷◌, append-nil, length, length-append, map, Contains, flat_map, fold, filter_map, get_or, Option, None, Some, refl, sym, ap, ◌∙◌, subst, arith}
 use Rattle.std.specs.List.{list_all, range_with_len, sum, sum_by}
 use Rattle.std.proofs.lemmas.Bool.Decides.{nat_tests}
 use Rattle.std.proofs.lemmas.List.{length-map}
@@ -13,6 +13,7 @@ use Rattle.strat_base.specs.Tree.{Parents, is_known, has_child, with_child}
 use Rattle.strat_base.specs.declared.descriptors.ArrayDesc.{ArrayDesc}
 use Rattle.strat_base.specs.declared.descriptors.Extent.{Extent}
 use Rattle.strat_base.specs.declared.descriptors.LevelDesc.{LevelDesc}
+use Rattle.strat_base.specs.declared.limits.TheConstants.{LEVELS}
 use Rattle.strat_format.specs.Manifest.{Manifest, is_lawful_array, is_lawful_extent, is_lawful_level, versions_in}
 use Rattle.strat_format.proofs.ManifestLemmas.{pass_at}
 use Rattle.strat_level.specs.Levels.{level_numbered, leads_if_any}
@@ -164,6 +165,29 @@ within_numbers next a lawful filled = record {
       let count = blocks_counted a.extents in
       omega (arith, fits, small, count);
 }
+
+-- the arrays of lawful levels can be counted
+arrays_counted : (versions next : ℕ) (ds : List LevelDesc) → list_all (is_lawful_level versions next) ds ≡ true → length (flat_map (λ (d : LevelDesc). d.arrays) ds) ≤ 4294967296 * length ds
+arrays_counted versions next [] lawful = omega arith
+arrays_counted versions next (d ∷ ds) lawful =
+    let parts = and_parts (is_lawful_level versions next d) (list_all (is_lawful_level versions next) ds) lawful in
+    let some = and_parts (leb 1 (length d.arrays)) (ltb (length d.arrays) (2 ^ 32)) (pass_at (level_tests versions next d) 4 parts.0) in
+    omega (arith, ltb-true (length d.arrays) (2 ^ 32) some.1, arrays_counted versions next ds parts.1, length-append d.arrays (flat_map (λ (e : LevelDesc). e.arrays) ds))
+
+pub arrays_few : (s : Held) → IsConsistent s → length (flat_map (λ (d : LevelDesc). d.arrays) s.chained.manifest.levels) < 2 ^ 64
+arrays_few s whole =
+    let m : Manifest = s.chained.manifest in
+    let tests = manifest_tests m in
+    let all = arrays_counted (versions_in m) m.next_array m.levels (pass_at tests 8 whole.spelled) in
+    omega (arith, all, leb-true (length m.levels) LEVELS (pass_at tests 7 whole.spelled))
+
+-- and another generation has a number
+pub generation_left : (s : Held) → IsConsistent s → s.sb.generation + 1 < 2 ^ 64
+generation_left s whole =
+    let m : Manifest = s.chained.manifest in
+    let few = and_parts (leb s.sb.generation (m.changes + 1) && leb m.next_array (16384 * m.changes + 1)) (leb m.written (33554432 * m.changes)) (pass_at (belonging_tests s.sb s.chained) 7 whole.belonging) in
+    let generation = leb-true s.sb.generation (m.changes + 1) (and_parts (leb s.sb.generation (m.changes + 1)) (leb m.next_array (16384 * m.changes + 1)) few.0).0 in
+    omega (arith, generation, ltb-true m.changes (2 ^ 32) (pass_at (manifest_tests m) 0 whole.spelled))
 
 -- a store whose parts are those of a head may promote
 pub whole_promotes : (s : Held) → IsConsistent s → MayPromote s.memory s.levels s.chained.manifest.next_array

@@ -1,5 +1,5 @@
 -- How a store answers a command.
-use Rattle.std.specs.Prelude.{◌≡◌, ◌≢◌, ◌≤◌, ◌⊎◌, ℕ, ◌||◌, if◌then◌else◌, Bool, true, false, List, [], ◌∷◌, length, Contains, Option, Some, None, Result, IfErr}
+use Rattle.std.specs.Prelude.{◌≡◌, ◌≢◌, ◌≤◌, ◌⊎◌, ℕ, ◌||◌, if◌then◌else◌, Bool, true, false, List, [], ◌∷◌, length, Contains, Option, Some, None, Result, IfErr, IsErrAnd}
 use Rattle.strat_crash.specs.Faults.{Rose}
 use Rattle.strat_crash.specs.Image.{Image}
 use Rattle.strat_crash.specs.Moments.{DiskView, Exposes, OnlyReads}
@@ -17,10 +17,12 @@ use Rattle.strat_model.specs.declared.replies.Reply.{Reply}
 use Rattle.strat_model.specs.declared.replies.Reply.TheVariants as reply
 use Rattle.strat_model.specs.Answer.{Answer, refusal, accepts}
 use Rattle.strat_model.specs.Request.{Request, Put, Delete, Get, Clone, Scan, NextPairs}
-use Rattle.strat_model.specs.Run.{position_after, reaches_disk, is_change, takes_memory}
+use Rattle.strat_model.specs.Run.{EmptiesAtOnce, IsAfter, reaches_disk, is_change, takes_memory}
 use Rattle.strat_model.specs.Step.{step}
 use Rattle.strat_model.specs.Table.{Table, bare}
 use Rattle.strat_promote.specs.Job.{IsBadInput, blocks_listed}
+use Rattle.strat_promote.specs.Obstacles.{told_as}
+use Rattle.strat_promote.specs.declared.obstacle.Obstacle.{Obstacle}
 use Rattle.strat_recovery.specs.StateTable.{table_of}
 use Rattle.strat_standing.specs.Contents.{Contents, contents_state}
 use Rattle.strat_standing.specs.Standing.{ShowsTable}
@@ -47,15 +49,16 @@ abbrev pub is_fault : Reply → Bool
 is_fault (reply.Refused r) = tells_fault r
 is_fault _ = false
 
--- a command was answered as the table says, and the store stands at the position after it, but for its cursors
+-- a command was answered as the table says, and the store stands at a position after it, but for its cursors; it uses one
+-- region of its journal at a time
 pub record IsAnsweredBy (now : DiskView) (old : Held) (x : Contents) (request : Request)
     (answer : Answer) (new : Held) : Type 0 where
   pub told : answer ≡ (step (table_of (contents_state x)) request).answer
   pub going : new.spent ≡ false
   pub after : Contents
   pub stands : StandsWith now new after
-  pub place : position_with new after
-      ≡ position_after old.log.mem (position_with old x) request
+  pub place : IsAfter old.log.mem (position_with old x) request (position_with new after)
+  pub fill : EmptiesAtOnce old.log.mem (position_with old x) request (position_with new after)
 
 -- memory ran out for a change that the table accepts, at a full journal, and nothing changed
 pub record IsShortOf (now : DiskView) (old : Held) (x : Contents) (request : Request)
@@ -189,9 +192,13 @@ pub record IsPublishedAs (now : DiskView) (x : Contents) (new : Held) : Type 0 w
   pub stands : StandsWith now new after
   pub table : table_of (contents_state after) ≡ table_of (contents_state x)
 
--- a call succeeded, or memory ran out
-abbrev pub IsOkOrShort : {T : Type 0} → Result T Trouble → Type 0
-IsOkOrShort result = IfErr result (λ e. e ≡ trouble.NoMemory)
+-- a call gave up that is told as want of memory: memory ran out, or a bound was reached
+abbrev pub RanShort : {T : Type 0} → Result T Obstacle → Type 0
+RanShort result = IsErrAnd result (λ e. told_as e ≡ trouble.NoMemory)
+
+-- a call succeeded, or gave up so
+abbrev pub IsOkOrShort : {T : Type 0} → Result T Obstacle → Type 0
+IsOkOrShort result = IfErr result (λ e. told_as e ≡ trouble.NoMemory)
 
 -- why a command is refused that met a trouble
 abbrev pub refusal_of_trouble : Trouble → Refusal

@@ -13,7 +13,7 @@ use Rattle.strat_cursor.specs.declared.cursors.NextFault.TheVariants as next_fau
 use Rattle.strat_model.specs.Answer.{Answer, accepts, refusal}
 use Rattle.strat_model.specs.Pairs.{Pairs}
 use Rattle.strat_model.specs.Request.{Request, OpenCursor, NextPairs, CloseCursor}
-use Rattle.strat_model.specs.Run.{position_after, reaches_disk, is_change, takes_memory}
+use Rattle.strat_model.specs.Run.{EmptiesAtOnce, IsAfter, reaches_disk, is_change, takes_memory}
 use Rattle.strat_model.specs.Step.{step}
 use Rattle.strat_model.specs.Table.{Cursor}
 use Rattle.strat_model.specs.declared.replies.Refusal.TheVariants as why
@@ -79,7 +79,8 @@ pub record LeavesCursors (old : Held) (request : Request) (answer : Answer) (new
   pub retired : (a : ArrayDesc) → Contains new.memory.cursors.retired a
       → Contains (arrays_held old.memory old.levels) a
 
--- a command was answered as the table with the cursors says, and the store stands at the position after it
+-- a command was answered as the table with the cursors says, and the store stands at a position after it; it uses one
+-- region of its journal at a time
 pub record IsAnsweredAt (now : DiskView) (old : Held) (x : Contents) (rows : List Cursor)
     (request : Request) (answer : Answer) (new : Held) : Type 0 where
   pub told : answer ≡ (step (table_at old x rows) request).answer
@@ -87,8 +88,9 @@ pub record IsAnsweredAt (now : DiskView) (old : Held) (x : Contents) (rows : Lis
   pub after : Contents
   pub left : List Cursor
   pub stands : StandsAt now new after left
-  pub place : position_at new after left
-      ≡ position_after old.log.mem (position_at old x rows) request
+  pub place : IsAfter old.log.mem (position_at old x rows) request (position_at new after left)
+  pub fill : EmptiesAtOnce old.log.mem (position_at old x rows) request
+      (position_at new after left)
 
 -- memory ran out for a command that the table accepts, an opening of a cursor or a change at a full journal, and nothing
 -- changed

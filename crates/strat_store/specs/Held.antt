@@ -1,12 +1,13 @@
 -- An open store, and the disk that it stands on.
-use Rattle.std.specs.Prelude.{◌≡◌, ◌≤◌, ◌<◌, ℕ, Bool, List, [], ◌++◌, length, Contains, Option, Some, Ok, IsTrue}
-use Rattle.std.specs.List.{list_all}
+use Rattle.std.specs.Prelude.{◌≡◌, ◌≤◌, ◌<◌, ◌==◌, ℕ, ◌+◌, Bool, List, [], ◌++◌, length, flat_map, Contains, Option, Some, Ok, IsTrue}
+use Rattle.std.specs.List.{count_by, list_all}
 use Rattle.strat_array.specs.Kept.{Blocks}
 use Rattle.strat_base.specs.Change.{is_lawful}
 use Rattle.strat_base.specs.declared.descriptors.ArrayDesc.{ArrayDesc}
 use Rattle.strat_base.specs.declared.descriptors.LevelDesc.{LevelDesc}
 use Rattle.strat_crash.specs.Image.{Image}
 use Rattle.strat_crash.specs.Moments.{DiskView, Exposes, Images}
+use Rattle.strat_extent.specs.Blocks.{times_in}
 use Rattle.strat_format.specs.Arrays.{blocks_of}
 use Rattle.strat_format.specs.Chained.{Chained, manifest_at}
 use Rattle.strat_format.specs.Layout.{first_free}
@@ -21,6 +22,7 @@ use Rattle.strat_recovery.specs.Opened.{parents_in}
 use Rattle.strat_recovery.specs.Opening.{belongs}
 use Rattle.strat_recovery.specs.StateTable.{table_of}
 use Rattle.strat_standing.specs.Contents.{Contents, contents_state}
+use Rattle.strat_standing.specs.Occupied.{extents_of}
 use Rattle.strat_standing.specs.Standing.{ContentsStand}
 use Rattle.strat_state.specs.Level.{Level}
 use Rattle.strat_state.specs.Sound.{are_accepted}
@@ -76,18 +78,27 @@ pub record IsLogBehind (sb : Super) (log : Log) : Type 0 where
 abbrev pub arrays_held : Memory → List (Option LevelDesc) → List ArrayDesc
 arrays_held m levels = arrays_there levels ++ m.cursors.retired
 
+-- the blocks of a manifest: those of its chain and those of its arrays
+abbrev pub blocks_named : Chained → List ℕ
+blocks_named chained =
+    chained.blocks ++ flat_map (λ a. blocks_of a.extents) (descriptors chained.manifest)
+
 -- what cursors name is there: each of their arrays is one of a level or is retired, and each retired one is
--- named by one of them; no two of all these have one number, each has one below the next, and retired ones
--- lie behind the journal
-pub record AreKept (sb : Super) (next_array : ℕ) (levels : List (Option LevelDesc)) (m : Memory)
+-- named by one of them; no two of all these have one number, each has one below the next, retired ones
+-- lie behind the journal and in front of the greatest block number, and none of their blocks stands twice among theirs and
+-- those of the manifest
+pub record AreKept (sb : Super) (chained : Chained) (levels : List (Option LevelDesc)) (m : Memory)
     : Type 0 where
   pub named : (a : ArrayDesc) → Contains (arrays_named m.cursors.opened) a
       → Contains (arrays_held m levels) a
   pub needed : IsTrue (are_named m.cursors.opened m.cursors.retired)
   pub ids : HaveOwnIds (arrays_held m levels)
-  pub below : (a : ArrayDesc) → Contains (arrays_held m levels) a → a.id < next_array
-  pub behind : (a : ArrayDesc) (b : ℕ) → Contains m.cursors.retired a
-      → Contains (blocks_of a.extents) b → first_free sb.mem ≤ b
+  pub below : (a : ArrayDesc) → Contains (arrays_held m levels) a
+      → a.id < chained.manifest.next_array
+  pub within : (b : ℕ) → 0 < times_in (extents_of m.cursors.retired) b
+      → (first_free sb.mem ≤ b) × (b < 4294967295)
+  pub once : (b : ℕ) → count_by (λ other. other == b) (blocks_named chained)
+      + times_in (extents_of m.cursors.retired) b ≤ 1
 
 -- between two commands a store that is not spent holds what an opening may find
 pub record IsConsistent (s : Held) : Type 0 where
@@ -100,7 +111,7 @@ pub record IsConsistent (s : Held) : Type 0 where
       (parents_in s.chained.manifest) s.chained.manifest.changes s.log.list)
   pub memory : IsMemoryOf (head_held s) s.memory
   pub placed : ArePlaced s.chained.manifest.levels s.levels
-  pub kept : AreKept s.sb s.chained.manifest.next_array s.levels s.memory
+  pub kept : AreKept s.sb s.chained s.levels s.memory
 
 -- a store stands on a disk with these contents: every crash leaves them, they are what it holds, and
 -- what it has cached is on the disk

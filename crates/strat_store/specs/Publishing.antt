@@ -1,5 +1,5 @@
 -- A publication of a store, step by step.
-use Rattle.std.specs.Prelude.{◌≡◌, ◌≢◌, ◌≤◌, ◌<◌, ℕ, ◌+◌, ◌-◌, ◌++◌, Bool, List, [], length, filter, sum_by, nat_le, nat_lt, Option, Some, Ok, IsSome, IsTrue}
+use Rattle.std.specs.Prelude.{◌≡◌, ◌≢◌, ◌≤◌, ◌<◌, ℕ, ◌+◌, ◌-◌, ◌^◌, ◌++◌, Bool, List, [], length, filter, sum_by, nat_le, nat_lt, Option, Some, Ok, IsSome, IsTrue}
 use Rattle.std.specs.Option.{option_to_list}
 use Rattle.strat_base.specs.declared.descriptors.Extent.{Extent}
 use Rattle.strat_base.specs.declared.descriptors.LevelDesc.{LevelDesc}
@@ -8,7 +8,7 @@ use Rattle.strat_crash.specs.Blocks.{KeepsTaken, TearsBlocks}
 use Rattle.strat_crash.specs.Moments.{DiskView, Exposes, Images}
 use Rattle.strat_extent.specs.Blocks.{SpaceView, is_free}
 use Rattle.strat_format.specs.Arrays.{blocks_of}
-use Rattle.strat_format.specs.Manifest.{Manifest, is_lawful_manifest}
+use Rattle.strat_format.specs.Manifest.{Manifest, is_lawful_manifest, manifest_bytes}
 use Rattle.strat_format.specs.Chained.{Chained, manifest_at}
 use Rattle.strat_format.specs.Layout.{first_free, other_region}
 use Rattle.strat_format.specs.SuperBlock.{Super, newest_in}
@@ -20,7 +20,7 @@ use Rattle.strat_state.specs.State.{IsPaid}
 use Rattle.strat_promotion.specs.Promoted.{SaysTheSame, levels_behind}
 use Rattle.strat_standing.specs.Appending.{IsLogOf}
 use Rattle.strat_standing.specs.Contents.{Contents, contents_head, contents_state}
-use Rattle.strat_standing.specs.Next.{IsNextOf, MayBeNext, HasManifest, arrays_made}
+use Rattle.strat_standing.specs.Next.{AreNewArrays, IsNextOf, MayBeNext, HasManifest, arrays_made}
 use Rattle.strat_standing.specs.Occupied.{IsSpaceOf, UsesMore, extents_of, arrays_in}
 use Rattle.strat_standing.specs.Standing.{LeavesContent, ContentsStand}
 use Rattle.strat_state.specs.Level.{Level}
@@ -82,6 +82,13 @@ manifest_after old m target made = record {
   parents = parent_numbers m.parents;
   levels = option_to_list made ++ filter (λ level. nat_lt target level.number) old.levels;
 }
+
+-- a manifest may be written: it has a spelling, which fits into a chain, and its counts are far from the end of their type
+pub record MayBeWritten (m : Manifest) : Type 0 where
+  pub lawful : IsTrue (is_lawful_manifest m)
+  pub short : length (manifest_bytes m) ≤ 4290772992
+  pub written : m.written < 2 ^ 62
+  pub next_array : m.next_array < 2 ^ 62
 
 -- the levels down to a number, and those behind it
 abbrev pub descs_to : ℕ → List LevelDesc → List LevelDesc
@@ -146,7 +153,7 @@ pub record MayCompute (v : DiskView) (s : SpaceView) (m : Memory) (levels : List
   pub chain_is : blocks_of chain ≡ x.chained.blocks
 
 -- the next contents are computed, with some levels, and the blocks of the old ones and some others are used beside theirs;
--- their state is paid for where the old one was
+-- the arrays that were made are numbered from the old next number on, and their state is paid for where the old one was
 pub record IsComputedBy (v : DiskView) (s : SpaceView) (old : Contents) (m : Memory) (log : Log)
     (target : ℕ) (made : Option LevelDesc) (first size : ℕ) (chain others : List Extent)
     : Type 0 where
@@ -157,6 +164,7 @@ pub record IsComputedBy (v : DiskView) (s : SpaceView) (old : Contents) (m : Mem
   pub used : (gone : List Extent) → blocks_of gone ≡ old.chained.blocks
       → IsSpaceOf s (contents_after old m target made levels first size (blocks_of chain))
       (gone ++ (extents_of (arrays_in (descs_to target old.chained.manifest.levels)) ++ others))
+  pub fresh : AreNewArrays old.chained.manifest.next_array (arrays_made made)
   pub paid : IsPaid (contents_state old)
       → old.chained.manifest.updates ≤ old.chained.manifest.changes
       → old.sb.mem ≤ length old.journal → IsPaid (contents_state

@@ -1,5 +1,6 @@
 -- A publication of a store: what takes the place of what the store holds.
-use Rattle.std.specs.Prelude.{◌≡◌, ◌≢◌, ◌⊎◌, ◌≤◌, ℕ, ◌+◌, ◌-◌, ◌&&◌, Bool, true, false, List, [], length, Contains, Option}
+use Rattle.std.specs.Prelude.{◌≡◌, ◌≢◌, ◌⊎◌, ◌≤◌, ◌<◌, ◌==◌, ℕ, ◌+◌, ◌-◌, ◌^◌, ◌&&◌, nat_le, nat_lt, Bool, true, false, List, [], length, Contains, Option, IsTrue}
+use Rattle.std.specs.List.{count_by, list_all}
 use Rattle.strat_base.specs.declared.descriptors.ArrayDesc.{ArrayDesc}
 use Rattle.strat_base.specs.declared.descriptors.LevelDesc.{LevelDesc}
 use Rattle.strat_crash.specs.Blocks.{AgreeOn, TearsBlocks}
@@ -7,6 +8,7 @@ use Rattle.strat_crash.specs.Image.{Image}
 use Rattle.strat_crash.specs.Moments.{DiskView, Exposes}
 use Rattle.strat_cursor.specs.Cursors.{retired_all}
 use Rattle.strat_cursor.specs.Held.{HeldCursors}
+use Rattle.strat_extent.specs.Blocks.{times_in}
 use Rattle.strat_format.specs.Arrays.{blocks_of}
 use Rattle.strat_format.specs.Chained.{Chained}
 use Rattle.strat_format.specs.Layout.{other_region}
@@ -21,13 +23,14 @@ use Rattle.strat_model.specs.Request.{Request}
 use Rattle.strat_model.specs.Run.{is_change}
 use Rattle.strat_promote.specs.Job.{blocks_listed}
 use Rattle.strat_recovery.specs.Head.{parent_numbers}
+use Rattle.strat_recovery.specs.Opening.{belongs}
 use Rattle.strat_standing.specs.Contents.{Contents, contents_state}
 use Rattle.strat_standing.specs.Next.{arrays_made}
-use Rattle.strat_standing.specs.Occupied.{arrays_in}
+use Rattle.strat_standing.specs.Occupied.{arrays_in, extents_of}
 use Rattle.strat_standing.specs.Standing.{AreFree}
 use Rattle.strat_state.specs.Level.{Level}
 use Rattle.strat_state.specs.State.{IsPaid}
-use Rattle.strat_store.specs.Held.{Held, IsOnDisk, StandsWith, arrays_held, contents_held}
+use Rattle.strat_store.specs.Held.{Held, IsOnDisk, StandsWith, arrays_held, blocks_named, contents_held}
 use Rattle.strat_store.specs.Memory.{Memory, renewed}
 use Rattle.strat_store.specs.Paying.{ArePaidSince, KeepsCount}
 use Rattle.strat_store.specs.Publishing.{IsComputed, descs_to, manifest_after}
@@ -98,6 +101,23 @@ pub record IsReadied (v : DiskView) (s : Held) (x : Contents) (sb : Super) (chai
   -- they are paid for where those are and the journal is full
   pub paid : IsPaid (contents_state x) → s.sb.mem ≤ length s.log.list
       → IsPaid (contents_state (contents_next s sb chained levels))
+
+-- a superblock and a manifest that were computed pass all tests that come before they are laid: the arrays that were made are
+-- numbered from the old next number on, another generation has a number, and so have the blocks of the chain, and the
+-- manifest belongs to its superblock
+pub record MayBeAdmitted (sb : Super) (m : Manifest) (made : Option LevelDesc) (next_sb : Super)
+    (next : Chained) : Type 0 where
+  pub numbered : IsTrue (list_all (λ a. nat_le m.next_array a.id) (arrays_made made))
+  pub generation : sb.generation + 1 < 2 ^ 64
+  pub low : IsTrue (list_all (λ b. nat_lt b 4294967295) next.blocks)
+  pub belonging : IsTrue (belongs next_sb next)
+
+-- once a promotion took the levels of a store down to a target, no block stands twice among those of the next manifest, of the
+-- arrays that were taken, and of those that were kept for cursors before
+pub record StandApart (target : ℕ) (s : Held) (next : Chained) : Type 0 where
+  pub once : (b : ℕ) → count_by (λ other. other == b) (blocks_named next)
+      + (times_in (extents_of (arrays_taken target s.chained.manifest)) b
+      + times_in (extents_of s.memory.cursors.retired) b) ≤ 1
 
 -- after a superblock, a manifest and what is in memory come these that one promotion leaves, down to this target, of arrays
 -- that have new numbers, and of a manifest in some blocks

@@ -15,6 +15,7 @@ ghost use Rattle.strat_model.specs.Answer.{accepts, plain};
 ghost use Rattle.strat_model.specs.declared.replies.Refusal.{Refusal};
 ghost use Rattle.strat_model.specs.declared.replies.Refusal.TheVariants as why;
 ghost use Rattle.strat_model.specs.declared.replies.Reply.TheVariants as reply;
+ghost use Rattle.strat_promote.specs.Obstacles.{told_as};
 ghost use Rattle.strat_recovery.specs.StateTable.{table_of, request_for};
 ghost use Rattle.strat_standing.specs.Appending.{IsLogOf, with_batch};
 ghost use Rattle.strat_standing.specs.Contents.{Contents, contents_state};
@@ -33,10 +34,11 @@ ghost use Rattle.strat_store.specs.Settling.{KeepsPublished, LeavesPublished};
 use crate::publication::publish;
 use crate::recovering::Recovered;
 use std::alloc::Global;
-use strat_base::{Change, Failed, Trouble};
+use strat_base::{Change, Failed};
 use strat_disk::Disk;
 use strat_journal::Journal;
 use strat_model::{Refusal, Reply};
+use strat_promote::obstacle::Obstacle;
 
 /// Makes a change durable at the end of the journal, which has room for it: two writes and two syncs. It writes in the
 /// active region alone.
@@ -112,14 +114,14 @@ fn carry_out<D: Disk>(held: &mut Recovered, disk: &mut D, change: &Change<'_>) -
     held.memory.take(change)
 }
 
-/// Why a command is refused that met a trouble.
-fn refusal_of(trouble: Trouble) -> Refusal
-    ensures ok { result ≡ refusal_of_trouble trouble }
+/// Why a change is refused before which a publication gave up. A bound that was reached is told as want of memory.
+fn refusal_of(obstacle: Obstacle) -> Refusal
+    ensures ok { result ≡ refusal_of_trouble (told_as obstacle) }
 {
-    match trouble {
-        Trouble::NoMemory => Refusal::NoMemory,
-        Trouble::Device => Refusal::DeviceFault,
-        Trouble::Damaged { block } => Refusal::Damaged { block },
+    match obstacle {
+        Obstacle::NoMemory | Obstacle::Unfit => Refusal::NoMemory,
+        Obstacle::Device => Refusal::DeviceFault,
+        Obstacle::Damaged { block } => Refusal::Damaged { block },
     }
 }
 
@@ -158,8 +160,8 @@ fn carry_out_anew<D: Disk>(
     ensures time { Passes (D.view disk.old) (D.view disk.new) }
     ensures cause { FailsAsTold (D.faults disk.old) (D.faults disk.new) result }
 {
-    if let Err(trouble) = publish(alloc, held, disk) {
-        return Reply::Refused(refusal_of(trouble));
+    if let Err(obstacle) = publish(alloc, held, disk) {
+        return Reply::Refused(refusal_of(obstacle));
     }
     carry_out(held, disk, change)
 }

@@ -4,36 +4,39 @@ ghost use Rattle.std.specs.Prelude.{◌≡◌, ◌≤◌, ◌<◌, ℕ, ◌+◌,
 ghost use Rattle.std.specs.Option.{option_to_list};
 ghost use Rattle.strat_array.specs.Taking.{AreUsed};
 ghost use Rattle.strat_base.specs.declared.descriptors.Extent.{Extent};
-ghost use Rattle.strat_base.specs.declared.failures.Trouble.TheVariants.{Device, Damaged};
 ghost use Rattle.strat_crash.specs.Blocks.{TearsBlocks};
 ghost use Rattle.strat_crash.specs.Faults.{HasCause};
 ghost use Rattle.strat_crash.specs.Image.{Image};
 ghost use Rattle.strat_crash.specs.Moments.{Exposes};
 ghost use Rattle.strat_extent.specs.Blocks.{is_free};
 ghost use Rattle.strat_format.specs.Arrays.{blocks_of};
-ghost use Rattle.strat_format.specs.Manifest.{is_lawful_manifest};
+ghost use Rattle.strat_format.specs.Manifest.{is_lawful_manifest, manifest_bytes};
 ghost use Rattle.strat_extent.specs.Change.{IsMarked, SameBlocks};
 ghost use Rattle.strat_journal.specs.Log.{Log};
 ghost use Rattle.strat_manifest.specs.ManifestView.{manifest_of};
 ghost use Rattle.strat_promote.specs.Job.{IsBadInput, blocks_listed};
 ghost use Rattle.strat_promote.specs.Promotions.{entries_if_any};
+ghost use Rattle.strat_promote.specs.declared.obstacle.Obstacle.TheVariants as obstacle;
+ghost use Rattle.strat_promote.specs.declared.obstacle.Obstacle.TheVariants.{Device, Damaged};
 ghost use Rattle.strat_recovery.specs.Head.{parent_numbers};
 ghost use Rattle.strat_standing.specs.Contents.{Contents};
 ghost use Rattle.strat_standing.specs.Next.{HasManifest, arrays_made};
 ghost use Rattle.strat_standing.specs.Occupied.{UsesMore, extents_of};
 ghost use Rattle.strat_cursor.specs.Looking.{arrays_there};
+ghost use Rattle.strat_store.specs.Applying.{IsOkOrShort};
 ghost use Rattle.strat_store.specs.Promoting.{MayPromote};
-ghost use Rattle.strat_store.specs.Publishing.{IsWrittenTo, MayCompute, IsComputedBy, WritesManifest, manifest_after};
+ghost use Rattle.strat_store.specs.Publishing.{IsWrittenTo, MayBeWritten, MayCompute, IsComputedBy, WritesManifest, manifest_after};
 
 use crate::memory::Memory;
 use crate::promoting::{Made, promote};
 use crate::publishing::write_next;
 use std::alloc::Global;
-use strat_base::{ArrayDesc, Arrays, Extents, LevelDesc, NoMemory, Trouble};
+use strat_base::{ArrayDesc, Arrays, Extents, LevelDesc, NoMemory};
 use strat_disk::Disk;
 use strat_extent::Space;
 use strat_level::Levels;
-use strat_manifest::{LevelList, Manifest, Parents};
+use strat_manifest::{LevelList, Manifest, Parents, is_writable};
+use strat_promote::obstacle::{Obstacle, Unfit};
 use strat_tree::Tree;
 
 /// Equal descriptors of arrays, in the time of copying their extents and tags.
@@ -148,28 +151,45 @@ fn count_made(made: &Made) -> u64
     }
 }
 
+/// How many entries were written until after a promotion, and the number of the next array, unless one of them has no number
+/// left: no store comes so far.
+fn next_counts(old: &Manifest, made: &Made) -> Result<(u64, u64), Unfit>
+    requires len { made.now.entries ≡ min (entries_if_any made.now.level) (2 ^ 64 - 1) }
+    ensures ok { IfOk result (λ n. (n.0 ≡ old.now.written + entries_if_any made.now.level)
+        × (n.1 ≡ old.now.next_array + length (arrays_made made.now.level))) }
+    ensures cause { OnErr result (2 ^ 63 ≤ old.now.written + entries_if_any made.now.level
+        + (old.now.next_array + length (arrays_made made.now.level))) }
+{
+    if made.entries == u64::MAX {
+        return Err(Unfit);
+    }
+    let Some(written) = old.written.checked_add(made.entries) else {
+        return Err(Unfit);
+    };
+    let Some(next_array) = old.next_array.checked_add(count_made(made)) else {
+        return Err(Unfit);
+    };
+    Ok((written, next_array))
+}
+
 /// The manifest after a promotion of what a store has in memory, in new memory: all changes are behind it, the level that
 /// was made stands before those that are deeper than its number, and what its arrays have is counted. O(size).
-/// `NoMemory` also stands for counts that no store reaches.
+/// `Unfit`: counts that no store reaches.
 pub(crate) fn next_manifest(
     alloc: Global,
     old: &Manifest,
     memory: &Memory,
     made: &Made,
-) -> Result<Manifest, NoMemory>
+) -> Result<Manifest, Obstacle>
     requires len { made.now.entries ≡ min (entries_if_any made.now.level) (2 ^ 64 - 1) }
     ensures ok { IfOk result (λ m. manifest_of m
         ≡ manifest_after (manifest_of old.now) memory.now made.now.target made.now.level) }
+    ensures err { IsErrOf result obstacle.Unfit → 2 ^ 63 ≤ old.now.written
+        + entries_if_any made.now.level
+        + (old.now.next_array + length (arrays_made made.now.level)) }
+    ensures cause { IsOkOrShort result }
 {
-    if made.entries == u64::MAX {
-        return Err(NoMemory);
-    }
-    let Some(written) = old.written.checked_add(made.entries) else {
-        return Err(NoMemory);
-    };
-    let Some(next_array) = old.next_array.checked_add(count_made(made)) else {
-        return Err(NoMemory);
-    };
+    let (written, next_array) = next_counts(old, made)?;
     let (_, _, tree) = memory.parts();
     let parents = parents_of(alloc, tree)?;
     let levels = next_levels(alloc, made, old.levels.as_slice())?;
@@ -184,8 +204,22 @@ pub(crate) fn next_manifest(
     })
 }
 
+/// Refuses a manifest that has no spelling, or one that is too long for a chain: no store has such a manifest.
+fn check_writable(m: &Manifest) -> Result<(), Unfit>
+    ensures ok { OnOk result (IsTrue (is_lawful_manifest (manifest_of m.now))
+        × (length (manifest_bytes (manifest_of m.now)) ≤ 4290772992)) }
+    ensures cause { OnErr result (IsTrue (is_lawful_manifest (manifest_of m.now))
+        → length (manifest_bytes (manifest_of m.now)) ≤ 4290772992 → ⊥) }
+{
+    if !is_writable(m) {
+        return Err(Unfit);
+    }
+    Ok(())
+}
+
 /// Computes the manifest after a promotion, and writes it: its first block, its length in bytes and its blocks are answered,
-/// too. After an error the space is as it was.
+/// too. After an error the space is as it was. `Unfit`: no store has such a manifest. Other errors are those of `write_next`,
+/// and want of memory.
 fn write_after<D: Disk>(
     alloc: Global,
     old: &Manifest,
@@ -193,7 +227,7 @@ fn write_after<D: Disk>(
     made: &Made,
     space: &mut Space,
     disk: &mut D,
-) -> Result<(Manifest, u32, u32, Extents), Trouble>
+) -> Result<(Manifest, u32, u32, Extents), Obstacle>
     requires len { made.now.entries ≡ min (entries_if_any made.now.level) (2 ^ 64 - 1) }
     requires room { 1 ≤ space.old.first }
     ensures ok { IfOk result (λ r. IsSome (D.view disk.old).content → (g : Image)
@@ -205,12 +239,15 @@ fn write_after<D: Disk>(
     ensures fits { IfOk result (λ r. (space.old.first ≤ r.1) × (r.1 < 4294967295)
         × (29 ≤ r.2) × IsTrue (is_lawful_manifest (manifest_of r.0))) }
     ensures err { OnErr result (SameBlocks space.old space.new) }
+    ensures none { IsErrOf result obstacle.Unfit → MayBeWritten (manifest_after
+        (manifest_of old.now) memory.now made.now.target made.now.level) → ⊥ }
     ensures images { TearsBlocks (is_free space.old) (D.view disk.old) (D.view disk.new) }
     ensures cause { HasCause Device (D.faults disk.old) (D.faults disk.new) result }
     ensures damaged { (b : ℕ) → IsErrOf result (Damaged b) → ⊥ }
     ensures reads { D.reads disk.new ≡ D.reads disk.old }
 {
     let m = next_manifest(alloc, old, memory, made)?;
+    check_writable(&m)?;
     let (first, length, chain) = write_next(alloc, disk, space, &m)?;
     Ok((m, first, length, chain))
 }
@@ -228,7 +265,7 @@ pub(crate) struct Computed {
 
 /// Promotes level 0 and the shallow levels, and writes the manifest after that: all of the next contents but their superblock.
 /// Nothing is written but free blocks, so the old contents stand as they did, whatever comes of it. After an error the space
-/// is not to be used again. Errors are those of `promote` and of `write_next`.
+/// is not to be used again. Errors are those of `promote` and of `write_next`; `Unfit` never comes where the store stands.
 pub(crate) fn compute_next<D: Disk>(
     alloc: Global,
     old: &Manifest,
@@ -237,7 +274,7 @@ pub(crate) fn compute_next<D: Disk>(
     mem: u32,
     space: &mut Space,
     disk: &mut D,
-) -> Result<Computed, Trouble>
+) -> Result<Computed, Obstacle>
     requires kept { MayPromote memory.now levels.now old.now.next_array }
     requires fits { (4 ≤ mem) × (mem ≤ 4096) × (1 ≤ space.old.first) }
     ensures ok { IfOk result (λ r. (x : Contents) (log : Log) (others : List Extent)
@@ -255,6 +292,9 @@ pub(crate) fn compute_next<D: Disk>(
     ensures fits { IfOk result (λ r. (1 ≤ r.made.target) × (r.made.target ≤ 22)
         × (space.old.first ≤ r.first) × (r.first < 4294967295) × (29 ≤ r.length)
         × IsTrue (is_lawful_manifest (manifest_of r.manifest))) }
+    ensures err { IsErrOf result obstacle.Unfit → (x : Contents) (log : Log) (others : List Extent)
+        → MayCompute (D.view disk.old) space.old memory.now levels.now log x others
+        → x.chained.manifest ≡ manifest_of old.now → x.sb.mem ≡ mem → ⊥ }
     ensures images { TearsBlocks (is_free space.old) (D.view disk.old) (D.view disk.new) }
     ensures cause { HasCause Device (D.faults disk.old) (D.faults disk.new) result }
     ensures damaged { (b : ℕ) → IsErrOf result (Damaged b)

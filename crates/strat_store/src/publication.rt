@@ -1,10 +1,8 @@
 //! A publication of a store, whole: its journal is emptied into its levels.
 
 ghost use Rattle.std.specs.List.{list_all};
-ghost use Rattle.std.specs.Prelude.{◌≡◌, ◌<◌, ◌≤◌, ℕ, ◌+◌, ◌-◌, ◌*◌, ◌^◌, List, [], ◌∷◌, length, nat_le, Some, IfOk, OnOk, OnErr, IsErrOf, IsTrue};
+ghost use Rattle.std.specs.Prelude.{◌≡◌, ◌<◌, ◌≤◌, ℕ, ◌+◌, ◌-◌, ◌*◌, ◌^◌, List, [], ◌∷◌, length, min, nat_le, nat_lt, Some, IfOk, OnOk, OnErr, IsErrOf, IsTrue};
 ghost use Rattle.strat_array.specs.Kept.{Blocks};
-ghost use Rattle.strat_base.specs.declared.failures.Trouble.TheVariants as trouble;
-ghost use Rattle.strat_base.specs.declared.failures.Trouble.TheVariants.{Device, Damaged};
 ghost use Rattle.strat_crash.specs.Blocks.{TearsBlocks, AgreeOn};
 ghost use Rattle.strat_crash.specs.Faults.{CountsFaults, HasCause};
 ghost use Rattle.strat_crash.specs.Image.{Image};
@@ -17,14 +15,16 @@ ghost use Rattle.strat_format.specs.SuperBlock.{IsLawful};
 ghost use Rattle.strat_gate.specs.SuperView.{super_of};
 ghost use Rattle.strat_manifest.specs.ManifestView.{manifest_of};
 ghost use Rattle.strat_promote.specs.Job.{blocks_listed};
+ghost use Rattle.strat_promote.specs.declared.obstacle.Obstacle.TheVariants as obstacle;
+ghost use Rattle.strat_promote.specs.declared.obstacle.Obstacle.TheVariants.{Device, Damaged};
 ghost use Rattle.strat_recovery.specs.StateTable.{table_of};
 ghost use Rattle.strat_standing.specs.Contents.{Contents, contents_state};
-ghost use Rattle.strat_standing.specs.Next.{arrays_made};
+ghost use Rattle.strat_standing.specs.Next.{AreNewArrays, arrays_made};
 ghost use Rattle.strat_standing.specs.Occupied.{IsSpaceOf, arrays_in, extents_of};
 ghost use Rattle.strat_standing.specs.Standing.{ShowsTable, ContentsStand};
 ghost use Rattle.strat_state.specs.Level.{Level};
 ghost use Rattle.strat_state.specs.State.{IsPaid};
-ghost use Rattle.strat_store.specs.Applying.{IsDamagedIn, IsPublishedAs, IsOkOrShort};
+ghost use Rattle.strat_store.specs.Applying.{IsDamagedIn, IsPublishedAs, IsOkOrShort, RanShort};
 ghost use Rattle.strat_store.specs.Held.{IsConsistent, IsOnDisk, StandsWith, arrays_held, contents_held};
 ghost use Rattle.strat_cursor.specs.Cursors.{retired_all};
 ghost use Rattle.strat_cursor.specs.Looking.{arrays_there};
@@ -32,7 +32,7 @@ ghost use Rattle.strat_store.specs.Memory.{emptied, prepared};
 ghost use Rattle.strat_store.specs.Paying.{ArePaidSince, CountsWritten};
 ghost use Rattle.strat_store.specs.Publishing.{IsComputed, LaysSuperblock, WritesManifest, descs_to, is_in_front, manifest_after};
 ghost use Rattle.strat_store.specs.Recovering.{chained_of, held_of, IsAdmitted};
-ghost use Rattle.strat_store.specs.Settling.{super_after, held_next, ArePublishedAfter, ArePublishedTo, KeepsCursors, KeepsPublished, MayFollow, WritesBeside, IsReadied};
+ghost use Rattle.strat_store.specs.Settling.{super_after, held_next, ArePublishedAfter, ArePublishedTo, KeepsCursors, KeepsPublished, MayBeAdmitted, MayFollow, StandApart, WritesBeside, IsReadied};
 
 use crate::admitting::{Published, admit};
 use crate::belonging::{mark_arrays, own_blocks};
@@ -43,12 +43,12 @@ use crate::publishing::lay_next;
 use crate::recovering::Recovered;
 use std::alloc::Global;
 use std::mem;
-use strat_base::{ArrayDesc, Arrays, Failed, LevelDesc, NoMemory, Trouble};
+use strat_base::{ArrayDesc, Arrays, Failed, LevelDesc, NoMemory};
 use strat_disk::Disk;
 use strat_extent::Space;
 use strat_gate::SuperBlock;
 use strat_manifest::LevelList;
-use strat_promote::obstacle::Unfit;
+use strat_promote::obstacle::{Obstacle, Unfit};
 
 /// The superblock after one, with this manifest, unless no number is left for its generation: no store comes so far.
 fn next_super(old: &SuperBlock, first: u32, length: u32) -> Result<SuperBlock, Unfit>
@@ -73,36 +73,44 @@ fn next_super(old: &SuperBlock, first: u32, length: u32) -> Result<SuperBlock, U
 }
 
 /// The space in which just the blocks of a store are used, those of the arrays that are kept for cursors among them.
-/// `NoMemory` also stands for blocks that stand twice.
-fn used_space(alloc: Global, held: &Recovered) -> Result<Space, NoMemory>
-    requires kept { IsLawful (super_of held.now.sb) }
+/// `Unfit`: a block of all these stands twice, or has no number; none does where the store stands.
+fn used_space(alloc: Global, held: &Recovered) -> Result<Space, Obstacle>
+    requires kept { (cached : Blocks) → IsConsistent (held_of held.now cached) }
     ensures ok { IfOk result (λ space. (cached : Blocks) (levels : List Level)
         → IsSpaceOf space (contents_held (held_of held.now cached) levels)
         (extents_of held.now.memory.cursors.retired)) }
+    ensures err { IsErrOf result obstacle.Unfit → IsTrue (list_all (λ b. nat_lt b 4294967295)
+        (chained_of held.now.published).blocks) → ⊥ }
+    ensures cause { IsOkOrShort result }
 {
     let levels = held.published.manifest.levels.as_slice();
     let Some(mut space) = own_blocks(alloc, held.sb.mem, &held.published.chain, levels)? else {
-        return Err(NoMemory);
+        return Err(Obstacle::Unfit);
     };
     if !mark_arrays(&mut space, held.memory.retired())? {
-        return Err(NoMemory);
+        return Err(Obstacle::Unfit);
     }
     Ok(space)
 }
 
 /// Computes the next contents of a store but for their superblock: nothing is written but blocks that are free beside
-/// what it holds. Errors are those of `compute_next`, and want of memory for the blocks that are used.
+/// what it holds. Errors are those of `compute_next`, and want of memory for the blocks that are used; `Unfit` never comes
+/// where the store stands.
 fn compute_beside<D: Disk>(
     alloc: Global,
     held: &Recovered,
     disk: &mut D,
-) -> Result<Computed, Trouble>
+) -> Result<Computed, Obstacle>
     requires kept { (cached : Blocks) → IsConsistent (held_of held.now cached) }
     requires len { length held.now.journal.list ≡ held.now.sb.mem }
     ensures ok { IfOk result (λ r. (x : Contents) (cached : Blocks)
         → StandsWith (D.view disk.old) (held_of held.now cached) x
         → IsReadied (D.view disk.new) (held_of held.now cached) x
         (super_after (super_of held.now.sb) r.first r.length)
+        (record { manifest = manifest_of r.manifest; blocks = blocks_of r.chain })
+        × AreNewArrays held.now.published.manifest.next_array (arrays_made r.made.level)) }
+    ensures room { IfOk result (λ r. (cached : Blocks)
+        → StandApart r.made.target (held_of held.now cached)
         (record { manifest = manifest_of r.manifest; blocks = blocks_of r.chain })) }
     ensures found { IfOk result (λ r. manifest_of r.manifest ≡ manifest_after
         (manifest_of held.now.published.manifest) held.now.memory r.made.target r.made.level) }
@@ -112,6 +120,8 @@ fn compute_beside<D: Disk>(
     ensures fits { IfOk result (λ r. (places.first_free held.now.sb.mem ≤ r.first)
         × (r.first < 4294967295) × (29 ≤ r.length)
         × IsTrue (is_lawful_manifest (manifest_of r.manifest))) }
+    ensures err { IsErrOf result obstacle.Unfit → (x : Contents) (cached : Blocks)
+        → StandsWith (D.view disk.old) (held_of held.now cached) x → ⊥ }
     ensures images { (cached : Blocks)
         → WritesBeside (D.view disk.old) (D.view disk.new) (held_of held.now cached) }
     ensures cause { HasCause Device (D.faults disk.old) (D.faults disk.new) result }
@@ -165,9 +175,9 @@ fn has_new_numbers(made: &Made, next_array: u64) -> bool
     }
 }
 
-/// The next superblock, and the manifest that it leads to, tested as an opening tests them. `NoMemory` also stands for
-/// what an opening would refuse, and for arrays whose numbers are not new.
-fn admit_next(alloc: Global, held: &Recovered, computed: Computed) -> Result<Next, NoMemory>
+/// The next superblock, and the manifest that it leads to, tested as an opening tests them. `Unfit`: an opening would
+/// refuse them, or arrays have numbers that are not new, or no generation is left.
+fn admit_next(alloc: Global, held: &Recovered, computed: Computed) -> Result<Next, Obstacle>
     requires kept { IsLawful (super_of held.now.sb)
         × IsTrue (is_lawful_manifest (manifest_of computed.manifest)) }
     requires fits { (places.first_free held.now.sb.mem ≤ computed.first)
@@ -181,26 +191,30 @@ fn admit_next(alloc: Global, held: &Recovered, computed: Computed) -> Result<Nex
     ensures same { IfOk result (λ next. IsTrue (list_all
         (λ a. nat_le held.now.published.manifest.next_array a.id)
         (arrays_made computed.made.level))) }
+    ensures err { IsErrOf result obstacle.Unfit → MayBeAdmitted (super_of held.now.sb)
+        (manifest_of held.now.published.manifest) computed.made.level
+        (super_after (super_of held.now.sb) computed.first computed.length)
+        (record { manifest = manifest_of computed.manifest; blocks = blocks_of computed.chain })
+        → ⊥ }
+    ensures cause { IsOkOrShort result }
 {
     if !has_new_numbers(&computed.made, held.published.manifest.next_array) {
-        return Err(NoMemory);
+        return Err(Obstacle::Unfit);
     }
-    let Ok(sb) = next_super(&held.sb, computed.first, computed.length) else {
-        return Err(NoMemory);
-    };
+    let sb = next_super(&held.sb, computed.first, computed.length)?;
     match admit(alloc, &sb, computed.manifest, computed.chain)? {
         Some(published) => Ok(Next {
             sb,
             published,
             target: computed.made.target,
         }),
-        None => Err(NoMemory),
+        None => Err(Obstacle::Unfit),
     }
 }
 
 /// Writes the next contents of a store but for their superblock beside what it holds, and tests what their manifest
-/// says. Errors are those of `compute_beside`, and want of memory.
-fn prepare_next<D: Disk>(alloc: Global, held: &Recovered, disk: &mut D) -> Result<Next, Trouble>
+/// says. Errors are those of `compute_beside`, and want of memory; `Unfit` never comes where the store stands.
+fn prepare_next<D: Disk>(alloc: Global, held: &Recovered, disk: &mut D) -> Result<Next, Obstacle>
     requires kept { (cached : Blocks) → IsConsistent (held_of held.now cached) }
     requires len { length held.now.journal.list ≡ held.now.sb.mem }
     ensures ok { IfOk result (λ next. (x : Contents) (cached : Blocks)
@@ -214,7 +228,11 @@ fn prepare_next<D: Disk>(alloc: Global, held: &Recovered, disk: &mut D) -> Resul
         (manifest_of next.published.manifest)) }
     ensures end { IfOk result (λ next. WritesManifest (D.view disk.old) (D.view disk.new)
         next.sb.manifest next.sb.length (chained_of next.published)) }
-    ensures kept { IfOk result (λ next. IsAdmitted (super_of next.sb) next.published) }
+    ensures kept { IfOk result (λ next. IsAdmitted (super_of next.sb) next.published
+        × ((cached : Blocks)
+        → StandApart next.target (held_of held.now cached) (chained_of next.published))) }
+    ensures err { IsErrOf result obstacle.Unfit → (x : Contents) (cached : Blocks)
+        → StandsWith (D.view disk.old) (held_of held.now cached) x → ⊥ }
     ensures images { (cached : Blocks)
         → WritesBeside (D.view disk.old) (D.view disk.new) (held_of held.now cached) }
     ensures cause { HasCause Device (D.faults disk.old) (D.faults disk.new) result }
@@ -230,18 +248,15 @@ fn prepare_next<D: Disk>(alloc: Global, held: &Recovered, disk: &mut D) -> Resul
     Ok(next)
 }
 
-/// How many arrays levels have. `NoMemory` stands for more than can be counted.
-fn count_arrays(levels: &[LevelDesc]) -> Result<usize, NoMemory>
-    ensures ok { IfOk result (λ n. n ≡ length (arrays_in levels.now)) }
+/// How many arrays levels have, or 2^64 - 1 where there are more.
+fn count_arrays(levels: &[LevelDesc]) -> usize
+    ensures ok { result ≡ min (length (arrays_in levels.now)) (2 ^ 64 - 1) }
 {
     let mut n = 0usize;
     for level in levels {
-        let Some(more) = n.checked_add(level.arrays.len()) else {
-            return Err(NoMemory);
-        };
-        n = more;
+        n = n.saturating_add(level.arrays.len());
     }
-    Ok(n)
+    n
 }
 
 /// Takes the memory that settling asks for: the next level 0, and room for all arrays of these levels among those that are
@@ -253,14 +268,14 @@ fn make_room(
     levels: &[LevelDesc],
 ) -> Result<(), NoMemory>
     requires fits { (4 ≤ mem) × (mem ≤ 4096) }
+    requires len { length (arrays_in levels.now) < 2 ^ 64 }
     ensures ok { OnOk result ((memory.new.ready ≡ Some mem)
         × (length memory.old.cursors.retired + length (arrays_in levels.now)
         ≤ memory.new.cursors.room)) }
     ensures same { memory.new ≡ prepared memory.old memory.new.ready memory.new.cursors.room }
 {
     memory.prepare(alloc, mem)?;
-    let arrays = count_arrays(levels)?;
-    memory.reserve_retired(arrays)
+    memory.reserve_retired(count_arrays(levels))
 }
 
 /// Keeps those of these arrays that a cursor names. O(arrays * arrays of all cursors), and no memory.
@@ -333,7 +348,8 @@ fn settle<D: Disk>(held: &mut Recovered, next: Next, disk: &mut D) -> Result<(),
 
 /// Empties the journal into the levels: level 0 and the shallow levels become one new level, and the manifest after that
 /// takes the place of the last one. Memory is taken before the superblock is laid: where it runs out the store is as it
-/// was. `NoMemory` also stands for a disk with too few free blocks. `Damaged` names a block of the store's arrays that
+/// was. `NoMemory` also stands for a disk with too few free blocks. `Unfit`: a bound was reached that no store reaches which
+/// stands on its disk; the store is as it was, too. `Damaged` names a block of the store's arrays that
 /// is no block of entries, or is out of order: no store that stands on its disk has one. After `Device` only another
 /// opening can tell which contents the disk holds: they mean the same table. It reads each block of the arrays twice at
 /// most, writes the new arrays' blocks and those of the manifest once each, and takes five syncs at most.
@@ -341,9 +357,9 @@ pub(crate) fn publish<D: Disk>(
     alloc: Global,
     held: &mut Recovered,
     disk: &mut D,
-) -> Result<(), Trouble>
-    requires kept { (cached : Blocks) → IsConsistent (held_of held.old cached) }
-    requires len { length held.old.journal.list ≡ held.old.sb.mem }
+) -> Result<(), Obstacle>
+    requires kept { ((cached : Blocks) → IsConsistent (held_of held.old cached))
+        × (length held.old.journal.list ≡ held.old.sb.mem) }
     ensures ok { OnOk result ((x : Contents) (cached : Blocks)
         → StandsWith (D.view disk.old) (held_of held.old cached) x
         → IsPublishedAs (D.view disk.new) x (held_of held.new cached)
@@ -356,10 +372,10 @@ pub(crate) fn publish<D: Disk>(
         × (held.new.journal.list ≡ [])
         × (held.new.memory ≡ record (emptied held.old.sb.mem held.old.memory)
         { cursors = held.new.memory.cursors })) }
-    ensures end { (IsErrOf result trouble.Device → ⊥) → (cached : Blocks)
+    ensures end { (IsErrOf result Device → ⊥) → (cached : Blocks)
         → IsOnDisk (D.view disk.old) (held_of held.old cached)
         → IsOnDisk (D.view disk.new) (held_of held.new cached) }
-    ensures none { IsErrOf result trouble.NoMemory → (x : Contents) (cached : Blocks)
+    ensures none { RanShort result → (x : Contents) (cached : Blocks)
         → StandsWith (D.view disk.old) (held_of held.old cached) x
         → StandsWith (D.view disk.new) (held_of held.new cached) x }
     ensures trail { (x : Contents) (cached : Blocks)
@@ -372,12 +388,14 @@ pub(crate) fn publish<D: Disk>(
         → IsConsistent (held_of held.new cached) }
     ensures same { (held.new.sb.mem ≡ held.old.sb.mem)
         × (held.new.memory.parents ≡ held.old.memory.parents)
-        × (IsErrOf result trouble.NoMemory → (held.new.journal ≡ held.old.journal)
+        × (RanShort result → (held.new.journal ≡ held.old.journal)
         × (held.new.memory ≡ prepared held.old.memory held.new.memory.ready
         held.new.memory.cursors.room))
         × OnErr result ((cached : Blocks)
         → KeepsPublished (held_of held.old cached) (held_of held.new cached)
         × KeepsCursors (held_of held.old cached) (held_of held.new cached)) }
+    ensures err { IsErrOf result obstacle.Unfit → (x : Contents) (cached : Blocks)
+        → StandsWith (D.view disk.old) (held_of held.old cached) x → ⊥ }
     ensures images { Passes (D.view disk.old) (D.view disk.new)
         × ((f g : Image) → Exposes (D.view disk.old) f → Exposes (D.view disk.new) g
         → AgreeOn (blocks_listed (arrays_held held.old.memory held.old.published.levels)) f g) }

@@ -1,6 +1,6 @@
 //! A publication: the next contents of a store take the place of those that stand on its disk.
 
-ghost use Rattle.std.specs.Prelude.{IsTrue, ◌≡◌, ◌≤◌, ◌<◌, ℕ, List, [], ◌∷◌, ◌++◌, Option, IsSome, IfOk, OnOk, OnErr, IsErrOf};
+ghost use Rattle.std.specs.Prelude.{IsTrue, ◌≡◌, ◌≤◌, ◌<◌, ℕ, List, [], ◌∷◌, ◌++◌, Option, length, IsSome, IfOk, OnOk, OnErr, IsErrOf};
 ghost use Rattle.strat_base.specs.declared.descriptors.Extent.{Extent as TheExtent};
 ghost use Rattle.strat_base.specs.declared.descriptors.LevelDesc.{LevelDesc as TheLevel};
 ghost use Rattle.strat_base.specs.declared.failures.Trouble.TheVariants.{NoMemory, Device, Damaged};
@@ -12,7 +12,7 @@ ghost use Rattle.strat_crash.specs.Trail.{Trail};
 ghost use Rattle.strat_extent.specs.Blocks.{is_free};
 ghost use Rattle.strat_extent.specs.Change.{IsMarked, SameBlocks, AreLowest};
 ghost use Rattle.strat_format.specs.Arrays.{blocks_of};
-ghost use Rattle.strat_format.specs.Manifest.{is_lawful_manifest};
+ghost use Rattle.strat_format.specs.Manifest.{is_lawful_manifest, manifest_bytes};
 ghost use Rattle.strat_format.specs.SuperBlock.{IsLawful};
 ghost use Rattle.strat_gate.specs.SuperView.{super_of};
 ghost use Rattle.strat_journal.specs.Log.{region_begun};
@@ -33,21 +33,23 @@ use strat_disk::Disk;
 use strat_extent::Space;
 use strat_gate::{SuperBlock, lay};
 use strat_journal::Journal;
-use strat_manifest::{Manifest, is_writable, write};
+use strat_manifest::{Manifest, write};
 
 /// Most blocks of a manifest's chain.
 const CHAIN_MOST: u32 = 1 << 20;
 
 /// Writes the next manifest into the lowest free blocks, and gives its first block, its length in bytes and its blocks: one
 /// write a block, and no sync. It takes all memory before the first write. After an error the blocks that were taken are
-/// free again. `NoMemory` also stands for a disk with too few free blocks, and for a manifest that has no spelling.
+/// free again. `NoMemory` also stands for a disk with too few free blocks.
 pub(crate) fn write_next<D: Disk>(
     alloc: Global,
     disk: &mut D,
     space: &mut Space,
     m: &Manifest,
 ) -> Result<(u32, u32, Extents), Trouble>
-    requires room { 1 ≤ space.old.first }
+    requires kept { IsTrue (is_lawful_manifest (manifest_of m.now)) }
+    requires fits { (length (manifest_bytes (manifest_of m.now)) ≤ 4290772992)
+        × (1 ≤ space.old.first) }
     ensures ok { IfOk result (λ r. IsSome (D.view disk.old).content → (g : Image)
         → Exposes (D.view disk.new) g → (new : Contents)
         → IsWrittenTo r.0 r.1 r.2 (manifest_of m.now) new → HasManifest g new) }
@@ -60,7 +62,7 @@ pub(crate) fn write_next<D: Disk>(
         → IsSpaceOf space.old old (extents_of (arrays_made made) ++ others)
         → IsSpaceOf space.new new (gone ++ (extents_of (arrays_in taken) ++ others))) }
     ensures fits { IfOk result (λ r. (space.old.first ≤ r.0) × (r.0 < 4294967295)
-        × (29 ≤ r.1) × IsTrue (is_lawful_manifest (manifest_of m.now))) }
+        × (29 ≤ r.1)) }
     ensures images { TearsBlocks (is_free space.old) (D.view disk.old) (D.view disk.new) }
     ensures err { OnErr result (SameBlocks space.old space.new) }
     ensures same { IsErrOf result NoMemory → disk.new ≡ disk.old }
@@ -68,7 +70,7 @@ pub(crate) fn write_next<D: Disk>(
     ensures damaged { (b : ℕ) → IsErrOf result (Damaged b) → ⊥ }
     ensures reads { D.reads disk.new ≡ D.reads disk.old }
 {
-    if space.free() < CHAIN_MOST || !is_writable(m) {
+    if space.free() < CHAIN_MOST {
         return Err(Trouble::NoMemory);
     }
     write(alloc, disk, space, m)

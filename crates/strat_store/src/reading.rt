@@ -1,11 +1,15 @@
 //! Reading a store without opening it: what recovery finds is taken into memory, and nothing is written.
 
-ghost use Rattle.std.specs.Prelude.{◌≡◌, ◌≤◌, ◌+◌, ℕ, length, Ok, Err, Some, None, IfOk, IsErrOf};
+ghost use Rattle.std.specs.Prelude.{◌≡◌, ◌≤◌, ◌+◌, ℕ, length, filter_map, Ok, Err, Some, None, IfOk, IsErrOf};
 ghost use Rattle.strat_crash.specs.Faults.{HasCause, ReadsAtMost};
 ghost use Rattle.strat_crash.specs.Image.{Image};
 ghost use Rattle.strat_crash.specs.Moments.{Exposes, OnlyReads};
 ghost use Rattle.strat_format.specs.Chain.{chain_length};
 ghost use Rattle.strat_format.specs.Layout.{region_blocks};
+ghost use Rattle.strat_base.specs.Tree.{IsTree};
+ghost use Rattle.strat_level.specs.Memtable.{entries_held, ListStands};
+ghost use Rattle.strat_state.specs.Setting.{set_all};
+ghost use Rattle.strat_state.specs.State.{update_of};
 ghost use Rattle.strat_gate.specs.SuperView.{super_of};
 ghost use Rattle.strat_manifest.specs.ManifestView.{manifest_of};
 ghost use Rattle.strat_recovery.specs.Head.{head_versions, journal_count, head_changes, head_updates};
@@ -16,9 +20,12 @@ use crate::opening::{AttachFault, sync_first};
 use crate::recovering::{Recovered, recover_store};
 use std::alloc::Global;
 use std::marker::Model;
+use strat_arena::ArenaPool;
 use strat_disk::Disk;
 use strat_gate::SuperBlock;
+use strat_level::ZeroView;
 use strat_manifest::Manifest;
+use strat_tree::Tree;
 
 /// A store that was read and is not open: what recovery finds of it, beside the blocks of its arrays. It is seen as that
 /// head. Each of its calls is O(1) and takes no memory.
@@ -82,6 +89,24 @@ impl Reading {
         ensures ok { result ≡ length self.now.journal }
     {
         self.found.journal.count()
+    }
+
+    /// The versions, those that the journal made among them.
+    pub fn tree(&self) -> &Tree
+        ensures ok { (result.now.parents ≡ head_versions self.now) × IsTree result.now.parents }
+    {
+        let (_, _, tree) = self.found.memory.parts();
+        tree
+    }
+
+    /// Level 0, which has what the journal's updates leave, and the pool that has its keys and values.
+    pub fn zero(&self) -> (&ZeroView, &ArenaPool)
+        ensures ok { entries_held result.1.now result.0.now
+            ≡ set_all (filter_map update_of self.now.journal) }
+        ensures kept { ListStands result.1.now result.0.now }
+    {
+        let (zero, pool, _) = self.found.memory.parts();
+        (zero.view(), pool)
     }
 
     /// How many of the journal's changes are updates.

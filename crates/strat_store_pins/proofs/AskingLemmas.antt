@@ -14,12 +14,12 @@ use Rattle.strat_base.specs.declared.descriptors.ArrayDesc.{ArrayDesc}
 use Rattle.strat_crash.specs.Image.{over, window}
 use Rattle.strat_cursor.proofs.PickLemmas.{only}
 use Rattle.strat_cursor.specs.Looking.{arrays_asked, levels_there}
-use Rattle.strat_format.specs.Arrays.{blocks_of, entries_on}
+use Rattle.strat_format.specs.Arrays.{block_on, blocks_of, entries_on}
 use Rattle.strat_format.specs.Block.{block_bytes, block_in, entries_in}
 use Rattle.strat_recovery.specs.Asked.{asked}
 use Rattle.strat_state.specs.LookUp.{first_live}
 use Rattle.strat_store.specs.Ranging.{AreReadAs, IsMapAsked}
-use Rattle.strat_store_pins.specs.Examples.{array_in, children_apart, one_block}
+use Rattle.strat_store_pins.specs.Examples.{array_in, children_apart, one_block, with_cached}
 
 pub seven : entries_on one_block (7 ∷ []) ≡ Some (says 97 1 49 ∷ [])
 unfolding number be window over entry_in entries_in block_bytes block_in entries_on
@@ -86,4 +86,26 @@ map_is = record {
 pub no_map : IsMapAsked one_block children_apart.memory.parents [] children_apart.levels 1 [] → ⊥
 no_map is =
     let none : ◌≡◌ {A = Option (List ℕ)} None (Some (49 ∷ [])) = is.each (97 ∷ []) ∙ asked_is (97 ∷ []) in
+    cc
+
+block_seven : block_on one_block 7 ≡ Some (says 97 1 49 ∷ [])
+unfolding number be window over entry_in entries_in block_bytes block_in
+block_seven = refl
+
+-- a cached block of array 6 stands in the way of no array that is asked at version 1
+pub wrong_reads : AreReadAs one_block (with_cached 6 children_apart) 1
+wrong_reads = record {
+  ordered = one_reads.ordered;
+  cached = λ a index block x at there stands.
+      let other : a ≡ array_in 5 1 7 = only (array_in 5 1 7) a (subst (λ (xs : List ArrayDesc). Contains xs a) asked_one at) in
+      let same : ((a.id, index), x) ≡ ((6, 0), []) = only ((6, 0), []) ((a.id, index), x) there in
+      let five : a.id ≡ 5 = ap (λ (b : ArrayDesc). b.id) other in
+      let six : a.id ≡ 6 = ap (λ (k : (ℕ × ℕ) × List Entry). k.0.0) same in
+      absurd (omega (arith, five, six));
+}
+
+pub wrong_reads_not : AreReadAs one_block (with_cached 5 children_apart) 1 → ⊥
+wrong_reads_not reads =
+    let is : block_on one_block 7 ≡ Some [] = reads.cached (array_in 5 1 7) 0 7 [] (subst (λ (xs : List ArrayDesc). Contains xs (array_in 5 1 7)) (sym asked_one) (0, omega arith, refl)) (0, omega arith, refl) refl in
+    let full : Some [] ≡ Some (says 97 1 49 ∷ []) = sym is ∙ block_seven in
     cc

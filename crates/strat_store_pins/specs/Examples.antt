@@ -68,3 +68,7 @@ children_apart = record {
 -- a disk that has entries in block 7, and in no other
 abbrev pub one_block : Image
 one_block = patch (λ i. 0) 28672 array_block
+
+-- the same store with the first block of an array of a number cached, which has no entry there
+abbrev pub with_cached : ℕ → Held → Held
+with_cached id s = record s { cached = record { entries = ((id, 0), []) ∷ []; cap = 256 } }

@@ -7,7 +7,7 @@ returns-clause-done g c = λ path seed count status x y d e f ran exposed ends.
     let all = work_left status ran.0 ran.1 ends in
     elim (ran.2.left f exposed).made [
       | inl none ↦ absurd (omega (arith, made_none status ran.0 ran.1 (g.D.Viewed.view d) (g.D.Viewed.view e) none, ends))
-      | inr carried ↦ (carried.transcript, carried.run, (carried.all all).0, (carried.all all).1, carried.shows all)
+      | inr carried ↦ (carried.transcript, carried.run, carried.region, (carried.all all).0, (carried.all all).1, carried.shows all)
     ]
 
 pub returns-clause-text : goal.returns-clause-text
@@ -20,7 +20,7 @@ returns-clause-left g c = λ path seed count status x y d e f ran exposed.
         | inl device ↦ inl device
         | inr memory ↦ inr (inl memory)
       ]
-      | inr carried ↦ inr (inr (carried.transcript, carried.run, carried.front, carried.follows.left))
+      | inr carried ↦ inr (inr (carried.transcript, carried.run, carried.region, carried.front, carried.follows.left))
     ]
 
 pub returns-clause-trail : goal.returns-clause-trail
@@ -30,7 +30,7 @@ returns-clause-trail g c = λ path seed count status x y d e f ran exposed.
         made_none status ran.0 ran.1 (g.D.Viewed.view d) (g.D.Viewed.view e) none,
         λ blank i since. none_or_shown 64 16777216 16384 i (none.moments blank i since),
       )
-      | inr carried ↦ inr (carried.transcript, carried.run, goes_new (g.D.Viewed.view d) (g.D.Viewed.view e) carried.transcript carried.follows)
+      | inr carried ↦ inr (carried.transcript, carried.run, carried.region, goes_new (g.D.Viewed.view d) (g.D.Viewed.view e) carried.transcript carried.follows)
     ]
 
 pub returns-clause-space : goal.returns-clause-space

@@ -16,7 +16,7 @@ returns-in-Ok-clause-ok g c =
     answered (g.D.Disk.view c.args.disk.now) (g.D.Disk.view c.apply-reply.new.disk) c.args.store.now c.apply-reply.new.self c.args.body.now c.in-Ok.tag request c.apply-reply.result c.apply-reply.new.out
     c.in-Ok.ensures.ok c.fault_told.result c.write_reply.new.out c.fault_told.ensures c.write_reply.ensures.ok
     (record { request = request; spelled = c.in-Ok.ensures.ok; found = c.apply-reply.ensures.found; same = c.apply-reply.ensures.same.1; err = c.apply-reply.ensures.cause.1; leaves = c.apply-reply.ensures.same.2; cursors = c.apply-reply.ensures.same.3; few = c.apply-reply.ensures.len.0 })
-    c.apply-reply.ensures.ok (λ x stands. (c.apply-reply.ensures.trail x stands).0)
+    c.requires.kept c.apply-reply.ensures.ok (λ x stands. (c.apply-reply.ensures.trail x stands).0)
 
 pub returns-in-Err-clause-ok : goal.returns-in-Err-clause-ok
 returns-in-Err-clause-ok g c =

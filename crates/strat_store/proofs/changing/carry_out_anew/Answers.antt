@@ -1,10 +1,12 @@
 use Rattle.std.proofs.Common.{◌≡◌, ◌∙◌, length, Err, ap, sym, arith}
 use Rattle.std.specs.Prelude.{Result, IsErrOf}
-use Rattle.strat_base.specs.declared.failures.Trouble.{Trouble}
-use Rattle.strat_base.specs.declared.failures.Trouble.TheVariants as trouble
 use Rattle.strat_model.specs.Answer.{accepts}
 use Rattle.strat_model.specs.declared.replies.Refusal.TheVariants as why
 use Rattle.strat_model.specs.declared.replies.Reply.TheVariants as reply
+use Rattle.strat_promote.specs.Obstacles.{told_as}
+use Rattle.strat_promote.specs.declared.obstacle.Obstacle.{Obstacle}
+use Rattle.strat_promote.specs.declared.obstacle.Obstacle.TheVariants.{Device}
+use Rattle.strat_store.proofs.ObstacleLemmas.{damaged_told}
 use Rattle.strat_store.specs.Recovering.{empty_cache, held_after, held_of}
 use Rattle.strat_store.proofs.ChangingLemmas.{rows_stay}
 use Rattle.strat_store.proofs.LeavingLemmas.{both_keep, cursors_left, cursors_published, gives_up, has_published, holds_the_same, opened_after, renews, rows_renewed, troubled}
@@ -13,24 +15,24 @@ use Rattle.strat_store.proofs.RenewingLemmas.{calm_short, short_of, told_up, ren
 use Rattle.strat_store.proofs.changing.carry_out_anew.Goals as goal
 
 -- a trouble that came is the trouble of the call
-handed : {T : Type 0} {t u : Trouble} → t ≡ u → IsErrOf {T = T} (Err t) u
+handed : {T : Type 0} {t u : Obstacle} → t ≡ u → IsErrOf {T = T} (Err t) u
 handed same = λ i. Err (same i)
 
-pub publish-requires-clause-len : goal.publish-requires-clause-len
-publish-requires-clause-len g c = omega (arith, c.requires.room, (c.requires.kept (empty_cache 0)).lawful.mem_least)
+pub publish-requires : goal.publish-requires
+publish-requires g c = record { kept = (c.requires.kept, omega (arith, c.requires.room, (c.requires.kept (empty_cache 0)).lawful.mem_least)) }
 
 pub returns-in-Err-clause-ok : goal.returns-in-Err-clause-ok
 returns-in-Err-clause-ok g c x cached stands =
     told_up c.args.held.now cached (c.requires.kept cached) (g.D.Disk.view c.args.disk.now) x stands _ c.requires.none c.requires.room c.publish.new.held (g.D.Disk.view c.publish.new.disk)
-    c.in-Err.trouble c.refusal_of.result c.refusal_of.ensures.ok (λ short. c.in-Err.ensures.none (handed short) x cached stands) (λ short. (c.in-Err.ensures.same.2 (handed short)).0)
-    (λ b bad. (c.in-Err.ensures.damaged b (handed bad)).1 x cached stands)
+    (told_as c.in-Err.obstacle) c.refusal_of.result c.refusal_of.ensures.ok (λ short. c.in-Err.ensures.none short x cached stands) (λ short. (c.in-Err.ensures.same.2 short).0)
+    (λ b bad. (c.in-Err.ensures.damaged b (handed (damaged_told c.in-Err.obstacle b bad))).1 x cached stands)
 
 pub returns-in-Err-clause-trail : goal.returns-in-Err-clause-trail
 returns-in-Err-clause-trail g c x cached stands =
     trail_so_far (g.D.Disk.view c.args.disk.now) (g.D.Disk.view c.publish.new.disk) x _ (c.publish.ensures.trail x cached stands).0
 
 pub returns-in-Err-clause-kept : goal.returns-in-Err-clause-kept
-returns-in-Err-clause-kept g c calm = c.in-Err.ensures.kept (calm_short c.in-Err.trouble c.refusal_of.result c.refusal_of.ensures.ok calm)
+returns-in-Err-clause-kept g c calm = c.in-Err.ensures.kept (calm_short (told_as c.in-Err.obstacle) c.refusal_of.result c.refusal_of.ensures.ok calm)
 
 pub carry_out-requires-clause-kept : goal.carry_out-requires-clause-kept
 carry_out-requires-clause-kept g c = c.in_default.ensures.kept tt
@@ -56,8 +58,8 @@ returns-clause-trail g c x cached stands =
 pub returns-in-Err-clause-end : goal.returns-in-Err-clause-end
 returns-in-Err-clause-end g c = λ cached.
     let keeps = c.in-Err.ensures.same.3 cached in (
-      gives_up (g.D.Disk.view c.args.disk.now) (g.D.Disk.view c.publish.new.disk) c.args.held.now c.publish.new.held cached c.in-Err.trouble c.refusal_of.result c.refusal_of.ensures.ok
-          keeps.0 (λ other. c.in-Err.ensures.end (λ e. other (let x : ◌≡◌ {A = Result _ Trouble} (Err c.in-Err.trouble) (Err trouble.Device) = e in cc)) cached)
+      gives_up (g.D.Disk.view c.args.disk.now) (g.D.Disk.view c.publish.new.disk) c.args.held.now c.publish.new.held cached (told_as c.in-Err.obstacle) c.refusal_of.result c.refusal_of.ensures.ok
+          keeps.0 (λ other. c.in-Err.ensures.end (λ e. other (let x : ◌≡◌ {A = Result _ Obstacle} (Err c.in-Err.obstacle) (Err Device) = e in let same : c.in-Err.obstacle ≡ Device = cc in ap told_as same)) cached)
           (λ x stands. (c.publish.ensures.trail x cached stands).1 (omega (arith, c.requires.room))) c.publish.ensures.images.1,
       cursors_left (held_of c.args.held.now cached) (held_after c.publish.new.held cached (reply.Refused c.refusal_of.result)) _ _ keeps.1,
     )
@@ -90,10 +92,10 @@ pub returns-in-Err-clause-same : goal.returns-in-Err-clause-same
 returns-in-Err-clause-same g c = (
   c.publish.ensures.same.0,
   λ e. absurd (cc),
-  troubled c.in-Err.trouble c.refusal_of.result c.refusal_of.ensures.ok,
+  troubled (told_as c.in-Err.obstacle) c.refusal_of.result c.refusal_of.ensures.ok,
   rows_stay c.args.held.now.memory c.publish.new.held.memory c.publish.ensures.same.1,
   λ short cached.
-      let both = c.in-Err.ensures.same.2 (handed (short_of c.in-Err.trouble c.refusal_of.result c.refusal_of.ensures.ok short)) in
+      let both = c.in-Err.ensures.same.2 (short_of (told_as c.in-Err.obstacle) c.refusal_of.result c.refusal_of.ensures.ok short) in
       holds_the_same c.args.held.now c.publish.new.held cached (reply.Refused c.refusal_of.result) (c.in-Err.ensures.same.3 cached).0 both.0 both.1,
 )
 

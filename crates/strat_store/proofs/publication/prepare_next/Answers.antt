@@ -1,12 +1,16 @@
-use Rattle.std.proofs.Common.{sym, ap, ◌∙◌}
+use Rattle.std.proofs.Common.{ℕ, sym, ap, subst, ◌∙◌}
 use Rattle.std.proofs.lemmas.Result.{err_from_is_err_and}
+use Rattle.strat_array.proofs.SearchLemmas.{err_of}
+use Rattle.strat_format.specs.Arrays.{blocks_of}
 use Rattle.strat_format.specs.Chained.{Chained}
 use Rattle.strat_journal.proofs.ReadLemmas.{same_err}
 use Rattle.strat_manifest.specs.ManifestView.{manifest_of}
 use Rattle.strat_store.specs.Publishing.{manifest_after}
+use Rattle.strat_store.specs.Settling.{StandApart}
 use Rattle.strat_store.specs.Recovering.{held_of, empty_cache}
 use Rattle.strat_store.proofs.OnDiskLemmas.{written_as}
-use Rattle.strat_store.proofs.SettlingLemmas.{numbered_from, readied_as}
+use Rattle.strat_store.proofs.ObstacleLemmas.{short_block, short_cause}
+use Rattle.strat_store.proofs.SettlingLemmas.{may_admit, numbered_from, readied_as}
 use Rattle.strat_store.proofs.publication.prepare_next.Goals as goal
 
 pub admit_next-requires-clause-kept : goal.admit_next-requires-clause-kept
@@ -14,7 +18,7 @@ admit_next-requires-clause-kept g c = ((c.requires.kept (empty_cache 0)).lawful,
 
 pub returns-clause-ok : goal.returns-clause-ok
 returns-clause-ok g c = λ x cached stands.
-    readied_as (g.D.Disk.view c.compute_beside.new.disk) (held_of c.args.held.now cached) x _ _ _ _ c.in_ok-next.ensures.ok.0 c.in_ok-next.ensures.found (c.in_ok-computed.ensures.ok x cached stands)
+    readied_as (g.D.Disk.view c.compute_beside.new.disk) (held_of c.args.held.now cached) x _ _ _ _ c.in_ok-next.ensures.ok.0 c.in_ok-next.ensures.found (c.in_ok-computed.ensures.ok x cached stands).0
 
 pub returns-clause-found : goal.returns-clause-found
 returns-clause-found g c = record {
@@ -35,3 +39,28 @@ pub returns-in_err-computed-clause-damaged : goal.returns-in_err-computed-clause
 returns-in_err-computed-clause-damaged g c = λ b torn.
     let p = err_from_is_err_and c.from_residual.result c.from_residual.ensures.1 in
     c.in_err-computed.ensures.damaged b (same_err c.from_residual.result p.0 _ _ p.1 p.2 torn)
+
+pub returns-in_err-computed-clause-err : goal.returns-in_err-computed-clause-err
+returns-in_err-computed-clause-err g c = λ unfit. c.in_err-computed.ensures.err (err_of c.from_residual.result _ _ c.from_residual.ensures.1 unfit)
+
+pub returns-in_err-next-clause-err : goal.returns-in_err-next-clause-err
+returns-in_err-next-clause-err g c = λ unfit x cached stands.
+    let ready = c.in_ok-computed.ensures.ok x cached stands in
+    c.in_err-next.ensures.err (err_of c.from_residual-in_err-next.result _ _ c.from_residual-in_err-next.ensures.1 unfit)
+    (may_admit (g.D.Disk.view c.compute_beside.new.disk) (held_of c.args.held.now cached) x _ _ _ (c.requires.kept cached) ready.0 ready.1)
+
+pub returns-in_err-next-clause-cause : goal.returns-in_err-next-clause-cause
+returns-in_err-next-clause-cause g c = short_cause c.from_residual-in_err-next.result _ c.from_residual-in_err-next.ensures.1 c.in_err-next.ensures.cause _ _ c.in_ok-computed.ensures.cause.ok
+
+pub returns-in_err-next-clause-damaged : goal.returns-in_err-next-clause-damaged
+returns-in_err-next-clause-damaged g c = λ b bad. absurd (short_block c.from_residual-in_err-next.result _ c.from_residual-in_err-next.ensures.1 c.in_err-next.ensures.cause b bad)
+
+pub returns-clause-kept : goal.returns-clause-kept
+returns-clause-kept g c = (
+  c.in_ok-next.ensures.kept,
+  λ cached.
+      let apart = c.in_ok-computed.ensures.room cached in
+      let y : Chained = record { manifest = manifest_of c.in_ok-computed.computed.manifest; blocks = blocks_of c.in_ok-computed.computed.chain } in
+      subst (λ (y : Chained). StandApart c.in_ok-next.next.target (held_of c.args.held.now cached) y) (sym c.in_ok-next.ensures.found)
+      (subst (λ (n : ℕ). StandApart n (held_of c.args.held.now cached) y) (sym c.in_ok-next.ensures.ok.2) apart),
+)

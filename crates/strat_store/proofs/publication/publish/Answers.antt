@@ -1,6 +1,8 @@
-use Rattle.std.proofs.Common.{◌∙◌, ◌≡◌, ◌<◌, ℕ, Result, Err, refl, sym, ap, subst, arith}
+use Rattle.std.proofs.Common.{◌∙◌, ◌≡◌, ◌<◌, ℕ, List, length, Result, Err, IsErrAnd, refl, sym, ap, subst, arith}
 use Rattle.std.proofs.lemmas.Result.{err_from_is_err_and}
-use Rattle.strat_base.specs.declared.failures.Trouble.{Trouble}
+use Rattle.std.specs.Prelude.{IsErrOf}
+use Rattle.strat_array.proofs.SearchLemmas.{err_of}
+use Rattle.strat_base.specs.declared.descriptors.LevelDesc.{LevelDesc}
 use Rattle.strat_base.specs.declared.failures.Trouble.TheVariants as trouble
 use Rattle.strat_crash.proofs.MomentLemmas.{passes_trans, reads_refl}
 use Rattle.strat_crash.specs.Blocks.{TearsBlocks}
@@ -8,7 +10,12 @@ use Rattle.strat_format.specs.SuperBlock.{Super}
 use Rattle.strat_gate.specs.SuperView.{super_of}
 use Rattle.strat_journal.proofs.ReadLemmas.{same_err}
 use Rattle.strat_manifest.specs.ManifestView.{manifest_of}
+use Rattle.strat_promote.proofs.ObstacleLemmas.{short_fit}
 use Rattle.strat_promote.proofs.OpeningLemmas.{on_err}
+use Rattle.strat_promote.specs.Obstacles.{told_as}
+use Rattle.strat_promote.specs.declared.obstacle.Obstacle.{Obstacle}
+use Rattle.strat_promote.specs.declared.obstacle.Obstacle.TheVariants.{Device, Unfit}
+use Rattle.strat_standing.specs.Occupied.{arrays_in}
 use Rattle.strat_promote.specs.Job.{blocks_listed}
 use Rattle.strat_standing.specs.Standing.{ShowsTable}
 use Rattle.strat_store.specs.Applying.{IsPublishedAs}
@@ -19,19 +26,32 @@ use Rattle.strat_store.specs.Recovering.{held_of, empty_cache, chained_of}
 use Rattle.strat_store.proofs.SettlingLemmas.{unwritten}
 use Rattle.strat_store.proofs.OnDiskLemmas.{kept_on, beside_on, published_on}
 use Rattle.strat_store.proofs.PayingLemmas.{paid_beside, paid_then, counts_next}
+use Rattle.strat_store.proofs.WholeLemmas.{arrays_few}
 use Rattle.strat_store.proofs.SettledLemmas.{consistent_ready, stands_ready, still_ready, room_ready, damaged_ready, agree_once, agree_ready, trail_beside, stands_beside, arrays_kept, arrays_stay, one_trail, published_as, consistent_next, found_next}
 use Rattle.strat_store.proofs.publication.publish.Goals as goal
 
--- a fault of the device is no want of memory
-device_short : {T : Type 0} (r : Result T Trouble) (t : Trouble) → r ≡ Err t → t ≡ trouble.Device → r ≡ Err trouble.NoMemory → ⊥
-device_short r t is device short =
-    let both : ◌≡◌ {A = Result _ Trouble} (Err t) (Err trouble.NoMemory) = sym is ∙ short in
-    let same : t ≡ trouble.NoMemory = cc in
-    let none : trouble.Device ≡ trouble.NoMemory = sym device ∙ same in
+-- a fault of the device is not told as want of memory, and no bound was reached
+device_short : {T : Type 0} (r : Result T Obstacle) → IsErrAnd r (λ e. e ≡ Device) → IsErrAnd r (λ e. told_as e ≡ trouble.NoMemory) → ⊥
+device_short r told short =
+    let p = err_from_is_err_and r told in
+    let here : told_as p.0 ≡ trouble.NoMemory = subst (λ (x : Result _ Obstacle). IsErrAnd x (λ e. told_as e ≡ trouble.NoMemory)) p.1 short in
+    let none : trouble.Device ≡ trouble.NoMemory = sym (ap told_as p.2) ∙ here in
+    cc
+
+device_fit : {T : Type 0} (r : Result T Obstacle) → IsErrAnd r (λ e. e ≡ Device) → IsErrOf r Unfit → ⊥
+device_fit r told unfit =
+    let p = err_from_is_err_and r told in
+    let same : Err p.0 ≡ Err Unfit = sym p.1 ∙ unfit in
+    let e : p.0 ≡ Unfit = cc in
+    let both : Device ≡ Unfit = sym p.2 ∙ e in
     cc
 
 pub make_room-requires : goal.make_room-requires
-make_room-requires g c = let lawful = (c.requires.kept (empty_cache 0)).lawful in record { fits = (lawful.mem_least, lawful.mem_most) }
+make_room-requires g c =
+    let whole = c.requires.kept.0 (empty_cache 0) in
+    let few = arrays_few (held_of c.args.held.now (empty_cache 0)) whole in
+    let same = ap (λ (ls : List LevelDesc). length (arrays_in ls)) c.as_slice.ensures.ok in
+    record { fits = (whole.lawful.mem_least, whole.lawful.mem_most); len = omega (arith, few, same) }
 
 pub returns-in_err-make_room-clause-none : goal.returns-in_err-make_room-clause-none
 returns-in_err-make_room-clause-none g c = λ short x cached stands. stands_ready (g.D.Disk.view c.args.disk.now) (held_of c.args.held.now cached) x c.make_room.new.memory stands
@@ -43,10 +63,21 @@ returns-in_err-make_room-clause-trail g c = λ x cached stands.
     (trail_beside v v (held_of c.args.held.now cached) x stands still, λ full paid. paid_beside v v (held_of c.args.held.now cached) x stands still paid)
 
 pub returns-in_err-make_room-clause-kept : goal.returns-in_err-make_room-clause-kept
-returns-in_err-make_room-clause-kept g c = λ short cached. consistent_ready (held_of c.args.held.now cached) c.make_room.new.memory.ready c.make_room.new.memory.cursors.room c.make_room.new.memory c.make_room.ensures.same (c.requires.kept cached)
+returns-in_err-make_room-clause-kept g c = λ short cached. consistent_ready (held_of c.args.held.now cached) c.make_room.new.memory.ready c.make_room.new.memory.cursors.room c.make_room.new.memory c.make_room.ensures.same (c.requires.kept.0 cached)
+
+pub returns-in_err-make_room-clause-err : goal.returns-in_err-make_room-clause-err
+returns-in_err-make_room-clause-err g c = λ unfit. absurd (short_fit c.from_residual.result c.from_residual.ensures.1 unfit)
+
+pub returns-in_err-next-clause-err : goal.returns-in_err-next-clause-err
+returns-in_err-next-clause-err g c = λ unfit x cached stands.
+    c.in_err-next.ensures.err (err_of c.from_residual-in_err-next.result _ _ c.from_residual-in_err-next.ensures.1 unfit) x cached
+    (stands_ready (g.D.Disk.view c.args.disk.now) (held_of c.args.held.now cached) x c.make_room.new.memory stands)
+
+pub returns-in_err-settle-clause-err : goal.returns-in_err-settle-clause-err
+returns-in_err-settle-clause-err g c = λ unfit. absurd (device_fit c.from_residual-in_err-settle.result c.from_residual-in_err-settle.ensures.1 unfit)
 
 pub prepare_next-requires-clause-kept : goal.prepare_next-requires-clause-kept
-prepare_next-requires-clause-kept g c = λ cached. consistent_ready (held_of c.args.held.now cached) c.make_room.new.memory.ready c.make_room.new.memory.cursors.room c.make_room.new.memory c.make_room.ensures.same (c.requires.kept cached)
+prepare_next-requires-clause-kept g c = λ cached. consistent_ready (held_of c.args.held.now cached) c.make_room.new.memory.ready c.make_room.new.memory.cursors.room c.make_room.new.memory c.make_room.ensures.same (c.requires.kept.0 cached)
 
 pub returns-in_err-next-clause-none : goal.returns-in_err-next-clause-none
 returns-in_err-next-clause-none g c = λ short x cached stands.
@@ -65,7 +96,7 @@ returns-in_err-next-clause-trail g c = λ x cached stands.
     )
 
 pub returns-in_err-next-clause-kept : goal.returns-in_err-next-clause-kept
-returns-in_err-next-clause-kept g c = λ short cached. consistent_ready (held_of c.args.held.now cached) c.make_room.new.memory.ready c.make_room.new.memory.cursors.room c.make_room.new.memory c.make_room.ensures.same (c.requires.kept cached)
+returns-in_err-next-clause-kept g c = λ short cached. consistent_ready (held_of c.args.held.now cached) c.make_room.new.memory.ready c.make_room.new.memory.cursors.room c.make_room.new.memory c.make_room.ensures.same (c.requires.kept.0 cached)
 
 pub returns-in_err-next-clause-damaged : goal.returns-in_err-next-clause-damaged
 returns-in_err-next-clause-damaged g c = λ b torn.
@@ -85,7 +116,7 @@ settle-requires-clause-room g c =
 
 pub settle-requires-clause-fits : goal.settle-requires-clause-fits
 settle-requires-clause-fits g c =
-    let whole = c.requires.kept (empty_cache 0) in
+    let whole = c.requires.kept.0 (empty_cache 0) in
     (whole.slot, let active = whole.log.active in let most = whole.lawful.region_most in omega (arith, active, most), (c.in_ok-next.ensures.fits (empty_cache 0)).lawful)
 
 pub settle-requires-clause-same : goal.settle-requires-clause-same
@@ -110,7 +141,7 @@ returns-clause-ok g c = λ x cached stands.
     let v = g.D.Disk.view c.args.disk.now in
     let mid = record c.args.held.now { memory = c.make_room.new.memory } in
     let here = stands_ready v (held_of c.args.held.now cached) x c.make_room.new.memory stands in
-    let whole = consistent_ready (held_of c.args.held.now cached) c.make_room.new.memory.ready c.make_room.new.memory.cursors.room c.make_room.new.memory c.make_room.ensures.same (c.requires.kept cached) in
+    let whole = consistent_ready (held_of c.args.held.now cached) c.make_room.new.memory.ready c.make_room.new.memory.cursors.room c.make_room.new.memory c.make_room.ensures.same (c.requires.kept.0 cached) in
     let ready = c.in_ok-next.ensures.ok x cached here in
     let next = c.in_ok-next.next in
     let front = subst (λ (n : ℕ). TearsBlocks (is_in_front n) (g.D.Disk.view c.prepare_next.new.disk) (g.D.Disk.view c.settle.new.disk)) whole.log.mem c.settle.ensures.images in
@@ -138,11 +169,11 @@ returns-clause-trail g c = λ x cached stands.
 pub returns-clause-kept : goal.returns-clause-kept
 returns-clause-kept g c = λ _ cached.
     let mid = record c.args.held.now { memory = c.make_room.new.memory } in
-    let whole = consistent_ready (held_of c.args.held.now cached) c.make_room.new.memory.ready c.make_room.new.memory.cursors.room c.make_room.new.memory c.make_room.ensures.same (c.requires.kept cached) in
+    let whole = consistent_ready (held_of c.args.held.now cached) c.make_room.new.memory.ready c.make_room.new.memory.cursors.room c.make_room.new.memory c.make_room.ensures.same (c.requires.kept.0 cached) in
     let next = c.in_ok-next.next in
-    let admitted = c.in_ok-next.ensures.kept in
+    let admitted = c.in_ok-next.ensures.kept.0 in
     subst IsConsistent (sym (c.in_ok-settle.ensures.ok cached))
-    (consistent_next (held_of mid cached) next.target (super_of next.sb) (chained_of next.published) next.published.levels whole (c.in_ok-next.ensures.fits cached) c.in_ok-next.ensures.found admitted.spelled admitted.belonging admitted.placed)
+    (consistent_next (held_of mid cached) next.target (super_of next.sb) (chained_of next.published) next.published.levels whole (c.in_ok-next.ensures.fits cached) c.in_ok-next.ensures.found admitted.spelled admitted.belonging admitted.placed (c.in_ok-next.ensures.kept.1 cached))
 
 pub returns-clause-found : goal.returns-clause-found
 returns-clause-found g c =
@@ -165,14 +196,14 @@ pub returns-clause-end : goal.returns-clause-end
 returns-clause-end g c = λ other cached on.
     let v = g.D.Disk.view c.args.disk.now in
     let mid = record c.args.held.now { memory = c.make_room.new.memory } in
-    let whole = consistent_ready (held_of c.args.held.now cached) c.make_room.new.memory.ready c.make_room.new.memory.cursors.room c.make_room.new.memory c.make_room.ensures.same (c.requires.kept cached) in
+    let whole = consistent_ready (held_of c.args.held.now cached) c.make_room.new.memory.ready c.make_room.new.memory.cursors.room c.make_room.new.memory c.make_room.ensures.same (c.requires.kept.0 cached) in
     let next = c.in_ok-next.next in
     let found = c.in_ok-next.ensures.found in
     let greater : c.args.held.now.sb.generation < next.sb.generation = omega (arith, ap (λ (sb : Super). sb.generation) found.sb_is) in
     subst (λ (h : Held). IsOnDisk (g.D.Disk.view c.settle.new.disk) h) (sym (c.in_ok-settle.ensures.ok cached))
     (published_on v (g.D.Disk.view c.prepare_next.new.disk) (g.D.Disk.view c.settle.new.disk) (held_of mid cached) next.target (super_of next.sb) (chained_of next.published) next.published.levels
     whole (c.prepare_next.ensures.images cached) c.in_ok-next.ensures.end (g.met.D.Disk.leaves_content c.prepare_next.new.disk) c.in_ok-settle.ensures.end c.settle.ensures.time
-    greater (c.in_ok-next.ensures.fits cached).mem c.in_ok-next.ensures.kept.belonging
+    greater (c.in_ok-next.ensures.fits cached).mem c.in_ok-next.ensures.kept.0.belonging
     (kept_on v (held_of c.args.held.now cached) (held_of mid cached) (record { slot = refl; sb = refl; chained = refl; levels = refl }) on))
 
 pub returns-in_err-make_room-clause-same : goal.returns-in_err-make_room-clause-same
@@ -194,9 +225,7 @@ returns-in_err-settle-clause-same g c =
     let still = still_ready c.args.held.now.memory m c.settle.new.held.memory m.ready m.cursors.room told.0 c.make_room.ensures.same in (
       c.settle.ensures.same,
       still.0,
-      λ short.
-          let p = err_from_is_err_and c.from_residual-in_err-settle.result c.from_residual-in_err-settle.ensures.1 in
-          absurd (device_short c.from_residual-in_err-settle.result p.0 p.1 p.2 short),
+      λ short. absurd (device_short c.from_residual-in_err-settle.result c.from_residual-in_err-settle.ensures.1 short),
       on_err c.from_residual-in_err-settle.result _
           (λ cached. let keeps = told.1 cached in (record { slot = keeps.slot; sb = keeps.sb; chained = keeps.chained; levels = keeps.levels }, still.1)),
     )
@@ -205,7 +234,7 @@ pub returns-clause-same : goal.returns-clause-same
 returns-clause-same g c =
     let m = c.make_room.new.memory in
     let still = still_ready c.args.held.now.memory m m m.ready m.cursors.room refl c.make_room.ensures.same in
-    (c.settle.ensures.same, ap (λ (h : Held). h.memory.parents) (c.in_ok-settle.ensures.ok (empty_cache 0)) ∙ still.0, λ short. absurd (cc), tt)
+    (c.settle.ensures.same, ap (λ (h : Held). h.memory.parents) (c.in_ok-settle.ensures.ok (empty_cache 0)) ∙ still.0, λ short. absurd short, tt)
 
 pub returns-in_err-make_room-clause-images : goal.returns-in_err-make_room-clause-images
 returns-in_err-make_room-clause-images g c = (
@@ -220,14 +249,14 @@ returns-in_err-next-clause-images g c =
       (c.prepare_next.ensures.images (empty_cache 0)).tears.time,
       λ f h was now.
           agree_ready c.args.held.now.memory m m.ready m.cursors.room c.args.held.now.published.levels f h c.make_room.ensures.same
-          (arrays_kept (g.D.Disk.view c.args.disk.now) (g.D.Disk.view c.prepare_next.new.disk) (held_of mid (empty_cache 0)) (c.prepare_next.ensures.images (empty_cache 0)) (c.requires.kept (empty_cache 0)).placed f h was now),
+          (arrays_kept (g.D.Disk.view c.args.disk.now) (g.D.Disk.view c.prepare_next.new.disk) (held_of mid (empty_cache 0)) (c.prepare_next.ensures.images (empty_cache 0)) (c.requires.kept.0 (empty_cache 0)).placed f h was now),
     )
 
 pub returns-in_err-settle-clause-images : goal.returns-in_err-settle-clause-images
 returns-in_err-settle-clause-images g c =
     let m = c.make_room.new.memory in
     let mid = record c.args.held.now { memory = m } in
-    let whole = consistent_ready (held_of c.args.held.now (empty_cache 0)) m.ready m.cursors.room m c.make_room.ensures.same (c.requires.kept (empty_cache 0)) in (
+    let whole = consistent_ready (held_of c.args.held.now (empty_cache 0)) m.ready m.cursors.room m c.make_room.ensures.same (c.requires.kept.0 (empty_cache 0)) in (
       passes_trans (c.prepare_next.ensures.images (empty_cache 0)).tears.time c.settle.ensures.time,
       λ f h was now.
           agree_ready c.args.held.now.memory m m.ready m.cursors.room c.args.held.now.published.levels f h c.make_room.ensures.same
@@ -239,7 +268,7 @@ pub returns-clause-images : goal.returns-clause-images
 returns-clause-images g c =
     let m = c.make_room.new.memory in
     let mid = record c.args.held.now { memory = m } in
-    let whole = consistent_ready (held_of c.args.held.now (empty_cache 0)) m.ready m.cursors.room m c.make_room.ensures.same (c.requires.kept (empty_cache 0)) in (
+    let whole = consistent_ready (held_of c.args.held.now (empty_cache 0)) m.ready m.cursors.room m c.make_room.ensures.same (c.requires.kept.0 (empty_cache 0)) in (
       passes_trans (c.prepare_next.ensures.images (empty_cache 0)).tears.time c.settle.ensures.time,
       λ f h was now.
           agree_ready c.args.held.now.memory m m.ready m.cursors.room c.args.held.now.published.levels f h c.make_room.ensures.same

@@ -1,0 +1,24 @@
+//! Journals up to their last change. Each is the contract of a function that does nothing.
+
+#![tactic(auto, unfolding(strat_base::specs::Numbers::be, strat_base::specs::Numbers::number, strat_base::specs::Change::change_in, strat_crash::specs::Image::window, strat_crash::specs::Image::over, strat_format::specs::Records::records))]
+
+ghost use Rattle.std.specs.Prelude.{◌≡◌, [], ◌∷◌, ◌++◌, map, Ok};
+ghost use Rattle.strat_base.specs.Change.{Clone};
+ghost use Rattle.strat_format.specs.Records.{journal_of};
+ghost use Rattle.strat_pins.specs.Formats.{put_of, with_puts};
+ghost use Rattle.strat_pins.specs.States.{after_puts};
+ghost use Rattle.strat_state.specs.Sound.{Takes};
+
+/// What stands in both regions is the journal, also where both are full.
+pub fn both_regions_may_be_full()
+    ensures ok { journal_of (with_puts (97 ∷ 98 ∷ 99 ∷ 100 ∷ []) (101 ∷ 102 ∷ 103 ∷ 104 ∷ [])) 4 0
+        ≡ Ok (map (λ key. record { change = put_of key; block = 2 }) (97 ∷ 98 ∷ 99 ∷ 100 ∷ [])
+        ++ map (λ key. record { change = put_of key; block = 4 })
+        (101 ∷ 102 ∷ 103 ∷ 104 ∷ [])) }
+{}
+
+/// A sound state takes a change behind five, where a region takes four, and none behind six.
+pub fn a_change_is_taken_while_the_journal_has_room()
+    ensures ok { Takes (after_puts 5) (Clone 0) }
+    ensures none { ¬ Takes (after_puts 6) (Clone 0) }
+{}

@@ -1,0 +1,10 @@
+pub mod ListLemmas
+pub mod BudgetLemmas
+pub mod OpenedLemmas
+pub mod BegunLemmas
+pub mod FedLemmas
+pub mod StepLemmas
+pub mod LastLemmas
+pub mod MadeLemmas
+pub mod EndingLemmas
+pub mod DoneLemmas

@@ -1,0 +1,4 @@
+pub mod Lists
+pub mod Budget
+pub mod Opened
+pub mod Ending

@@ -1,0 +1,50 @@
+-- Calls that give up without a fault of the device: memory ran out, or a bound was reached.
+use Rattle.std.proofs.Common.{◌≡◌, ℕ, Result, Err, IsErrAnd, sym, ap, ◌∙◌, subst, arith}
+use Rattle.std.specs.Prelude.{IsErrOf}
+use Rattle.std.proofs.lemmas.Result.{err_from_is_err_and}
+use Rattle.strat_base.specs.declared.failures.Trouble.TheVariants as trouble
+use Rattle.strat_crash.specs.Faults.{HasCause}
+use Rattle.strat_promote.specs.Obstacles.{told_as}
+use Rattle.strat_promote.specs.declared.obstacle.Obstacle.{Obstacle}
+use Rattle.strat_promote.specs.declared.obstacle.Obstacle.TheVariants.{NoMemory, Device, Damaged, Unfit}
+
+-- what is told as want of memory is no fault, and names no block
+not_device : (o : Obstacle) → told_as o ≡ trouble.NoMemory → o ≡ Device → ⊥
+not_device NoMemory short is = cc
+not_device Unfit short is = cc
+not_device Device short is = cc
+not_device (Damaged b) short is = cc
+
+not_damaged : (o : Obstacle) (b : ℕ) → told_as o ≡ trouble.NoMemory → o ≡ Damaged b → ⊥
+not_damaged NoMemory b short is = cc
+not_damaged Unfit b short is = cc
+not_damaged Device b short is = cc
+not_damaged (Damaged a) b short is = cc
+
+-- an obstacle that is told as a block that is damaged, or as a fault, is one
+pub damaged_told : (o : Obstacle) (b : ℕ) → told_as o ≡ trouble.Damaged b → o ≡ Damaged b
+damaged_told NoMemory b is = absurd (cc)
+damaged_told Unfit b is = absurd (cc)
+damaged_told Device b is = absurd (cc)
+damaged_told (Damaged a) b is = let same : a ≡ b = cc in ap Damaged same
+
+-- the exit of a call whose obstacle is handed on
+module _ {U : Type 0} (r : Result U Obstacle) (o : Obstacle) (told : IsErrAnd r (λ e. e ≡ o)) (short : told_as o ≡ trouble.NoMemory) where
+  result_is : r ≡ Err o
+  result_is = let p = err_from_is_err_and r told in p.1 ∙ ap (λ (e : Obstacle). Err e) p.2
+
+  pub short_cause : (before now : ℕ) → now ≡ before → HasCause Device before now r
+  short_cause before now same =
+      let here : HasCause {T = U} Device before now (Err o) = record {
+        later = omega (arith, same);
+        ok = tt;
+        device = λ is. let e : o ≡ Device = cc in absurd (not_device o short e);
+        other = λ no. same;
+      } in
+      subst (λ (x : Result U Obstacle). HasCause Device before now x) (sym result_is) here
+
+  pub short_block : (b : ℕ) → IsErrOf r (Damaged b) → ⊥
+  short_block b is =
+      let both : Err o ≡ Err (Damaged b) = sym result_is ∙ is in
+      let e : o ≡ Damaged b = cc in
+      not_damaged o b short e

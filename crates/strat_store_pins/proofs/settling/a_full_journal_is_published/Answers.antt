@@ -1,0 +1,20 @@
+use Rattle.std.proofs.Common.{refl, ap}
+use Rattle.strat_format.specs.Manifest.{Manifest}
+use Rattle.strat_format.specs.SuperBlock.{Super}
+use Rattle.strat_store_pins.proofs.settling.a_full_journal_is_published.Goals as goal
+
+pub returns-clause-ok : goal.returns-clause-ok
+returns-clause-ok g c = λ d e old new told leaves full.
+    let has = leaves.next refl full in
+    let sb = has.after.are.sb_is in
+    let m = has.after.are.manifest_is in
+    (has.slot, ap (λ (x : Super). x.generation) sb, ap (λ (x : Super). x.region) sb, ap (λ (x : Super). x.mem) sb, ap (λ (x : Super). x.changes_max) sb, ap (λ (x : Super). x.versions_max) sb, ap (λ (x : Manifest). x.changes) m, ap (λ (x : Manifest). x.updates) m, ap (λ (x : Manifest). x.parents) m)
+
+pub returns-clause-room : goal.returns-clause-room
+returns-clause-room g c = λ old new has. has.full
+
+pub returns-clause-fits : goal.returns-clause-fits
+returns-clause-fits g c = λ target sb next_sb m next memory a are among. are.numbered a among
+
+pub returns-clause-kept : goal.returns-clause-kept
+returns-clause-kept g c = λ old new has. has.after.cursors_are

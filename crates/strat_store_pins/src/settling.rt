@@ -1,0 +1,106 @@
+//! What a command leaves of superblock and manifest, and of which trouble it may tell: each fact of these records, used once. Each is
+//! the contract of a function that does nothing.
+
+ghost use Rattle.std.specs.Prelude.{◌≡◌, ◌≢◌, ◌≤◌, ◌⊎◌, ◌+◌, ◌-◌, ℕ, Bool, List, true, false, length, Contains, None};
+ghost use Rattle.strat_base.specs.declared.descriptors.ArrayDesc.{ArrayDesc};
+ghost use Rattle.strat_crash.specs.Blocks.{AgreeOn};
+ghost use Rattle.strat_crash.specs.Image.{Image};
+ghost use Rattle.strat_crash.specs.Moments.{Exposes, Since};
+ghost use Rattle.strat_cursor.specs.Cursors.{retired_all};
+ghost use Rattle.strat_format.specs.Arrays.{block_on};
+ghost use Rattle.strat_format.specs.Manifest.{Manifest};
+ghost use Rattle.strat_format.specs.SuperBlock.{Super};
+ghost use Rattle.strat_model.specs.Request.{Delete, Get, Stat};
+ghost use Rattle.strat_model.specs.declared.replies.Refusal.TheVariants as why;
+ghost use Rattle.strat_model.specs.declared.replies.Reply.{Reply};
+ghost use Rattle.strat_model.specs.declared.replies.Reply.TheVariants as reply;
+ghost use Rattle.strat_promote.specs.Job.{blocks_listed};
+ghost use Rattle.strat_recovery.specs.Head.{parent_numbers};
+ghost use Rattle.strat_standing.specs.Contents.{Contents, contents_state};
+ghost use Rattle.strat_standing.specs.Next.{arrays_made};
+ghost use Rattle.strat_state.specs.State.{IsPaid};
+ghost use Rattle.strat_store.specs.Applying.{TellsTroubleOf};
+ghost use Rattle.strat_store.specs.Held.{Held, IsOnDisk, StandsWith, arrays_held};
+ghost use Rattle.strat_store.specs.Memory.{Memory};
+ghost use Rattle.strat_store.specs.Paying.{CountsWritten, IsPaidIn, KeepsCount, manifest_with_array};
+ghost use Rattle.strat_store.specs.Settling.{ArePublishedTo, HasPublished, LeavesPublished, arrays_taken};
+
+use strat_crash::laws::Viewed;
+
+/// A change that was carried out at a full journal left the other slot, with the next generation and the other region, and a
+/// manifest of all that memory counts.
+pub fn a_full_journal_is_published<D: Viewed>()
+    ensures ok { (d e : D) (old new : Held) (told : Reply)
+        → LeavesPublished (D.view d) (D.view e) old true told new
+        → old.log.mem ≤ length old.log.list → (new.slot ≡ 1 - old.slot)
+        × (new.sb.generation ≡ old.sb.generation + 1) × (new.sb.region ≡ 1 - old.sb.region)
+        × (new.sb.mem ≡ old.sb.mem) × (new.sb.changes_max ≡ old.sb.changes_max)
+        × (new.sb.versions_max ≡ old.sb.versions_max)
+        × (new.chained.manifest.changes ≡ old.memory.changes)
+        × (new.chained.manifest.updates ≡ old.memory.updates)
+        × (new.chained.manifest.parents ≡ parent_numbers old.memory.parents) }
+    ensures room { (old new : Held) → HasPublished old new
+        → old.log.mem ≤ length old.log.list }
+    ensures fits { (target : ℕ) (sb next_sb : Super) (m next : Manifest) (memory : Memory)
+        (a : ArrayDesc) (are : ArePublishedTo target sb m memory next_sb next)
+        → Contains (arrays_made are.made) a → m.next_array ≤ a.id }
+    ensures kept { (old new : Held) (has : HasPublished old new)
+        → new.memory.cursors ≡ record (retired_all
+        (arrays_taken has.after.target old.chained.manifest) old.memory.cursors) {
+          room = new.memory.cursors.room;
+        } }
+{}
+
+/// A command that was not carried out as a change, and was not told that the device failed, left slot, superblock, manifest and
+/// levels; one that was told so left them, or those of a publication.
+pub fn no_other_command_publishes<D: Viewed>()
+    ensures same { (d e : D) (old new : Held) (told : Reply)
+        → LeavesPublished (D.view d) (D.view e) old false told new
+        → told ≢ reply.Refused why.DeviceFault → (new.slot ≡ old.slot) × (new.sb ≡ old.sb)
+        × (new.chained ≡ old.chained) × (new.levels ≡ old.levels) }
+    ensures err { (d e : D) (old new : Held)
+        → LeavesPublished (D.view d) (D.view e) old false (reply.Refused why.DeviceFault) new
+        → (new.slot ≡ old.slot) ⊎ (new.slot ≡ 1 - old.slot) }
+{}
+
+/// Unless the device failed, what a store holds of superblock and manifest is on the disk where it was before, and the blocks of all
+/// arrays that it held are as they were. Where it stands, crashes leave what is paid for, and its manifest counts.
+pub fn what_is_held_stays_on_the_disk<D: Viewed>()
+    ensures durable { (d e : D) (old new : Held) (carried : Bool) (told : Reply)
+        → LeavesPublished (D.view d) (D.view e) old carried told new
+        → told ≢ reply.Refused why.DeviceFault → IsOnDisk (D.view d) old
+        → IsOnDisk (D.view e) new }
+    ensures same { (d e : D) (old new : Held) (carried : Bool) (told : Reply) (f g : Image)
+        → LeavesPublished (D.view d) (D.view e) old carried told new
+        → told ≢ reply.Refused why.DeviceFault → Exposes (D.view d) f → Exposes (D.view e) g
+        → AgreeOn (blocks_listed (arrays_held old.memory old.levels)) f g }
+    ensures images { (d e : D) (old new : Held) (carried : Bool) (told : Reply) (x : Contents)
+        (c : Image) → LeavesPublished (D.view d) (D.view e) old carried told new
+        → StandsWith (D.view d) old x → IsPaid (contents_state x)
+        → Since (D.view e) (D.view d).moment c → IsPaidIn c }
+    ensures len { (d e : D) (old new : Held) (carried : Bool) (told : Reply) (x : Contents)
+        → LeavesPublished (D.view d) (D.view e) old carried told new
+        → StandsWith (D.view d) old x → KeepsCount old.chained.manifest new.chained.manifest }
+{}
+
+/// An array that was numbered before is one of the manifest before: here it has other entries, and the number that is written fits.
+pub fn arrays_of_before_are_left_as_they_were()
+    ensures none { ¬ CountsWritten (manifest_with_array 1 4 4) (manifest_with_array 1 8 4) }
+{}
+
+/// A change tells of a damaged block and of want of memory at a full journal alone; a get of a block that has no entries, and
+/// never of want of memory; Stat of no fault.
+pub fn trouble_is_told_where_it_may_come<D: Viewed>()
+    ensures damaged { (d : D) (old : Held) (v b : ℕ) (key : List ℕ)
+        → TellsTroubleOf (D.view d) old (Delete v key) (reply.Refused (why.Damaged b))
+        → old.log.mem ≤ length old.log.list }
+    ensures room { (d : D) (old : Held) (v : ℕ) (key : List ℕ)
+        → TellsTroubleOf (D.view d) old (Delete v key) (reply.Refused why.NoMemory)
+        → old.log.mem ≤ length old.log.list }
+    ensures found { (d : D) (f : Image) (old : Held) (v b : ℕ) (key : List ℕ)
+        → TellsTroubleOf (D.view d) old (Get v key) (reply.Refused (why.Damaged b))
+        → Exposes (D.view d) f → block_on f b ≡ None }
+    ensures none { (d : D) (old : Held) (v : ℕ) (key : List ℕ)
+        → (¬ TellsTroubleOf (D.view d) old (Get v key) (reply.Refused why.NoMemory))
+        × (¬ TellsTroubleOf (D.view d) old Stat (reply.Refused why.DeviceFault)) }
+{}
