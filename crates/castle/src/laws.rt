@@ -5,7 +5,7 @@ ghost use Rattle.std.specs.Prelude.{◌≡◌, ◌≢◌, ◌≤◌, ◌⊎◌, 
 ghost use Rattle.strat_crash.specs.Faults.{Rose};
 ghost use Rattle.strat_crash.specs.Image.{Image};
 ghost use Rattle.strat_crash.specs.Moments.{Exposes, Images, Since};
-ghost use Rattle.strat_crash.specs.Trail.{At};
+ghost use Rattle.strat_crash.specs.Trail.{At, Trail};
 ghost use Rattle.strat_format.specs.SuperBlock.{newest_in};
 ghost use Rattle.strat_io.specs.Streams.{Appends};
 ghost use Rattle.strat_model.specs.Ended.{status_of};
@@ -18,12 +18,13 @@ ghost use Rattle.strat_report.specs.Reporting.{AppendsFront, end_for, levels_tex
 ghost use Rattle.strat_standing.specs.Standing.{ShowsTable};
 ghost use Rattle.strat_state.specs.State.{fresh_state};
 ghost use Rattle.strat_store.specs.Format.{IsBlank, IsFormatted};
+ghost use Rattle.strat_store.specs.Paying.{IsPaidIn};
 ghost use Rattle.strat_serve.specs.Generated.{workload_bodies};
 ghost use Rattle.strat_serve.specs.Session.{ExposesDamage, SendsPrefix};
-ghost use Rattle.strat_serve.specs.Tables.{EndsAtTables};
+ghost use Rattle.strat_serve.specs.Tables.{EndsAtTables, IsThrifty};
 ghost use Rattle.strat_serve.specs.World.{Streams, beside};
 ghost use Rattle.castle.specs.Arguments.{Format, Levels, Serve, Workload};
-ghost use Rattle.castle.specs.Headline.{GoesThroughNewTables, IsNoneOrThrifty};
+ghost use Rattle.castle.specs.Headline.{GoesThroughNewTables, HasNotBegun, IsNoneOrThrifty};
 ghost use Rattle.castle.specs.Outcomes.{LeavesAlone, Runs, format_text};
 ghost use Rattle.castle.specs.Working.{summary_of, workload_start};
 
@@ -189,4 +190,27 @@ pub fn what_a_run_leaves_alone_is_as_it_was<D: Viewed>()
     ensures workload { (path : List ℕ) (seed count : ℕ) (d : D) (status a b i j m n : ℕ)
         → LeavesAlone (Some (Workload path seed count)) (D.view d) status (a ≡ b) (i ≡ j) (m ≡ n)
         → (a ≡ b) × ((status ≡ 2) ⊎ (status ≡ 5) ⊎ (status ≡ 8) → i ≡ j) }
+{}
+
+/// What the laws of runs say in words of their own, each fact of these once: of a run that has not begun, of one that goes through the
+/// tables of a new store, and of an image that is no store or a thrifty one.
+pub fn words_of_the_laws_say_so<D: Viewed>()
+    ensures none { (status : ℕ) (run : Transcript) (d e : D)
+        → HasNotBegun status run (D.view d) (D.view e)
+        → ((status ≡ 5) ⊎ (status ≡ 8)) × (bodies_of run ≡ [])
+        × ((c : Image) → Since (D.view e) (D.view d).moment c → Images (D.view d) c) }
+    ensures moments { (run : Transcript) (d e : D)
+        (goes : GoesThroughNewTables run (D.view d) (D.view e))
+        → ((D.view d).moment ≤ goes.made) × (goes.made ≤ goes.synced)
+        × (goes.synced ≤ (D.view e).moment)
+        × (IsBlank (D.view d) → (m : ℕ) (c : Image) → (D.view d).moment ≤ m → m ≤ goes.made
+        → (D.view e).images_at m c
+        → (newest_in c ≡ Ok None) ⊎ ShowsTable c (fresh 16777216 16384))
+        × ((m : ℕ) (c : Image) → goes.made ≤ m → m ≤ goes.synced → (D.view e).images_at m c
+        → ShowsTable c (fresh 16777216 16384)) }
+    ensures trail { (run : Transcript) (d e : D)
+        (goes : GoesThroughNewTables run (D.view d) (D.view e))
+        → Trail ShowsTable (D.view e) goes.synced (tables_of run) (length run.exchanges) }
+    ensures space { (c : Image) → IsNoneOrThrifty c
+        → (newest_in c ≡ Ok None) ⊎ (IsThrifty c × IsPaidIn c) }
 {}
