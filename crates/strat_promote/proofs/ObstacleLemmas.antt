@@ -1,5 +1,5 @@
 -- Troubles that are handed on as obstacles.
-use Rattle.std.proofs.Common.{◌≡◌, ◌≢◌, ℕ, List, Result, Ok, Err, IfOk, IsErrAnd, refl, sym, ap, ◌∙◌, subst}
+use Rattle.std.proofs.Common.{◌≡◌, ℕ, List, Result, Err, IfOk, IsErrAnd, refl, sym, ap, ◌∙◌, subst}
 use Rattle.std.specs.Prelude.{IsErrOf}
 use Rattle.std.proofs.lemmas.Result.{err_from_is_err_and}
 use Rattle.strat_base.specs.declared.failures.Trouble.{Trouble}
@@ -8,7 +8,7 @@ use Rattle.strat_crash.specs.Faults.{HasCause}
 use Rattle.strat_crash.specs.Moments.{DiskView}
 use Rattle.strat_merge.specs.Reading.{ReadsRuns}
 use Rattle.strat_merge.specs.Runs.{RunView}
-use Rattle.strat_promote.specs.Obstacles.{as_obstacle, told_as}
+use Rattle.strat_promote.specs.Obstacles.{as_obstacle}
 use Rattle.strat_promote.specs.declared.obstacle.Obstacle.{Obstacle}
 use Rattle.strat_promote.specs.declared.obstacle.Obstacle.TheVariants.{NoMemory, Device, Damaged, Unfit}
 
@@ -39,30 +39,6 @@ short_fit r told is =
     let e : p.0 ≡ Unfit = cc in
     let both : NoMemory ≡ Unfit = sym p.2 ∙ e in
     cc
-
--- the exit of a call whose obstacle is told as a trouble
-cause_as : {T U : Type 0} (before now : ℕ) (o : Obstacle) → HasCause {T = T} Device before now (Err o) → HasCause {T = U} trouble.Device before now (Err (told_as o))
-cause_as before now NoMemory c = record { later = c.later; ok = tt; device = λ is. absurd (cc); other = λ no. c.other (λ e. cc) }
-cause_as before now Device c = record { later = c.later; ok = tt; device = λ is. c.device refl; other = λ no. absurd (no refl) }
-cause_as before now (Damaged b) c = record { later = c.later; ok = tt; device = λ is. absurd (cc); other = λ no. c.other (λ e. cc) }
-cause_as before now Unfit c = record { later = c.later; ok = tt; device = λ is. absurd (cc); other = λ no. c.other (λ e. cc) }
-
-block_as : {T U : Type 0} (o : Obstacle) (b : ℕ) → ◌≡◌ {A = Result U Trouble} (Err (told_as o)) (Err (trouble.Damaged b)) → ◌≡◌ {A = Result T Obstacle} (Err o) (Err (Damaged b))
-block_as NoMemory b is = absurd (cc)
-block_as Device b is = absurd (cc)
-block_as (Damaged a) b is = let same : a ≡ b = cc in ap (λ (n : ℕ). Err (Damaged n)) same
-block_as Unfit b is = absurd (cc)
-
-module _ {U : Type 0} (o : Obstacle) (r : Result U Trouble) (told : IsErrAnd r (λ e. e ≡ told_as o)) where
-  told_is : r ≡ Err (told_as o)
-  told_is = let p = err_from_is_err_and r told in p.1 ∙ ap (λ (e : Trouble). Err e) p.2
-
-  module _ {T : Type 0} where
-    pub cause_back : (before now : ℕ) → HasCause {T = T} Device before now (Err o) → HasCause trouble.Device before now r
-    cause_back before now c = subst (λ (x : Result U Trouble). HasCause trouble.Device before now x) (sym told_is) (cause_as before now o c)
-
-    pub block_back : (b : ℕ) → IsErrOf r (trouble.Damaged b) → IsErrOf {T = T} (Err o) (Damaged b)
-    block_back b is = block_as o b (sym told_is ∙ is)
 
 -- the exit of a call whose trouble is handed on
 module _ {U : Type 0} (t : Trouble) (r : Result U Obstacle) (told : IsErrAnd r (λ e. e ≡ as_obstacle t)) where

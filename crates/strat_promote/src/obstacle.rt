@@ -71,20 +71,3 @@ impl From<Trouble> for Obstacle {
         }
     }
 }
-
-/// At the top a bound that was reached is told as want of memory.
-impl From<Obstacle> for Trouble {
-    ghost use Rattle.std.specs.Prelude.{◌≡◌};
-    ghost use Rattle.strat_promote.specs.Obstacles.{told_as};
-
-    ghost from_gives = { λ o e. e ≡ told_as o };
-
-    fn from(obstacle: Obstacle) -> Trouble {
-        match obstacle {
-            Obstacle::NoMemory => Trouble::NoMemory,
-            Obstacle::Device => Trouble::Device,
-            Obstacle::Damaged { block } => Trouble::Damaged { block },
-            Obstacle::Unfit => Trouble::NoMemory,
-        }
-    }
-}

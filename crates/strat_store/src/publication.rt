@@ -348,9 +348,9 @@ fn settle<D: Disk>(held: &mut Recovered, next: Next, disk: &mut D) -> Result<(),
 
 /// Empties the journal into the levels: level 0 and the shallow levels become one new level, and the manifest after that
 /// takes the place of the last one. Memory is taken before the superblock is laid: where it runs out the store is as it
-/// was. `NoMemory` also stands for a disk with too few free blocks. `Unfit`: a bound was reached that no store reaches which
-/// stands on its disk; the store is as it was, too. `Damaged` names a block of the store's arrays that
-/// is no block of entries, or is out of order: no store that stands on its disk has one. After `Device` only another
+/// was. `NoMemory` also stands for a disk with too few free blocks, and for an array of more than 2^25 entries. `Unfit`: a
+/// bound was reached that no store reaches which stands on its disk; the store is as it was, too. `Damaged` names a block of
+/// the store's arrays that is no block of entries, or is out of order: no store that stands on its disk has one. After `Device` only another
 /// opening can tell which contents the disk holds: they mean the same table. It reads each block of the arrays twice at
 /// most, writes the new arrays' blocks and those of the manifest once each, and takes five syncs at most.
 pub(crate) fn publish<D: Disk>(
