@@ -12,6 +12,7 @@ use strat_base::{LevelDesc, NoMemory, Trouble, Version};
 use strat_disk::Disk;
 use strat_extent::Space;
 use strat_level::Levels;
+use strat_promote::obstacle::Obstacle;
 use strat_promote::promotion::{Progress, Promotion};
 
 /// A budget that no promotion uses up.
@@ -58,6 +59,15 @@ pub(crate) fn begun(
     Ok(promotion)
 }
 
+/// What an obstacle is to a test: no promotion here comes to a bound of our own.
+fn trouble_of(obstacle: Obstacle) -> Trouble {
+    match obstacle {
+        Obstacle::NoMemory | Obstacle::Unfit => Trouble::NoMemory,
+        Obstacle::Device => Trouble::Device,
+        Obstacle::Damaged { block } => Trouble::Damaged { block },
+    }
+}
+
 /// Takes a slice.
 #[tactic(auto, using(crate::proofs::GoingLemmas::still_owned, crate::proofs::GoingLemmas::goes_on_if_more))]
 pub(crate) fn slice_once<D: Disk>(
@@ -77,7 +87,7 @@ pub(crate) fn slice_once<D: Disk>(
         space.new promotion.new) (has_ended promotion.new ≡ true)) }
     ensures found { CanGive space.new (extents_taken promotion.new) }
 {
-    let step = promotion.slice(
+    match promotion.slice(
         &scene.zero,
         levels,
         &scene.pool,
@@ -85,8 +95,10 @@ pub(crate) fn slice_once<D: Disk>(
         space,
         disk,
         budget,
-    )?;
-    Ok(step)
+    ) {
+        Ok(step) => Ok(step),
+        Err(obstacle) => Err(trouble_of(obstacle)),
+    }
 }
 
 /// Takes slices until the level is made, and tells how many.
