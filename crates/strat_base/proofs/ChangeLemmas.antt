@@ -5,7 +5,7 @@ use Rattle.std.proofs.lemmas.Bool.{eqb-true, ltb-true, lt-ltb, leb-true, le-leb,
 use Rattle.std.proofs.lemmas.List.{drop_at}
 use Rattle.strat_base.specs.Numbers.{be, number, AreBytes}
 use Rattle.strat_base.specs.Fields.{is_key, is_value, key_field, value_field, key_in, value_in}
-use Rattle.strat_base.specs.Change.{Change, Put, Delete, Clone, is_lawful, change_bytes, change_of_kind, change_in, BeginsWithChange}
+use Rattle.strat_base.specs.Change.{Change, Put, Delete, Clone, DropVersion, is_lawful, change_bytes, change_of_kind, change_in, BeginsWithChange}
 use Rattle.strat_base.proofs.NumberLemmas.{length-be, number-be, number-lt, be-number_4, AreBytes-drop}
 use Rattle.strat_base.proofs.FieldLemmas.{key_max, value_max, length-value_field, key_in-field, key_in-some, value_in-field, value_in-some}
 use Rattle.strat_base.proofs.TreeLemmas.{option_cases}
@@ -54,6 +54,7 @@ change_in-bytes (Delete v key) rest lawful =
     ∙ change_in-kind v (ltb-true v (2 ^ 32) parts.0) (key_field key ++ rest) 2
     ∙ delete_read v key rest parts.1
 change_in-bytes (Clone v) rest lawful = change_in-kind v (ltb-true v (2 ^ 32) lawful) rest 3
+change_in-bytes (DropVersion v) rest lawful = change_in-kind v (ltb-true v (2 ^ 32) lawful) rest 4
 
 module _ (v : ℕ) (fits : v < 2 ^ 32) (fields : List ℕ) (bytes : AreBytes fields) where
   put_written : (c : Change) → change_of_kind 1 v fields ≡ Some c → BeginsWithChange (1 ∷ (be 4 v ++ fields)) c
@@ -102,17 +103,26 @@ module _ (v : ℕ) (fits : v < 2 ^ 32) (fields : List ℕ) (bytes : AreBytes fie
       let same : Clone v ≡ c = cc in
       subst (BeginsWithChange (3 ∷ (be 4 v ++ fields))) same (record { lawful = lt-ltb v (2 ^ 32) fits; rest = fields; split = refl })
 
+  drop_written : (c : Change) → Some (DropVersion v) ≡ Some c → BeginsWithChange (4 ∷ (be 4 v ++ fields)) c
+  drop_written c e =
+      let same : DropVersion v ≡ c = cc in
+      subst (BeginsWithChange (4 ∷ (be 4 v ++ fields))) same (record { lawful = lt-ltb v (2 ^ 32) fits; rest = fields; split = refl })
+
   kind_written : (kind : ℕ) (c : Change) → change_of_kind kind v fields ≡ Some c → BeginsWithChange (kind ∷ (be 4 v ++ fields)) c
   kind_written kind c e =
-      elim (eqb kind 1) as (λ b. eqb kind 1 ≡ b → cond b (change_of_kind 1 v fields) (cond (eqb kind 2) (change_of_kind 2 v fields) (cond (eqb kind 3) (Some (Clone v)) None)) ≡ Some c → BeginsWithChange (kind ∷ (be 4 v ++ fields)) c) [
+      elim (eqb kind 1) as (λ b. eqb kind 1 ≡ b → cond b (change_of_kind 1 v fields) (cond (eqb kind 2) (change_of_kind 2 v fields) (cond (eqb kind 3) (Some (Clone v)) (cond (eqb kind 4) (Some (DropVersion v)) None))) ≡ Some c → BeginsWithChange (kind ∷ (be 4 v ++ fields)) c) [
         | true ↦ λ is one. subst (λ (k : ℕ). BeginsWithChange (k ∷ (be 4 v ++ fields)) c) (sym (eqb-true kind 1 is)) (put_written c one)
         | false ↦ λ is other.
-            elim (eqb kind 2) as (λ b. eqb kind 2 ≡ b → cond b (change_of_kind 2 v fields) (cond (eqb kind 3) (Some (Clone v)) None) ≡ Some c → BeginsWithChange (kind ∷ (be 4 v ++ fields)) c) [
+            elim (eqb kind 2) as (λ b. eqb kind 2 ≡ b → cond b (change_of_kind 2 v fields) (cond (eqb kind 3) (Some (Clone v)) (cond (eqb kind 4) (Some (DropVersion v)) None)) ≡ Some c → BeginsWithChange (kind ∷ (be 4 v ++ fields)) c) [
               | true ↦ λ is' two. subst (λ (k : ℕ). BeginsWithChange (k ∷ (be 4 v ++ fields)) c) (sym (eqb-true kind 2 is')) (delete_written c two)
               | false ↦ λ is' last.
-                  elim (eqb kind 3) as (λ b. eqb kind 3 ≡ b → cond b (Some (Clone v)) None ≡ Some c → BeginsWithChange (kind ∷ (be 4 v ++ fields)) c) [
+                  elim (eqb kind 3) as (λ b. eqb kind 3 ≡ b → cond b (Some (Clone v)) (cond (eqb kind 4) (Some (DropVersion v)) None) ≡ Some c → BeginsWithChange (kind ∷ (be 4 v ++ fields)) c) [
                     | true ↦ λ is'' three. subst (λ (k : ℕ). BeginsWithChange (k ∷ (be 4 v ++ fields)) c) (sym (eqb-true kind 3 is'')) (clone_written c three)
-                    | false ↦ λ is'' none. absurd (cc)
+                    | false ↦ λ is'' rest.
+                        elim (eqb kind 4) as (λ b. eqb kind 4 ≡ b → cond b (Some (DropVersion v)) None ≡ Some c → BeginsWithChange (kind ∷ (be 4 v ++ fields)) c) [
+                          | true ↦ λ four some. subst (λ (k : ℕ). BeginsWithChange (k ∷ (be 4 v ++ fields)) c) (sym (eqb-true kind 4 four)) (drop_written c some)
+                          | false ↦ λ four none. absurd (cc)
+                        ] refl rest
                   ] refl last
             ] refl other
       ] refl e
@@ -141,3 +151,4 @@ length-change_bytes (Delete v key) lawful =
     let parts = and_parts (ltb v (2 ^ 32)) (is_key key) lawful in
     omega (arith, length-append (be 4 v) (key_field key), length-be 4 v, key_max key parts.1)
 length-change_bytes (Clone v) lawful = omega (arith, length-be 4 v)
+length-change_bytes (DropVersion v) lawful = omega (arith, length-be 4 v)

@@ -11,3 +11,4 @@ pub mod SizeLemmas
 pub mod FoundLemmas
 pub mod EntryFieldLemmas
 pub mod EntryBytesLemmas
+pub mod MarkLemmas

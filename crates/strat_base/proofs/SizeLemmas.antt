@@ -2,7 +2,7 @@
 use Rattle.std.proofs.Common.{◌≡◌, ℕ, ◌+◌, List, ◌++◌, length, drop, Option, Some, None, sym, ap, ◌∙◌, arith, length-append}
 use Rattle.std.specs.Option.{option_map, option_and_then}
 use Rattle.strat_base.specs.Numbers.{be}
-use Rattle.strat_base.specs.Change.{Put, Delete, Clone, change_bytes, change_of_kind}
+use Rattle.strat_base.specs.Change.{Put, Delete, Clone, DropVersion, change_bytes, change_of_kind}
 use Rattle.strat_base.specs.Fields.{key_field, value_field, key_in, value_in}
 use Rattle.strat_base.proofs.NumberLemmas.{length-be}
 use Rattle.strat_base.proofs.FieldLemmas.{length-value_field}
@@ -15,6 +15,9 @@ length-delete v key = omega (arith, length-append (be 4 v) (key_field key), leng
 
 pub length-clone : (v : ℕ) → length (change_bytes (Clone v)) ≡ 5
 length-clone v = omega (arith, length-be 4 v)
+
+pub length-drop_version : (v : ℕ) → length (change_bytes (DropVersion v)) ≡ 5
+length-drop_version v = omega (arith, length-be 4 v)
 
 module _ (v : ℕ) (fields key : List ℕ) (found : key_in fields ≡ Some key) (k : ℕ) (next : k ≡ length (key_field key)) where
   put_is : change_of_kind 1 v fields ≡ option_map (λ value. Put v key value) (value_in (drop k fields))

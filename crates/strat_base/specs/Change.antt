@@ -4,23 +4,26 @@ use Rattle.strat_base.specs.Numbers.{be, number}
 use Rattle.strat_base.specs.Sizes.{is_key, is_value}
 use Rattle.strat_base.specs.Fields.{key_field, value_field, key_in, value_in}
 
--- a change: a key gets a value at a version, or is gone from it, or a version gets a child
+-- a change: a key gets a value at a version, or is gone from it, or a version gets a child, or is dropped
 pub data Change : Type 0 where
   Put : (version : ℕ) (key value : List ℕ) → Change
   Delete : (version : ℕ) (key : List ℕ) → Change
   Clone : (version : ℕ) → Change
+  DropVersion : (version : ℕ) → Change
 
 -- key, value and version of a change fit their fields
 abbrev pub is_lawful : Change → Bool
 is_lawful (Put version key value) = nat_lt version (2 ^ 32) && (is_key key && is_value value)
 is_lawful (Delete version key) = nat_lt version (2 ^ 32) && is_key key
 is_lawful (Clone version) = nat_lt version (2 ^ 32)
+is_lawful (DropVersion version) = nat_lt version (2 ^ 32)
 
 -- the bytes of a change
 abbrev pub change_bytes : Change → List ℕ
 change_bytes (Put version key value) = 1 ∷ (be 4 version ++ (key_field key ++ value_field value))
 change_bytes (Delete version key) = 2 ∷ (be 4 version ++ key_field key)
 change_bytes (Clone version) = 3 ∷ be 4 version
+change_bytes (DropVersion version) = 4 ∷ be 4 version
 
 -- the change of a kind and a version whose further fields stand at the front of these bytes
 abbrev pub change_of_kind : ℕ → ℕ → List ℕ → Option Change
@@ -31,7 +34,8 @@ change_of_kind kind version fields =
     (λ value. Put version key value) (value_in (drop (length (key_field key)) fields)))
     (key_in fields)
     else if kind == 2 then option_map (λ key. Delete version key) (key_in fields)
-    else if kind == 3 then Some (Clone version) else None
+    else if kind == 3 then Some (Clone version)
+    else if kind == 4 then Some (DropVersion version) else None
 
 -- the change whose bytes stand at the front of these
 unfoldable pub change_in : List ℕ → Option Change

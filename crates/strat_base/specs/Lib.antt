@@ -12,3 +12,4 @@ pub mod EntryView
 pub mod EntryBytes
 pub mod Samples
 pub mod Troubles
+pub mod Marks

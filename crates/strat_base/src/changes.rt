@@ -32,6 +32,10 @@ pub enum Change<'a> {
     Clone {
         version: Version,
     },
+    /// This version is dropped.
+    DropVersion {
+        version: Version,
+    },
 }
 
 /// A change that has its bytes itself.
@@ -47,6 +51,9 @@ enum Kind {
         key: Vec<u8>,
     },
     Clone {
+        version: Version,
+    },
+    DropVersion {
         version: Version,
     },
 }
@@ -93,6 +100,7 @@ fn of_kind(kind: u8, version: Version, fields: &[u8]) -> Option<Change<'_>>
             Some(Change::Delete { version, key })
         }
         3 => Some(Change::Clone { version }),
+        4 => Some(Change::DropVersion { version }),
         _ => None,
     }
 }
@@ -111,6 +119,7 @@ pub fn change_size(c: &Change<'_>) -> usize
         } => 8 + key.len() + value.len(),
         Change::Delete { version: _, key } => 6 + key.len(),
         Change::Clone { version: _ } => 5,
+        Change::DropVersion { version: _ } => 5,
     }
 }
 
@@ -173,6 +182,7 @@ pub fn put_change(c: &Change<'_>, into: &mut [u8], at: usize) -> usize
             put_key(into, at, key)
         }
         Change::Clone { version } => put_head(into, at, 3, version),
+        Change::DropVersion { version } => put_head(into, at, 4, version),
     }
 }
 
@@ -197,6 +207,7 @@ impl OwnedChange {
                 key: Vec::from_slice(alloc, key)?,
             },
             Change::Clone { version } => Kind::Clone { version },
+            Change::DropVersion { version } => Kind::DropVersion { version },
         };
         Ok(OwnedChange { kind })
     }
@@ -221,6 +232,7 @@ impl OwnedChange {
                 key: key.as_slice(),
             },
             Kind::Clone { version } => Change::Clone { version: *version },
+            Kind::DropVersion { version } => Change::DropVersion { version: *version },
         }
     }
 }

@@ -11,7 +11,7 @@ use strat_base::{
 };
 
 // Changes and their bytes.
-const CHANGES: [(Change<'static>, &[u8]); 3] = [
+const CHANGES: [(Change<'static>, &[u8]); 4] = [
     (
         Change::Put {
             version: 0,
@@ -33,6 +33,7 @@ const CHANGES: [(Change<'static>, &[u8]); 3] = [
         },
         &[3, 255, 255, 255, 255],
     ),
+    (Change::DropVersion { version: 772 }, &[4, 0, 0, 3, 4]),
 ];
 
 fn sizes_ok(change: Change<'_>) -> bool
@@ -41,7 +42,7 @@ fn sizes_ok(change: Change<'_>) -> bool
     match change {
         Change::Put { key, value, .. } => key_ok(key) && value_ok(value),
         Change::Delete { key, .. } => key_ok(key),
-        Change::Clone { .. } => true,
+        Change::Clone { .. } | Change::DropVersion { .. } => true,
     }
 }
 
@@ -98,7 +99,8 @@ fn other_bytes_are_no_change(rt: HostRuntime) {
     for bytes in [
         b"".as_slice(),
         b"\x00\x00\x00\x00\x00",
-        b"\x04\x00\x00\x00\x00",
+        b"\x05\x00\x00\x00\x00",
+        b"\x04\x00\x00\x00",
         b"\x03\x00\x00\x00",
         b"\x02\x00\x00\x00\x00\x00",
         b"\x02\x00\x00\x00\x00\x02a",

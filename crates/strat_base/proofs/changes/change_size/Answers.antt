@@ -1,5 +1,5 @@
 use Rattle.std.proofs.Common.{sym}
-use Rattle.strat_base.proofs.SizeLemmas.{length-put, length-delete, length-clone}
+use Rattle.strat_base.proofs.SizeLemmas.{length-put, length-delete, length-clone, length-drop_version}
 use Rattle.strat_base.proofs.changes.change_size.Goals as goal
 
 pub returns-in-Put-clause-ok : goal.returns-in-Put-clause-ok
@@ -10,3 +10,6 @@ returns-in-Delete-clause-ok c = rw c.in-Delete.is (sym (length-delete _ c.in-Del
 
 pub returns-in-Clone-clause-ok : goal.returns-in-Clone-clause-ok
 returns-in-Clone-clause-ok c = rw c.in-Clone.is (sym (length-clone _))
+
+pub returns-in-DropVersion-clause-ok : goal.returns-in-DropVersion-clause-ok
+returns-in-DropVersion-clause-ok c = rw c.in-DropVersion.is (sym (length-drop_version _))

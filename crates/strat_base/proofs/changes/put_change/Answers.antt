@@ -3,7 +3,7 @@ use Rattle.strat_base.specs.Numbers.{be}
 use Rattle.strat_base.specs.Fields.{key_field, value_field}
 use Rattle.strat_base.proofs.NumberLemmas.{length-be}
 use Rattle.strat_base.proofs.FieldLemmas.{length-value_field}
-use Rattle.strat_base.proofs.SizeLemmas.{length-put, length-delete, length-clone}
+use Rattle.strat_base.proofs.SizeLemmas.{length-put, length-delete, length-clone, length-drop_version}
 use Rattle.strat_base.proofs.PlacedLemmas.{placed_next, placed_three}
 use Rattle.strat_base.proofs.changes.put_change.Goals as goal
 
@@ -59,3 +59,9 @@ returns-in-Delete-clause-ok c =
 
 pub returns-in-Clone-clause-end : goal.returns-in-Clone-clause-end
 returns-in-Clone-clause-end c = rw c.in-Clone.is (omega (arith, length-clone c.in-Clone.version, c.put_head.ensures.end))
+
+pub put_head-requires-in-DropVersion : goal.put_head-requires-in-DropVersion
+put_head-requires-in-DropVersion c = let room = rw c.in-DropVersion.is at c.requires.room in record { room = omega (arith, room, length-drop_version c.in-DropVersion.version) }
+
+pub returns-in-DropVersion-clause-end : goal.returns-in-DropVersion-clause-end
+returns-in-DropVersion-clause-end c = rw c.in-DropVersion.is (omega (arith, length-drop_version c.in-DropVersion.version, c.put_head-in-DropVersion.ensures.end))
