@@ -5,6 +5,7 @@ pub mod LevelLemmas
 pub mod LiveLemmas
 pub mod LookUpLemmas
 pub mod MapLemmas
+pub mod MarkLemmas
 pub mod ReadingLemmas
 pub mod SealLemmas
 pub mod SettingLemmas
@@ -14,3 +15,4 @@ pub mod StepLemmas
 pub mod StepMaps
 pub mod UpdateLemmas
 pub mod ValueLemmas
+pub mod UndroppedLemmas

@@ -11,7 +11,9 @@ use Rattle.strat_state.specs.Live.{is_live, live}
 use Rattle.strat_state.specs.LookUp.{Reading, array_asked, first_live, looked_up, of_state, filtered}
 use Rattle.strat_state.specs.Reading.{live_of, level_zero, array_for, found_first, read_at}
 use Rattle.strat_state.specs.Sound.{IsSound}
-use Rattle.strat_state.specs.State.{State, versions_of, value_at}
+use Rattle.std.proofs.lemmas.Bool.{not-true}
+use Rattle.strat_base.specs.Marks.{is_dropped}
+use Rattle.strat_state.specs.State.{State, versions_of, marks_of, is_living, value_at}
 use Rattle.strat_state.proofs.SoundLemmas.{read_decides}
 
 -- the place that a level adds, if it has an array for the version
@@ -70,6 +72,6 @@ module _ (parents : Parents) (v : ℕ) (key : List ℕ) where
 pub looked_up_read : (s : State) (v : ℕ) (key : List ℕ) → looked_up of_state (versions_of s) (level_zero s ∷ []) s.levels v key ≡ read_at s v key
 looked_up_read s v key = ap (option_or (live_of (versions_of s) (level_zero s) v key)) (levels_read (versions_of s) v key s.levels)
 
-pub looked_up_value : (s : State) (v : ℕ) (key : List ℕ) → IsSound s → v < length (versions_of s)
+pub looked_up_value : (s : State) (v : ℕ) (key : List ℕ) → IsSound s → v < length (versions_of s) → is_living s v ≡ true
     → option_and_then (λ e. e.value) (looked_up of_state (versions_of s) (level_zero s ∷ []) s.levels v key) ≡ value_at s v key
-looked_up_value s v key sound known = ap (λ (o : Option Entry). option_and_then (λ e. e.value) o) (looked_up_read s v key ∙ read_decides s sound key v known)
+looked_up_value s v key sound known living = ap (λ (o : Option Entry). option_and_then (λ e. e.value) o) (looked_up_read s v key ∙ read_decides s sound key v known (not-true (is_dropped (marks_of s) v) living))

@@ -4,17 +4,19 @@ use Rattle.std.specs.List.{list_any, list_all, find, flat_map, fold, range_with_
 use Rattle.std.specs.Option.{option_or, option_map_or}
 use Rattle.std.proofs.lemmas.Bool.{eqb-true, eq-eqb, ltb-true, lt-ltb, leb-true, and_parts, and_from, not-true, not_from_false, false_from_ne_true}
 use Rattle.std.proofs.lemmas.List.{reverse-append}
-use Rattle.strat_base.specs.Tree.{Parents, parent_of, path, is_known, with_child, IsOlder, IsTree}
+use Rattle.strat_base.specs.Tree.{Parents, parent_of, path, IsOlder, IsTree}
 use Rattle.strat_base.specs.Entries.{Entry, is_at, is_single, latest}
-use Rattle.strat_base.specs.Change.{Change, Put, Delete, Clone}
+use Rattle.strat_base.specs.Change.{Change, Put, Delete, Clone, DropVersion}
+use Rattle.strat_base.specs.Marks.{Marks, is_dropped, ArePruned}
+use Rattle.strat_state.proofs.MarkLemmas.{there_known, clone_there, pruned_after, pruned_from_test, path_living}
 use Rattle.strat_state.specs.Live.{first_some, deciding}
 use Rattle.strat_state.specs.Level.{Level, level_leads, IsStratified}
-use Rattle.strat_state.specs.State.{State, versions_of, tree_after, is_living, journal_updates, sources}
-use Rattle.strat_state.specs.Sound.{is_tree, is_tree_from, is_numbered_from, has_child_below, shallower, is_above_frozen, has_ascending_entries, is_accepted, are_accepted, IsSound}
+use Rattle.strat_state.specs.State.{State, versions_of, marks_of, tree_after, marks_after, is_living, journal_updates, sources}
+use Rattle.strat_state.specs.Sound.{is_tree, is_tree_from, is_numbered_from, has_child_below, shallower, is_above_frozen, has_ascending_entries, is_accepted, are_accepted, IsWellFormed, IsOrdered, IsSound}
 use Rattle.strat_state.specs.Reading.{live_of, level_zero, found_in, found_first, read_at}
 use Rattle.strat_base.proofs.ListFacts.{Among, any_among, any_from, all_at, find_some, find_none, among_flat, among_in_flat, among_left, among_right, among_split, among_filter, among_range, among_reverse, each_of}
 use Rattle.strat_base.proofs.EntryLemmas.{is_at_key, is_at_version, at_key_version}
-use Rattle.strat_base.proofs.TreeLemmas.{option_cases, path_le, path_order, child_on_path, tree_grown}
+use Rattle.strat_base.proofs.TreeLemmas.{option_cases, path_le, path_order, path_trans, child_on_path, tree_grown}
 use Rattle.strat_state.proofs.LiveLemmas.{deciding_live, deciding_some}
 use Rattle.strat_state.proofs.ReadingLemmas.{find-append, or_none, deciding-append}
 use Rattle.strat_state.proofs.LevelLemmas.{lead_below, found_in_leads}
@@ -111,21 +113,27 @@ tree_from_test parents h =
     }
 
 module _ (changes_max versions_max : ℕ) where
-  pub clone_known : (parents : Parents) (changes version : ℕ) → is_accepted changes_max versions_max parents changes (Clone version) ≡ true → version < length parents
-  clone_known parents changes version h =
-      let outer = and_parts (is_known parents version && not (eqb (length parents) versions_max)) (not (eqb changes changes_max)) h in
-      let inner = and_parts (is_known parents version) (not (eqb (length parents) versions_max)) outer.0 in
-      ltb-true version (length parents) inner.0
+  pub clone_known : (parents : Parents) (marks : Marks) (changes version : ℕ) → is_accepted changes_max versions_max parents marks changes (Clone version) ≡ true → version < length parents
+  clone_known parents marks changes version h = there_known parents marks version (clone_there changes_max versions_max parents marks changes version h)
 
-  accepted_tree : (journal : List Change) (parents : Parents) (changes : ℕ) → IsTree parents → are_accepted changes_max versions_max parents changes journal ≡ true → IsTree (fold tree_after parents journal)
-  accepted_tree [] parents changes tree h = tree
-  accepted_tree (Put version key value ∷ journal) parents changes tree h =
-      accepted_tree journal parents (suc changes) tree (and_parts (is_accepted changes_max versions_max parents changes (Put version key value)) (are_accepted changes_max versions_max parents (suc changes) journal) h).1
-  accepted_tree (Delete version key ∷ journal) parents changes tree h =
-      accepted_tree journal parents (suc changes) tree (and_parts (is_accepted changes_max versions_max parents changes (Delete version key)) (are_accepted changes_max versions_max parents (suc changes) journal) h).1
-  accepted_tree (Clone version ∷ journal) parents changes tree h =
-      let parts = and_parts (is_accepted changes_max versions_max parents changes (Clone version)) (are_accepted changes_max versions_max (with_child parents version) (suc changes) journal) h in
-      accepted_tree journal (with_child parents version) (suc changes) (tree_grown parents tree version (clone_known parents changes version parts.0)) parts.1
+  pub tree_accepted : (parents : Parents) (marks : Marks) (changes : ℕ) (c : Change) → IsTree parents → is_accepted changes_max versions_max parents marks changes c ≡ true → IsTree (tree_after parents c)
+  tree_accepted parents marks changes (Put version key value) tree h = tree
+  tree_accepted parents marks changes (Delete version key) tree h = tree
+  tree_accepted parents marks changes (Clone version) tree h = tree_grown parents tree version (clone_known parents marks changes version h)
+  tree_accepted parents marks changes (DropVersion version) tree h = tree
+
+  pub accepted_tree : (journal : List Change) (parents : Parents) (marks : Marks) (changes : ℕ) → IsTree parents → are_accepted changes_max versions_max parents marks changes journal ≡ true → IsTree (fold tree_after parents journal)
+  accepted_tree [] parents marks changes tree h = tree
+  accepted_tree (c ∷ journal) parents marks changes tree h =
+      let parts = and_parts (is_accepted changes_max versions_max parents marks changes c) (are_accepted changes_max versions_max (tree_after parents c) (marks_after marks c) (suc changes) journal) h in
+      accepted_tree journal (tree_after parents c) (marks_after marks c) (suc changes) (tree_accepted parents marks changes c tree parts.0) parts.1
+
+  pub accepted_pruned : (journal : List Change) (parents : Parents) (marks : Marks) (changes : ℕ) → IsTree parents → ArePruned parents marks → are_accepted changes_max versions_max parents marks changes journal ≡ true
+      → ArePruned (fold tree_after parents journal) (fold marks_after marks journal)
+  accepted_pruned [] parents marks changes tree pruned h = pruned
+  accepted_pruned (c ∷ journal) parents marks changes tree pruned h =
+      let parts = and_parts (is_accepted changes_max versions_max parents marks changes c) (are_accepted changes_max versions_max (tree_after parents c) (marks_after marks c) (suc changes) journal) h in
+      accepted_pruned journal (tree_after parents c) (marks_after marks c) (suc changes) (tree_accepted parents marks changes c tree parts.0) (pruned_after changes_max versions_max parents marks changes c tree pruned parts.0) parts.1
 
 numbered_parts : (least : ℕ) (first : Level) (levels : List Level) → is_numbered_from least (first ∷ levels) ≡ true → (least ≤ first.number) × (is_numbered_from (suc first.number) levels ≡ true)
 numbered_parts least first levels h =
@@ -134,22 +142,50 @@ numbered_parts least first levels h =
     let inner = and_parts (leb least first.number) (leb first.number 22) middle.0 in
     (leb-true least first.number inner.0, outer.1)
 
-module _ (s : State) (sound : IsSound s) where
+module _ (s : State) (formed : IsWellFormed s) where
   pub sound_tree : IsTree (versions_of s)
-  sound_tree = accepted_tree s.changes_max s.versions_max s.journal s.parents s.changes (tree_from_test s.parents sound.formed.tree) sound.formed.accepted
+  sound_tree = accepted_tree s.changes_max s.versions_max s.journal s.parents s.marks s.changes (tree_from_test s.parents formed.tree) formed.accepted
 
-  -- no lead of a level is nearer than an entry of a place above it
+  pub sound_pruned : ArePruned (versions_of s) (marks_of s)
+  sound_pruned = accepted_pruned s.changes_max s.versions_max s.journal s.parents s.marks s.changes (tree_from_test s.parents formed.tree) (pruned_from_test s.parents s.marks formed.pruned) formed.accepted
+
+pub ordered : (s : State) → IsSound s → IsOrdered s
+ordered s sound = record {
+  formed = sound.formed;
+  stratified = sound.stratified;
+  roomy = sound.roomy;
+  old = sound.old;
+  described = sound.described;
+  few = sound.few;
+  ascending = sound.ascending;
+}
+
+pub with_settled : (s : State) → IsOrdered s → list_all (is_above_frozen s) s.levels ≡ true → IsSound s
+with_settled s is settled = record {
+  formed = is.formed;
+  stratified = is.stratified;
+  roomy = is.roomy;
+  old = is.old;
+  settled = settled;
+  described = is.described;
+  few = is.few;
+  ascending = is.ascending;
+}
+
+module _ (s : State) (sound : IsSound s) where
+  -- no lead of a level is nearer to a living version than an entry of a place above it
   settled_order : (level : Level) → Among level s.levels → (e d : Entry) → Among e (journal_updates s ++ flat_map level_leads (shallower s level)) → Among d (level_leads level)
-      → (v : ℕ) → Among e.version (path (versions_of s) v) → Among d.version (path (versions_of s) v) → e.version < d.version → ⊥
-  settled_order level here e d above lead v on_e on_d lt =
+      → (v : ℕ) → is_dropped (marks_of s) v ≡ false → Among e.version (path (versions_of s) v) → Among d.version (path (versions_of s) v) → e.version < d.version → ⊥
+  settled_order level here e d above lead v living on_e on_d lt =
       let parents : Parents = versions_of s in
-      let between = path_order parents sound_tree e.version d.version v on_e on_d lt in
-      let child = child_on_path parents sound_tree e.version d.version between (λ same. omega arith) in
-      let le : child.0 ≤ d.version = path_le parents sound_tree child.0 d.version child.2 in
-      let low : d.version < level.horizon = lead_below parents sound_tree level (each_of (IsStratified parents) s.levels level sound.stratified here) d lead in
+      let between = path_order parents (sound_tree s sound.formed) e.version d.version v on_e on_d lt in
+      let child = child_on_path parents (sound_tree s sound.formed) e.version d.version between (λ same. omega arith) in
+      let le : child.0 ≤ d.version = path_le parents (sound_tree s sound.formed) child.0 d.version child.2 in
+      let low : d.version < level.horizon = lead_below parents (sound_tree s sound.formed) level (each_of (IsStratified parents) s.levels level sound.stratified here) d lead in
       let is_child : (option_map_or (λ p. eqb p e.version) (parent_of parents child.0) false && is_living s child.0) ≡ true =
       and_from (option_map_or (λ p. eqb p e.version) (parent_of parents child.0) false) (is_living s child.0)
-      (ap (λ (o : Option ℕ). option_map_or (λ p. eqb p e.version) o false) child.1 ∙ eq-eqb e.version e.version refl) refl in
+      (ap (λ (o : Option ℕ). option_map_or (λ p. eqb p e.version) o false) child.1 ∙ eq-eqb e.version e.version refl)
+      (not_from_false (is_dropped (marks_of s) child.0) (path_living parents (sound_tree s sound.formed) (marks_of s) (sound_pruned s sound.formed) child.0 v (path_trans parents (sound_tree s sound.formed) child.0 d.version v child.2 on_d) living)) in
       let has : has_child_below s level.horizon e.version ≡ true =
       any_from (λ c. option_map_or (λ p. eqb p e.version) (parent_of parents c) false && is_living s c) child.0 (range_with_len 0 level.horizon)
       (among_range 0 level.horizon child.0 (omega arith) (omega arith)) is_child in
@@ -173,10 +209,10 @@ module _ (s : State) (sound : IsSound s) where
   nothing_decides key v =
       elim (option_cases (deciding (versions_of s) [] key v)) [
         | inl none ↦ none
-        | inr e ↦ let decides = deciding_some (versions_of s) sound_tree [] key v e.0 e.1 in absurd decides.among
+        | inr e ↦ let decides = deciding_some (versions_of s) (sound_tree s sound.formed) [] key v e.0 e.1 in absurd decides.among
       ]
 
-  module _ (key : List ℕ) (v : ℕ) (known : v < length (versions_of s)) where
+  module _ (key : List ℕ) (v : ℕ) (known : v < length (versions_of s)) (living : is_dropped (marks_of s) v ≡ false) where
     levels_decide : (levels : List Level) (least : ℕ) → is_numbered_from least levels ≡ true → ((level : Level) → Among level levels → Among level s.levels)
         → found_first (versions_of s) levels v key ≡ deciding (versions_of s) (flat_map level_leads levels) key v
     levels_decide [] least numbered inside = sym (nothing_decides key v)
@@ -185,27 +221,27 @@ module _ (s : State) (sound : IsSound s) where
         let parts = numbered_parts least first levels numbered in
         let here = inside first (inl refl) in
         let reads : found_in parents first v key ≡ deciding parents (level_leads first) key v =
-        found_in_leads parents sound_tree first (each_of (IsStratified parents) s.levels first sound.stratified here) key v
+        found_in_leads parents (sound_tree s sound.formed) first (each_of (IsStratified parents) s.levels first sound.stratified here) key v
         (all_at (λ level. list_all has_ascending_entries level.arrays) first s.levels sound.ascending here) known in
         ap (λ (o : Option Entry). option_or o (found_first parents levels v key)) reads
         ∙ ap (option_or (deciding parents (level_leads first) key v)) (levels_decide levels (suc first.number) parts.1 (λ level among. inside level (inr among)))
-        ∙ sym (deciding-append parents sound_tree key (level_leads first) (flat_map level_leads levels) v (λ e d a b on_e on_d lt.
+        ∙ sym (deciding-append parents (sound_tree s sound.formed) key (level_leads first) (flat_map level_leads levels) v (λ e d a b on_e on_d lt.
         let at = among_flat level_leads levels d b in
         let level = at.0 in
         let there = inside level (inr at.1) in
         let number : first.number < level.number = deeper (suc first.number) levels level parts.1 at.1 in
         let above = among_in_flat level_leads (shallower s level) first e (among_filter (λ other. ltb other.number level.number) s.levels first here (lt-ltb first.number level.number number)) a in
-        settled_order level there e d (among_right (journal_updates s) (flat_map level_leads (shallower s level)) e above) at.2 v on_e on_d lt))
+        settled_order level there e d (among_right (journal_updates s) (flat_map level_leads (shallower s level)) e above) at.2 v living on_e on_d lt))
 
     -- reading place by place finds what decides among all that the state says
     pub read_decides : read_at s v key ≡ deciding (versions_of s) (sources s) key v
     read_decides =
         let parents : Parents = versions_of s in
         let zero' : live_of parents (level_zero s) v key ≡ deciding parents (reverse (journal_updates s)) key v =
-        deciding_live parents sound_tree (latest (journal_updates s)) key v (latest_single (journal_updates s))
+        deciding_live parents (sound_tree s sound.formed) (latest (journal_updates s)) key v (latest_single (journal_updates s))
         ∙ (λ i. first_some (λ u. find-latest key u (journal_updates s) i) (path parents v)) in
         ap (λ (o : Option Entry). option_or o (found_first parents s.levels v key)) zero'
         ∙ ap (option_or (deciding parents (reverse (journal_updates s)) key v)) (levels_decide s.levels 1 sound.formed.numbered (λ level among. among))
-        ∙ sym (deciding-append parents sound_tree key (reverse (journal_updates s)) (flat_map level_leads s.levels) v (λ e d a b on_e on_d lt.
+        ∙ sym (deciding-append parents (sound_tree s sound.formed) key (reverse (journal_updates s)) (flat_map level_leads s.levels) v (λ e d a b on_e on_d lt.
         let at = among_flat level_leads s.levels d b in
-        settled_order at.0 at.1 e d (among_left (journal_updates s) (flat_map level_leads (shallower s at.0)) e (among_back (journal_updates s) e a)) at.2 v on_e on_d lt))
+        settled_order at.0 at.1 e d (among_left (journal_updates s) (flat_map level_leads (shallower s at.0)) e (among_back (journal_updates s) e a)) at.2 v living on_e on_d lt))

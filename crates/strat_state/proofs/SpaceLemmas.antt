@@ -11,7 +11,7 @@ use Rattle.strat_state.specs.Sound.{IsSound}
 use Rattle.strat_base.proofs.ListFacts.{find_some, find_none, among_range}
 use Rattle.strat_base.proofs.TreeLemmas.{option_cases}
 
-arrays_led : (arrays : List TaggedArray) → list_all is_led arrays ≡ true → sum_by (λ a. length a.content) arrays ≤ 2 * length (flat_map own_leads arrays)
+pub arrays_led : (arrays : List TaggedArray) → list_all is_led arrays ≡ true → sum_by (λ a. length a.content) arrays ≤ 2 * length (flat_map own_leads arrays)
 arrays_led [] led = omega arith
 arrays_led (a ∷ arrays) led =
     let parts = and_parts (is_led a) (list_all is_led arrays) led in

@@ -15,7 +15,7 @@ use Rattle.strat_state.specs.Live.{first_some, deciding}
 use Rattle.strat_state.specs.Maps.{value_over, with_value, map_over}
 use Rattle.strat_base.proofs.ListFacts.{Among, any_from, get_among}
 use Rattle.strat_base.proofs.EntryLemmas.{bytes_same, same_bytes, at_key_version, is_at_version}
-use Rattle.strat_base.proofs.TreeLemmas.{option_cases, child_on_path, tree_grown, path_kept, path_child}
+use Rattle.strat_base.proofs.TreeLemmas.{option_cases, tree_grown, path_kept, path_child}
 use Rattle.strat_state.proofs.LiveLemmas.{deciding_root, deciding_up, deciding_some}
 use Rattle.strat_state.proofs.ReadingLemmas.{find_below}
 use Rattle.strat_state.proofs.MapLemmas.{Pairs, InOrder, value_in, InOrder-insert, value_in-insert, InOrder-remove, value_in-remove, same_map}
@@ -153,21 +153,20 @@ module _ (parents : Parents) (tree : IsTree parents) (e : Entry) (entries : List
       first_same (λ w. find (is_at key w) (e ∷ entries)) (λ w. find (is_at key w) entries) (path parents u)
       (λ w among. at_other w (ap (λ (b : Bool). b && eqb e.version w) other))
 
-  decides_no_other : (u : ℕ) → has_child parents e.version ≡ false → u ≢ e.version → deciding parents (e ∷ entries) key u ≡ deciding parents entries key u
-  decides_no_other u childless apart =
+  decides_no_other : (u : ℕ) → (Among e.version (path parents u) → u ≡ e.version) → u ≢ e.version → deciding parents (e ∷ entries) key u ≡ deciding parents entries key u
+  decides_no_other u leaf apart =
       first_same (λ w. find (is_at key w) (e ∷ entries)) (λ w. find (is_at key w) entries) (path parents u)
       (λ w among.
       elim (cases_Bool (is_at key w e)) [
         | inr no' ↦ at_other w no'
         | inl yes' ↦
             let same : e.version ≡ w = is_at_version key w e yes' in
-            let child = child_on_path parents tree e.version u (subst (λ (x : ℕ). Among x (path parents u)) (sym same) among) (λ equal. apart (sym equal)) in
-            absurd (true≢false (sym (child_recorded parents child.0 e.version child.1) ∙ childless))
+            absurd (apart (leaf (subst (λ (x : ℕ). Among x (path parents u)) (sym same) among)))
       ])
 
   -- the key has what the entry says at its version, and every other value stays
-  pub value_pushed : has_child parents e.version ≡ false → (u : ℕ) → value_over parents (e ∷ entries) u key ≡ cond (eqb u e.version && bytes_eq e.key key) e.value (value_over parents entries u key)
-  value_pushed childless u =
+  pub value_pushed : (u : ℕ) → (Among e.version (path parents u) → u ≡ e.version) → value_over parents (e ∷ entries) u key ≡ cond (eqb u e.version && bytes_eq e.key key) e.value (value_over parents entries u key)
+  value_pushed u leaf =
       let value : Option Entry → Option (List ℕ) = λ o. option_and_then (λ d. d.value) o in
       elim (bytes_eq e.key key) as (λ b. bytes_eq e.key key ≡ b → value (deciding parents (e ∷ entries) key u) ≡ cond (eqb u e.version && b) e.value (value_over parents entries u key)) [
         | false ↦ λ other. ap value (decides_its_key u other) ∙ sym (ap (λ (b : Bool). cond b e.value (value_over parents entries u key)) (and_no (eqb u e.version)))
@@ -178,12 +177,12 @@ module _ (parents : Parents) (tree : IsTree parents) (e : Entry) (entries : List
                   ∙ ap value (decides_its_version (bytes_same e.key key same))
                   ∙ sym (ap (λ (b : Bool). cond (b && true) e.value (value_over parents entries u key)) (eq-eqb u e.version here))
               | inr apart ↦
-                  ap value (decides_no_other u childless apart)
+                  ap value (decides_no_other u leaf apart)
                   ∙ sym (ap (λ (b : Bool). cond (b && true) e.value (value_over parents entries u key)) (ne_eqb u e.version apart))
             ]
       ] refl
 
-module _ (parents : Parents) (tree : IsTree parents) (entries : List Entry) (v : ℕ) (key : List ℕ) (childless : has_child parents v ≡ false) (u : ℕ) where
+module _ (parents : Parents) (tree : IsTree parents) (entries : List Entry) (v : ℕ) (key : List ℕ) (u : ℕ) (leaf : Among v (path parents u) → u ≡ v) where
   -- a value sets its key in the map of its version, and every other map stays
   pub map_put : (value : List ℕ) → map_over parents (record { key = key; version = v; value = Some value } ∷ entries) u
       ≡ cond (eqb u v) (insert_entry key_cmp (map_over parents entries u) key value) (map_over parents entries u)
@@ -192,7 +191,7 @@ module _ (parents : Parents) (tree : IsTree parents) (entries : List Entry) (v :
       let e : Entry = record { key = key; version = v; value = Some value } in
       let after : Pairs = map_over parents (e ∷ entries) u in
       let read : (q : List ℕ) → value_in q after ≡ cond (eqb u v && bytes_eq key q) (Some value) (value_over parents entries u q) =
-      λ q. map_value parents (e ∷ entries) u tree q ∙ value_pushed parents tree e entries q childless u in
+      λ q. map_value parents (e ∷ entries) u tree q ∙ value_pushed parents tree e entries q u leaf in
       elim (eqb u v) as (λ b. eqb u v ≡ b → after ≡ cond b (insert_entry key_cmp before key value) before) [
         | true ↦ λ here.
             same_map after (insert_entry key_cmp before key value) (map_order parents (e ∷ entries) u) (InOrder-insert before key value (map_order parents entries u)) (λ q.
@@ -214,7 +213,7 @@ module _ (parents : Parents) (tree : IsTree parents) (entries : List Entry) (v :
       let e : Entry = record { key = key; version = v; value = None } in
       let after : Pairs = map_over parents (e ∷ entries) u in
       let read : (q : List ℕ) → value_in q after ≡ cond (eqb u v && bytes_eq key q) None (value_over parents entries u q) =
-      λ q. map_value parents (e ∷ entries) u tree q ∙ value_pushed parents tree e entries q childless u in
+      λ q. map_value parents (e ∷ entries) u tree q ∙ value_pushed parents tree e entries q u leaf in
       elim (eqb u v) as (λ b. eqb u v ≡ b → after ≡ cond b (remove_entry (λ k. is_eq (key_cmp key k)) before) before) [
         | true ↦ λ here.
             same_map after (remove_entry (λ k. is_eq (key_cmp key k)) before) (map_order parents (e ∷ entries) u) (InOrder-remove before key (map_order parents entries u)) (λ q.

@@ -1,6 +1,6 @@
 -- States that are well formed but break a rule. Recovery refuses those whose tags meet, with more
 -- copies than leads, with a horizon that is not reached, and with more leads than updates.
-use Rattle.std.specs.Prelude.{ℕ, ◌+◌, ◌-◌, List, [], ◌∷◌, length, Some, None}
+use Rattle.std.specs.Prelude.{replicate, false, ℕ, ◌+◌, ◌-◌, List, [], ◌∷◌, length, Some, None}
 use Rattle.strat_base.specs.Tree.{Parents}
 use Rattle.strat_state.specs.Level.{Level}
 use Rattle.strat_state.specs.State.{State}
@@ -14,9 +14,11 @@ with_empty_journal parents updates levels = record {
   changes_max = 100;
   versions_max = 10;
   parents = parents;
+  marks = replicate (length parents) false;
   changes = updates + length parents - 1;
   updates = updates;
   written = updates;
+  compacted = 0;
   next_array = 9;
   levels = levels;
   journal = [];

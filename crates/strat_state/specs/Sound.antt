@@ -3,11 +3,12 @@ use Rattle.std.specs.Prelude.{◌<◌, ℕ, suc, ◌-◌, ◌*◌, ◌^◌, ◌=
 use Rattle.std.specs.Option.{option_map_or}
 use Rattle.std.specs.List.{list_any, list_all, range_with_len, AllByRecursion}
 use Rattle.strat_base.specs.declared.limits.TheConstants.{LEVELS}
-use Rattle.strat_base.specs.Tree.{Parents, is_known, parent_of, has_child}
+use Rattle.strat_base.specs.Tree.{Parents, is_known, parent_of}
+use Rattle.strat_base.specs.Marks.{Marks, is_dropped, has_living_child, are_pruned, takes_drops}
 use Rattle.strat_base.specs.Entries.{is_ascending}
-use Rattle.strat_base.specs.Change.{Change, Put, Delete, Clone}
+use Rattle.strat_base.specs.Change.{Change, Put, Delete, Clone, DropVersion}
 use Rattle.strat_state.specs.Level.{TaggedArray, Level, own_leads, least_live, level_leads, IsStratified}
-use Rattle.strat_state.specs.State.{State, versions_of, is_living, journal_updates, changes_of, tree_after}
+use Rattle.strat_state.specs.State.{State, versions_of, marks_of, is_living, journal_updates, changes_of, tree_after, marks_after}
 
 -- version 0 alone is a root, and every other parent was made before its child
 abbrev pub is_tree_from : ℕ → Parents → Bool
@@ -67,26 +68,43 @@ has_few_leads s = nat_le (sum_by (λ level. length (level_leads level)) s.levels
 abbrev pub has_ascending_entries : TaggedArray → Bool
 has_ascending_entries a = is_ascending a.content
 
--- a tree and a number of changes accept a change, within these most changes and versions
-abbrev pub is_accepted : ℕ → ℕ → Parents → ℕ → Change → Bool
-is_accepted changes_max versions_max parents changes (Put version key value) =
-    is_known parents version && not (has_child parents version) && not (changes == changes_max)
-is_accepted changes_max versions_max parents changes (Delete version key) =
-    is_known parents version && not (has_child parents version) && not (changes == changes_max)
-is_accepted changes_max versions_max parents changes (Clone version) =
-    is_known parents version && not (length parents == versions_max) && not (changes == changes_max)
+-- a version was made and not dropped
+abbrev pub is_there : Parents → Marks → ℕ → Bool
+is_there parents marks v = is_known parents v && not (is_dropped marks v)
+
+-- a version takes updates: it is there, and each child of it was dropped
+abbrev pub takes_updates : Parents → Marks → ℕ → Bool
+takes_updates parents marks v = is_there parents marks v && not (has_living_child parents marks v)
+
+-- a version may be dropped: it is open, and not version 0, and one more change may be made
+abbrev pub is_droppable : ℕ → Parents → Marks → ℕ → ℕ → Bool
+is_droppable changes_max parents marks changes version =
+    takes_updates parents marks version && not (version == 0) && not (changes == changes_max)
+
+-- a tree, its marks and a number of changes accept a change, within these most changes and versions
+abbrev pub is_accepted : ℕ → ℕ → Parents → Marks → ℕ → Change → Bool
+is_accepted changes_max versions_max parents marks changes (Put version key value) =
+    takes_updates parents marks version && not (changes == changes_max)
+is_accepted changes_max versions_max parents marks changes (Delete version key) =
+    takes_updates parents marks version && not (changes == changes_max)
+is_accepted changes_max versions_max parents marks changes (Clone version) =
+    is_there parents marks version && not (length parents == versions_max)
+    && not (changes == changes_max)
+is_accepted changes_max versions_max parents marks changes (DropVersion version) =
+    takes_drops && is_droppable changes_max parents marks changes version
 
 -- each change is accepted in its turn
-abbrev pub are_accepted : ℕ → ℕ → Parents → ℕ → List Change → Bool
-are_accepted changes_max versions_max parents changes [] = true
-are_accepted changes_max versions_max parents changes (change ∷ journal) =
-    is_accepted changes_max versions_max parents changes change
-    && are_accepted changes_max versions_max (tree_after parents change) (suc changes) journal
+abbrev pub are_accepted : ℕ → ℕ → Parents → Marks → ℕ → List Change → Bool
+are_accepted changes_max versions_max parents marks changes [] = true
+are_accepted changes_max versions_max parents marks changes (change ∷ journal) =
+    is_accepted changes_max versions_max parents marks changes change
+    && are_accepted changes_max versions_max (tree_after parents change) (marks_after marks change)
+    (suc changes) journal
 
 -- a state accepts one more change
 abbrev pub accepts_change : State → Change → Bool
 accepts_change s change =
-    is_accepted s.changes_max s.versions_max (versions_of s) (changes_of s) change
+    is_accepted s.changes_max s.versions_max (versions_of s) (marks_of s) (changes_of s) change
 
 -- how many changes a journal has at most: what one region takes, and two fewer in the other
 abbrev pub journal_max : ℕ → ℕ
@@ -95,9 +113,22 @@ journal_max mem = 2 * mem - 2
 -- a state is well formed: a tree, levels in order, and a journal that was accepted in turn and fits
 pub record IsWellFormed (s : State) : Type 0 where
   pub tree : IsTrue (is_tree s.parents)
+  pub pruned : IsTrue (are_pruned s.parents s.marks)
   pub numbered : IsTrue (is_numbered_from 1 s.levels)
-  pub accepted : IsTrue (are_accepted s.changes_max s.versions_max s.parents s.changes s.journal)
+  pub accepted : IsTrue
+      (are_accepted s.changes_max s.versions_max s.parents s.marks s.changes s.journal)
   pub fits : IsTrue (nat_le (length s.journal) (journal_max s.mem))
+
+-- a state keeps all rules but j
+pub record IsOrdered (s : State) : Type 0 where
+  pub formed : IsWellFormed s
+  pub stratified : AllByRecursion (IsStratified (versions_of s)) s.levels  -- a to g
+  pub roomy : IsTrue (list_all (has_room s) s.levels)  -- h
+  pub old : IsTrue (list_all (has_old_horizon s) s.levels)  -- i
+  pub described : IsTrue (list_all (λ level. list_all (is_described s) level.arrays) s.levels)  -- k
+  pub few : IsTrue (has_few_leads s)  -- l
+  pub ascending : IsTrue
+      (list_all (λ level. list_all has_ascending_entries level.arrays) s.levels)  -- m
 
 -- a state is sound
 pub record IsSound (s : State) : Type 0 where

@@ -1,11 +1,12 @@
 -- The state of a store, as its disk says it, and what it says of keys at versions.
-use Rattle.std.specs.Prelude.{ℕ, ◌+◌, ◌*◌, ◌-◌, ◌^◌, ◌==◌, nat_le, ◌||◌, Bool, true, List, [], ◌∷◌, ◌++◌, length, reverse, sum_by, map, flat_map, filter_map, find, fold, Option, Some, None, unwrap_or, IsTrue}
+use Rattle.std.specs.Prelude.{ℕ, ◌+◌, ◌*◌, ◌-◌, ◌^◌, ◌==◌, nat_le, ◌||◌, not, Bool, true, false, if◌then◌else◌, List, [], ◌∷◌, ◌++◌, length, reverse, sum_by, map, flat_map, filter_map, find, fold, Option, Some, None, unwrap_or, slice_set, IsTrue}
 use Rattle.std.specs.List.{list_all, range_with_len}
 use Rattle.strat_base.specs.Tree.{Parents, with_child}
+use Rattle.strat_base.specs.Marks.{Marks, is_dropped}
 use Rattle.strat_base.specs.Entries.{Entry}
 use Rattle.strat_state.specs.Maps.{value_over, map_over}
 use Rattle.strat_state.specs.Level.{Level, level_leads, density, lead_fraction}
-use Rattle.strat_base.specs.Change.{Change, Put, Delete, Clone}
+use Rattle.strat_base.specs.Change.{Change, Put, Delete, Clone, DropVersion}
 
 -- a state: the limits, what the manifest says, and the changes in the journal
 pub record State : Type 0 where
@@ -13,9 +14,11 @@ pub record State : Type 0 where
   pub changes_max : ℕ
   pub versions_max : ℕ
   pub parents : Parents
+  pub marks : Marks
   pub changes : ℕ
   pub updates : ℕ
   pub written : ℕ
+  pub compacted : ℕ
   pub next_array : ℕ
   -- the levels that have arrays, the shallowest first
   pub levels : List Level
@@ -28,9 +31,11 @@ fresh_state mem changes_max versions_max = record {
   changes_max = changes_max;
   versions_max = versions_max;
   parents = None ∷ [];
+  marks = false ∷ [];
   changes = 0;
   updates = 0;
   written = 0;
+  compacted = 0;
   next_array = 1;
   levels = [];
   journal = [];
@@ -41,14 +46,26 @@ abbrev pub tree_after : Parents → Change → Parents
 tree_after parents (Put version key value) = parents
 tree_after parents (Delete version key) = parents
 tree_after parents (Clone version) = with_child parents version
+tree_after parents (DropVersion version) = parents
+
+-- the marks of versions after a change
+abbrev pub marks_after : Marks → Change → Marks
+marks_after marks (Put version key value) = marks
+marks_after marks (Delete version key) = marks
+marks_after marks (Clone version) = marks ++ false ∷ []
+marks_after marks (DropVersion version) = slice_set marks version true
 
 -- the versions of a state: the manifest's, and those that its journal made
 abbrev pub versions_of : State → Parents
 versions_of s = fold tree_after s.parents s.journal
 
+-- the marks of a state: the manifest's, and those that its journal made
+abbrev pub marks_of : State → Marks
+marks_of s = fold marks_after s.marks s.journal
+
 -- a version is not dropped
 abbrev pub is_living : State → ℕ → Bool
-is_living s v = true
+is_living s v = not (is_dropped (marks_of s) v)
 
 -- the entry that a change writes
 abbrev pub update_of : Change → Option Entry
@@ -56,6 +73,7 @@ update_of (Put version key value) =
     Some (record { key = key; version = version; value = Some value })
 update_of (Delete version key) = Some (record { key = key; version = version; value = None })
 update_of (Clone version) = None
+update_of (DropVersion version) = None
 
 -- the updates in the journal, the oldest first
 abbrev pub journal_updates : State → List Entry
@@ -69,9 +87,9 @@ sources s = reverse (journal_updates s) ++ flat_map level_leads s.levels
 abbrev pub value_at : State → ℕ → List ℕ → Option (List ℕ)
 value_at s v key = value_over (versions_of s) (sources s) v key
 
--- the map of a version: each key that a state speaks of, with its value there
+-- the map of a version: each key that a state speaks of, with its value there; a dropped version has none
 abbrev pub map_at : State → ℕ → List (List ℕ × List ℕ)
-map_at s v = map_over (versions_of s) (sources s) v
+map_at s v = if is_living s v then map_over (versions_of s) (sources s) v else []
 
 -- how many updates were accepted
 abbrev pub updates_of : State → ℕ

@@ -1,8 +1,8 @@
 -- States written out, as a store leaves them.
-use Rattle.std.specs.Prelude.{ℕ, List, [], ◌∷◌, Some, None}
+use Rattle.std.specs.Prelude.{ℕ, false, List, [], ◌∷◌, replicate, Some, None}
 use Rattle.strat_base.specs.Entries.{Entry}
 use Rattle.strat_base.specs.Samples.{says, gone}
-use Rattle.strat_base.specs.Change.{Put}
+use Rattle.strat_base.specs.Change.{Put, DropVersion}
 use Rattle.strat_state.specs.Level.{TaggedArray, Level}
 use Rattle.strat_state.specs.State.{State}
 
@@ -29,9 +29,11 @@ chain = record {
   changes_max = 100;
   versions_max = 10;
   parents = None ∷ Some 0 ∷ Some 1 ∷ Some 2 ∷ [];
+  marks = replicate 4 false;
   changes = 4;
   updates = 1;
   written = 1;
+  compacted = 0;
   next_array = 2;
   levels = first_level 4 (array_of 1 (1 ∷ 2 ∷ 3 ∷ []) (says 97 1 49 ∷ []) 1 1 1 ∷ []);
   journal = Put 3 (98 ∷ []) (49 ∷ []) ∷ [];
@@ -45,9 +47,11 @@ fan = record {
   changes_max = 100;
   versions_max = 10;
   parents = None ∷ Some 0 ∷ Some 0 ∷ Some 0 ∷ [];
+  marks = replicate 4 false;
   changes = 8;
   updates = 5;
   written = 7;
+  compacted = 0;
   next_array = 3;
   levels = first_level 4 (
       array_of 1 (0 ∷ 1 ∷ []) (says 97 0 49 ∷ says 98 0 49 ∷ says 99 1 49 ∷ []) 3 3 2
@@ -64,9 +68,11 @@ child_with_more = record {
   changes_max = 100;
   versions_max = 10;
   parents = None ∷ Some 0 ∷ [];
+  marks = replicate 2 false;
   changes = 5;
   updates = 4;
   written = 5;
+  compacted = 0;
   next_array = 3;
   levels = first_level 2 (
       array_of 1 (0 ∷ []) (says 97 0 49 ∷ []) 1 1 1
@@ -82,13 +88,43 @@ deleted_below = record {
   changes_max = 100;
   versions_max = 10;
   parents = None ∷ Some 0 ∷ Some 1 ∷ [];
+  marks = replicate 3 false;
   changes = 4;
   updates = 2;
   written = 3;
+  compacted = 0;
   next_array = 3;
   levels = first_level 3 (
       array_of 1 (0 ∷ []) (says 97 0 49 ∷ []) 1 1 1
       ∷ array_of 2 (1 ∷ 2 ∷ []) (gone 97 1 ∷ says 97 0 49 ∷ []) 2 1 1
       ∷ []);
   journal = Put 2 (122 ∷ []) (49 ∷ []) ∷ [];
+}
+
+-- a at version 0 above b at its child, which was dropped in the journal
+abbrev pub lately_dropped : State
+lately_dropped = record {
+  mem = 4;
+  changes_max = 100;
+  versions_max = 10;
+  parents = None ∷ Some 0 ∷ [];
+  marks = replicate 2 false;
+  changes = 8;
+  updates = 5;
+  written = 7;
+  compacted = 0;
+  next_array = 3;
+  levels =
+      record {
+        number = 1;
+        horizon = 2;
+        arrays = array_of 1 (0 ∷ 1 ∷ []) (says 97 0 49 ∷ []) 1 1 1 ∷ [];
+      }
+      ∷ record {
+        number = 2;
+        horizon = 2;
+        arrays = array_of 2 (1 ∷ []) (says 98 1 49 ∷ []) 1 1 1 ∷ [];
+      }
+      ∷ [];
+  journal = DropVersion 1 ∷ [];
 }

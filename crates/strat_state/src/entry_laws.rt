@@ -5,10 +5,10 @@ ghost use Rattle.std.specs.BTreeMap.{insert_entry};
 ghost use Rattle.std.specs.List.{list_any, list_all};
 ghost use Rattle.std.specs.Map.{lookup, remove_entry};
 ghost use Rattle.std.specs.Ordering.{is_eq};
-ghost use Rattle.std.specs.Prelude.{◌≡◌, ◌==◌, if◌then◌else◌, ℕ, ◌+◌, ◌<◌, List, [], ◌∷◌, ◌++◌, length, filter, find, Some, None, option_and_then, IsTrue, false};
+ghost use Rattle.std.specs.Prelude.{◌≡◌, ◌==◌, if◌then◌else◌, ℕ, ◌+◌, ◌<◌, List, [], ◌∷◌, ◌++◌, length, filter, find, Some, None, option_and_then, IsTrue, true};
 ghost use Rattle.strat_base.specs.Entries.{Entry, is_of, is_at, is_single, is_ascending, latest};
 ghost use Rattle.strat_base.specs.Order.{key_cmp};
-ghost use Rattle.strat_base.specs.Tree.{Parents, is_known, is_ancestor, has_child, with_child, IsTree};
+ghost use Rattle.strat_base.specs.Tree.{Parents, is_known, is_ancestor, with_child, IsTree};
 ghost use Rattle.strat_state.specs.Live.{live, deciding};
 ghost use Rattle.strat_state.specs.Maps.{map_over};
 ghost use Rattle.strat_state.specs.Reading.{live_of};
@@ -57,17 +57,17 @@ pub fn maps_have_the_deciding_values()
         ≡ option_and_then (λ e. e.value) (deciding parents entries key v) }
 {}
 
-/// An entry that is set at a version without a child changes the map of that version alone: its key
+/// An entry that is set at a version changes no map but that of this version and those below it: its key
 /// gets its value, or is gone.
 pub fn set_entries_change_one_map()
     ensures ok { (parents : Parents) (entries : List Entry) (v : ℕ) (key value : List ℕ) (u : ℕ)
-        → IsTree parents → has_child parents v ≡ false
+        → IsTree parents → (is_ancestor parents v u ≡ true → u ≡ v)
         → map_over parents
         (set_entry (record { key = key; version = v; value = Some value }) entries) u
         ≡ (if u == v then insert_entry key_cmp (map_over parents entries u) key value
         else map_over parents entries u) }
     ensures none { (parents : Parents) (entries : List Entry) (v : ℕ) (key : List ℕ) (u : ℕ)
-        → IsTree parents → has_child parents v ≡ false
+        → IsTree parents → (is_ancestor parents v u ≡ true → u ≡ v)
         → map_over parents (set_entry (record { key = key; version = v; value = None }) entries) u
         ≡ (if u == v then remove_entry (λ k. is_eq (key_cmp key k)) (map_over parents entries u)
         else map_over parents entries u) }

@@ -7,14 +7,14 @@ ghost use Rattle.std.specs.Map.{lookup, remove_entry};
 ghost use Rattle.std.specs.Ordering.{is_eq};
 ghost use Rattle.std.specs.Prelude.{◌≡◌, ◌↔◌, ◌==◌, if◌then◌else◌, ℕ, ◌+◌, ◌*◌, ◌^◌, ◌<◌, ◌≤◌, List, [], ◌∷◌, length, filter, find, Some, option_and_then, IsTrue};
 ghost use Rattle.strat_state.specs.Breach.{breaches};
-ghost use Rattle.strat_base.specs.Change.{Change, Put, Delete, Clone};
+ghost use Rattle.strat_base.specs.Change.{Change, Put, Delete, Clone, DropVersion};
 ghost use Rattle.strat_base.specs.Entries.{Entry, is_of, is_single};
 ghost use Rattle.strat_state.specs.Level.{Level, has_disjoint_tags, has_single_leads};
 ghost use Rattle.strat_state.specs.Live.{live, deciding};
 ghost use Rattle.strat_base.specs.Order.{key_cmp};
 ghost use Rattle.strat_state.specs.Reading.{read_at};
-ghost use Rattle.strat_state.specs.Sound.{has_ascending_entries, IsWellFormed, IsSound, Takes};
-ghost use Rattle.strat_state.specs.State.{State, fresh_state, versions_of, sources, value_at, map_at, updates_of, changes_of, appended, stored, deep, IsPaid};
+ghost use Rattle.strat_state.specs.Sound.{has_ascending_entries, is_droppable, IsWellFormed, IsSound, Takes};
+ghost use Rattle.strat_state.specs.State.{State, fresh_state, versions_of, marks_of, is_living, sources, value_at, map_at, updates_of, changes_of, appended, stored, deep, IsPaid};
 ghost use Rattle.strat_base.specs.Tree.{Parents, parent_of, path, is_ancestor, below, with_child, IsTree};
 
 /// Where no key has two entries at one version, at most one entry of a key is live at a version:
@@ -40,11 +40,12 @@ pub fn live_keys_stay_live()
 /// version.
 pub fn the_first_place_decides()
     ensures entry { (s : State) (v : ℕ) (key : List ℕ) → IsSound s → v < length (versions_of s)
-        → read_at s v key ≡ deciding (versions_of s) (sources s) key v }
+        → IsTrue (is_living s v) → read_at s v key ≡ deciding (versions_of s) (sources s) key v }
     ensures value { (s : State) (v : ℕ) (key : List ℕ) → IsSound s → v < length (versions_of s)
+        → IsTrue (is_living s v)
         → option_and_then (λ e. e.value) (read_at s v key) ≡ value_at s v key }
     ensures map { (s : State) (v : ℕ) (key : List ℕ) → IsSound s → v < length (versions_of s)
-        → option_and_then (λ e. e.value) (read_at s v key)
+        → IsTrue (is_living s v) → option_and_then (λ e. e.value) (read_at s v key)
         ≡ lookup (λ k. is_eq (key_cmp key k)) (map_at s v) }
 {}
 
@@ -98,6 +99,20 @@ pub fn a_clone_copies_a_map()
         → map_at (appended s (Clone p)) (length (versions_of s)) ≡ map_at s p }
     ensures counts { (s : State) (p : ℕ) → (updates_of (appended s (Clone p)) ≡ updates_of s)
         × (changes_of (appended s (Clone p)) ≡ changes_of s + 1) }
+{}
+
+/// A version that a sound state may drop has the empty map once it is dropped, and no other map changes. Where a build
+/// takes drops, the state stays sound.
+pub fn a_drop_empties_a_map()
+    ensures kept { (s : State) (v : ℕ) → Takes s (DropVersion v)
+        → IsSound (appended s (DropVersion v)) }
+    ensures tree { (s : State) (v : ℕ) → versions_of (appended s (DropVersion v)) ≡ versions_of s }
+    ensures map { (s : State) (v u : ℕ) → IsSound s
+        → IsTrue (is_droppable s.changes_max (versions_of s) (marks_of s) (changes_of s) v)
+        → map_at (appended s (DropVersion v)) u ≡ (if u == v then [] else map_at s u) }
+    ensures counts { (s : State) (v : ℕ)
+        → (updates_of (appended s (DropVersion v)) ≡ updates_of s)
+        × (changes_of (appended s (DropVersion v)) ≡ changes_of s + 1) }
 {}
 
 /// A new store is sound, has paid, stores nothing and has the empty map at its one version.

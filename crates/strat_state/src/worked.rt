@@ -2,13 +2,14 @@
 
 #![tactic(auto, unfolding(strat_base::specs::Tree::climb, crate::specs::State::deep), using(crate::proofs::BreachLemmas::sound_from_none))]
 
-ghost use Rattle.std.specs.Prelude.{◌≡◌, ℕ, List, [], ◌∷◌, Some, None};
+ghost use Rattle.std.specs.List.{list_all};
+ghost use Rattle.std.specs.Prelude.{◌≡◌, ℕ, List, [], ◌∷◌, Some, None, true, false};
 ghost use Rattle.strat_base.specs.Samples.{says, gone};
 ghost use Rattle.strat_state.specs.Maps.{map_over};
 ghost use Rattle.strat_state.specs.Setting.{set_all};
-ghost use Rattle.strat_state.specs.Sound.{IsSound};
+ghost use Rattle.strat_state.specs.Sound.{is_above_frozen, IsSound};
 ghost use Rattle.strat_state.specs.State.{value_at, map_at, densities, lead_fractions, stored, updates_of, changes_of, IsPaid};
-ghost use Rattle.strat_state.specs.Worked.{chain, fan, child_with_more, deleted_below};
+ghost use Rattle.strat_state.specs.Worked.{chain, fan, child_with_more, deleted_below, lately_dropped};
 
 /// A chain of clones with one key at its second version: one array for those that see the key.
 pub fn chain_of_clones()
@@ -64,4 +65,11 @@ pub fn updates_set_in_order()
         ≡ (98 ∷ [], 49 ∷ []) ∷ [] }
     ensures child { map_over (None ∷ Some 0 ∷ []) (says 97 1 50 ∷ gone 97 0 ∷ says 98 0 49 ∷ []) 1
         ≡ (97 ∷ [], 50 ∷ []) ∷ (98 ∷ [], 49 ∷ []) ∷ [] }
+{}
+
+/// No lead stands above a frozen version after one was dropped, and before one did: at the parent of the dropped one.
+pub fn a_drop_may_hide_a_breach()
+    ensures settled { list_all (is_above_frozen lately_dropped) lately_dropped.levels ≡ true }
+    ensures before { list_all (is_above_frozen (record lately_dropped { journal = [] }))
+        lately_dropped.levels ≡ false }
 {}

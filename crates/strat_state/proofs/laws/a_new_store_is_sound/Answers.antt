@@ -7,7 +7,7 @@ use Rattle.strat_state.proofs.laws.a_new_store_is_sound.Goals as goal
 pub returns : goal.returns
 returns c = record {
   sound = λ mem changes_max versions_max. record {
-    formed = record { tree = refl; numbered = refl; accepted = refl; fits = le-leb 0 (journal_max mem) (omega arith) };
+    formed = record { tree = refl; pruned = refl; numbered = refl; accepted = refl; fits = le-leb 0 (journal_max mem) (omega arith) };
     stratified = tt;
     roomy = refl;
     old = refl;
