@@ -143,20 +143,20 @@ take_front [] ys = refl
 take_front (x ∷ xs) ys = ap (λ (l : List ℕ). x ∷ l) (take_front xs ys)
 
 -- a manifest is read from its bytes and zeros
-filled_read : (bytes : List ℕ) (k : ℕ) (m : Manifest) → SpellsManifest bytes m → manifest_filled (length bytes) (bytes ++ replicate k 0) ≡ Some m
-filled_read bytes k m spells =
-    cond-true (list_all (λ x. eqb x 0) (drop (length bytes) (bytes ++ replicate k 0))) (manifest_in (take (length bytes) (bytes ++ replicate k 0))) None
+filled_read : (format : ℕ) (bytes : List ℕ) (k : ℕ) (m : Manifest) → SpellsManifest format bytes m → manifest_filled format (length bytes) (bytes ++ replicate k 0) ≡ Some m
+filled_read format bytes k m spells =
+    cond-true (list_all (λ x. eqb x 0) (drop (length bytes) (bytes ++ replicate k 0))) (manifest_in format (take (length bytes) (bytes ++ replicate k 0))) None
     (ap (list_all (λ x. eqb x 0)) (drop_front bytes (replicate k 0)) ∙ all_zero k)
-    ∙ ap manifest_in (take_front bytes (replicate k 0)) ∙ manifest_in-bytes m bytes spells
+    ∙ ap (manifest_in format) (take_front bytes (replicate k 0)) ∙ manifest_in-bytes format m bytes spells
 
-pub chain_read : (c : Image) (b : ℕ) (blocks bytes : List ℕ) (m : Manifest) → SpellsManifest bytes m → IsChain c (b ∷ blocks) bytes
-    → manifest_at c b (length bytes) ≡ Ok (record { manifest = m; blocks = b ∷ blocks })
-chain_read c b blocks bytes m spells chain =
+pub chain_read : (format : ℕ) (c : Image) (b : ℕ) (blocks bytes : List ℕ) (m : Manifest) → SpellsManifest format bytes m → IsChain c (b ∷ blocks) bytes
+    → manifest_at format c b (length bytes) ≡ Ok (record { manifest = m; blocks = b ∷ blocks })
+chain_read format c b blocks bytes m spells chain =
     let linked : are_linked [] (b ∷ blocks) ≡ true = chain_linked [] (b ∷ blocks) chain.named chain.distinct (all_outside_none (b ∷ blocks)) in
     let parts = and_parts (may_follow [] b) (are_linked (b ∷ []) blocks) linked in
     let count : chain_length (length bytes) - 1 ≡ length blocks = omega (arith, chain.count) in
     let read : chain_from c [] b (chain_length (length bytes) - 1) ≡ Ok (b ∷ blocks) = ap (chain_from c [] b) count ∙ blocks_read c [] b blocks bytes parts.1 chain.holds in
     let all = bytes_in_chain c [] (b ∷ blocks) bytes linked chain.holds in
-    let found : manifest_filled (length bytes) (chained_bytes c (b ∷ blocks)) ≡ Some m = ap (manifest_filled (length bytes)) all.1 ∙ filled_read bytes all.0 m spells in
-    ap (λ (r : Read (List ℕ)). and_then r (manifest_in_chain c b (length bytes))) read
+    let found : manifest_filled format (length bytes) (chained_bytes c (b ∷ blocks)) ≡ Some m = ap (manifest_filled format (length bytes)) all.1 ∙ filled_read format bytes all.0 m spells in
+    ap (λ (r : Read (List ℕ)). and_then r (manifest_in_chain format c b (length bytes))) read
     ∙ ap (λ (o : Option Manifest). found_or b (option_map (λ x. record { manifest = x; blocks = b ∷ blocks }) o)) found

@@ -1,14 +1,15 @@
 -- Manifests are read as they were written, and what is read was written so.
-use Rattle.std.proofs.Common.{◌≡◌, ◌<◌, ◌≤◌, ◌+◌, ◌-◌, ◌^◌, inl, inr, ℕ, zero, suc, Bool, true, ltb, leb, get_or, ◌&&◌, List, [], ◌∷◌, ◌++◌, length, drop, Some, None, cond, refl, sym, ap, ◌∙◌, subst, arith, length-append, append_assoc, append-nil}
-use Rattle.std.specs.List.{flat_map}
+use Rattle.std.proofs.Common.{◌≡◌, ◌<◌, ◌≤◌, ◌+◌, ◌-◌, ◌^◌, inl, inr, ℕ, zero, suc, Bool, true, false, eqb, not, ltb, leb, get_or, map, replicate, true≢false, ◌&&◌, List, [], ◌∷◌, ◌++◌, length, drop, Some, None, cond, refl, sym, ap, ◌∙◌, subst, arith, length-append, append_assoc, append-nil}
+use Rattle.std.specs.List.{flat_map, list_all}
 use Rattle.std.specs.Option.{option_and_then}
 use Rattle.std.specs.Str.{bytes_eq}
-use Rattle.std.proofs.lemmas.Bool.{ltb-true, leb-true, le-leb, and_parts, and_from, cond-true}
+use Rattle.std.proofs.lemmas.Bool.{cases_Bool, or_cases, eqb-true, ltb-true, leb-true, le-leb, and_parts, and_from, cond-true}
 use Rattle.std.proofs.lemmas.Bool.Decides.{nat_tests}
 use Rattle.std.proofs.lemmas.Option.{cond_some}
-use Rattle.std.proofs.lemmas.List.{drop_at}
+use Rattle.std.proofs.lemmas.List.{drop_at, length-map}
+use Rattle.strat_base.specs.Marks.{is_dropped}
 use Rattle.strat_base.specs.Numbers.{be, number}
-use Rattle.strat_format.specs.Manifest.{Manifest, versions_in, is_lawful_extent, is_counted, is_lawful_array, is_lawful_level, are_older, is_lawful_manifest, list_bytes, extent_bytes, array_bytes, level_bytes, manifest_bytes, SpellsManifest, Parsed, next, all_pass, read_number, read_items, read_list, read_extent, read_array, read_level, read_manifest, manifest_in}
+use Rattle.strat_format.specs.Manifest.{Manifest, versions_in, is_lawful_extent, is_counted, is_lawful_array, is_lawful_level, are_older, is_lawful_manifest, list_bytes, extent_bytes, array_bytes, level_bytes, mark_bytes, only, read_mark, read_only, manifest_bytes, SpellsManifest, Parsed, next, all_pass, read_number, read_items, read_list, read_extent, read_array, read_level, read_manifest, manifest_in}
 use Rattle.strat_base.specs.declared.descriptors.Extent.{Extent}
 use Rattle.strat_base.specs.declared.descriptors.ArrayDesc.{ArrayDesc}
 use Rattle.strat_base.specs.declared.descriptors.LevelDesc.{LevelDesc}
@@ -135,15 +136,81 @@ older_below v (q ∷ parents) p h (inl here) =
 older_below v (q ∷ parents) p h (inr there) =
     let lt = older_below (suc v) parents p (and_parts (ltb q v) (are_older (suc v) parents) h).1 there in omega (arith, lt)
 
-module _ (m : Manifest) where
+-- a mark
+read_mark-bytes : (mark : Bool) (rest : List ℕ) → read_mark (mark_bytes mark ++ rest) ≡ got mark rest
+unfolding read_mark
+read_mark-bytes true rest = next_number 1 1 rest (λ n b. got (eqb n 1) b) (omega arith)
+read_mark-bytes false rest = next_number 1 0 rest (λ n b. got (eqb n 1) b) (omega arith)
+
+-- what format 2 has alone
+read_only-bytes : {A : Type 0} (format : ℕ) (read : List ℕ → Parsed A) (none x : A) (bytes rest : List ℕ) → (eqb format 2 ≡ true → read (bytes ++ rest) ≡ got x rest) → (eqb format 2 ≡ false → x ≡ none)
+    → read_only format read none (only format bytes ++ rest) ≡ got x rest
+unfolding read_only
+read_only-bytes {A = A} format read none x bytes rest has lacks =
+    elim (cases_Bool (eqb format 2)) [
+      | inl two ↦ (λ i. cond (two i) (read (cond (two i) bytes [] ++ rest)) (got none (cond (two i) bytes [] ++ rest))) ∙ has two
+      | inr one ↦ (λ i. cond (one i) (read (cond (one i) bytes [] ++ rest)) (got none (cond (one i) bytes [] ++ rest))) ∙ ap (λ (y : A). got y rest) (sym (lacks one))
+    ]
+
+unmarked : (marks : List Bool) → list_all not marks ≡ true → marks ≡ replicate (length marks) false
+unmarked [] none = refl
+unmarked (true ∷ marks) none = absurd (true≢false (sym none))
+unmarked (false ∷ marks) none = ap (λ (ms : List Bool). false ∷ ms) (unmarked marks none)
+
+module _ (format : ℕ) (m : Manifest) where
+  behind_marks : List ℕ
+  behind_marks = be 1 (length m.levels) ++ flat_map level_bytes m.levels
+
   behind_parents : List ℕ
-  behind_parents = be 1 (length m.levels) ++ flat_map level_bytes m.levels
+  behind_parents = only format (flat_map mark_bytes m.marks) ++ behind_marks
 
   behind_versions : List ℕ
   behind_versions = flat_map (be 4) m.parents ++ behind_parents
 
-  read_manifest-bytes : is_lawful_manifest m ≡ true → read_manifest (manifest_bytes m) ≡ got m []
-  unfolding read_manifest manifest_bytes behind_parents behind_versions
+  behind_written : List ℕ
+  behind_written = be 8 m.next_array ++ (be 4 (versions_in m) ++ behind_versions)
+
+  -- what is made of the fields behind each other
+  from_levels : (changes updates written compacted next_array : ℕ) (parents : List ℕ) (marks : List Bool) → List ℕ → Parsed Manifest
+  from_levels changes updates written compacted next_array parents marks g =
+      next (read_number 1 g) (λ count h. next (read_items read_level count h) (λ levels i.
+      got (record { changes = changes; updates = updates; written = written; compacted = compacted; next_array = next_array; parents = parents; marks = marks; levels = levels }) i))
+
+  from_versions : (changes updates written compacted next_array versions : ℕ) → List ℕ → Parsed Manifest
+  from_versions changes updates written compacted next_array versions f =
+      next (read_items (read_number 4) (versions - 1) f) (λ parents l.
+      next (read_only format (read_items read_mark (suc (length parents))) (replicate (suc (length parents)) false) l) (λ marks g.
+      from_levels changes updates written compacted next_array parents marks g))
+
+  from_compacted : (changes updates written compacted : ℕ) → List ℕ → Parsed Manifest
+  from_compacted changes updates written compacted d =
+      next (read_number 8 d) (λ next_array e. next (read_number 4 e) (λ versions f. from_versions changes updates written compacted next_array versions f))
+
+  read_is : (bytes : List ℕ) → read_manifest format bytes ≡ next (read_number 4 bytes) (λ changes b. next (read_number 4 b) (λ updates c. next (read_number 8 c) (λ written k.
+      next (read_only format (read_number 8) 0 k) (λ compacted d. from_compacted changes updates written compacted d))))
+  unfolding read_manifest from_compacted from_versions from_levels
+  read_is bytes = refl
+
+  has_none : is_lawful_manifest format m ≡ true → eqb format 2 ≡ false → (m.compacted ≡ 0) × (m.marks ≡ replicate (length m.marks) false)
+  has_none lawful one =
+      let fields = pass_at _ 10 lawful in
+      elim (or_cases (eqb format 2) ((eqb format 1 && eqb m.compacted 0) && list_all not m.marks) fields) [
+        | inl two ↦ absurd (true≢false (sym two ∙ one))
+        | inr old ↦
+            let outer = and_parts (eqb format 1 && eqb m.compacted 0) (list_all not m.marks) old in
+            (eqb-true m.compacted 0 (and_parts (eqb format 1) (eqb m.compacted 0) outer.0).1, unmarked m.marks outer.1)
+      ]
+
+  marks_long : is_lawful_manifest format m ≡ true → length m.marks ≡ suc (length m.parents)
+  marks_long lawful =
+      let pruned = pass_at _ 12 lawful in
+      let outer = and_parts (eqb (length m.marks) (length (None ∷ map (λ p. Some p) m.parents)) && not (is_dropped m.marks 0)) _ pruned in
+      let size = eqb-true (length m.marks) (length (None ∷ map (λ p. Some p) m.parents)) (and_parts (eqb (length m.marks) (length (None ∷ map (λ p. Some p) m.parents))) (not (is_dropped m.marks 0)) outer.0).0 in
+      let same = length-map m.parents (λ (p : ℕ). Some p) in
+      omega (arith, size, same)
+
+  read_manifest-bytes : is_lawful_manifest format m ≡ true → read_manifest format (manifest_bytes format m) ≡ got m []
+  unfolding manifest_bytes behind_written behind_versions behind_parents behind_marks from_compacted from_versions from_levels
   read_manifest-bytes lawful =
       let changes = ltb-true m.changes (2 ^ 32) (pass_at _ 0 lawful) in
       let updates = leb-true m.updates m.changes (pass_at _ 1 lawful) in
@@ -153,57 +220,53 @@ module _ (m : Manifest) where
       let older = pass_at _ 6 lawful in
       let count = leb-true (length m.levels) 22 (pass_at _ 7 lawful) in
       let levels = pass_at _ 8 lawful in
-      next_number 4 m.changes (be 4 m.updates ++ (be 8 m.written ++ (be 8 m.next_array ++ (be 4 (versions_in m) ++ behind_versions)))) (λ changes b. next (read_number 4 b) (λ updates c. next (read_number 8 c) (λ written d.
-      next (read_number 8 d) (λ next_array e. next (read_number 4 e) (λ versions f. next (read_items (read_number 4) (versions - 1) f) (λ parents g.
-      next (read_number 1 g) (λ count h. next (read_items read_level count h) (λ levels i.
-      got (record { changes = changes; updates = updates; written = written; next_array = next_array; parents = parents; levels = levels }) i)))))))) changes
-      ∙ next_number 4 m.updates (be 8 m.written ++ (be 8 m.next_array ++ (be 4 (versions_in m) ++ behind_versions))) (λ updates c. next (read_number 8 c) (λ written d.
-      next (read_number 8 d) (λ next_array e. next (read_number 4 e) (λ versions f. next (read_items (read_number 4) (versions - 1) f) (λ parents g.
-      next (read_number 1 g) (λ count h. next (read_items read_level count h) (λ levels i.
-      got (record { changes = m.changes; updates = updates; written = written; next_array = next_array; parents = parents; levels = levels }) i))))))) (omega arith)
-      ∙ next_number 8 m.written (be 8 m.next_array ++ (be 4 (versions_in m) ++ behind_versions)) (λ written d.
-      next (read_number 8 d) (λ next_array e. next (read_number 4 e) (λ versions f. next (read_items (read_number 4) (versions - 1) f) (λ parents g.
-      next (read_number 1 g) (λ count h. next (read_items read_level count h) (λ levels i.
-      got (record { changes = m.changes; updates = m.updates; written = written; next_array = next_array; parents = parents; levels = levels }) i)))))) (omega arith)
-      ∙ next_number 8 m.next_array (be 4 (versions_in m) ++ behind_versions) (λ next_array e. next (read_number 4 e) (λ versions f. next (read_items (read_number 4) (versions - 1) f) (λ parents g.
-      next (read_number 1 g) (λ count h. next (read_items read_level count h) (λ levels i.
-      got (record { changes = m.changes; updates = m.updates; written = m.written; next_array = next_array; parents = parents; levels = levels }) i))))) (omega arith)
-      ∙ next_number 4 (versions_in m) behind_versions (λ versions f. next (read_items (read_number 4) (versions - 1) f) (λ parents g.
-      next (read_number 1 g) (λ count h. next (read_items read_level count h) (λ levels i.
-      got (record { changes = m.changes; updates = m.updates; written = m.written; next_array = m.next_array; parents = parents; levels = levels }) i)))) (omega arith)
-      ∙ ap (λ (n : ℕ). next (read_items (read_number 4) n behind_versions) (λ parents g.
-      next (read_number 1 g) (λ count h. next (read_items read_level count h) (λ levels i.
-      got (record { changes = m.changes; updates = m.updates; written = m.written; next_array = m.next_array; parents = parents; levels = levels }) i)))) one_less
-      ∙ ap (λ (r : Parsed (List ℕ)). next r (λ parents g.
-      next (read_number 1 g) (λ count h. next (read_items read_level count h) (λ levels i.
-      got (record { changes = m.changes; updates = m.updates; written = m.written; next_array = m.next_array; parents = parents; levels = levels }) i))))
+      let compacted = ltb-true m.compacted (2 ^ 64) (pass_at _ 11 lawful) in
+      let long = marks_long lawful in
+      read_is (manifest_bytes format m)
+      ∙ next_number 4 m.changes (be 4 m.updates ++ (be 8 m.written ++ (only format (be 8 m.compacted) ++ behind_written))) (λ changes b. next (read_number 4 b) (λ updates c. next (read_number 8 c) (λ written k.
+      next (read_only format (read_number 8) 0 k) (λ compacted d. from_compacted changes updates written compacted d)))) changes
+      ∙ next_number 4 m.updates (be 8 m.written ++ (only format (be 8 m.compacted) ++ behind_written)) (λ updates c. next (read_number 8 c) (λ written k.
+      next (read_only format (read_number 8) 0 k) (λ compacted d. from_compacted m.changes updates written compacted d))) (omega arith)
+      ∙ next_number 8 m.written (only format (be 8 m.compacted) ++ behind_written) (λ written k. next (read_only format (read_number 8) 0 k) (λ compacted d. from_compacted m.changes m.updates written compacted d)) (omega arith)
+      ∙ ap (λ (r : Parsed ℕ). next r (λ compacted d. from_compacted m.changes m.updates m.written compacted d))
+      (read_only-bytes format (read_number 8) 0 m.compacted (be 8 m.compacted) behind_written (λ two. read_number-be 8 m.compacted behind_written (omega (arith, compacted))) (λ one. (has_none lawful one).0))
+      ∙ next_number 8 m.next_array (be 4 (versions_in m) ++ behind_versions) (λ next_array e. next (read_number 4 e) (λ versions f. from_versions m.changes m.updates m.written m.compacted next_array versions f)) (omega arith)
+      ∙ next_number 4 (versions_in m) behind_versions (λ versions f. from_versions m.changes m.updates m.written m.compacted m.next_array versions f) (omega arith)
+      ∙ ap (λ (n : ℕ). next (read_items (read_number 4) n behind_versions) (λ parents l.
+      next (read_only format (read_items read_mark (suc (length parents))) (replicate (suc (length parents)) false) l) (λ marks g. from_levels m.changes m.updates m.written m.compacted m.next_array parents marks g))) one_less
+      ∙ ap (λ (r : Parsed (List ℕ)). next r (λ parents l.
+      next (read_only format (read_items read_mark (suc (length parents))) (replicate (suc (length parents)) false) l) (λ marks g. from_levels m.changes m.updates m.written m.compacted m.next_array parents marks g)))
       (read_items-bytes (read_number 4) (be 4) m.parents behind_parents (λ p end among. read_number-be 4 p end (let lt = older_below 1 m.parents p older among in omega (arith, lt, versions))))
+      ∙ ap (λ (r : Parsed (List Bool)). next r (λ marks g. from_levels m.changes m.updates m.written m.compacted m.next_array m.parents marks g))
+      (read_only-bytes format (read_items read_mark (suc (length m.parents))) (replicate (suc (length m.parents)) false) m.marks (flat_map mark_bytes m.marks) behind_marks
+      (λ two. ap (λ (n : ℕ). read_items read_mark n (flat_map mark_bytes m.marks ++ behind_marks)) (sym long) ∙ read_items-bytes read_mark mark_bytes m.marks behind_marks (λ mark end among. read_mark-bytes mark end))
+      (λ one. (has_none lawful one).1 ∙ ap (λ (n : ℕ). replicate n false) long))
       ∙ next_number 1 (length m.levels) (flat_map level_bytes m.levels) (λ count h. next (read_items read_level count h) (λ levels i.
-      got (record { changes = m.changes; updates = m.updates; written = m.written; next_array = m.next_array; parents = m.parents; levels = levels }) i)) (omega arith)
+      got (record { changes = m.changes; updates = m.updates; written = m.written; compacted = m.compacted; next_array = m.next_array; parents = m.parents; marks = m.marks; levels = levels }) i)) (omega arith)
       ∙ ap (λ (x : List ℕ). next (read_items read_level (length m.levels) x) (λ levels i.
-      got (record { changes = m.changes; updates = m.updates; written = m.written; next_array = m.next_array; parents = m.parents; levels = levels }) i)) (sym (append-nil (flat_map level_bytes m.levels)))
+      got (record { changes = m.changes; updates = m.updates; written = m.written; compacted = m.compacted; next_array = m.next_array; parents = m.parents; marks = m.marks; levels = levels }) i)) (sym (append-nil (flat_map level_bytes m.levels)))
       ∙ ap (λ (r : Parsed (List LevelDesc)). next r (λ levels i.
-      got (record { changes = m.changes; updates = m.updates; written = m.written; next_array = m.next_array; parents = m.parents; levels = levels }) i))
+      got (record { changes = m.changes; updates = m.updates; written = m.written; compacted = m.compacted; next_array = m.next_array; parents = m.parents; marks = m.marks; levels = levels }) i))
       (read_items-bytes read_level level_bytes m.levels [] (λ level end among. read_level-bytes level end (versions_in m) m.next_array versions small (all_at (is_lawful_level (versions_in m) m.next_array) level m.levels levels among)))
     where
       one_less : versions_in m - 1 ≡ length m.parents
       one_less = omega arith
 
-  pub manifest_in-bytes : (bytes : List ℕ) → SpellsManifest bytes m → manifest_in bytes ≡ Some m
+  pub manifest_in-bytes : (bytes : List ℕ) → SpellsManifest format bytes m → manifest_in format bytes ≡ Some m
   unfolding manifest_in
   manifest_in-bytes bytes spells =
-      let read : read_manifest bytes ≡ got m [] = ap read_manifest spells.text ∙ read_manifest-bytes spells.lawful in
-      ap (λ (r : Parsed Manifest). option_and_then (λ x. cond (is_lawful_manifest x.0 && bytes_eq bytes (manifest_bytes x.0)) (Some x.0) None) r) read
-      ∙ cond-true (is_lawful_manifest m && bytes_eq bytes (manifest_bytes m)) (Some m) None (and_from (is_lawful_manifest m) (bytes_eq bytes (manifest_bytes m)) spells.lawful (same_bytes bytes (manifest_bytes m) spells.text))
+      let read : read_manifest format bytes ≡ got m [] = ap (read_manifest format) spells.text ∙ read_manifest-bytes spells.lawful in
+      ap (λ (r : Parsed Manifest). option_and_then (λ x. cond (is_lawful_manifest format x.0 && bytes_eq bytes (manifest_bytes format x.0)) (Some x.0) None) r) read
+      ∙ cond-true (is_lawful_manifest format m && bytes_eq bytes (manifest_bytes format m)) (Some m) None (and_from (is_lawful_manifest format m) (bytes_eq bytes (manifest_bytes format m)) spells.lawful (same_bytes bytes (manifest_bytes format m) spells.text))
 
-  pub manifest_in-some : (bytes : List ℕ) → manifest_in bytes ≡ Some m → SpellsManifest bytes m
+  pub manifest_in-some : (bytes : List ℕ) → manifest_in format bytes ≡ Some m → SpellsManifest format bytes m
   unfolding manifest_in
   manifest_in-some bytes is =
-      elim (option_cases (read_manifest bytes)) [
+      elim (option_cases (read_manifest format bytes)) [
         | inl none ↦ absurd (cc)
         | inr found ↦
-            let some = ap (λ (r : Parsed Manifest). option_and_then (λ x. cond (is_lawful_manifest x.0 && bytes_eq bytes (manifest_bytes x.0)) (Some x.0) None) r) (sym found.1) ∙ is in
-            let both = cond_some (is_lawful_manifest found.0.0 && bytes_eq bytes (manifest_bytes found.0.0)) found.0.0 m some in
-            let parts = and_parts (is_lawful_manifest found.0.0) (bytes_eq bytes (manifest_bytes found.0.0)) both.0 in
-            subst (SpellsManifest bytes) both.1 (record { lawful = parts.0; text = bytes_same bytes (manifest_bytes found.0.0) parts.1 })
+            let some = ap (λ (r : Parsed Manifest). option_and_then (λ x. cond (is_lawful_manifest format x.0 && bytes_eq bytes (manifest_bytes format x.0)) (Some x.0) None) r) (sym found.1) ∙ is in
+            let both = cond_some (is_lawful_manifest format found.0.0 && bytes_eq bytes (manifest_bytes format found.0.0)) found.0.0 m some in
+            let parts = and_parts (is_lawful_manifest format found.0.0) (bytes_eq bytes (manifest_bytes format found.0.0)) both.0 in
+            subst (SpellsManifest format bytes) both.1 (record { lawful = parts.0; text = bytes_same bytes (manifest_bytes format found.0.0) parts.1 })
       ]

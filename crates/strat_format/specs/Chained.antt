@@ -28,10 +28,10 @@ chain_from c before b (suc n) =
 abbrev pub chained_bytes : Image → List ℕ → List ℕ
 chained_bytes c blocks = flat_map (λ b. window c (BLOCK * b + 4) (BLOCK - 4)) blocks
 
--- the manifest of which the first n of these bytes are the spelling, where the others are zeros
-abbrev pub manifest_filled : ℕ → List ℕ → Option Manifest
-manifest_filled n bytes =
-    if list_all (λ x. x == 0) (drop n bytes) then manifest_in (take n bytes) else None
+-- the manifest that the first n of these bytes spell in a format, where the others are zeros
+abbrev pub manifest_filled : ℕ → ℕ → List ℕ → Option Manifest
+manifest_filled format n bytes =
+    if list_all (λ x. x == 0) (drop n bytes) then manifest_in format (take n bytes) else None
 
 -- a manifest, and the blocks of its chain
 pub record Chained : Type 0 where
@@ -39,13 +39,13 @@ pub record Chained : Type 0 where
   pub blocks : List ℕ
 
 -- the manifest in these blocks, or the first of them
-abbrev pub manifest_in_chain : Image → ℕ → ℕ → List ℕ → Read Chained
-manifest_in_chain c first n blocks =
+abbrev pub manifest_in_chain : ℕ → Image → ℕ → ℕ → List ℕ → Read Chained
+manifest_in_chain format c first n blocks =
     found_or first (option_map
     (λ m. record { manifest = m; blocks = blocks })
-    (manifest_filled n (chained_bytes c blocks)))
+    (manifest_filled format n (chained_bytes c blocks)))
 
 -- the manifest of n bytes in the chain that begins with a block; or the block that is damaged
-abbrev pub manifest_at : Image → ℕ → ℕ → Read Chained
-manifest_at c first n =
-    and_then (chain_from c [] first (chain_length n - 1)) (manifest_in_chain c first n)
+abbrev pub manifest_at : ℕ → Image → ℕ → ℕ → Read Chained
+manifest_at format c first n =
+    and_then (chain_from c [] first (chain_length n - 1)) (manifest_in_chain format c first n)

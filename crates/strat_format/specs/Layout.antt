@@ -1,5 +1,5 @@
 -- Where a store's parts lie in its file: two superblock slots, two journal regions, free blocks.
-use Rattle.std.specs.Prelude.{◌≤◌, ℕ, ◌+◌, ◌-◌, ◌*◌, ◌/◌, ◌==◌, Bool}
+use Rattle.std.specs.Prelude.{◌≤◌, ℕ, ◌+◌, ◌-◌, ◌*◌, ◌/◌, ◌==◌, Bool, if◌then◌else◌}
 
 -- what an open gate holds; any other byte is a closed one
 abbrev pub open_flag : ℕ
@@ -13,9 +13,13 @@ is_open gate = gate == open_flag
 abbrev pub record_max : ℕ
 record_max = 1288
 
--- bytes of the shortest manifest, that of a store without levels and with one version
-abbrev pub manifest_min : ℕ
-manifest_min = 29
+-- the newest format that this build reads and writes, of 1 and 2, which are defined
+abbrev pub newest_format : ℕ
+newest_format = 1
+
+-- bytes of the shortest manifest in a format, that of a store without levels and with one version
+abbrev pub shortest_manifest : ℕ → ℕ
+shortest_manifest format = if format == 1 then 29 else 38
 
 -- the blocks of a journal region for so many changes: the largest records and a closed gate fit
 abbrev pub region_blocks : ℕ → ℕ

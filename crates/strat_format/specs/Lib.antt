@@ -6,4 +6,5 @@ pub mod Damage
 pub mod Layout
 pub mod Manifest
 pub mod Records
+pub mod Samples
 pub mod SuperBlock

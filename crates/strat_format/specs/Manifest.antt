@@ -1,19 +1,23 @@
 -- The manifest: what a store keeps of itself beside its journal, and its bytes.
-use Rattle.std.specs.Prelude.{◌≡◌, ℕ, zero, suc, ◌+◌, ◌-◌, ◌^◌, ◌==◌, nat_lt, nat_le, ◌&&◌, not, Bool, true, if◌then◌else◌, List, [], ◌∷◌, ◌++◌, length, drop, map, flat_map, bytes_eq, slice_index, Option, Some, None, IsTrue, option_and_then}
+use Rattle.std.specs.Prelude.{◌≡◌, ℕ, zero, suc, ◌+◌, ◌-◌, ◌^◌, ◌==◌, nat_lt, nat_le, ◌&&◌, ◌||◌, not, Bool, true, false, if◌then◌else◌, replicate, List, [], ◌∷◌, ◌++◌, length, drop, map, flat_map, bytes_eq, slice_index, Option, Some, None, IsTrue, option_and_then}
 use Rattle.std.specs.List.{list_all}
 use Rattle.strat_base.specs.declared.limits.TheConstants.{LEVELS, VERSIONS_MAX}
 use Rattle.strat_base.specs.Numbers.{be, number}
+use Rattle.strat_base.specs.Marks.{Marks, are_pruned}
 use Rattle.strat_base.specs.declared.descriptors.Extent.{Extent}
 use Rattle.strat_base.specs.declared.descriptors.ArrayDesc.{ArrayDesc}
 use Rattle.strat_base.specs.declared.descriptors.LevelDesc.{LevelDesc}
 
--- a manifest, with the parent of each version from 1 on
+-- a manifest, with the parent of each version from 1 on, and a mark for each from 0 on; compacted
+-- counts the entries that merges of all levels wrote, written all others
 pub record Manifest : Type 0 where
   pub changes : ℕ
   pub updates : ℕ
   pub written : ℕ
+  pub compacted : ℕ
   pub next_array : ℕ
   pub parents : List ℕ
+  pub marks : Marks
   pub levels : List LevelDesc
 
 -- how many versions a manifest has
@@ -72,15 +76,22 @@ abbrev pub are_older : ℕ → List ℕ → Bool
 are_older v [] = true
 are_older v (parent ∷ parents) = nat_lt parent v && are_older (suc v) parents
 
--- a manifest that has a spelling
-abbrev pub is_lawful_manifest : Manifest → Bool
-is_lawful_manifest m = all_pass (
+-- a format has this manifest's fields: in format 1 compacted is 0 and no version is dropped
+abbrev pub has_fields : ℕ → Manifest → Bool
+has_fields format m =
+    (format == 2) || ((format == 1) && (m.compacted == 0) && list_all not m.marks)
+
+-- a manifest that has a spelling in a format
+abbrev pub is_lawful_manifest : ℕ → Manifest → Bool
+is_lawful_manifest format m = all_pass (
     nat_lt m.changes (2 ^ 32) ∷ nat_le m.updates m.changes ∷ nat_lt m.written (2 ^ 64)
     ∷ nat_le 1 m.next_array ∷ nat_lt m.next_array (2 ^ 64)
     ∷ nat_le (versions_in m) VERSIONS_MAX ∷ are_older 1 m.parents
     ∷ nat_le (length m.levels) LEVELS
     ∷ list_all (is_lawful_level (versions_in m) m.next_array) m.levels
-    ∷ is_rising (map (λ level. level.number) m.levels) ∷ [])
+    ∷ is_rising (map (λ level. level.number) m.levels)
+    ∷ has_fields format m ∷ nat_lt m.compacted (2 ^ 64)
+    ∷ are_pruned (None ∷ map (λ p. Some p) m.parents) m.marks ∷ [])
 
 -- a list after its length in four bytes
 abbrev pub list_bytes : {A : Type 0} → (A → List ℕ) → List A → List ℕ
@@ -103,19 +114,37 @@ level_bytes level = be 1 level.number ++ (be 4 level.horizon ++ list_bytes array
 -- the manifest of a new store: no change, nothing written, array 1 the next, and one version
 abbrev pub new_manifest : Manifest
 new_manifest =
-    record { changes = 0; updates = 0; written = 0; next_array = 1; parents = []; levels = [] }
+    record {
+      changes = 0;
+      updates = 0;
+      written = 0;
+      compacted = 0;
+      next_array = 1;
+      parents = [];
+      marks = false ∷ [];
+      levels = [];
+    }
 
--- the bytes of a manifest
-unfoldable pub manifest_bytes : Manifest → List ℕ
-manifest_bytes m =
-    be 4 m.changes ++ (be 4 m.updates ++ (be 8 m.written ++ (be 8 m.next_array
-    ++ (be 4 (versions_in m) ++ (flat_map (be 4) m.parents
-    ++ (be 1 (length m.levels) ++ flat_map level_bytes m.levels))))))
+-- the byte of a mark
+abbrev pub mark_bytes : Bool → List ℕ
+mark_bytes mark = be 1 (if mark then 1 else 0)
 
--- these bytes are the spelling of a manifest
-pub record SpellsManifest (bytes : List ℕ) (m : Manifest) : Type 0 where
-  pub lawful : IsTrue (is_lawful_manifest m)
-  pub text : bytes ≡ manifest_bytes m
+-- bytes that stand in format 2 alone
+abbrev pub only : ℕ → List ℕ → List ℕ
+only format bytes = if format == 2 then bytes else []
+
+-- the bytes of a manifest in a format
+unfoldable pub manifest_bytes : ℕ → Manifest → List ℕ
+manifest_bytes format m =
+    be 4 m.changes ++ (be 4 m.updates ++ (be 8 m.written ++ (only format (be 8 m.compacted)
+    ++ (be 8 m.next_array ++ (be 4 (versions_in m) ++ (flat_map (be 4) m.parents
+    ++ (only format (flat_map mark_bytes m.marks)
+    ++ (be 1 (length m.levels) ++ flat_map level_bytes m.levels))))))))
+
+-- these bytes are the spelling of a manifest in a format
+pub record SpellsManifest (format : ℕ) (bytes : List ℕ) (m : Manifest) : Type 0 where
+  pub lawful : IsTrue (is_lawful_manifest format m)
+  pub text : bytes ≡ manifest_bytes format m
 
 -- a value read from the front of bytes, and the bytes after it
 abbrev pub Parsed : Type 0 → Type 0
@@ -176,15 +205,26 @@ read_level bytes =
     next (read_list read_array c) (λ arrays d.
     Some (record { number = number; horizon = horizon; arrays = arrays }, d))))
 
--- the fields of a manifest, read from the front of bytes
-unfoldable pub read_manifest : List ℕ → Parsed Manifest
-read_manifest bytes =
+-- a mark, read from the front of bytes: 1 if the version was dropped
+unfoldable pub read_mark : List ℕ → Parsed Bool
+read_mark bytes = next (read_number 1 bytes) (λ n b. Some (n == 1, b))
+
+-- what stands in format 2 alone, read from the front of bytes, or its value in format 1
+unfoldable pub read_only : {A : Type 0} → ℕ → (List ℕ → Parsed A) → A → List ℕ → Parsed A
+read_only format read none bytes = if format == 2 then read bytes else Some (none, bytes)
+
+-- the fields of a manifest in a format, read from the front of bytes
+unfoldable pub read_manifest : ℕ → List ℕ → Parsed Manifest
+read_manifest format bytes =
     next (read_number 4 bytes) (λ changes b.
     next (read_number 4 b) (λ updates c.
-    next (read_number 8 c) (λ written d.
+    next (read_number 8 c) (λ written k.
+    next (read_only format (read_number 8) 0 k) (λ compacted d.
     next (read_number 8 d) (λ next_array e.
     next (read_number 4 e) (λ versions f.
-    next (read_items (read_number 4) (versions - 1) f) (λ parents g.
+    next (read_items (read_number 4) (versions - 1) f) (λ parents l.
+    next (read_only format (read_items read_mark (suc (length parents)))
+    (replicate (suc (length parents)) false) l) (λ marks g.
     next (read_number 1 g) (λ count h.
     next (read_items read_level count h) (λ levels i.
     Some (
@@ -192,16 +232,18 @@ read_manifest bytes =
         changes = changes;
         updates = updates;
         written = written;
+        compacted = compacted;
         next_array = next_array;
         parents = parents;
+        marks = marks;
         levels = levels;
       },
       i,
-    )))))))))
+    )))))))))))
 
--- the manifest of which these bytes are the spelling
-unfoldable pub manifest_in : List ℕ → Option Manifest
-manifest_in bytes =
+-- the manifest of which these bytes are the spelling in a format
+unfoldable pub manifest_in : ℕ → List ℕ → Option Manifest
+manifest_in format bytes =
     option_and_then
-    (λ read. if is_lawful_manifest read.0 && bytes_eq bytes (manifest_bytes read.0)
-    then Some read.0 else None) (read_manifest bytes)
+    (λ read. if is_lawful_manifest format read.0 && bytes_eq bytes (manifest_bytes format read.0)
+    then Some read.0 else None) (read_manifest format bytes)

@@ -9,11 +9,21 @@ use strat_base::limits::BLOCK;
 /// What an open gate reads as; any other byte is a closed one.
 pub const OPEN: u8 = 0xa7;
 
-/// Bytes of the shortest manifest: that of a store without levels and with one version.
+/// The newest format that this build reads and writes.
+pub const NEWEST_FORMAT: u16 = 1;
+
+/// Bytes of the shortest manifest in format 1: that of a store without levels and with one version.
 pub const MANIFEST_MIN: u32 = 29;
 
 /// Bytes of the largest record: its gate, and a put of the longest key and the longest value.
 pub const RECORD_MAX: u32 = 1288;
+
+/// Bytes of the shortest manifest in a format: format 2 has a number and a mark more.
+pub fn shortest_manifest(format: u16) -> u32
+    ensures ok { result ≡ places.shortest_manifest format }
+{
+    if format == 1 { MANIFEST_MIN } else { 38 }
+}
 
 /// The blocks of a region for this many changes: so many of the largest records and a closed gate fit.
 pub fn region_blocks(mem: u32) -> u32
@@ -54,7 +64,8 @@ pub fn first_free(mem: u32) -> u32
 /// The numbers of the format, on which other programs rely.
 pub fn the_layout_in_numbers()
     ensures ok { (places.open_flag ≡ 167) × (places.record_max ≡ 1288)
-        × (places.manifest_min ≡ 29) }
+        × (places.newest_format ≡ 1) }
+    ensures short { (places.shortest_manifest 1 ≡ 29) × (places.shortest_manifest 2 ≡ 38) }
     ensures first { (places.region_blocks 4 ≡ 2) × (places.region_blocks 4096 ≡ 1289) }
     ensures same { (places.region_at 4 0 ≡ 8192) × (places.region_at 4 1 ≡ 16384)
         × (places.first_free 4 ≡ 6) }

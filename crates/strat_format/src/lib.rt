@@ -7,5 +7,6 @@ pub mod reading;
 pub mod spellings;
 
 pub use layout::{
-    MANIFEST_MIN, OPEN, RECORD_MAX, first_free, region_at, region_blocks, region_first,
+    MANIFEST_MIN, NEWEST_FORMAT, OPEN, RECORD_MAX, first_free, region_at, region_blocks,
+    region_first, shortest_manifest,
 };

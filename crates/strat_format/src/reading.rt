@@ -8,11 +8,12 @@ ghost use Rattle.strat_format.specs.Layout.{region_at, open_flag};
 ghost use Rattle.strat_format.specs.Manifest.{Manifest, SpellsManifest};
 ghost use Rattle.strat_format.specs.Records.{Logged, journal_of, journal_in_two};
 
-/// A manifest is read from the chain of blocks that holds it.
+/// A manifest in either format is read from the chain of blocks that holds it.
 pub fn chains_are_read_as_written()
-    ensures { (c : Image) (b : ℕ) (blocks bytes : List ℕ) (m : Manifest) → SpellsManifest bytes m
-        → IsChain c (b ∷ blocks) bytes
-        → manifest_at c b (length bytes) ≡ Ok (record { manifest = m; blocks = b ∷ blocks }) }
+    ensures { (format : ℕ) (c : Image) (b : ℕ) (blocks bytes : List ℕ) (m : Manifest)
+        → SpellsManifest format bytes m → IsChain c (b ∷ blocks) bytes
+        → manifest_at format c b (length bytes)
+        ≡ Ok (record { manifest = m; blocks = b ∷ blocks }) }
 {}
 
 /// What recovery takes as the journal is that of both regions, of at most two changes fewer than they take, and each such

@@ -1,10 +1,11 @@
 //! Laws and examples of the bytes on the disk. Each is the contract of a function that does
 //! nothing.
 
-ghost use Rattle.std.specs.Prelude.{◌≡◌, ◌↔◌, ℕ, List, [], ◌∷◌, ◌++◌, length, replicate, Some, IsTrue};
+ghost use Rattle.std.specs.Prelude.{◌≡◌, ◌↔◌, ℕ, List, [], ◌∷◌, ◌++◌, true, false, length, replicate, Some, IsTrue};
 ghost use Rattle.strat_format.specs.Block.{fits_block, block_bytes, IsBlock, block_in};
 ghost use Rattle.strat_base.specs.Entries.{Entry};
-ghost use Rattle.strat_format.specs.Manifest.{Manifest, manifest_bytes, SpellsManifest, manifest_in};
+ghost use Rattle.strat_format.specs.Manifest.{Manifest, is_lawful_manifest, new_manifest, manifest_bytes, SpellsManifest, manifest_in};
+ghost use Rattle.strat_format.specs.Samples.{with_marks};
 ghost use Rattle.strat_base.specs.Samples.{says};
 
 /// A block is read exactly where it is one, as the entries that it is the block of.
@@ -22,22 +23,42 @@ pub fn bytes_of_a_block()
         ≡ (0 ∷ 1 ∷ 0 ∷ 4 ∷ 1 ∷ 0x61 ∷ 0 ∷ 0 ∷ 0 ∷ 0 ∷ 1 ∷ 0 ∷ 1 ∷ 0x31 ∷ []) ++ replicate 4082 0 }
 {}
 
-/// A manifest is read exactly where its spelling is.
+/// In either format a manifest is read exactly where its spelling is.
 pub fn manifests_are_read_as_written()
-    ensures { (bytes : List ℕ) (m : Manifest)
-        → (manifest_in bytes ≡ Some m) ↔ SpellsManifest bytes m }
+    ensures { (format : ℕ) (bytes : List ℕ) (m : Manifest)
+        → (manifest_in format bytes ≡ Some m) ↔ SpellsManifest format bytes m }
 {}
 
-/// The manifest of an empty store has 29 bytes.
+/// The manifest of an empty store has 29 bytes in format 1, and 38 in format 2.
 #[tactic(auto, unfolding(strat_base::specs::Numbers::be, crate::specs::Manifest::manifest_bytes))]
 pub fn bytes_of_an_empty_manifest()
-    ensures { manifest_bytes (record {
-      changes = 0;
-      updates = 0;
-      written = 0;
-      next_array = 1;
-      parents = [];
-      levels = [];
-    }) ≡ 0 ∷ 0 ∷ 0 ∷ 0 ∷ 0 ∷ 0 ∷ 0 ∷ 0 ∷ 0 ∷ 0 ∷ 0 ∷ 0 ∷ 0 ∷ 0 ∷ 0 ∷ 0
-        ∷ 0 ∷ 0 ∷ 0 ∷ 0 ∷ 0 ∷ 0 ∷ 0 ∷ 1 ∷ 0 ∷ 0 ∷ 0 ∷ 1 ∷ 0 ∷ [] }
+    ensures one { manifest_bytes 1 new_manifest
+        ≡ replicate 23 0 ++ (1 ∷ 0 ∷ 0 ∷ 0 ∷ 1 ∷ 0 ∷ []) }
+    ensures two { manifest_bytes 2 new_manifest
+        ≡ replicate 31 0 ++ (1 ∷ 0 ∷ 0 ∷ 0 ∷ 1 ∷ 0 ∷ 0 ∷ []) }
+{}
+
+/// The bytes of a manifest in format 2: five entries written by merges of all levels, and two of three versions dropped.
+#[tactic(auto, unfolding(strat_base::specs::Numbers::be, crate::specs::Manifest::manifest_bytes))]
+pub fn bytes_of_a_manifest_with_marks()
+    ensures { manifest_bytes 2 (with_marks 5 (false ∷ true ∷ true ∷ []))
+        ≡ 0 ∷ 0 ∷ 0 ∷ 3 ∷ 0 ∷ 0 ∷ 0 ∷ 1 ∷ 0 ∷ 0 ∷ 0 ∷ 0 ∷ 0 ∷ 0 ∷ 0 ∷ 2
+        ∷ 0 ∷ 0 ∷ 0 ∷ 0 ∷ 0 ∷ 0 ∷ 0 ∷ 5 ∷ 0 ∷ 0 ∷ 0 ∷ 0 ∷ 0 ∷ 0 ∷ 0 ∷ 4
+        ∷ 0 ∷ 0 ∷ 0 ∷ 3 ∷ 0 ∷ 0 ∷ 0 ∷ 0 ∷ 0 ∷ 0 ∷ 0 ∷ 1 ∷ 0 ∷ 1 ∷ 1 ∷ 0 ∷ [] }
+{}
+
+/// Which manifests a format has. Format 1 has those without entries of such merges and without marks. In format 2 version 0
+/// has no mark, below a marked version all are marked, and each version has one. There is no format 3.
+#[tactic(auto, unfolding(crate::specs::Manifest::all_pass))]
+pub fn formats_have_lawful_manifests()
+    ensures one { is_lawful_manifest 1 (with_marks 0 (false ∷ false ∷ false ∷ [])) ≡ true }
+    ensures compacted { is_lawful_manifest 1 (with_marks 5 (false ∷ false ∷ false ∷ [])) ≡ false }
+    ensures marked { is_lawful_manifest 1 (with_marks 0 (false ∷ false ∷ true ∷ [])) ≡ false }
+    ensures two { is_lawful_manifest 2 (with_marks 5 (false ∷ true ∷ true ∷ [])) ≡ true }
+    ensures root { is_lawful_manifest 2 (with_marks 5 (true ∷ true ∷ true ∷ [])) ≡ false }
+    ensures down { is_lawful_manifest 2 (with_marks 5 (false ∷ true ∷ false ∷ [])) ≡ false }
+    ensures each { is_lawful_manifest 2 (with_marks 5 (false ∷ false ∷ [])) ≡ false }
+    ensures fits { is_lawful_manifest 2 (with_marks 18446744073709551616
+        (false ∷ false ∷ false ∷ [])) ≡ false }
+    ensures none { is_lawful_manifest 3 new_manifest ≡ false }
 {}

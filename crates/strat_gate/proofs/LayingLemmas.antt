@@ -4,7 +4,7 @@ use Rattle.std.proofs.lemmas.Bool.{cases_lt, cases_eq, cond-true}
 use Rattle.std.proofs.lemmas.List.{get_or_append_left}
 use Rattle.strat_crash.specs.Image.{Image, SameIn, Outside, patch}
 use Rattle.strat_crash.specs.Moments.{DiskView, Images, Since, Passes, TearsOnly, KeepsImages, IsDurable}
-use Rattle.strat_format.specs.SuperBlock.{Super, Slot, IsLawful, spelled, fields, zeros, body, slot_in, newer, chosen_in, verdict, newest_in}
+use Rattle.strat_format.specs.SuperBlock.{Super, IsLawful, spelled, fields, zeros, body, slot_in, newer, chosen_in, verdict, newest_in}
 use Rattle.strat_crash.proofs.ImageLemmas.{below, inside, above, lies, is_over, over_below, over_inside, over_above, is_window, outside_patch}
 use Rattle.strat_crash.proofs.MomentLemmas.{now_since_start, each_then, settled_at, at_told}
 use Rattle.strat_format.proofs.SuperBlockLemmas.{open_fields, length-spelled, length-body, gate_first, open_rest, lawful_in_range, slot_closed, slot_same, slot_laid, newer_first_gone, newer_second_gone, newer_first, newer_second}
@@ -26,40 +26,37 @@ module _ (f : Image) (n : ℕ) (sb : Super) (low : n < 2) (lawful : IsLawful sb)
         let second : slot_in c 4096 ≡ slot_in f 4096 = slot_same f c 4096 (record { byte = λ i from to. same.byte i (omega arith) (inr (omega arith)) }) in
         let at : 4096 * n ≡ 0 = omega arith in
         let first : slot_in c 0 ≡ None = ap (λ (k : ℕ). slot_in c k) (sym at) ∙ gone in
-        let kept = newer_first_gone (slot_in f 0) (slot_in f 4096) (λ s. s.1.sb.generation < sb.generation)
-        (subst (λ (k : ℕ). IfSome (chosen_in f) (λ s. (s.0 ≢ k) × (s.1.sb.generation < sb.generation))) zero_is lays.newest) in
+        let kept = newer_first_gone (slot_in f 0) (slot_in f 4096) (λ s. s.1.generation < sb.generation)
+        (subst (λ (k : ℕ). IfSome (chosen_in f) (λ s. (s.0 ≢ k) × (s.1.generation < sb.generation))) zero_is lays.newest) in
         ap verdict ((λ j. newer (first j) (second j)) ∙ kept)
     | inr one_is ↦
         let first : slot_in c 0 ≡ slot_in f 0 = slot_same f c 0 (record { byte = λ i from to. same.byte i (omega arith) (inl (omega arith)) }) in
         let at : 4096 * n ≡ 4096 = omega arith in
         let second : slot_in c 4096 ≡ None = ap (λ (k : ℕ). slot_in c k) (sym at) ∙ gone in
-        let kept = newer_second_gone (slot_in f 0) (slot_in f 4096) (λ s. s.1.sb.generation < sb.generation)
-        (subst (λ (k : ℕ). IfSome (chosen_in f) (λ s. (s.0 ≢ k) × (s.1.sb.generation < sb.generation))) one_is lays.newest) in
+        let kept = newer_second_gone (slot_in f 0) (slot_in f 4096) (λ s. s.1.generation < sb.generation)
+        (subst (λ (k : ℕ). IfSome (chosen_in f) (λ s. (s.0 ≢ k) × (s.1.generation < sb.generation))) one_is lays.newest) in
         ap verdict ((λ j. newer (first j) (second j)) ∙ kept)
   ]
 
-  abbrev new_slot : Slot
-  new_slot = record { format = 1; sb = sb }
-
-  in_slot : (k : ℕ) → verdict (Some (k, new_slot)) ≡ Ok (Some (k, sb))
+  in_slot : (k : ℕ) → verdict (Some (k, sb)) ≡ Ok (Some (k, sb))
   in_slot k = cond-true _ (Ok (Some (k, sb))) (Err k) (lawful_in_range sb lawful)
 
   -- where this slot holds the new superblock and the other is the same, the new one is the newest
-  pub new_newest : (c : Image) → slot_in c (4096 * n) ≡ Some (record { format = 1; sb = sb }) → OtherSame f n c → newest_in c ≡ Ok (Some (n, sb))
+  pub new_newest : (c : Image) → slot_in c (4096 * n) ≡ Some sb → OtherSame f n c → newest_in c ≡ Ok (Some (n, sb))
   new_newest c here same = elim one_or_other [
     | inl zero_is ↦
         let second : slot_in c 4096 ≡ slot_in f 4096 = slot_same f c 4096 (record { byte = λ i from to. same.byte i (omega arith) (inr (omega arith)) }) in
         let at : 4096 * n ≡ 0 = omega arith in
-        let first : slot_in c 0 ≡ Some new_slot = ap (λ (k : ℕ). slot_in c k) (sym at) ∙ here in
-        let chosen = newer_first new_slot (slot_in f 0) (slot_in f 4096)
-        (subst (λ (k : ℕ). IfSome (chosen_in f) (λ s. (s.0 ≢ k) × (s.1.sb.generation < sb.generation))) zero_is lays.newest) in
+        let first : slot_in c 0 ≡ Some sb = ap (λ (k : ℕ). slot_in c k) (sym at) ∙ here in
+        let chosen = newer_first sb (slot_in f 0) (slot_in f 4096)
+        (subst (λ (k : ℕ). IfSome (chosen_in f) (λ s. (s.0 ≢ k) × (s.1.generation < sb.generation))) zero_is lays.newest) in
         ap verdict ((λ j. newer (first j) (second j)) ∙ chosen) ∙ in_slot 0 ∙ (λ j. Ok (Some (sym zero_is j, sb)))
     | inr one_is ↦
         let first : slot_in c 0 ≡ slot_in f 0 = slot_same f c 0 (record { byte = λ i from to. same.byte i (omega arith) (inl (omega arith)) }) in
         let at : 4096 * n ≡ 4096 = omega arith in
-        let second : slot_in c 4096 ≡ Some new_slot = ap (λ (k : ℕ). slot_in c k) (sym at) ∙ here in
-        let chosen = newer_second new_slot (slot_in f 0) (slot_in f 4096)
-        (subst (λ (k : ℕ). IfSome (chosen_in f) (λ s. (s.0 ≢ k) × (s.1.sb.generation < sb.generation))) one_is lays.newest) in
+        let second : slot_in c 4096 ≡ Some sb = ap (λ (k : ℕ). slot_in c k) (sym at) ∙ here in
+        let chosen = newer_second sb (slot_in f 0) (slot_in f 4096)
+        (subst (λ (k : ℕ). IfSome (chosen_in f) (λ s. (s.0 ≢ k) × (s.1.generation < sb.generation))) one_is lays.newest) in
         ap verdict ((λ j. newer (first j) (second j)) ∙ chosen) ∙ in_slot 1 ∙ (λ j. Ok (Some (sym one_is j, sb)))
   ]
 

@@ -9,7 +9,7 @@ use Rattle.strat_format.specs.SuperBlock.{Super, chosen_in, newest_in}
 pub record LaysOver (v : DiskView) (f : Image) (slot : ℕ) (sb : Super) : Type 0 where
   pub content : Exposes v f
   pub same : (c : Image) → Images v c → SameIn 0 8192 f c
-  pub newest : IfSome (chosen_in f) (λ s. (s.0 ≢ slot) × (s.1.sb.generation < sb.generation))
+  pub newest : IfSome (chosen_in f) (λ s. (s.0 ≢ slot) × (s.1.generation < sb.generation))
 
 -- an image has the newest superblock of before, or this one
 abbrev pub OldOrNew : Image → ℕ → Super → Image → Type 0

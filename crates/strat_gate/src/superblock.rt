@@ -15,14 +15,15 @@
 //! The bytes from 40 on are written as zeros and not read. Generation 1 with the manifest of 29 bytes in block 6,
 //! and the limits 4, 100 and 10, is `a7 5354524154425431 0001 0000000000000001 00000006 0000001d 00 00000004 00000064 0000000a`.
 
-ghost use Rattle.std.specs.Prelude.{IsTrue, ◌≡◌, ◌≤◌, ◌<◌, ◌==◌, ℕ, ◌+◌, length, drop};
+ghost use Rattle.std.specs.Prelude.{IsTrue, ◌≡◌, ◌≤◌, ◌<◌, ◌+◌, length, drop};
 ghost use Rattle.strat_base.specs.Numbers.{be, number, placed};
 ghost use Rattle.strat_format.specs.SuperBlock.{IsLawful, zeros, body, slot_of, in_range};
-ghost use Rattle.strat_gate.specs.SuperView.{super_of, slot_seen};
+ghost use Rattle.strat_format.specs.Layout.{newest_format};
+ghost use Rattle.strat_gate.specs.SuperView.{in_format, super_of, slot_seen};
 
 use strat_base::limits::{CHANGES_MAX, MEM_MAX, MEM_MIN, VERSIONS_MAX};
 use strat_base::{get_u8, get_u16, get_u32, get_u64, put_u16, put_u32, put_u64};
-use strat_format::{MANIFEST_MIN, OPEN, first_free};
+use strat_format::{NEWEST_FORMAT, OPEN, first_free, shortest_manifest};
 
 /// What says where the rest of a store is.
 #[derive(Clone, Copy, Debug, PartialEq, Eq)]
@@ -45,8 +46,6 @@ pub struct SuperBlock {
 
 /// The text `STRATBT1` as a number.
 const MAGIC: u64 = 0x5354_5241_5442_5431;
-/// The only format.
-const FORMAT: u16 = 1;
 /// The block 2^32 - 1 is never used.
 const BLOCKS_END: u32 = 0xffff_ffff;
 
@@ -57,7 +56,7 @@ pub(crate) fn spell(sb: &SuperBlock, into: &mut [u8])
     ensures { into.new ≡ body (super_of sb.now) }
 {
     put_u64(into, 0, MAGIC);
-    put_u16(into, 8, FORMAT);
+    put_u16(into, 8, NEWEST_FORMAT);
     put_u64(into, 10, sb.generation);
     put_u32(into, 18, sb.manifest);
     put_u32(into, 22, sb.length);
@@ -92,16 +91,18 @@ pub(crate) fn parse(bytes: &[u8]) -> Option<(u16, SuperBlock)>
 
 /// Whether the format is known and each field is in its range.
 pub(crate) fn is_in_range(format: u16, sb: &SuperBlock) -> bool
-    ensures ok { result ≡ in_range (record { format = format; sb = super_of sb.now }) }
-    ensures fits { IsTrue result → IsLawful (super_of sb.now) }
+    ensures ok { result ≡ in_range (in_format format sb.now) }
+    ensures fits { IsTrue result → IsLawful (in_format format sb.now) }
+    ensures found { IsTrue result → format ≡ newest_format }
 {
-    format == FORMAT
+    1 <= format
+        && format <= NEWEST_FORMAT
         && 1 <= sb.generation
         && MEM_MIN <= sb.mem
         && sb.mem <= MEM_MAX
         && first_free(sb.mem) <= sb.manifest
         && sb.manifest < BLOCKS_END
-        && MANIFEST_MIN <= sb.length
+        && shortest_manifest(format) <= sb.length
         && sb.region <= 1
         && 1 <= sb.changes_max
         && sb.changes_max <= CHANGES_MAX

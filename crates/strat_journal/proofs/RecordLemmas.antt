@@ -5,7 +5,7 @@ use Rattle.std.proofs.lemmas.Bool.{eqb-true, eq-eqb, and_parts, and_from, cond-t
 use Rattle.std.proofs.lemmas.List.{take_at, drop_at, get_or_past}
 use Rattle.strat_crash.specs.Image.{Image, HoldsBytes, window}
 use Rattle.strat_base.specs.Numbers.{AreBytes}
-use Rattle.strat_base.specs.Change.{Change, Put, Delete, Clone, change_bytes, change_in, is_lawful, BeginsWithChange}
+use Rattle.strat_base.specs.Change.{Change, Put, Delete, Clone, DropVersion, change_bytes, change_in, is_lawful, BeginsWithChange}
 use Rattle.strat_crash.proofs.ImageLemmas.{length-window, window_at, window_split}
 use Rattle.strat_base.proofs.ChangeLemmas.{change_in-bytes, change_in-some}
 use Rattle.strat_base.proofs.TreeLemmas.{option_cases}
@@ -19,6 +19,7 @@ size_some : (change : Change) → 1 ≤ length (change_bytes change)
 size_some (Put version key value) = omega arith
 size_some (Delete version key) = omega arith
 size_some (Clone version) = omega arith
+size_some (DropVersion version) = omega arith
 
 pub none_text : (c : Image) (at : ℕ) → window c at 0 ≡ []
 unfolding window

@@ -145,6 +145,32 @@ fn a_field_out_of_range_is_damage(rt: HostRuntime) -> Result<(), Fail> {
     Ok(())
 }
 
+// A format, the length of a manifest, and whether this build takes the superblock. The shortest manifest of
+// format 2 has 38 bytes, so it is not the length that is refused.
+const FORMATS: [(u8, u8, bool); 5] = [
+    (1, 29, true),
+    (1, 38, true),
+    (2, 29, false),
+    (2, 38, false),
+    (3, 38, false),
+];
+
+#[test]
+fn another_format_is_damage(rt: HostRuntime) -> Result<(), Fail> {
+    for (format, length, good) in FORMATS {
+        for slot in 0..2 {
+            let mut disk = MemDisk::new(rt.alloc(), &[])?;
+            assert!(rt; pokes(&mut disk, slot, 9, [0, format, 0, 0]));
+            assert!(rt;
+                disk.write_at(4096 * u64::from(slot) + 23, &[0, 0, 0, length])
+                    .is_ok()
+            );
+            assert!(rt; is_judged(&mut disk, slot, good));
+        }
+    }
+    Ok(())
+}
+
 /// Whether of two superblocks of these generations the one in this slot is found.
 fn prefers(mut disk: MemDisk, first: u64, second: u64, slot: u8) -> bool {
     lays(&mut disk, 0, first)

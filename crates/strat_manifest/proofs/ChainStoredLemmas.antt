@@ -3,16 +3,17 @@ use Rattle.std.proofs.Common.{◌≡◌, ◌≤◌, ℕ, List, [], ◌∷◌, le
 use Rattle.strat_crash.specs.Image.{Image}
 use Rattle.strat_format.specs.Chain.{IsChain, next_block}
 use Rattle.strat_format.specs.Chained.{manifest_at}
+use Rattle.strat_format.specs.Layout.{newest_format}
 use Rattle.strat_format.specs.Manifest.{Manifest, SpellsManifest, manifest_bytes}
 use Rattle.strat_format.proofs.ChainLemmas.{chain_read}
 use Rattle.strat_manifest.proofs.PrintLemmas.{manifest_size}
 
-pub some_bytes : (m : Manifest) → 29 ≤ length (manifest_bytes m)
+pub some_bytes : (m : Manifest) → 29 ≤ length (manifest_bytes newest_format m)
 some_bytes m = let n = manifest_size m in omega (arith, n)
 
-pub chain_stored : (g : Image) (first n : ℕ) (blocks bytes : List ℕ) (m : Manifest) → SpellsManifest bytes m → IsChain g blocks bytes → first ≡ next_block blocks → n ≡ length (manifest_bytes m)
-    → manifest_at g first n ≡ Ok (record { manifest = m; blocks = blocks })
+pub chain_stored : (g : Image) (first n : ℕ) (blocks bytes : List ℕ) (m : Manifest) → SpellsManifest newest_format bytes m → IsChain g blocks bytes → first ≡ next_block blocks → n ≡ length (manifest_bytes newest_format m)
+    → manifest_at newest_format g first n ≡ Ok (record { manifest = m; blocks = blocks })
 chain_stored g first n [] bytes m spells chain is long =
     absurd (let some = some_bytes m in let text = ap length spells.text in let count = chain.count in omega (arith, some, text, count))
 chain_stored g first n (b ∷ blocks) bytes m spells chain is long =
-    (λ i. manifest_at g (is i) ((long ∙ ap length (sym spells.text)) i)) ∙ chain_read g b blocks bytes m spells chain
+    (λ i. manifest_at newest_format g (is i) ((long ∙ ap length (sym spells.text)) i)) ∙ chain_read newest_format g b blocks bytes m spells chain

@@ -1,5 +1,5 @@
 -- A manifest and the parts that are read of it.
-use Rattle.std.proofs.Common.{◌≡◌, ◌-◌, ◌<◌, ◌≤◌, ◌^◌, ◌⊎◌, inl, inr, ℕ, suc, true, false, true≢false, cond, ◌==◌, ◌&&◌, List, [], ◌∷◌, ◌++◌, length, Some, None, refl, sym, ap, ◌∙◌, subst, arith, append_assoc, append-nil, length-append}
+use Rattle.std.proofs.Common.{◌≡◌, ◌-◌, ◌<◌, ◌≤◌, ◌^◌, ◌⊎◌, inl, inr, ℕ, suc, true, false, true≢false, cond, ◌==◌, ◌&&◌, List, [], ◌∷◌, ◌++◌, length, Some, None, refl, sym, ap, ◌∙◌, subst, arith, append_assoc, append-nil, length-append, replicate}
 use Rattle.std.specs.List.{flat_map}
 use Rattle.std.specs.Option.{option_and_then}
 use Rattle.std.specs.Str.{bytes_eq}
@@ -10,7 +10,8 @@ use Rattle.strat_base.specs.Numbers.{be, AreBytes}
 use Rattle.strat_base.specs.declared.descriptors.LevelDesc.{LevelDesc}
 use Rattle.strat_base.proofs.EntryLemmas.{bytes_same}
 use Rattle.strat_base.proofs.TreeLemmas.{option_cases}
-use Rattle.strat_format.specs.Manifest.{Manifest, versions_in, is_lawful_manifest, level_bytes, manifest_bytes, SpellsManifest, Parsed, next, read_number, read_items, read_manifest, manifest_in}
+use Rattle.strat_format.specs.Layout.{newest_format}
+use Rattle.strat_format.specs.Manifest.{Manifest, versions_in, is_lawful_manifest, level_bytes, manifest_bytes, SpellsManifest, Parsed, next, read_number, read_items, read_only, read_manifest, manifest_in}
 use Rattle.strat_format.proofs.ManifestLemmas.{read_number-be, pass_at, manifest_in-some, manifest_in-bytes}
 use Rattle.strat_manifest.specs.ManifestView.{manifest_of}
 use Rattle.strat_manifest.specs.Reading.{read_head, read_levels, read_behind}
@@ -33,18 +34,18 @@ next_assoc None f g = refl
 next_assoc (Some p) f g = refl
 
 -- a manifest is read in two parts
-pub manifest_splits : (bytes : List ℕ) → read_manifest bytes ≡ next (read_head bytes) (λ h b. next (read_behind h b) (λ m i. Some (manifest_of m, i)))
-unfolding read_manifest read_head read_behind
+pub manifest_splits : (bytes : List ℕ) → read_manifest newest_format bytes ≡ next (read_head bytes) (λ h b. next (read_behind h b) (λ m i. Some (manifest_of m, i)))
+unfolding read_manifest read_only read_head read_behind
 manifest_splits bytes = simp next_assoc
 
-manifest_joined : (m : Manifest) (rest : List ℕ) → manifest_bytes m ++ rest
+manifest_joined : (m : Manifest) (rest : List ℕ) → manifest_bytes newest_format m ++ rest
     ≡ be 4 m.changes ++ (be 4 m.updates ++ (be 8 m.written ++ (be 8 m.next_array ++ (be 4 (versions_in m) ++ (flat_map (be 4) m.parents ++ (be 1 (length m.levels) ++ (flat_map level_bytes m.levels ++ rest)))))))
 unfolding manifest_bytes
 manifest_joined m rest = simp append_assoc
 
 -- a manifest that is read is spelled, unless it says that it has no version
 pub manifest_spelled : (bytes : List ℕ) (h : Head) (b : List ℕ) (m : Declared) (rest : List ℕ) → AreBytes bytes → read_head bytes ≡ Some (h, b) → 1 ≤ h.versions
-    → read_behind h b ≡ Some (m, rest) → bytes ≡ manifest_bytes (manifest_of m) ++ rest
+    → read_behind h b ≡ Some (m, rest) → bytes ≡ manifest_bytes newest_format (manifest_of m) ++ rest
 unfolding read_behind
 manifest_spelled bytes h b m rest fits is some tail =
     let head = head_spelled bytes h b fits is in
@@ -59,7 +60,7 @@ manifest_spelled bytes h b m rest fits is some tail =
     let i : List ℕ = others.0.1 in
     let count : h.versions ≡ suc (length parents) = let e = spelled.1 in omega arith in
     let behind = levels_spelled g levels i (bytes_behind (flat_map (be 4) parents) g b spelled.0 head.1) others.1 in
-    let P : (Declared × List ℕ) → Type 0 = λ p. bytes ≡ manifest_bytes (manifest_of p.0) ++ p.1 in
+    let P : (Declared × List ℕ) → Type 0 = λ p. bytes ≡ manifest_bytes newest_format (manifest_of p.0) ++ p.1 in
     subst P (some_same _ _ others.2) (
     head.0
     ∙ ap (λ (n : ℕ). be 4 h.changes ++ (be 4 h.updates ++ (be 8 h.written ++ (be 8 h.next_array ++ (be 4 n ++ b))))) count
@@ -71,8 +72,10 @@ manifest_spelled bytes h b m rest fits is some tail =
       changes = h.changes;
       updates = h.updates;
       written = h.written;
+      compacted = 0;
       next_array = h.next_array;
       parents = parents;
+      marks = replicate (suc (length parents)) false;
       levels = levels;
     }
     ) i
@@ -80,7 +83,7 @@ manifest_spelled bytes h b m rest fits is some tail =
     )
 
 -- the numbers in front of a manifest's spelling
-head_of_spelling : (m : Manifest) → is_lawful_manifest m ≡ true → (h : Head) (b : List ℕ) → read_head (manifest_bytes m) ≡ Some (h, b) → h.versions ≡ versions_in m
+head_of_spelling : (m : Manifest) → is_lawful_manifest newest_format m ≡ true → (h : Head) (b : List ℕ) → read_head (manifest_bytes newest_format m) ≡ Some (h, b) → h.versions ≡ versions_in m
 unfolding read_head manifest_bytes
 head_of_spelling m lawful h b is =
     let changes = ltb-true m.changes (2 ^ 32) (pass_at _ 0 lawful) in
@@ -99,81 +102,81 @@ head_of_spelling m lawful h b is =
 
 module _ (bytes : List ℕ) where
   -- where nothing is read there is no manifest
-  nothing_read : read_manifest bytes ≡ None → manifest_in bytes ≡ None
+  nothing_read : read_manifest newest_format bytes ≡ None → manifest_in newest_format bytes ≡ None
   unfolding manifest_in
   nothing_read none = rw none refl
 
-  pub head_missing : read_head bytes ≡ None → manifest_in bytes ≡ None
+  pub head_missing : read_head bytes ≡ None → manifest_in newest_format bytes ≡ None
   head_missing none = nothing_read (manifest_splits bytes ∙ (rw none refl))
 
   module _ (h : Head) (b : List ℕ) (head : read_head bytes ≡ Some (h, b)) where
     -- no manifest has no version, or too many
-    pub versions_refused : (h.versions ≡ 0) ⊎ (16384 < h.versions) → manifest_in bytes ≡ None
+    pub versions_refused : (h.versions ≡ 0) ⊎ (16384 < h.versions) → manifest_in newest_format bytes ≡ None
     versions_refused wrong =
-        elim (option_cases (manifest_in bytes)) [
+        elim (option_cases (manifest_in newest_format bytes)) [
           | inl none ↦ none
           | inr some ↦
-              let spells = manifest_in-some some.0 bytes some.1 in
+              let spells = manifest_in-some newest_format some.0 bytes some.1 in
               let count = head_of_spelling some.0 spells.lawful h b (ap read_head (sym spells.text) ∙ head) in
               let few = leb-true (versions_in some.0) 16384 (pass_at _ 5 spells.lawful) in
               absurd (elim wrong [ inl none ↦ omega arith | inr many ↦ omega arith ])
         ]
 
-    pub behind_missing : read_behind h b ≡ None → manifest_in bytes ≡ None
+    pub behind_missing : read_behind h b ≡ None → manifest_in newest_format bytes ≡ None
     behind_missing none = nothing_read (manifest_splits bytes ∙ (rw (head, none) refl))
 
     module _ (m : Declared) (rest : List ℕ) (tail : read_behind h b ≡ Some (m, rest)) where
-      all_read : read_manifest bytes ≡ Some (manifest_of m, rest)
+      all_read : read_manifest newest_format bytes ≡ Some (manifest_of m, rest)
       all_read = manifest_splits bytes ∙ (rw (head, tail) refl)
 
-      judged : (x : Manifest) → manifest_in bytes ≡ Some x → (is_lawful_manifest (manifest_of m) ≡ true) × (bytes ≡ manifest_bytes (manifest_of m))
+      judged : (x : Manifest) → manifest_in newest_format bytes ≡ Some x → (is_lawful_manifest newest_format (manifest_of m) ≡ true) × (bytes ≡ manifest_bytes newest_format (manifest_of m))
       unfolding manifest_in
       judged x is =
-          let some = ap (λ (r : Parsed Manifest). option_and_then (λ y. cond (is_lawful_manifest y.0 && bytes_eq bytes (manifest_bytes y.0)) (Some y.0) None) r) (sym all_read) ∙ is in
-          let both = cond_some (is_lawful_manifest (manifest_of m) && bytes_eq bytes (manifest_bytes (manifest_of m))) (manifest_of m) x some in
-          let parts = and_parts (is_lawful_manifest (manifest_of m)) (bytes_eq bytes (manifest_bytes (manifest_of m))) both.0 in
-          (parts.0, bytes_same bytes (manifest_bytes (manifest_of m)) parts.1)
+          let some = ap (λ (r : Parsed Manifest). option_and_then (λ y. cond (is_lawful_manifest newest_format y.0 && bytes_eq bytes (manifest_bytes newest_format y.0)) (Some y.0) None) r) (sym all_read) ∙ is in
+          let both = cond_some (is_lawful_manifest newest_format (manifest_of m) && bytes_eq bytes (manifest_bytes newest_format (manifest_of m))) (manifest_of m) x some in
+          let parts = and_parts (is_lawful_manifest newest_format (manifest_of m)) (bytes_eq bytes (manifest_bytes newest_format (manifest_of m))) both.0 in
+          (parts.0, bytes_same bytes (manifest_bytes newest_format (manifest_of m)) parts.1)
 
-      unlawful_refused : false ≡ is_lawful_manifest (manifest_of m) → manifest_in bytes ≡ None
+      unlawful_refused : false ≡ is_lawful_manifest newest_format (manifest_of m) → manifest_in newest_format bytes ≡ None
       unlawful_refused no' =
-          elim (option_cases (manifest_in bytes)) [
+          elim (option_cases (manifest_in newest_format bytes)) [
             | inl none ↦ none
             | inr some ↦ absurd (true≢false (sym (judged some.0 some.1).0 ∙ sym no'))
           ]
 
       module _ (fits : AreBytes bytes) (some_version : 1 ≤ h.versions) where
-        rest_refused : false ≡ (length rest == 0) → manifest_in bytes ≡ None
+        rest_refused : false ≡ (length rest == 0) → manifest_in newest_format bytes ≡ None
         rest_refused more =
-            elim (option_cases (manifest_in bytes)) [
+            elim (option_cases (manifest_in newest_format bytes)) [
               | inl none ↦ none
               | inr some ↦
-                  let text : bytes ≡ manifest_bytes (manifest_of m) ++ rest = manifest_spelled bytes h b m rest fits head some_version tail in
+                  let text : bytes ≡ manifest_bytes newest_format (manifest_of m) ++ rest = manifest_spelled bytes h b m rest fits head some_version tail in
                   let some_left : 0 < length rest = not_none (length rest) more in
                   let one = ap length ((judged some.0 some.1).1) in
                   let two = ap length text in
-                  absurd (omega (arith, length-append (manifest_bytes (manifest_of m)) rest))
+                  absurd (omega (arith, length-append (manifest_bytes newest_format (manifest_of m)) rest))
             ]
 
         -- what is left, or a manifest that has no spelling, is refused
-        pub all_refused : false ≡ (length rest == 0 && is_lawful_manifest (manifest_of m)) → manifest_in bytes ≡ None
+        pub all_refused : false ≡ (length rest == 0 && is_lawful_manifest newest_format (manifest_of m)) → manifest_in newest_format bytes ≡ None
         all_refused wrong =
             elim (cases_Bool (length rest == 0)) [
-              | inl over ↦ let lawful : false ≡ is_lawful_manifest (manifest_of m) = rw over at wrong in unlawful_refused lawful
+              | inl over ↦ let lawful : false ≡ is_lawful_manifest newest_format (manifest_of m) = rw over at wrong in unlawful_refused lawful
               | inr more ↦ rest_refused (sym more)
             ]
 
         -- else it is spelled by the bytes
-        pub all_spelled : true ≡ (length rest == 0 && is_lawful_manifest (manifest_of m)) → SpellsManifest bytes (manifest_of m)
+        pub all_spelled : true ≡ (length rest == 0 && is_lawful_manifest newest_format (manifest_of m)) → SpellsManifest newest_format bytes (manifest_of m)
         all_spelled right =
-            let parts = and_parts (length rest == 0) (is_lawful_manifest (manifest_of m)) (sym right) in
+            let parts = and_parts (length rest == 0) (is_lawful_manifest newest_format (manifest_of m)) (sym right) in
             let over : rest ≡ [] = no_item rest (is_none (length rest) (sym parts.0)) in
             record {
               lawful = parts.1;
               text =
                   manifest_spelled bytes h b m rest fits head some_version tail
-                  ∙ ap (λ (x : List ℕ). manifest_bytes (manifest_of m) ++ x) over
-                  ∙ append-nil (manifest_bytes (manifest_of m));
+                  ∙ ap (λ (x : List ℕ). manifest_bytes newest_format (manifest_of m) ++ x) over
+                  ∙ append-nil (manifest_bytes newest_format (manifest_of m));
             }
 
-        pub all_found : true ≡ (length rest == 0 && is_lawful_manifest (manifest_of m)) → manifest_in bytes ≡ Some (manifest_of m)
-        all_found right = manifest_in-bytes (manifest_of m) bytes (all_spelled right)
+        pub all_found : true ≡ (length rest == 0 && is_lawful_manifest newest_format (manifest_of m)) → manifest_in newest_format bytes ≡ Some (manifest_of m)
+        all_found right = manifest_in-bytes newest_format (manifest_of m) bytes (all_spelled right)

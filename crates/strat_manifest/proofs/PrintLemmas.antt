@@ -10,7 +10,8 @@ use Rattle.strat_base.specs.declared.descriptors.LevelDesc.{LevelDesc}
 use Rattle.strat_base.proofs.NumberLemmas.{length-be}
 use Rattle.strat_format.proofs.ManifestLemmas.{pass_at}
 use Rattle.std.proofs.lemmas.Bool.{leb-true}
-use Rattle.strat_format.specs.Manifest.{Manifest, extent_bytes, array_bytes, level_bytes, manifest_bytes, list_bytes, is_lawful_manifest}
+use Rattle.strat_format.specs.Layout.{newest_format}
+use Rattle.strat_format.specs.Manifest.{Manifest, versions_in, extent_bytes, array_bytes, level_bytes, manifest_bytes, list_bytes, is_lawful_manifest}
 
 module _ {X : Type 0} (f : X → List ℕ) where
   -- the spelling of one more item
@@ -65,10 +66,15 @@ array_size a =
 pub level_size : (l : LevelDesc) → length (level_bytes l) ≡ 9 + length (flat_map array_bytes l.arrays)
 level_size l = omega (arith, length-append {A = ℕ}, length-be 1 l.number, length-be 4 l.horizon, length-be 4 (length l.arrays))
 
-pub manifest_size : (m : Manifest) → length (manifest_bytes m) ≡ 29 + (4 * length m.parents + length (flat_map level_bytes m.levels))
+-- the bytes of a manifest, with nothing that the newest format does not have
+manifest_text : (m : Manifest) → manifest_bytes newest_format m
+    ≡ be 4 m.changes ++ (be 4 m.updates ++ (be 8 m.written ++ (be 8 m.next_array ++ (be 4 (versions_in m) ++ (flat_map (be 4) m.parents ++ (be 1 (length m.levels) ++ flat_map level_bytes m.levels))))))
 unfolding manifest_bytes
+manifest_text m = refl
+
+pub manifest_size : (m : Manifest) → length (manifest_bytes newest_format m) ≡ 29 + (4 * length m.parents + length (flat_map level_bytes m.levels))
 manifest_size m =
-    omega (
+    ap length (manifest_text m) ∙ omega (
       arith,
       length-append {A = ℕ},
       length-be 4 m.changes,
@@ -113,11 +119,11 @@ level_added l before one two three now first second third fourth = rw (fourth, t
 pub manifest_added : (m : Manifest) (before one two three four now : List ℕ)
     → one ≡ before ++ (be 4 m.changes ++ (be 4 m.updates ++ (be 8 m.written ++ be 8 m.next_array)))
     → two ≡ one ++ be 4 (length m.parents + 1) → three ≡ two ++ flat_map (be 4) m.parents → four ≡ three ++ be 1 (length m.levels) → now ≡ four ++ flat_map level_bytes m.levels
-    → now ≡ before ++ manifest_bytes m
+    → now ≡ before ++ manifest_bytes newest_format m
 unfolding manifest_bytes
 manifest_added m before one two three four now first second third fourth fifth =
     rw (fifth, fourth, third, second, first, add-one (length m.parents)) (simp append_assoc)
 
 -- a lawful manifest has at most 22 levels
-pub few_levels : (m : Manifest) → is_lawful_manifest m ≡ true → length m.levels ≤ 22
+pub few_levels : (m : Manifest) → is_lawful_manifest newest_format m ≡ true → length m.levels ≤ 22
 few_levels m lawful = leb-true (length m.levels) 22 (pass_at _ 7 lawful)

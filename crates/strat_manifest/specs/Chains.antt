@@ -46,8 +46,10 @@ PutsRun old new start n next bytes =
     → AreAbove (start + n) rest → HoldsChain f rest (drop (4092 * n) bytes)
     → HoldsChain g (range_with_len start n ++ rest) bytes
 
--- a manifest stands in these blocks of an image, the first of which is told, and its bytes are so many
-pub record IsStored (c : Image) (first n : ℕ) (m : Manifest) (blocks : List ℕ) : Type 0 where
-  pub read : manifest_at c first n ≡ Ok (record { manifest = m; blocks = blocks })
-  pub chain : IsChain c blocks (manifest_bytes m)
+-- a manifest stands in a format in these blocks of an image, the first of which is told, and its bytes
+-- are so many
+pub record IsStored (format : ℕ) (c : Image) (first n : ℕ) (m : Manifest)
+    (blocks : List ℕ) : Type 0 where
+  pub read : manifest_at format c first n ≡ Ok (record { manifest = m; blocks = blocks })
+  pub chain : IsChain c blocks (manifest_bytes format m)
   pub first_is : first ≡ next_block blocks

@@ -2,6 +2,7 @@
 
 ghost use Rattle.std.specs.Prelude.{◌≡◌, ◌&&◌, ◌+◌, ◌^◌, ◌==◌, nat_le, nat_lt, map, [], ◌∷◌};
 ghost use Rattle.std.specs.List.{list_all};
+ghost use Rattle.strat_format.specs.Layout.{newest_format};
 ghost use Rattle.strat_format.specs.Manifest as rules;
 ghost use Rattle.strat_manifest.specs.ManifestView.{manifest_of};
 
@@ -200,9 +201,9 @@ fn are_lawful_counts(changes: u32, updates: u32, written: u64, next_array: u64) 
 }
 
 /// Whether a manifest has a spelling. One pass over it, O(size), with no memory taken.
-#[tactic(auto, unfolding(strat_format::specs::Manifest::all_pass))]
+#[tactic(auto, unfolding(strat_format::specs::Manifest::all_pass), using(strat_format::proofs::MarkLemmas::none_marked, strat_format::proofs::MarkLemmas::unmarked_pruned))]
 pub(crate) fn is_lawful(m: &Manifest) -> bool
-    ensures ok { result ≡ rules.is_lawful_manifest (manifest_of m.now) }
+    ensures ok { result ≡ rules.is_lawful_manifest newest_format (manifest_of m.now) }
 {
     let parents = m.parents.as_slice();
     let levels = m.levels.as_slice();

@@ -1,6 +1,7 @@
 //! Reading a manifest. Memory is taken for each item as it is read, and never for a count that stands in the bytes.
 
 ghost use Rattle.std.specs.Prelude.{◌≡◌, ◌==◌, ◌&&◌, length, ◌∷◌, [], ◌++◌, Some, None, OnOk, IfOk, IfErr};
+ghost use Rattle.strat_format.specs.Layout.{newest_format};
 ghost use Rattle.strat_format.specs.Manifest.{read_number, read_items, read_extent, read_array, read_level, is_lawful_manifest, manifest_in, SpellsManifest};
 ghost use Rattle.strat_manifest.specs.ManifestView.{manifest_of};
 ghost use Rattle.strat_manifest.specs.Reading.{Reads, read_head, read_levels, read_behind};
@@ -201,7 +202,7 @@ fn take_behind(
 /// Whether a manifest has a spelling, and nothing is left behind it.
 fn is_all(reader: &Reader<'_>, manifest: &Manifest) -> bool
     ensures ok { result
-        ≡ (length reader.now == 0 && is_lawful_manifest (manifest_of manifest.now)) }
+        ≡ (length reader.now == 0 && is_lawful_manifest newest_format (manifest_of manifest.now)) }
 {
     reader.is_empty() && is_lawful(manifest)
 }
@@ -210,9 +211,10 @@ fn is_all(reader: &Reader<'_>, manifest: &Manifest) -> bool
 /// `NoMemory` where memory ran out. O(bytes), and the memory taken is in proportion to the bytes that
 /// were read.
 pub fn parse(alloc: Global, bytes: &[u8]) -> Result<Manifest, ManifestFault>
-    ensures ok { IfOk result (λ m. manifest_in bytes.now ≡ Some (manifest_of m)) }
-    ensures kept { IfOk result (λ m. SpellsManifest bytes.now (manifest_of m)) }
-    ensures cause { IfErr result (λ e. e ≡ fault.Refused → manifest_in bytes.now ≡ None) }
+    ensures ok { IfOk result (λ m. manifest_in newest_format bytes.now ≡ Some (manifest_of m)) }
+    ensures kept { IfOk result (λ m. SpellsManifest newest_format bytes.now (manifest_of m)) }
+    ensures cause { IfErr result (λ e. e ≡ fault.Refused
+        → manifest_in newest_format bytes.now ≡ None) }
 {
     let mut reader = Reader::new(bytes);
     let head = take_head(&mut reader)?;

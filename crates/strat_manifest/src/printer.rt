@@ -3,6 +3,7 @@
 ghost use Rattle.std.specs.Prelude.{◌≡◌, ◌+◌, ◌*◌, ◌^◌, ◌≤◌, ◌<◌, ◌++◌, length, vec_len, vec_capacity, IfOk, IsTrue};
 ghost use Rattle.std.specs.List.{flat_map};
 ghost use Rattle.strat_base.specs.Numbers.{be};
+ghost use Rattle.strat_format.specs.Layout.{newest_format};
 ghost use Rattle.strat_format.specs.Manifest.{is_lawful_manifest, list_bytes, extent_bytes, array_bytes, level_bytes, manifest_bytes, SpellsManifest};
 ghost use Rattle.strat_manifest.specs.ManifestView.{manifest_of};
 
@@ -239,8 +240,8 @@ fn levels_len(levels: &[LevelDesc]) -> usize
 /// How many bytes the spelling of a manifest has.
 #[tactic(auto, using(crate::proofs::PrintLemmas::manifest_size))]
 fn manifest_len(m: &Manifest) -> usize
-    requires { length (manifest_bytes (manifest_of m.now)) < 2 ^ 32 }
-    ensures ok { result ≡ length (manifest_bytes (manifest_of m.now)) }
+    requires { length (manifest_bytes newest_format (manifest_of m.now)) < 2 ^ 32 }
+    ensures ok { result ≡ length (manifest_bytes newest_format (manifest_of m.now)) }
 {
     29 + 4 * m.parents.len() + levels_len(m.levels.as_slice())
 }
@@ -262,11 +263,12 @@ fn add_counts(out: &mut Vec<u8>, m: &Manifest)
 /// Adds a manifest.
 #[tactic(auto, using(crate::proofs::PrintLemmas::manifest_size))]
 fn add_manifest(out: &mut Vec<u8>, m: &Manifest)
-    requires room { vec_len out.old + length (manifest_bytes (manifest_of m.now))
+    requires room { vec_len out.old + length (manifest_bytes newest_format (manifest_of m.now))
         ≤ vec_capacity out.old }
-    requires fits { (length (manifest_bytes (manifest_of m.now)) < 2 ^ 32)
+    requires fits { (length (manifest_bytes newest_format (manifest_of m.now)) < 2 ^ 32)
         × (length m.now.levels ≤ 255) }
-    ensures ok { out.new.items ≡ out.old.items ++ manifest_bytes (manifest_of m.now) }
+    ensures ok { out.new.items
+        ≡ out.old.items ++ manifest_bytes newest_format (manifest_of m.now) }
 {
     let parents = m.parents.as_slice();
     let levels = m.levels.as_slice();
@@ -280,11 +282,12 @@ fn add_manifest(out: &mut Vec<u8>, m: &Manifest)
 /// The spelling of a manifest, in a vector with room for just so many bytes. O(size); `NoMemory` where
 /// there is no memory for it.
 pub fn print(alloc: Global, m: &Manifest) -> Result<Vec<u8>, NoMemory>
-    requires kept { IsTrue (is_lawful_manifest (manifest_of m.now)) }
-    requires fits { length (manifest_bytes (manifest_of m.now)) ≤ 4290772992 }
-    ensures ok { IfOk result (λ bytes. SpellsManifest bytes.items (manifest_of m.now)) }
+    requires kept { IsTrue (is_lawful_manifest newest_format (manifest_of m.now)) }
+    requires fits { length (manifest_bytes newest_format (manifest_of m.now)) ≤ 4290772992 }
+    ensures ok { IfOk result (λ bytes.
+        SpellsManifest newest_format bytes.items (manifest_of m.now)) }
     ensures len { IfOk result (λ bytes. vec_len bytes
-        ≡ length (manifest_bytes (manifest_of m.now))) }
+        ≡ length (manifest_bytes newest_format (manifest_of m.now))) }
 {
     let mut out = Vec::with_capacity(alloc, manifest_len(m))?;
     add_manifest(&mut out, m);

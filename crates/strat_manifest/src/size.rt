@@ -3,6 +3,7 @@
 
 ghost use Rattle.std.specs.Prelude.{◌≡◌, ◌≤◌, ◌-◌, ◌^◌, length, min, true, IsTrue};
 ghost use Rattle.std.specs.List.{flat_map};
+ghost use Rattle.strat_format.specs.Layout.{newest_format};
 ghost use Rattle.strat_format.specs.Manifest.{is_lawful_manifest, array_bytes, level_bytes, manifest_bytes};
 ghost use Rattle.strat_manifest.specs.ManifestView.{manifest_of};
 
@@ -58,7 +59,8 @@ fn levels_size(levels: &[LevelDesc]) -> u64
 /// How many bytes the spelling of a manifest has.
 #[tactic(auto, using(crate::proofs::PrintLemmas::manifest_size))]
 fn manifest_size(m: &Manifest) -> u64
-    ensures ok { result ≡ min (length (manifest_bytes (manifest_of m.now))) (2 ^ 64 - 1) }
+    ensures ok { result
+        ≡ min (length (manifest_bytes newest_format (manifest_of m.now))) (2 ^ 64 - 1) }
 {
     let parents = (m.parents.len() as u64).saturating_mul(4);
     levels_size(m.levels.as_slice())
@@ -68,10 +70,11 @@ fn manifest_size(m: &Manifest) -> u64
 
 /// Whether a manifest may be written. One pass over it, O(size), with no memory taken.
 pub fn is_writable(m: &Manifest) -> bool
-    ensures ok { result ≡ true → IsTrue (is_lawful_manifest (manifest_of m.now))
-        × (length (manifest_bytes (manifest_of m.now)) ≤ 4290772992) }
-    ensures none { IsTrue (is_lawful_manifest (manifest_of m.now))
-        → length (manifest_bytes (manifest_of m.now)) ≤ 4290772992 → result ≡ true }
+    ensures ok { result ≡ true → IsTrue (is_lawful_manifest newest_format (manifest_of m.now))
+        × (length (manifest_bytes newest_format (manifest_of m.now)) ≤ 4290772992) }
+    ensures none { IsTrue (is_lawful_manifest newest_format (manifest_of m.now))
+        → length (manifest_bytes newest_format (manifest_of m.now)) ≤ 4290772992
+        → result ≡ true }
 {
     is_lawful(m) && manifest_size(m) <= MOST
 }

@@ -12,6 +12,7 @@ ghost use Rattle.strat_extent.specs.Change.{IsMarked, SameBlocks, AreLowest};
 ghost use Rattle.strat_format.specs.Arrays.{blocks_of};
 ghost use Rattle.strat_format.specs.Chain.{chain_length};
 ghost use Rattle.strat_format.specs.Chained.{manifest_filled, manifest_at};
+ghost use Rattle.strat_format.specs.Layout.{newest_format};
 ghost use Rattle.strat_format.specs.Manifest.{is_lawful_manifest, manifest_bytes};
 ghost use Rattle.strat_manifest.specs.Chains.{IsStored};
 ghost use Rattle.strat_manifest.specs.ManifestView.{manifest_of};
@@ -37,10 +38,11 @@ fn are_zeros(bytes: &[u8]) -> bool
 /// damaged.
 fn parse_filled(alloc: Global, bytes: &[u8], n: usize, block: u32) -> Result<Manifest, Trouble>
     requires len { n ≤ length bytes.now }
-    ensures ok { IfOk result (λ m. manifest_filled n bytes.now ≡ Some (manifest_of m)) }
-    ensures kept { IfOk result (λ m. IsTrue (is_lawful_manifest (manifest_of m))) }
+    ensures ok { IfOk result (λ m.
+        manifest_filled newest_format n bytes.now ≡ Some (manifest_of m)) }
+    ensures kept { IfOk result (λ m. IsTrue (is_lawful_manifest newest_format (manifest_of m))) }
     ensures damaged { (b : ℕ) → IsErrOf result (Damaged b) → (b ≡ block)
-        × (manifest_filled n bytes.now ≡ None) }
+        × (manifest_filled newest_format n bytes.now ≡ None) }
     ensures cause { IsErrOf result Device → ⊥ }
 {
     if !are_zeros(&bytes[n..]) {
@@ -65,11 +67,11 @@ pub fn read<D: Disk>(
 ) -> Result<(Manifest, Extents), Trouble>
     requires fits { first < 4294967295 }
     ensures ok { IfOk result (λ r. (f : Image) → Exposes (D.view disk.old) f
-        → manifest_at f first size
+        → manifest_at newest_format f first size
         ≡ Ok (record { manifest = manifest_of r.0; blocks = blocks_of r.1 })) }
-    ensures kept { IfOk result (λ r. IsTrue (is_lawful_manifest (manifest_of r.0))) }
+    ensures kept { IfOk result (λ r. IsTrue (is_lawful_manifest newest_format (manifest_of r.0))) }
     ensures damaged { (b : ℕ) → IsErrOf result (Damaged b) → (f : Image)
-        → Exposes (D.view disk.old) f → manifest_at f first size ≡ Err b }
+        → Exposes (D.view disk.old) f → manifest_at newest_format f first size ≡ Err b }
     ensures same { OnlyReads (D.view disk.old) (D.view disk.new) }
     ensures cause { HasCause Device (D.faults disk.old) (D.faults disk.new) result }
     ensures reads { ReadsAtMost (chain_length size - 1 + 1) (D.reads disk.old) (D.reads disk.new) }
@@ -88,16 +90,17 @@ pub fn write<D: Disk>(
     space: &mut Space,
     m: &Manifest,
 ) -> Result<(u32, u32, Extents), Trouble>
-    requires kept { IsTrue (is_lawful_manifest (manifest_of m.now)) }
-    requires fits { (length (manifest_bytes (manifest_of m.now)) ≤ 4290772992)
+    requires kept { IsTrue (is_lawful_manifest newest_format (manifest_of m.now)) }
+    requires fits { (length (manifest_bytes newest_format (manifest_of m.now)) ≤ 4290772992)
         × (1 ≤ space.old.first)
         × (used_count space.old + 1048576 ≤ 4294967295 - space.old.first) }
     ensures ok { IfOk result (λ r. IsSome (D.view disk.old).content → (g : Image)
         → Exposes (D.view disk.new) g
-        → IsStored g r.0 r.1 (manifest_of m.now) (blocks_of r.2)) }
+        → IsStored newest_format g r.0 r.1 (manifest_of m.now) (blocks_of r.2)) }
     ensures found { IfOk result (λ r. IsMarked space.old r.2 space.new
         × AreLowest r.2 space.new × (total_len r.2 ≡ chain_length r.1)) }
-    ensures len { IfOk result (λ r. r.1 ≡ length (manifest_bytes (manifest_of m.now))) }
+    ensures len { IfOk result (λ r.
+        r.1 ≡ length (manifest_bytes newest_format (manifest_of m.now))) }
     ensures fits { IfOk result (λ r. (space.old.first ≤ r.0) × (r.0 < 4294967295) × (29 ≤ r.1)) }
     ensures images { TearsBlocks (is_free space.old) (D.view disk.old) (D.view disk.new) }
     ensures err { OnErr result (SameBlocks space.old space.new) }

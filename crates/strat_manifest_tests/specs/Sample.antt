@@ -1,5 +1,5 @@
 -- A manifest for tests.
-use Rattle.std.specs.Prelude.{[], ◌∷◌}
+use Rattle.std.specs.Prelude.{false, [], ◌∷◌}
 use Rattle.strat_base.specs.declared.descriptors.ArrayDesc.{ArrayDesc}
 use Rattle.strat_format.specs.Manifest.{Manifest}
 
@@ -31,7 +31,9 @@ sample_manifest = record {
   changes = 9;
   updates = 6;
   written = 7;
+  compacted = 0;
   next_array = 3;
   parents = 0 ∷ 1 ∷ [];
+  marks = false ∷ false ∷ false ∷ [];
   levels = record { number = 2; horizon = 3; arrays = first_array ∷ second_array ∷ [] } ∷ [];
 }

@@ -1,6 +1,7 @@
 //! Manifests in chains of blocks: written and read back, with wrong links, and with writes that fail.
 
 ghost use Rattle.std.specs.Prelude.{◌≡◌, ◌≤◌, ◌<◌, ◌+◌, ◌-◌, ◌*◌, length, IfOk, IsTrue};
+ghost use Rattle.strat_format.specs.Layout.{newest_format};
 ghost use Rattle.strat_format.specs.Manifest.{is_lawful_manifest, manifest_bytes};
 ghost use Rattle.strat_manifest.specs.ManifestView.{manifest_of};
 
@@ -39,8 +40,9 @@ fn spelled(alloc: Global, versions: u16, levels: u8) -> Result<Vec<u8>, Trouble>
 /// The manifest of a spelling.
 fn parsed(alloc: Global, bytes: &[u8]) -> Result<Manifest, Trouble>
     requires { length bytes.now ≤ 100000 }
-    ensures kept { IfOk result (λ m. IsTrue (is_lawful_manifest (manifest_of m))) }
-    ensures fits { IfOk result (λ m. length (manifest_bytes (manifest_of m)) ≤ 100000) }
+    ensures kept { IfOk result (λ m. IsTrue (is_lawful_manifest newest_format (manifest_of m))) }
+    ensures fits { IfOk result (λ m.
+        length (manifest_bytes newest_format (manifest_of m)) ≤ 100000) }
 {
     match parse(alloc, bytes) {
         Ok(manifest) => Ok(manifest),
@@ -72,8 +74,8 @@ fn stored<D: Disk>(
     space: &mut Space,
     manifest: &Manifest,
 ) -> Result<(u32, u32, Extents), Trouble>
-    requires kept { IsTrue (is_lawful_manifest (manifest_of manifest.now)) }
-    requires fits { (length (manifest_bytes (manifest_of manifest.now)) ≤ 100000)
+    requires kept { IsTrue (is_lawful_manifest newest_format (manifest_of manifest.now)) }
+    requires fits { (length (manifest_bytes newest_format (manifest_of manifest.now)) ≤ 100000)
         × (1 ≤ space.old.first) }
     ensures same { space.new.first ≡ space.old.first }
 {

@@ -1,6 +1,7 @@
 //! Manifests printed and parsed, against bytes that were written by hand.
 
 ghost use Rattle.std.specs.Prelude.{◌≡◌, ◌≤◌, ◌<◌, [], ◌∷◌, ◌++◌, length, IfOk, IsTrue};
+ghost use Rattle.strat_format.specs.Layout.{newest_format};
 ghost use Rattle.strat_format.specs.Manifest.{is_lawful_manifest, manifest_bytes};
 ghost use Rattle.strat_manifest.specs.ManifestView.{manifest_of};
 ghost use Rattle.strat_manifest_tests.specs.Sample.{first_array, second_array, sample_manifest};
@@ -44,8 +45,8 @@ fn comes_back(alloc: Global, bytes: &[u8]) -> bool
 
 /// Whether a manifest is printed as these bytes.
 fn is_printed_as(alloc: Global, manifest: &Manifest, bytes: &[u8]) -> bool
-    requires kept { IsTrue (is_lawful_manifest (manifest_of manifest.now)) }
-    requires fits { length (manifest_bytes (manifest_of manifest.now)) ≤ 4096 }
+    requires kept { IsTrue (is_lawful_manifest newest_format (manifest_of manifest.now)) }
+    requires fits { length (manifest_bytes newest_format (manifest_of manifest.now)) ≤ 4096 }
 {
     match print(alloc, manifest) {
         Ok(printed) => printed.as_slice() == bytes,
@@ -56,8 +57,8 @@ fn is_printed_as(alloc: Global, manifest: &Manifest, bytes: &[u8]) -> bool
 /// The manifest of an empty store, in memory.
 #[tactic(auto, unfolding(strat_format::specs::Manifest::all_pass, strat_format::specs::Manifest::manifest_bytes, strat_base::specs::Numbers::be))]
 fn empty_manifest(alloc: Global) -> Manifest
-    ensures kept { IsTrue (is_lawful_manifest (manifest_of result)) }
-    ensures fits { length (manifest_bytes (manifest_of result)) ≤ 4096 }
+    ensures kept { IsTrue (is_lawful_manifest newest_format (manifest_of result)) }
+    ensures fits { length (manifest_bytes newest_format (manifest_of result)) ≤ 4096 }
 {
     Manifest {
         changes: 0,

@@ -1,4 +1,5 @@
 use Rattle.std.proofs.Common.{◌≡◌, inl, inr, None, rules, sym, ap, ◌∙◌, arith}
+use Rattle.strat_format.specs.Layout.{newest_format}
 use Rattle.strat_format.specs.Manifest.{manifest_in}
 use Rattle.strat_manifest.specs.Reading.{read_head}
 use Rattle.strat_manifest.specs.declared.manifest.ManifestFault.TheVariants as fault
@@ -7,7 +8,7 @@ use Rattle.strat_manifest.proofs.parser.parse.Goals as goal
 
 pub returns-in_err-head-clause-cause : goal.returns-in_err-head-clause-cause
 returns-in_err-head-clause-cause c =
-    let none : c.in_err-head.field-0.0 ≡ fault.Refused → manifest_in c.args.bytes.now ≡ None =
+    let none : c.in_err-head.field-0.0 ≡ fault.Refused → manifest_in newest_format c.args.bytes.now ≡ None =
     λ refused. head_missing c.args.bytes.now (ap read_head (sym c.new-reader.ensures.ok) ∙ c.in_err-head.ensures.ok refused)
     in
     search (rules, none)
@@ -20,7 +21,7 @@ returns-then-head-eq0-clause-cause c = λ _.
 pub returns-in_err-manifest-clause-cause : goal.returns-in_err-manifest-clause-cause
 returns-in_err-manifest-clause-cause c =
     let head = ap read_head (sym c.new-reader.ensures.ok) ∙ c.in_ok-head.ensures.ok in
-    let none : c.in_err-manifest.field-0.0 ≡ fault.Refused → manifest_in c.args.bytes.now ≡ None =
+    let none : c.in_err-manifest.field-0.0 ≡ fault.Refused → manifest_in newest_format c.args.bytes.now ≡ None =
     λ refused. behind_missing c.args.bytes.now c.in_ok-head.head c.take_head.new.reader head (c.in_err-manifest.ensures.ok refused)
     in
     search (rules, none)
