@@ -1,6 +1,7 @@
 pub mod PlainLemmas
 pub mod MapLemmas
 pub mod TableLemmas
+pub mod DropLemmas
 pub mod StreamLemmas
 pub mod SpellingLemmas
 pub mod RunLemmas

@@ -10,11 +10,13 @@ use Rattle.std.specs.declared.cmp.Ordering.TheVariants as ordering
 use Rattle.strat_base.specs.Order.{key_cmp}
 use Rattle.strat_base.specs.Tree.{Parents, climb, parent_of}
 use Rattle.strat_base.specs.declared.limits.TheConstants.{CURSORS_MAX}
+use Rattle.strat_model.specs.declared.replies.Refusal.{Refusal}
 use Rattle.strat_model.specs.declared.replies.Refusal.TheVariants as why
 use Rattle.strat_model.specs.Pairs.{Pair, Pairs, set, unset}
-use Rattle.strat_model.specs.Request.{Request, Put, Delete, Get, Clone, Scan, Info, OpenCursor, NextPairs, CloseCursor, Stat}
+use Rattle.strat_model.specs.Request.{Request, Put, Delete, Get, Clone, Scan, Info, OpenCursor, NextPairs, CloseCursor, Stat, DropVersion}
 use Rattle.strat_model.specs.Table.{Table, Cursor}
 use Rattle.strat_model.specs.Step.{Outcome, step, update, has_row, is_frozen, pairs_at, page, refuses, advanced}
+use Rattle.strat_model.specs.Plain.{update_refusal}
 
 -- a key's pair keeps its place when it gets another value
 pub set_here : (key value : List ℕ) (pairs : Pairs) (i : ℕ) (pair : Pair) → i < length pairs → pair ≡ get_or pairs i pair
@@ -66,6 +68,19 @@ pub climb_nowhere : (n : ℕ) (parents : Parents) (v : ℕ) → n ≡ 0 → leng
 unfolding climb
 climb_nowhere n parents v none = ap (λ m. length (climb m parents v)) none
 
+-- of three reasons the first that is there is given
+refused_so : (unknown frozen full : Bool) (t : Table) (done : Outcome) (r : Refusal)
+    → (if unknown then Some why.UnknownVersion else if frozen then Some why.Frozen else if full then Some why.ChangeLimit else None) ≡ Some r
+    → (if unknown then refuses t why.UnknownVersion else if frozen then refuses t why.Frozen else if full then refuses t why.ChangeLimit else done) ≡ refuses t r
+refused_so true frozen full t done r is = let same : why.UnknownVersion ≡ r = cc in ap (refuses t) same
+refused_so false true full t done r is = let same : why.Frozen ≡ r = cc in ap (refuses t) same
+refused_so false false true t done r is = let same : why.ChangeLimit ≡ r = cc in ap (refuses t) same
+refused_so false false false t done r is = absurd (cc)
+
+-- an update that is refused is no more than the refusal
+pub update_refused : (t : Table) (v : ℕ) (pairs : Pairs) (r : Refusal) → update_refusal t v ≡ Some r → update t v pairs ≡ refuses t r
+update_refused t v pairs r is = refused_so (not (has_row t v)) (is_frozen t v) (t.changes == t.changes_max) t _ r is
+
 -- what holds of both sides holds of the one that is chosen
 either : {A : Type 0} (P : A → Type 0) (b : Bool) (x y : A) → P x → P y → P (if b then x else y)
 either P true x y at_x at_y = at_x
@@ -102,3 +117,4 @@ next_cursor_after t (OpenCursor v lo hi) =
 next_cursor_after t (NextPairs n limit) = opens_by_next t n limit (find (λ c. c.number == n) t.cursors)
 next_cursor_after t (CloseCursor n) = either (OpensOne t) (list_any (λ c. c.number == n) t.cursors) _ _ (omega arith) (omega arith)
 next_cursor_after t Stat = omega arith
+next_cursor_after t (DropVersion v) = omega arith

@@ -9,7 +9,7 @@ use Rattle.strat_model.specs.declared.replies.Reply.TheVariants as reply
 use Rattle.strat_model.specs.declared.replies.Refusal.{Refusal}
 use Rattle.strat_model.specs.declared.replies.Refusal.TheVariants as why
 use Rattle.strat_model.specs.Answer.{Answer, refusal, accepts}
-use Rattle.strat_model.specs.Request.{Request, Put, Delete, Get, Clone, Scan, Info, OpenCursor, NextPairs, CloseCursor, Stat}
+use Rattle.strat_model.specs.Request.{Request, Put, Delete, Get, Clone, Scan, Info, OpenCursor, NextPairs, CloseCursor, Stat, DropVersion}
 use Rattle.strat_model.specs.Run.{Position, Response, Answers, takes_memory}
 use Rattle.strat_model.specs.Spelling.{Spells, IsRefusedAs}
 use Rattle.strat_model.specs.Step.{Outcome, replies_with, refuses, found, page, advanced, step, has_row, is_frozen, pairs_at}
@@ -57,6 +57,7 @@ step_ample t (OpenCursor v lo hi) = three (not (has_row t v)) (eqb (length t.cur
 step_ample t (NextPairs n limit) = next_ample t n limit (find (λ c. c.number == n) t.cursors)
 step_ample t (CloseCursor n) = chosen IsAmple (list_any (λ c. c.number == n) t.cursors) _ _ (λ _. refl) (λ _. refl)
 step_ample t Stat = refl
+step_ample t (DropVersion v) = refl
 
 -- the answer that memory ran out is none other
 not_short : (a : Answer) → a ≡ refusal why.NoMemory → is_short a.reply ≡ false → ⊥

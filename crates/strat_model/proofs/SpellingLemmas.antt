@@ -4,7 +4,7 @@ use Rattle.std.proofs.lemmas.Bool.{and_parts, and_from}
 use Rattle.strat_base.specs.Sizes.{is_key, is_value}
 use Rattle.strat_model.specs.declared.replies.Refusal.{Refusal}
 use Rattle.strat_model.specs.declared.replies.Refusal.TheVariants as why
-use Rattle.strat_model.specs.Request.{Request, Put, Delete, Get, Clone, Scan, Info, OpenCursor, NextPairs, CloseCursor, Stat}
+use Rattle.strat_model.specs.Request.{Request, Put, Delete, Get, Clone, Scan, Info, OpenCursor, NextPairs, CloseCursor, Stat, DropVersion}
 use Rattle.strat_model.specs.Spelling.{is_bound, is_limit, has_lawful_keys, has_lawful_value, has_lawful_limit, has_lawful_sizes, size_refusal, HasForm, HasUnlawfulSize, IsRefusedAs}
 
 -- why a command is refused whose keys, value and limit pass these tests
@@ -41,6 +41,7 @@ unrefused_is_lawful (OpenCursor version lo hi) e = (all_pass (is_bound lo && is_
 unrefused_is_lawful (NextPairs cursor limit) e = (all_pass true true (is_limit limit) e).2
 unrefused_is_lawful (CloseCursor cursor) e = refl
 unrefused_is_lawful Stat e = refl
+unrefused_is_lawful (DropVersion version) e = refl
 
 -- lawful sizes are not refused
 pub lawful_is_unrefused : (request : Request) → has_lawful_sizes request ≡ true → size_refusal request ≡ None
@@ -57,6 +58,7 @@ lawful_is_unrefused (OpenCursor version lo hi) e = none_refused (is_bound lo && 
 lawful_is_unrefused (NextPairs cursor limit) e = none_refused true true (is_limit limit) refl refl e
 lawful_is_unrefused (CloseCursor cursor) e = refl
 lawful_is_unrefused Stat e = refl
+lawful_is_unrefused (DropVersion version) e = refl
 
 -- a size is refused for a key, a value or a limit
 abbrev IsOfSize : Refusal → Type 0

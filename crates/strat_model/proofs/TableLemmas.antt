@@ -1,21 +1,22 @@
 -- Every step keeps what a table keeps.
-use Rattle.std.proofs.Common.{◌≡◌, ◌≢◌, ◌<◌, ◌≤◌, ℕ, zero, suc, ◌+◌, ◌==◌, Bool, true, false, not, if◌then◌else◌, List, [], ◌∷◌, ◌++◌, Option, Some, None, length, map, get_or, drop, filter, refl, sym, ap, ◌∙◌, subst, arith, zero-add}
+use Rattle.std.proofs.Common.{◌≡◌, ◌≢◌, ◌<◌, ◌≤◌, ℕ, zero, suc, ◌+◌, ◌==◌, Bool, true, false, nat_lt, not, if◌then◌else◌, List, [], ◌∷◌, ◌++◌, Option, Some, None, length, map, get_or, drop, filter, refl, sym, ap, ◌∙◌, subst, arith, zero-add}
 use Rattle.std.specs.List.{All, find, list_any, slice_get}
 use Rattle.std.specs.List.Sorted.{IsStrictlySortedBy}
 use Rattle.std.specs.Option.{option_map_or}
-use Rattle.std.proofs.lemmas.Bool.{ltb-true, eqb-false}
+use Rattle.std.proofs.lemmas.Bool.{ltb-true, eqb-false, and_parts}
 use Rattle.std.proofs.lemmas.List.{length-set, length-map, map_push, length_push, get_or-set_other, get_or_append_left, get_or_push}
 use Rattle.std.proofs.lemmas.List.Sums.{length-filter, count_by-le-length}
 use Rattle.std.proofs.lemmas.List.Elements.{All-set, All-push, All-map, All-weaker, All-filter, All-nil, All-cons}
 use Rattle.strat_base.specs.declared.limits.TheConstants.{CHANGES_MAX, VERSIONS_MAX, CURSORS_MAX}
 use Rattle.strat_base.specs.Tree.{Parents, IsOlder, IsTree}
+use Rattle.strat_base.specs.Marks.{is_dropped}
 use Rattle.strat_model.specs.declared.replies.Refusal.TheVariants as why
 use Rattle.strat_model.specs.Pairs.{Pairs, set, unset, range, is_between}
-use Rattle.strat_model.specs.Request.{Request, Put, Delete, Get, Clone, Scan, Info, OpenCursor, NextPairs, CloseCursor, Stat}
-use Rattle.strat_model.specs.Table.{Row, Cursor, Table, fresh, parents_of}
+use Rattle.strat_model.specs.Request.{Request, Put, Delete, Get, Clone, Scan, Info, OpenCursor, NextPairs, CloseCursor, Stat, DropVersion}
+use Rattle.strat_model.specs.Table.{Row, Cursor, Table, fresh, parents_of, marks_in}
 use Rattle.strat_model.specs.Step.{Outcome, step, update, has_row, is_frozen, no_row, pairs_at, with_pairs, clone, start_cursor, page, refuses, advanced}
 use Rattle.strat_model.specs.Answer.{accepts}
-use Rattle.strat_model.specs.Kept.{IsMap, IsTable, updated}
+use Rattle.strat_model.specs.Kept.{IsMap, IsTable, AreLiving, updated}
 use Rattle.strat_model.proofs.MapLemmas.{set_keeps_map, unset_keeps_map, filter_keeps_map, drop_keeps_map}
 
 -- what holds of each side where it is chosen holds of the one that is chosen
@@ -24,7 +25,7 @@ chosen P true x y at_x at_y = at_x refl
 chosen P false x y at_x at_y = at_y refl
 
 -- what is not false is true
-true_from_not : (b : Bool) → not b ≡ false → b ≡ true
+pub true_from_not : (b : Bool) → not b ≡ false → b ≡ true
 true_from_not true h = refl
 true_from_not false h = cc
 
@@ -45,6 +46,12 @@ map_in [] v maps = tt
 map_in (row ∷ rows) zero maps = maps 0 no_row (omega arith)
 map_in (row ∷ rows) (suc v) maps = map_in rows v (λ k d lt. maps (suc k) d (omega arith))
 
+-- where no version was dropped, a version was not, and neither was one that is not there
+pub living_in : (rows : List Row) (v : ℕ) → AreLiving rows → (get_or rows v no_row).dropped ≡ false
+living_in [] v living = refl
+living_in (row ∷ rows) zero living = living 0 no_row (omega arith)
+living_in (row ∷ rows) (suc v) living = living_in rows v (λ k d lt. living (suc k) d (omega arith))
+
 -- an update
 update_keeps : (t : Table) (v : ℕ) (pairs : Pairs) → IsTable t → IsMap pairs → Keeps (update t v pairs)
 update_keeps t v pairs is sorted =
@@ -54,6 +61,7 @@ update_keeps t v pairs is sorted =
       maps = All-set {X = Row} (λ row. IsMap row.pairs) t.rows v _ sorted is.maps;
       cursors = is.cursors;
       tree = let P : Parents → Type 0 = IsTree in subst P (sym (same_parents t.rows v pairs)) is.tree;
+      living = All-set {X = Row} (λ row. row.dropped ≡ false) t.rows v _ (living_in t.rows v is.living) is.living;
       within = record {
         changes_max = is.within.changes_max;
         versions_max = is.within.versions_max;
@@ -90,9 +98,9 @@ clone_keeps t v is =
     chosen Keeps (not (has_row t v)) _ _ (λ _. is) (λ known.
     chosen Keeps (length t.rows == t.versions_max) _ _ (λ _. is) (λ more.
     chosen Keeps (t.changes == t.changes_max) _ _ (λ _. is) (λ room.
-    let row : Row = record { parent = Some v; pairs = pairs_at t v } in
+    let row : Row = record { parent = Some v; dropped = false; pairs = pairs_at t v } in
     let child : parents_of t ++ Some v ∷ [] ≡ map {A = Row} (λ r. r.parent) (t.rows ++ row ∷ []) = sym (map_push (λ (r : Row). r.parent) t.rows row) in
-    let below : v < length t.rows = ltb-true v (length t.rows) (true_from_not (has_row t v) known) in
+    let below : v < length t.rows = ltb-true v (length t.rows) (and_parts (nat_lt v (length t.rows)) (not (is_dropped (marks_in t) v)) (true_from_not (has_row t v) known)).0 in
     let P : Parents → Type 0 = IsTree in
     record {
       maps = All-push {X = Row} (λ r. IsMap r.pairs) t.rows row is.maps (map_in t.rows v is.maps);
@@ -101,6 +109,7 @@ clone_keeps t v is =
         some = omega (arith, length_push (parents_of t) (Some v));
         older = one_more (parents_of t) v is.tree.older (omega (arith, length-map t.rows (λ (r : Row). r.parent)));
       };
+      living = All-push {X = Row} (λ r. r.dropped ≡ false) t.rows row is.living refl;
       within = record {
         changes_max = is.within.changes_max;
         versions_max = is.within.versions_max;
@@ -122,6 +131,7 @@ start_keeps t v lo hi is =
       cursors = All-push {X = Cursor} (λ c. IsMap c.left) t.cursors cursor is.cursors
           (filter_keeps_map (λ pair. is_between lo hi pair.0) (pairs_at t v) (map_in t.rows v is.maps));
       tree = is.tree;
+      living = is.living;
       within = record {
         changes_max = is.within.changes_max;
         versions_max = is.within.versions_max;
@@ -139,6 +149,7 @@ cursors_keep t cursors is maps few = record {
   maps = is.maps;
   cursors = maps;
   tree = is.tree;
+  living = is.living;
   within = record {
     changes_max = is.within.changes_max;
     versions_max = is.within.versions_max;
@@ -177,6 +188,7 @@ step_keeps_table t (CloseCursor n) is =
     (rw length-filter (count_by-le-length others t.cursors)))
     (λ _. is)
 step_keeps_table t Stat is = is
+step_keeps_table t (DropVersion v) is = is
 
 -- a root alone
 root_is_older : (v : ℕ) → IsOlder v (slice_get (None ∷ []) v)
@@ -191,6 +203,7 @@ fresh_is_table changes_max versions_max changes some versions = record {
   maps = All-cons {X = Row} (λ row. IsMap row.pairs) no_row [] tt (All-nil (λ (row : Row). IsMap row.pairs));
   cursors = All-nil (λ (c : Cursor). IsMap c.left);
   tree = record { some = omega arith; older = root_is_older };
+  living = All-cons {X = Row} (λ row. row.dropped ≡ false) no_row [] refl (All-nil (λ (row : Row). row.dropped ≡ false));
   within = record { changes_max = changes; versions_max = versions; rows = some; changes = omega arith; updates = omega arith; cursors = omega arith };
 }
 
@@ -210,7 +223,7 @@ clone_leaves t v w there =
     chosen Same (not (has_row t v)) _ _ (λ _. refl) (λ _.
     chosen Same (length t.rows == t.versions_max) _ _ (λ _. refl) (λ _.
     chosen Same (t.changes == t.changes_max) _ _ (λ _. refl) (λ _.
-    ap (λ (row : Row). row.pairs) (get_or_append_left t.rows (record { parent = Some v; pairs = pairs_at t v } ∷ []) no_row w there))))
+    ap (λ (row : Row). row.pairs) (get_or_append_left t.rows (record { parent = Some v; dropped = false; pairs = pairs_at t v } ∷ []) no_row w there))))
 
 -- a step leaves the map of a version that it does not update, or that is frozen
 step_leaves : (t : Table) (request : Request) (w : ℕ) → w < length t.rows
@@ -237,6 +250,7 @@ step_leaves t request w there apart = by_command request apart
     by_command (NextPairs n limit) apart = next n limit (find (λ c. c.number == n) t.cursors)
     by_command (CloseCursor n) apart = chosen Same (list_any (λ c. c.number == n) t.cursors) _ _ (λ _. refl) (λ _. refl)
     by_command Stat apart = refl
+    by_command (DropVersion v) apart = refl
 
 -- a step leaves the map of a version that it does not update
 pub step_leaves_others : (t : Table) (request : Request) (w : ℕ) → w < length t.rows → updated request ≢ Some w → pairs_at (step t request).table w ≡ pairs_at t w
@@ -254,4 +268,4 @@ clone_has_map t v =
     chosen Has (not (has_row t v)) _ _ (λ _ h. cc) (λ _.
     chosen Has (length t.rows == t.versions_max) _ _ (λ _ h. cc) (λ _.
     chosen Has (t.changes == t.changes_max) _ _ (λ _ h. cc) (λ _ h.
-    ap (λ (row : Row). row.pairs) (get_or_push t.rows (record { parent = Some v; pairs = pairs_at t v }) no_row (length t.rows) refl))))
+    ap (λ (row : Row). row.pairs) (get_or_push t.rows (record { parent = Some v; dropped = false; pairs = pairs_at t v }) no_row (length t.rows) refl))))

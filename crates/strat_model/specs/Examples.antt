@@ -1,10 +1,10 @@
 -- What a table answers to a few commands, one after the other.
-use Rattle.std.specs.Prelude.{Bool, true, false, List, [], ◌∷◌, Some, None, codes}
+use Rattle.std.specs.Prelude.{ℕ, Bool, true, false, List, [], ◌∷◌, Some, None, codes}
 use Rattle.strat_model.specs.declared.replies.Reply.TheVariants as reply
 use Rattle.strat_model.specs.declared.replies.Refusal.TheVariants as why
 use Rattle.strat_model.specs.Pairs.{Pair, Pairs}
 use Rattle.strat_model.specs.Request.{Request, Put, Delete, Get, Clone, Scan, Info, OpenCursor, NextPairs, CloseCursor, Stat}
-use Rattle.strat_model.specs.Table.{Table}
+use Rattle.strat_model.specs.Table.{Table, fresh}
 use Rattle.strat_model.specs.Answer.{Answer, plain, refusal}
 use Rattle.strat_model.specs.Step.{step}
 
@@ -55,7 +55,7 @@ scanned =
     done ∷ done ∷ done ∷ exposed true ((codes "a", codes "1") ∷ (codes "b", codes "2") ∷ [])
     ∷ exposed false abc ∷ exposed false ((codes "b", codes "2") ∷ []) ∷ []
 
--- a clone, and what is asked of the tree before and after
+-- a clone, and what is pruned of the tree before and after
 abbrev pub growing : List Request
 growing = Info 0 ∷ Stat ∷ Clone 0 ∷ Info 0 ∷ Info 1 ∷ Stat ∷ []
 
@@ -110,3 +110,19 @@ staged =
     ∷ exposed false ((codes "user/2/name", codes "Bob") ∷ [])
     ∷ exposed false ((codes "user/1/name", codes "Ann") ∷ (codes "user/2/name", codes "Bob") ∷ [])
     ∷ plain (reply.Stat 3 4 6 0) ∷ []
+
+-- a table for so many changes, with version 1 below version 0, and version 2 below that
+abbrev pub chained : ℕ → Table
+chained changes_max = (step (step (fresh changes_max 10) (Clone 0)).table (Clone 1)).table
+
+-- what is pruned of it once version 2 was dropped
+abbrev pub pruning : List Request
+pruning =
+    Get 2 (codes "a") ∷ Clone 2 ∷ Info 1 ∷ Put 1 (codes "a") (codes "1") ∷ Info 0 ∷ Stat ∷ []
+
+-- version 2 is unknown, version 1 takes updates again, and the dropped one still counts
+abbrev pub pruned : List Answer
+pruned =
+    refusal why.UnknownVersion ∷ refusal why.UnknownVersion
+    ∷ plain (reply.Info (Some 0) 1 false) ∷ done ∷ plain (reply.Info None 0 true)
+    ∷ plain (reply.Stat 3 1 4 0) ∷ []

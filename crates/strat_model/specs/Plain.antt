@@ -1,12 +1,13 @@
 -- What a table that takes memory for each change as it comes answers to a command.
-use Rattle.std.specs.Prelude.{◌≡◌, ℕ, ◌==◌, Bool, true, false, not, if◌then◌else◌, length, Option, Some, None, ◌⊎◌}
+use Rattle.std.specs.Prelude.{◌≡◌, ℕ, ◌==◌, ◌&&◌, Bool, true, false, not, if◌then◌else◌, length, Option, Some, None, ◌⊎◌}
+use Rattle.std.specs.Option.{option_map_or}
 use Rattle.strat_base.specs.declared.limits.TheConstants.{CURSORS_MAX}
 use Rattle.strat_model.specs.declared.replies.Reply.{Reply}
 use Rattle.strat_model.specs.declared.replies.Refusal.{Refusal}
 use Rattle.strat_model.specs.declared.replies.Refusal.TheVariants as why
 use Rattle.strat_model.specs.Pairs.{Pairs}
 use Rattle.strat_model.specs.Request.{Request, Put, Clone, OpenCursor}
-use Rattle.strat_model.specs.Table.{Table}
+use Rattle.strat_model.specs.Table.{Row, Table}
 use Rattle.strat_model.specs.Answer.{refusal, accepts}
 use Rattle.strat_model.specs.Step.{step, has_row, is_frozen}
 use Rattle.strat_model.specs.Run.{takes_memory}
@@ -36,6 +37,10 @@ pub record IsShort (before : Table) (request : Request) (reply : Reply) (pairs :
 abbrev pub IsStepOrShort : Table → Request → Reply → Pairs → Table → Type 0
 IsStepOrShort before request reply pairs after =
     IsStep before request reply pairs after ⊎ IsShort before request reply pairs after
+
+-- a row is that of a child of this version, and was not dropped
+abbrev pub is_living_row_under : ℕ → Row → Bool
+is_living_row_under v row = option_map_or (λ p. p == v) row.parent false && not row.dropped
 
 -- why an update of a version is refused, if it is
 abbrev pub update_refusal : Table → ℕ → Option Refusal

@@ -7,6 +7,7 @@ pub data Request : Type 0 where
   Delete : (version : ℕ) (key : List ℕ) → Request
   Get : (version : ℕ) (key : List ℕ) → Request
   Clone : (version : ℕ) → Request
+  DropVersion : (version : ℕ) → Request
   Scan : (version : ℕ) (lo hi : List ℕ) (limit : ℕ) → Request
   Info : (version : ℕ) → Request
   OpenCursor : (version : ℕ) (lo hi : List ℕ) → Request

@@ -3,7 +3,7 @@ use Rattle.std.specs.Prelude.{◌≡◌, ◌≤◌, ◌<◌, ℕ, ◌+◌, ◌-�
 use Rattle.std.specs.List.{flat_map, AllByRecursion}
 use Rattle.strat_model.specs.declared.replies.Refusal.{Refusal}
 use Rattle.strat_model.specs.declared.replies.Refusal.TheVariants as why
-use Rattle.strat_model.specs.Request.{Request, Put, Delete, Get, Clone, Scan, OpenCursor, NextPairs}
+use Rattle.strat_model.specs.Request.{Request, Put, Delete, Get, Clone, Scan, OpenCursor, NextPairs, DropVersion}
 use Rattle.strat_model.specs.Table.{Table, bare}
 use Rattle.strat_model.specs.Answer.{Answer, refusal, accepts}
 use Rattle.strat_model.specs.Step.{step}
@@ -15,6 +15,7 @@ abbrev pub is_change : Request → Bool
 is_change (Put version key value) = true
 is_change (Delete version key) = true
 is_change (Clone version) = true
+is_change (DropVersion version) = true
 is_change _ = false
 
 -- a command for which memory may run out

@@ -1,5 +1,5 @@
 -- The bytes of commands and replies. A body begins with the tag by which a client knows its reply.
-use Rattle.std.specs.Prelude.{◌≡◌, ◌<◌, ◌≤◌, ℕ, ◌^◌, ◌&&◌, Bool, true, false, not, nat_le, if◌then◌else◌, List, [], ◌∷◌, ◌++◌, length, Option, Some, None}
+use Rattle.std.specs.Prelude.{◌≡◌, ◌<◌, ◌≤◌, ℕ, ◌^◌, ◌&&◌, Bool, true, false, not, nat_le, if◌then◌else◌, List, [], ◌∷◌, ◌++◌, length, Option, Some, None, IsTrue}
 use Rattle.std.specs.List.{flat_map, AllByRecursion}
 use Rattle.strat_base.specs.Numbers.{be, number}
 use Rattle.strat_base.specs.Sizes.{is_key, is_value}
@@ -9,8 +9,9 @@ use Rattle.strat_model.specs.declared.replies.Reply.TheVariants as reply
 use Rattle.strat_model.specs.declared.replies.Refusal.{Refusal}
 use Rattle.strat_model.specs.declared.replies.Refusal.TheVariants as why
 use Rattle.strat_model.specs.Pairs.{Pairs}
-use Rattle.strat_model.specs.Request.{Request, Put, Delete, Get, Clone, Scan, Info, OpenCursor, NextPairs, CloseCursor, Stat}
+use Rattle.strat_model.specs.Request.{Request, Put, Delete, Get, Clone, Scan, Info, OpenCursor, NextPairs, CloseCursor, Stat, DropVersion}
 use Rattle.strat_model.specs.Answer.{Answer}
+use Rattle.strat_base.specs.Marks.{takes_drops}
 
 -- a length in two bytes, and so many bytes
 abbrev pub counted : List ℕ → List ℕ
@@ -29,6 +30,7 @@ command_bytes (OpenCursor version lo hi) = 7 ∷ be 4 version ++ counted lo ++ c
 command_bytes (NextPairs cursor limit) = 8 ∷ be 8 cursor ++ be 2 limit
 command_bytes (CloseCursor cursor) = 9 ∷ be 8 cursor
 command_bytes Stat = 10 ∷ []
+command_bytes (DropVersion version) = 11 ∷ be 4 version
 
 -- the body of a command
 abbrev pub command_body : ℕ → Request → List ℕ
@@ -48,6 +50,7 @@ has_lawful_sizes (Put version key value) = is_key key && is_value value
 has_lawful_sizes (Delete version key) = is_key key
 has_lawful_sizes (Get version key) = is_key key
 has_lawful_sizes (Clone version) = true
+has_lawful_sizes (DropVersion version) = true
 has_lawful_sizes (Scan version lo hi limit) = is_bound lo && (is_bound hi && is_limit limit)
 has_lawful_sizes (Info version) = true
 has_lawful_sizes (OpenCursor version lo hi) = is_bound lo && is_bound hi
@@ -87,12 +90,13 @@ size_refusal request =
 abbrev pub FitsCount : List ℕ → Type 0
 FitsCount bytes = length bytes < 2 ^ 16
 
--- the numbers of a command and the lengths of its bytes fit their fields
+-- the numbers of a command and the lengths of its bytes fit their fields; no body asks for a drop until this build takes them
 abbrev pub FitsFields : Request → Type 0
 FitsFields (Put version key value) = (version < 2 ^ 32) × FitsCount key × FitsCount value
 FitsFields (Delete version key) = (version < 2 ^ 32) × FitsCount key
 FitsFields (Get version key) = (version < 2 ^ 32) × FitsCount key
 FitsFields (Clone version) = version < 2 ^ 32
+FitsFields (DropVersion version) = IsTrue takes_drops × (version < 2 ^ 32)
 FitsFields (Scan version lo hi limit) =
     (version < 2 ^ 32) × FitsCount lo × FitsCount hi × (limit < 2 ^ 16)
 FitsFields (Info version) = version < 2 ^ 32

@@ -1,15 +1,16 @@
 -- What each command answers at a table, and the table after it.
-use Rattle.std.specs.Prelude.{ℕ, ◌+◌, ◌==◌, nat_lt, Bool, not, if◌then◌else◌, List, [], ◌∷◌, ◌++◌, length, map, filter, find, take, drop, Option, Some, None, slice_index_or, slice_set}
+use Rattle.std.specs.Prelude.{ℕ, ◌+◌, ◌==◌, ◌&&◌, nat_lt, Bool, true, false, not, if◌then◌else◌, List, [], ◌∷◌, ◌++◌, length, map, filter, find, take, drop, Option, Some, None, slice_index_or, slice_set}
 use Rattle.std.specs.List.{list_any}
 use Rattle.std.specs.Option.{option_map_or}
-use Rattle.strat_base.specs.Tree.{parent_of, depth, has_child}
+use Rattle.strat_base.specs.Tree.{parent_of, depth}
+use Rattle.strat_base.specs.Marks.{is_dropped, has_living_child, takes_drops}
 use Rattle.strat_base.specs.declared.limits.TheConstants.{CURSORS_MAX}
 use Rattle.strat_model.specs.declared.replies.Reply.TheVariants as reply
 use Rattle.strat_model.specs.declared.replies.Refusal.{Refusal}
 use Rattle.strat_model.specs.declared.replies.Refusal.TheVariants as why
 use Rattle.strat_model.specs.Pairs.{Pairs, value_of, set, unset, range}
-use Rattle.strat_model.specs.Request.{Request, Put, Delete, Get, Clone, Scan, Info, OpenCursor, NextPairs, CloseCursor, Stat}
-use Rattle.strat_model.specs.Table.{Row, Cursor, Table, parents_of}
+use Rattle.strat_model.specs.Request.{Request, Put, Delete, Get, Clone, Scan, Info, OpenCursor, NextPairs, CloseCursor, Stat, DropVersion}
+use Rattle.strat_model.specs.Table.{Row, Cursor, Table, parents_of, marks_in}
 use Rattle.strat_model.specs.Answer.{Answer, plain, refusal}
 
 -- an answer, and the table after it
@@ -25,17 +26,17 @@ replies_with t a = record { answer = a; table = t }
 abbrev pub refuses : Table → Refusal → Outcome
 refuses t r = replies_with t (refusal r)
 
--- the table has this version
+-- the table has this version, and it was not dropped
 abbrev pub has_row : Table → ℕ → Bool
-has_row t v = nat_lt v (length t.rows)
+has_row t v = nat_lt v (length t.rows) && not (is_dropped (marks_in t) v)
 
--- a version has a child, and takes no more updates
+-- a version has a child that was not dropped, and takes no updates
 abbrev pub is_frozen : Table → ℕ → Bool
-is_frozen t v = has_child (parents_of t) v
+is_frozen t v = has_living_child (parents_of t) (marks_in t) v
 
 -- a row without parent and pairs
 abbrev pub no_row : Row
-no_row = record { parent = None; pairs = [] }
+no_row = record { parent = None; dropped = false; pairs = [] }
 
 -- the map of a version
 abbrev pub pairs_at : Table → ℕ → Pairs
@@ -44,7 +45,7 @@ pairs_at t v = (slice_index_or t.rows v no_row).pairs
 -- the rows with another map at a version
 abbrev pub with_pairs : List Row → ℕ → Pairs → List Row
 with_pairs rows v pairs =
-    slice_set rows v (record { parent = (slice_index_or rows v no_row).parent; pairs = pairs })
+    slice_set rows v (record (slice_index_or rows v no_row) { pairs = pairs })
 
 -- an update of one version's map
 abbrev pub update : Table → ℕ → Pairs → Outcome
@@ -80,9 +81,26 @@ clone t v =
     record {
       answer = plain (reply.Made (length t.rows));
       table = record t {
-        rows = t.rows ++ record { parent = Some v; pairs = pairs_at t v } ∷ [];
+        rows = t.rows ++ record { parent = Some v; dropped = false; pairs = pairs_at t v } ∷ [];
         changes = t.changes + 1;
       };
+    }
+
+-- the rows with a version dropped, which has no pairs then
+abbrev pub with_dropped : List Row → ℕ → List Row
+with_dropped rows v =
+    slice_set rows v (record (slice_index_or rows v no_row) { dropped = true; pairs = [] })
+
+-- a version is dropped; version 0 never is, and is refused like a frozen one until it has a refusal of its own
+abbrev pub drop_version : Table → ℕ → Outcome
+drop_version t v =
+    if not (has_row t v) then refuses t why.UnknownVersion else
+    if v == 0 then refuses t why.Frozen else
+    if is_frozen t v then refuses t why.Frozen else
+    if t.changes == t.changes_max then refuses t why.ChangeLimit else
+    record {
+      answer = plain reply.Done;
+      table = record t { rows = with_dropped t.rows v; changes = t.changes + 1 };
     }
 
 -- a cursor over a range as it is now
@@ -116,7 +134,7 @@ next_pairs t n limit = option_map_or
     (find (λ c. c.number == n) t.cursors)
     (refuses t why.UnknownCursor)
 
--- what a command answers at a table, and the table after it
+-- what a command answers at a table, and the table after it; a drop is refused by each until this build takes them
 abbrev pub step : Table → Request → Outcome
 step t (Put v key value) = update t v (set key value (pairs_at t v))
 step t (Delete v key) = update t v (unset key (pairs_at t v))
@@ -124,6 +142,8 @@ step t (Get v key) =
     if has_row t v then replies_with t (found key (value_of (pairs_at t v) key))
     else refuses t why.UnknownVersion
 step t (Clone v) = clone t v
+step t (DropVersion v) =
+    if takes_drops then drop_version t v else refuses t why.UnknownVersion
 step t (Scan v lo hi limit) =
     if has_row t v then replies_with t (page (range (pairs_at t v) lo hi) limit)
     else refuses t why.UnknownVersion

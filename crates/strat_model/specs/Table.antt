@@ -1,11 +1,13 @@
 -- A table gives each version its own map.
-use Rattle.std.specs.Prelude.{ℕ, List, [], ◌∷◌, Option, None, map}
+use Rattle.std.specs.Prelude.{ℕ, Bool, false, List, [], ◌∷◌, Option, None, map}
 use Rattle.strat_base.specs.Tree.{Parents}
+use Rattle.strat_base.specs.Marks.{Marks}
 use Rattle.strat_model.specs.Pairs.{Pairs}
 
--- a version: its parent, if it has one, and its map
+-- a version: its parent, if it has one, whether it was dropped, and its map
 pub record Row : Type 0 where
   pub parent : Option ℕ
+  pub dropped : Bool
   pub pairs : Pairs
 
 -- an open cursor: its number, and the pairs that it has left
@@ -28,7 +30,7 @@ abbrev pub fresh : ℕ → ℕ → Table
 fresh changes_max versions_max = record {
   changes_max = changes_max;
   versions_max = versions_max;
-  rows = record { parent = None; pairs = [] } ∷ [];
+  rows = record { parent = None; dropped = false; pairs = [] } ∷ [];
   updates = 0;
   changes = 0;
   cursors = [];
@@ -42,3 +44,7 @@ bare t = record t { cursors = []; next_cursor = 1 }
 -- the tree of a table's versions
 abbrev pub parents_of : Table → Parents
 parents_of t = map (λ row. row.parent) t.rows
+
+-- which of a table's versions were dropped
+abbrev pub marks_in : Table → Marks
+marks_in t = map (λ row. row.dropped) t.rows

@@ -1,22 +1,24 @@
 //! The versions and the cursors of a plain table.
 
-ghost use Rattle.std.specs.Prelude.{◌≡◌, ◌≤◌, ◌==◌, not, if◌then◌else◌, [], length, filter, nat_lt, take, drop, Some, None, IfOk, OnOk, OnErr};
+ghost use Rattle.std.specs.Prelude.{◌≡◌, ◌≤◌, ◌==◌, not, if◌then◌else◌, [], false, length, filter, nat_lt, take, drop, Some, None, IfOk, OnOk, OnErr};
 ghost use Rattle.std.specs.List.{list_any};
 ghost use Rattle.strat_base.specs.declared.limits.TheConstants.{PAIRS_MAX};
 ghost use Rattle.strat_base.specs.PairBuf.{IsPair};
 ghost use Rattle.strat_model.specs.Pairs.{set, unset, range};
 ghost use Rattle.strat_model.specs.Table.{Row, Cursor};
 ghost use Rattle.strat_model.specs.Step.{no_row, advanced};
+ghost use Rattle.strat_model.specs.Plain.{is_living_row_under};
 
 use crate::plain_pairs::PlainPairs;
 use std::alloc::Global;
 use std::marker::Model;
 use strat_base::{NoMemory, PairBuf, Version};
 
-/// A version: its parent, and its map.
+/// A version: its parent, whether it was dropped, and its map.
 #[derive(Drop)]
 pub(crate) struct PlainRow {
     parent: Option<Version>,
+    dropped: bool,
     pairs: PlainPairs,
 }
 
@@ -25,7 +27,7 @@ impl Model for PlainRow {
 
     ghost Value = { Row };
 
-    ghost view = { λ row. record { parent = row.parent; pairs = row.pairs } };
+    ghost view = { λ row. record { parent = row.parent; dropped = row.dropped; pairs = row.pairs } };
 }
 
 impl PlainRow {
@@ -35,6 +37,7 @@ impl PlainRow {
     {
         PlainRow {
             parent: None,
+            dropped: false,
             pairs: PlainPairs::new(alloc),
         }
     }
@@ -42,10 +45,11 @@ impl PlainRow {
     /// A child of this row, whose number is `version`, with a copy of the map.
     pub(crate) fn child(&self, version: Version) -> Result<PlainRow, NoMemory>
         ensures ok { IfOk result (λ row.
-            row ≡ record { parent = Some version; pairs = self.now.pairs }) }
+            row ≡ record { parent = Some version; dropped = false; pairs = self.now.pairs }) }
     {
         Ok(PlainRow {
             parent: Some(version),
+            dropped: false,
             pairs: self.pairs.copy()?,
         })
     }
@@ -55,6 +59,20 @@ impl PlainRow {
         ensures ok { result ≡ self.now.parent }
     {
         self.parent
+    }
+
+    /// Whether the version was dropped.
+    pub(crate) fn is_dropped(&self) -> bool
+        ensures ok { result ≡ self.now.dropped }
+    {
+        self.dropped
+    }
+
+    /// Whether the version is a child of this one, and was not dropped.
+    pub(crate) fn is_living_child_of(&self, version: Version) -> bool
+        ensures ok { result ≡ is_living_row_under version self.now }
+    {
+        self.parent == Some(version) && !self.dropped
     }
 
     /// The map.
@@ -80,6 +98,13 @@ impl PlainRow {
     {
         self.pairs.unset(key)
     }
+}
+
+/// Whether a child of this version was not dropped.
+pub(crate) fn has_living_child(rows: &[PlainRow], version: Version) -> bool
+    ensures ok { result ≡ list_any (is_living_row_under version) rows.now }
+{
+    rows.iter().any(|row| row.is_living_child_of(version))
 }
 
 /// An open cursor: its number, the pairs of its range, and how many of them were taken.

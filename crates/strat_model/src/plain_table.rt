@@ -14,7 +14,7 @@ ghost use Rattle.strat_model.specs.Spelling.{has_lawful_sizes};
 ghost use Rattle.strat_model.specs.Plain.{IsStep, IsStepOrShort, grows, update_refusal, clone_refusal, cursor_refusal};
 
 use crate::commands::Command;
-use crate::plain_rows::{PlainCursor, PlainRow, advance, close, has_cursor};
+use crate::plain_rows::{PlainCursor, PlainRow, advance, close, has_cursor, has_living_child};
 use crate::replies::{Refusal, Reply};
 use std::alloc::Global;
 use std::marker::Model;
@@ -106,23 +106,17 @@ impl PlainTable {
         }
     }
 
+    #[tactic(auto, using(crate::proofs::DropLemmas::mark_at))]
     fn has_row(&self, version: Version) -> bool
         ensures ok { result ≡ has_row self.now version }
     {
-        (version as usize) < self.rows.len()
+        (version as usize) < self.rows.len() && !self.rows[version as usize].is_dropped()
     }
 
     fn is_frozen(&self, version: Version) -> bool
         ensures ok { result ≡ is_frozen self.now version }
     {
-        for row in &self.rows {
-            if let Some(parent) = row.parent()
-                && parent == version
-            {
-                return true;
-            }
-        }
-        false
+        has_living_child(&self.rows, version)
     }
 
     fn update_refusal(&self, version: Version) -> Option<Refusal>
@@ -238,7 +232,7 @@ impl PlainTable {
     fn parent_of(&self, version: Version) -> Option<Version>
         ensures ok { result ≡ parent_of (parents_of self.now) version }
     {
-        if self.has_row(version) {
+        if (version as usize) < self.rows.len() {
             self.rows[version as usize].parent()
         } else {
             None
