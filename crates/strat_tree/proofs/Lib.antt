@@ -1,5 +1,7 @@
 pub mod AncestorLemmas
 pub mod GrownLemmas
+pub mod PrunedLemmas
+pub mod LivingLemmas
 pub mod PreorderLemmas
 pub mod PassLemmas
 pub mod DepthLemmas

@@ -1,8 +1,10 @@
 //! The tree of a store's versions. Each version has, beside its parent, its depth, whether it has a
-//! child, and the ancestors at 1, 2, 4, .. 8,192 steps above it.
+//! child, whether it was dropped, how many children of it were not, and the ancestors at 1, 2, 4, ..
+//! 8,192 steps above it.
 
-ghost use Rattle.std.specs.Prelude.{◌≡◌, ◌<◌, ◌≤◌, ◌+◌, ◌^◌, [], ◌∷◌, length, None, IfOk};
+ghost use Rattle.std.specs.Prelude.{◌≡◌, ◌<◌, ◌≤◌, ◌+◌, ◌^◌, ℕ, [], ◌∷◌, ◌++◌, false, true, length, slice_set, Some, None, IfOk};
 ghost use Rattle.strat_base.specs.Tree.{parent_of, depth, has_child, is_ancestor, below, with_child, IsTree};
+ghost use Rattle.strat_base.specs.Marks.{is_dropped, has_living_child, ArePruned};
 ghost use Rattle.strat_tree.specs.Jumps.{IsChildRow};
 
 use std::alloc::Global;
@@ -35,6 +37,8 @@ pub struct Tree {
     depths: Vec<u32>,
     inner: Vec<bool>,
     jumps: Vec<[Version; JUMPS]>,
+    dropped: Vec<bool>,
+    living: Vec<u32>,
 }
 
 impl Model for Tree {
@@ -50,31 +54,40 @@ impl Model for Tree {
 }
 
 impl Tree {
-    /// A tree of version 0 alone. Takes memory for all versions that there may be, about 70 bytes
+    /// A tree of version 0 alone. Takes memory for all versions that there may be, about 75 bytes
     /// each, and no other call takes any. Where memory is short, none stays taken.
+    #[tactic(auto, using(crate::proofs::PrunedLemmas::none_dropped))]
     pub fn new(alloc: Global, versions_max: u32) -> Result<Tree, NoMemory>
         requires { (1 ≤ versions_max) × (versions_max ≤ 16384) }
         ensures ok { IfOk result (λ t. t ≡ record {
           parents = None ∷ [];
+          marks = false ∷ [];
           versions_max = versions_max;
         }) }
         ensures kept { IfOk result (λ t. IsTree t.parents) }
+        ensures none { IfOk result (λ t. (v : ℕ) → is_dropped t.marks v ≡ false) }
     {
         let room = versions_max as usize;
         let mut parents = Vec::with_capacity(alloc, room)?;
         let mut depths = Vec::with_capacity(alloc, room)?;
         let mut inner = Vec::with_capacity(alloc, room)?;
         let mut jumps = Vec::with_capacity(alloc, room)?;
+        let mut dropped = Vec::with_capacity(alloc, room)?;
+        let mut living = Vec::with_capacity(alloc, room)?;
         parents.push_reserved(None);
         depths.push_reserved(0);
         inner.push_reserved(false);
         jumps.push_reserved([0; JUMPS]);
+        dropped.push_reserved(false);
+        living.push_reserved(0);
         Ok(Tree {
             versions_max,
             parents,
             depths,
             inner,
             jumps,
+            dropped,
+            living,
         })
     }
 
@@ -119,6 +132,47 @@ impl Tree {
         ensures ok { result ≡ has_child self.now.parents v }
     {
         self.inner[v as usize]
+    }
+
+    /// Whether a version that was not dropped has this one as its parent. O(1).
+    pub fn has_living_child(&self, v: Version) -> bool
+        requires { v < length self.now.parents }
+        ensures ok { result ≡ has_living_child self.now.parents self.now.marks v }
+    {
+        self.living[v as usize] != 0
+    }
+
+    /// Whether a version was dropped. Version 0 never is, and below one that was all are. O(1).
+    pub fn is_dead(&self, v: Version) -> bool
+        requires { v < length self.now.parents }
+        ensures ok { result ≡ is_dropped self.now.marks v }
+        ensures kept { ArePruned self.now.parents self.now.marks }
+    {
+        self.dropped[v as usize]
+    }
+
+    /// The parent of a version other than 0, which has one.
+    fn parent_made(&self, v: Version) -> Version
+        requires { (1 ≤ v) × (v < length self.now.parents) }
+        ensures ok { parent_of self.now.parents v ≡ Some result }
+    {
+        match self.parents[v as usize] {
+            Some(parent) => parent,
+            None => 0,
+        }
+    }
+
+    /// Drops a version that no other living one was made from. It takes no memory and cannot fail. O(1).
+    pub fn mark_dead(&mut self, v: Version)
+        requires fits { (1 ≤ v) × (v < length self.old.parents) }
+        requires kept { is_dropped self.old.marks v ≡ false }
+        requires none { has_living_child self.old.parents self.old.marks v ≡ false }
+        ensures ok { self.new ≡ record self.old { marks = slice_set self.old.marks v true } }
+        ensures kept { ArePruned self.new.parents self.new.marks }
+    {
+        let parent = self.parent_made(v);
+        self.living[parent as usize] -= 1;
+        self.dropped[v as usize] = true;
     }
 
     /// Whether u is v or an ancestor of v. O(log depth): up to 15 steps.
@@ -166,24 +220,34 @@ impl Tree {
         row
     }
 
-    /// Adds a version, a child of p, and answers its number. It takes no memory and cannot fail.
+    /// Adds a version, a child of p, which was not dropped, and answers its number. It takes no memory and cannot fail.
     /// O(log versions_max): 14 jumps are filled.
+    #[tactic(auto, using(crate::proofs::PrunedLemmas::mark_kept))]
     pub fn add_child(&mut self, p: Version) -> Version
         requires fits { p < length self.old.parents }
         requires room { length self.old.parents < self.old.versions_max }
+        requires kept { is_dropped self.old.marks p ≡ false }
         ensures found { result ≡ length self.old.parents }
-        ensures ok { self.new ≡ record self.old { parents = with_child self.old.parents p } }
+        ensures ok { self.new ≡ record self.old {
+          parents = with_child self.old.parents p;
+          marks = self.old.marks ++ false ∷ [];
+        } }
+        ensures same { (v : ℕ) → is_dropped self.new.marks v ≡ is_dropped self.old.marks v }
         ensures len { length self.new.parents ≡ length self.old.parents + 1 }
         ensures kept { IsTree self.new.parents }
     {
         let child = self.parents.len() as u32;
         let depth = self.depths[p as usize] + 1;
         let row = self.child_row(p);
+        let siblings = self.living[p as usize];
         self.parents.push_reserved(Some(p));
         self.depths.push_reserved(depth);
         self.inner[p as usize] = true;
         self.inner.push_reserved(false);
         self.jumps.push_reserved(row);
+        self.dropped.push_reserved(false);
+        self.living[p as usize] = siblings + 1;
+        self.living.push_reserved(0);
         child
     }
 }

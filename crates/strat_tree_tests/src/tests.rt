@@ -294,6 +294,83 @@ fn a_full_chain_is_one_path(rt: HostRuntime) -> Result<(), Fail> {
     Ok(())
 }
 
+/// Drops a version where that may be, and answers whether it was.
+fn try_drop(tree: &mut Tree, v: Version) -> bool {
+    if v < 1 || v >= tree.count() || tree.is_dead(v) || tree.has_living_child(v) {
+        return false;
+    }
+    tree.mark_dead(v);
+    true
+}
+
+/// Whether a version is there, is dropped or not, and has a living child or none, as it must be.
+fn is_marked(tree: &Tree, v: Version, dead: bool, has_living_child: bool) -> bool {
+    v < tree.count() && tree.is_dead(v) == dead && tree.has_living_child(v) == has_living_child
+}
+
+#[test]
+fn versions_are_dropped_after_their_children(rt: HostRuntime) -> Result<(), Fail> {
+    let mut tree = worked(rt.alloc())?;
+    for (v, wanted) in [
+        (0, false),
+        (3, false),
+        (5, false),
+        (6, true),
+        (6, false),
+        (5, true),
+        (3, true),
+        (1, false),
+        (2, true),
+        (1, true),
+        (7, false),
+        (4, true),
+        (0, false),
+    ] {
+        assert!(rt; try_drop(&mut tree, v) == wanted);
+    }
+    Ok(())
+}
+
+#[test]
+fn a_worked_tree_has_its_marks(rt: HostRuntime) -> Result<(), Fail> {
+    let mut tree = worked(rt.alloc())?;
+    for v in [6, 5, 2, 4] {
+        try_drop(&mut tree, v);
+    }
+    for (v, dead, has_living_child) in [
+        (0, false, true),
+        (1, false, true),
+        (2, true, false),
+        (3, false, false),
+        (4, true, false),
+        (5, true, false),
+        (6, true, false),
+    ] {
+        assert!(rt; is_marked(&tree, v, dead, has_living_child));
+    }
+    Ok(())
+}
+
+/// Version 1 is dropped, and then version 0 has another child.
+fn replaced(alloc: Global) -> Result<Tree, NoMemory>
+    ensures len { IfOk result (λ t. length t.parents ≡ 3) }
+{
+    let mut tree = Tree::new(alloc, 3)?;
+    tree.add_child(0);
+    tree.mark_dead(1);
+    tree.add_child(0);
+    Ok(tree)
+}
+
+#[test]
+fn a_child_after_a_drop_lives(rt: HostRuntime) -> Result<(), Fail> {
+    let tree = replaced(rt.alloc())?;
+    for (v, dead, has_living_child) in [(0, false, true), (1, true, false), (2, false, false)] {
+        assert!(rt; is_marked(&tree, v, dead, has_living_child));
+    }
+    Ok(())
+}
+
 /// The versions of a tree in order.
 fn order_of(alloc: Global, tree: &Tree) -> Result<Preorder, NoMemory>
     ensures len { IfOk result (λ order. length order.starts ≡ length tree.now.parents) }

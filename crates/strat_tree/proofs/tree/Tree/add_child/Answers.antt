@@ -1,10 +1,13 @@
-use Rattle.std.proofs.Common.{arith, ◌<◌, ◌≡◌, ◌+◌, length, Some, subst, sym}
+use Rattle.std.proofs.Common.{arith, ◌<◌, ◌≡◌, ◌+◌, false, length, Some, subst, sym}
 use Rattle.std.proofs.lemmas.List.{length_push, get_or_read}
 use Rattle.strat_base.specs.Tree.{depth}
+use Rattle.strat_base.specs.Marks.{is_dropped}
 use Rattle.strat_base.proofs.TreeLemmas.{tree_grown}
 use Rattle.strat_tree.specs.TreeView.{TreeView}
 use Rattle.strat_tree.specs.Jumps.{IsChildRow}
 use Rattle.strat_tree.proofs.GrownLemmas.{index_grown, depth_fits}
+use Rattle.strat_tree.proofs.PrunedLemmas.{pruned_grown}
+use Rattle.strat_tree.proofs.LivingLemmas.{living_few, counted_grown}
 use Rattle.strat_tree.proofs.tree.Tree.add_child.Goals as goal
 
 pub overflow_add-depth : goal.overflow_add-depth
@@ -15,11 +18,21 @@ overflow_add-depth c =
     let read = get_or_read a.depths.items c.args.p c.index.result.now (omega (arith, kept.index.depths_len)) c.index.ensures 0 in
     omega (arith, read, kept.index.deep c.args.p known, depth_fits a.parents.items kept.tree (omega (arith, kept.fits, kept.few)) c.args.p known)
 
+pub overflow_add-siblings : goal.overflow_add-siblings
+overflow_add-siblings c =
+    let kept = c.self.invariant in
+    let a = c.self.inside in
+    let known : c.args.p < length a.parents.items = rw (← c.self.view_is) at c.requires.fits in
+    let read = get_or_read a.living.items c.args.p c.index-siblings.result.now (omega (arith, kept.counted.len)) c.index-siblings.ensures 0 in
+    omega (arith, read, kept.counted.each c.args.p known, living_few a.parents.items a.dropped.items c.args.p, kept.fits, kept.few)
+
 pub invariant_of-self : goal.invariant_of-self
 invariant_of-self c =
     let kept = c.self.invariant in
     let a = c.self.inside in
     let known : c.args.p < length a.parents.items = rw (← c.self.view_is) at c.requires.fits in
+    let lives : is_dropped a.dropped.items c.args.p ≡ false = rw (← c.self.view_is) at c.requires.kept in
+    let counted = get_or_read a.living.items c.args.p c.index-siblings.result.now (omega (arith, kept.counted.len)) c.index-siblings.ensures 0 in
     let room : length a.parents.items < a.versions_max = rw (← c.self.view_is) at c.requires.room in
     let read = get_or_read a.depths.items c.args.p c.index.result.now (omega (arith, kept.index.depths_len)) c.index.ensures 0 in
     let deeper : c.index.result.now + 1 ≡ depth a.parents.items c.args.p + 1 = omega (arith, read, kept.index.deep c.args.p known) in
@@ -30,10 +43,16 @@ invariant_of-self c =
       fits = rw c.push_reserved.ensures.items (omega (arith, length_push a.parents.items (Some c.args.p)));
       few = kept.few;
       index = rw (c.push_reserved.ensures.items, c.push_reserved-2.ensures.items, c.push_reserved-3.ensures.items, c.push_reserved-4.ensures.items) index;
+      pruned = rw (c.push_reserved.ensures.items, c.push_reserved-5.ensures.items) (pruned_grown a.parents.items kept.tree a.dropped.items kept.pruned c.args.p known lives);
+      counted = rw (c.push_reserved.ensures.items, c.push_reserved-5.ensures.items, c.push_reserved-6.ensures.items) (
+          counted_grown a.parents.items kept.tree a.dropped.items c.args.p known kept.pruned.len a.living.items (c.index-siblings.result.now + 1) kept.counted (omega (arith, counted))
+          );
       parents_room = omega (arith, kept.parents_room, c.push_reserved.ensures.capacity);
       depths_room = omega (arith, kept.depths_room, c.push_reserved-2.ensures.capacity);
       inner_room = omega (arith, kept.inner_room, c.push_reserved-3.ensures.capacity);
       jumps_room = omega (arith, kept.jumps_room, c.push_reserved-4.ensures.capacity);
+      dropped_room = omega (arith, kept.dropped_room, c.push_reserved-5.ensures.capacity);
+      living_room = omega (arith, kept.living_room, c.push_reserved-6.ensures.capacity);
     }
 
 pub returns-clause-kept : goal.returns-clause-kept

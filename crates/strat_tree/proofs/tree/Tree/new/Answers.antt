@@ -1,5 +1,7 @@
 use Rattle.std.proofs.Common.{rules}
 use Rattle.strat_tree.proofs.GrownLemmas.{tree_root, index_root}
+use Rattle.strat_tree.proofs.PrunedLemmas.{pruned_root}
+use Rattle.strat_tree.proofs.LivingLemmas.{counted_root}
 use Rattle.strat_tree.proofs.tree.Tree.new.Goals as goal
 
 pub invariant_of-result : goal.invariant_of-result
@@ -18,8 +20,19 @@ invariant_of-result c =
         c.in_ok-inner.ensures.items,
         c.in_ok-jumps.ensures.items,
       ) index_root;
+      pruned = rw (c.push_reserved.ensures.items, c.push_reserved-5.ensures.items, c.in_ok-parents.ensures.items, c.in_ok-dropped.ensures.items) pruned_root;
+      counted = rw (
+        c.push_reserved.ensures.items,
+        c.push_reserved-5.ensures.items,
+        c.push_reserved-6.ensures.items,
+        c.in_ok-parents.ensures.items,
+        c.in_ok-dropped.ensures.items,
+        c.in_ok-living.ensures.items,
+      ) counted_root;
       parents_room = search rules;
       depths_room = search rules;
       inner_room = search rules;
       jumps_room = search rules;
+      dropped_room = search rules;
+      living_room = search rules;
     }
