@@ -1,11 +1,11 @@
 -- Levels in order are cut at a number.
 use Rattle.std.proofs.Common.{◌≡◌, ◌≤◌, ◌+◌, ◌*◌, ◌^◌, ℕ, suc, true, false, cond, ltb, leb, inl, inr, List, [], ◌∷◌, ◌++◌, length, refl, sym, ap, ◌∙◌, arith}
-use Rattle.std.specs.List.{sum_by}
+use Rattle.std.specs.List.{list_all, sum_by}
 use Rattle.std.proofs.lemmas.Bool.{cases_lt, lt-ltb, le-ltb, le-leb, lt-leb}
 use Rattle.strat_state.specs.Level.{Level, level_leads}
 use Rattle.strat_state.specs.Reading.{level_zero}
 use Rattle.strat_state.specs.State.{State}
-use Rattle.strat_state.specs.Sound.{is_numbered_from, IsSound}
+use Rattle.strat_state.specs.Sound.{is_numbered_from, IsOrdered}
 use Rattle.strat_base.proofs.ListFacts.{Among, all_from, filter_among}
 use Rattle.strat_plan.proofs.ListLemmas.{filter_none, filter_every}
 use Rattle.strat_promotion.specs.Promoted.{levels_to, levels_behind, Takeable}
@@ -39,14 +39,17 @@ levels_cut j least (level ∷ levels) h =
           ∙ sym (λ i. cond (is_to i) (level ∷ levels_to j levels) (levels_to j levels) ++ cond (not_behind i) (level ∷ levels_behind j levels) (levels_behind j levels))
     ]
 
--- a sound state's levels down to a number may be taken where there is room
-pub takeable : (s : State) → IsSound s → (j : ℕ) → 1 ≤ j → j ≤ 22 → length (level_zero s) + sum_by (λ level. length (level_leads level)) (levels_to j s.levels) ≤ s.mem * 2 ^ j
+-- levels down to a number are no deeper
+pub shallow_taken : (j : ℕ) (levels : List Level) → list_all (λ level. leb level.number j) (levels_to j levels) ≡ true
+shallow_taken j levels = all_from (λ level. leb level.number j) (levels_to j levels) (λ level among. (filter_among (λ l. leb l.number j) levels level among).1)
+
+-- a state's levels down to a number may be taken where there is room
+pub takeable : (s : State) → IsOrdered s → (j : ℕ) → 1 ≤ j → j ≤ 22 → length (level_zero s) + sum_by (λ level. length (level_leads level)) (levels_to j s.levels) ≤ s.mem * 2 ^ j
     → Takeable s j (levels_to j s.levels) (levels_behind j s.levels)
-takeable s sound j least most room = record {
-  levels_are = levels_cut j 1 s.levels sound.formed.numbered;
+takeable s is j least most room = record {
+  levels_are = levels_cut j 1 s.levels is.formed.numbered;
   least = least;
   most = most;
-  shallow = all_from (λ level. leb level.number j) (levels_to j s.levels) (λ level among. (filter_among (λ l. leb l.number j) s.levels level among).1);
   deep = all_from (λ level. ltb j level.number) (levels_behind j s.levels) (λ level among. (filter_among (λ l. ltb j l.number) s.levels level among).1);
   room = room;
 }

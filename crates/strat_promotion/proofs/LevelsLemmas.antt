@@ -1,11 +1,11 @@
 -- Trees and levels in order, from tests and as tests.
-use Rattle.std.proofs.Common.{◌≡◌, ◌<◌, ◌≤◌, ◌+◌, ℕ, suc, true, eqb, ltb, leb, ◌&&◌, inl, List, [], ◌∷◌, ◌++◌, length, Option, Some, None, refl, arith}
+use Rattle.std.proofs.Common.{◌≡◌, ◌<◌, ◌≤◌, ◌+◌, ℕ, suc, true, eqb, ltb, leb, ◌&&◌, ap, inl, inr, List, [], ◌∷◌, ◌++◌, length, Option, Some, None, refl, arith}
 use Rattle.std.specs.List.{slice_get}
 use Rattle.std.proofs.lemmas.Bool.{eq-eqb, lt-ltb, ltb-true, le-leb, leb-true, and_parts, and_from}
 use Rattle.strat_base.specs.Tree.{Parents, IsOlder, IsTree}
 use Rattle.strat_state.specs.Level.{Level}
 use Rattle.strat_state.specs.Sound.{is_tree, is_tree_from, is_numbered_from}
-use Rattle.strat_base.proofs.ListFacts.{Among}
+use Rattle.strat_base.proofs.ListFacts.{Among, among_right}
 
 -- a tree passes the test of trees
 tree_from : (n : ℕ) (parents : Parents) → ((i : ℕ) → IsOlder (n + i) (slice_get parents i)) → is_tree_from n parents ≡ true
@@ -87,3 +87,19 @@ numbered_least least [] h n low = refl
 numbered_least least (level ∷ levels) h n low =
     let p = numbered_parts least level levels h in
     numbered_from n level levels (record { low = low level (inl refl); high = p.high; filled = p.filled; rest = p.rest })
+
+-- each of the first of some levels in order is above each of the last
+pub numbered_apart : (least : ℕ) (front back : List Level) → is_numbered_from least (front ++ back) ≡ true → (a b : Level) → Among a front → Among b back → a.number < b.number
+numbered_apart least [] back h a b here there = absurd here
+numbered_apart least (level ∷ front) back h a b (inl same) there =
+    let p = numbered_parts least level (front ++ back) h in
+    let low = least_among (suc level.number) (front ++ back) p.rest b (among_right front back b there) in
+    let number = ap (λ (l : Level). l.number) same in
+    omega (arith, low, number)
+  where
+    least_among : (n : ℕ) (levels : List Level) → is_numbered_from n levels ≡ true → (b : Level) → Among b levels → n ≤ b.number
+    least_among n [] h b among = absurd among
+    least_among n (l ∷ levels) h b (inl here) = let q = numbered_parts n l levels h in let low = q.low in let number = ap (λ (x : Level). x.number) here in omega (arith, low, number)
+    least_among n (l ∷ levels) h b (inr later) = let q = numbered_parts n l levels h in let low = q.low in let rest = least_among (suc l.number) levels q.rest b later in omega (arith, low, rest)
+numbered_apart least (level ∷ front) back h a b (inr later) there =
+    let p = numbered_parts least level (front ++ back) h in numbered_apart (suc level.number) front back p.rest a b later there

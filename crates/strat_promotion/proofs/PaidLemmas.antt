@@ -6,12 +6,12 @@ use Rattle.std.proofs.lemmas.List.Concat.{length-flat_map}
 use Rattle.std.proofs.lemmas.List.Elements.{filter-append}
 use Rattle.std.proofs.lemmas.List.Sums.{sum_by-cons, sum_by-append}
 use Rattle.std.proofs.Math.Nat.{pow-suc, mul-le-mul_left, mul-le-mul_right}
-use Rattle.strat_base.specs.Change.{Change, Put, Delete, Clone}
+use Rattle.strat_base.specs.Change.{Change, Put, Delete, Clone, DropVersion}
 use Rattle.strat_base.specs.Entries.{Entry, is_at, latest}
 use Rattle.strat_state.specs.Level.{TaggedArray, Level, own_leads, level_leads, least_live, is_led}
 use Rattle.strat_state.specs.Reading.{level_zero}
 use Rattle.strat_state.specs.State.{State, versions_of, journal_updates, update_of, updates_of, changes_of, deep, IsPaid}
-use Rattle.strat_state.specs.Sound.{is_described, journal_max, IsSound}
+use Rattle.strat_state.specs.Sound.{is_described, journal_max, IsOrdered}
 use Rattle.strat_base.proofs.ListFacts.{Among, all_at, all_from, among_split}
 use Rattle.strat_state.proofs.SpaceLemmas.{deep_least}
 use Rattle.strat_plan.proofs.ListLemmas.{filter_none}
@@ -19,7 +19,7 @@ use Rattle.strat_plan.proofs.CountedLemmas.{sum_same, sum_le_both}
 use Rattle.strat_promotion.specs.Promoted.{promoted, levels_to}
 use Rattle.strat_promotion.specs.Replaced.{IsNewLevel, Replaces}
 use Rattle.strat_promotion.specs.Paid.{entries_written, IsLeastTarget}
-use Rattle.strat_promotion.proofs.ReplacedLemmas.{fresh_is, kept_was, kept_deep, fresh_single, fresh_among, replaced_sound}
+use Rattle.strat_promotion.proofs.ReplacedLemmas.{fresh_is, kept_was, kept_deep, fresh_single, fresh_among, replaced_ordered}
 use Rattle.strat_promotion.proofs.PromotedLemmas.{union_small}
 
 -- numbers
@@ -176,9 +176,11 @@ updates_few [] = omega arith
 updates_few (Put v key value ∷ journal) = let rest = updates_few journal in omega arith
 updates_few (Delete v key ∷ journal) = let rest = updates_few journal in omega arith
 updates_few (Clone v ∷ journal) = let rest = updates_few journal in omega arith
+updates_few (DropVersion v ∷ journal) = let rest = updates_few journal in omega arith
 
-module _ (s : State) (sound : IsSound s) (some : 0 < s.mem) (honest : s.updates ≤ s.changes) (paid : IsPaid s)
-    (j : ℕ) (taken kept fresh : List Level) (entries : List Entry) (r : Replaces s j taken kept fresh entries) (least : IsLeastTarget s j) where
+module _ (s : State) (sound : IsOrdered s) (some : 0 < s.mem) (honest : s.updates ≤ s.changes) (paid : IsPaid s)
+    (j : ℕ) (taken kept fresh : List Level) (entries over : List Entry) (r : Replaces s j taken kept fresh entries over)
+    (low_taken : list_all (λ level. leb level.number j) taken ≡ true) (least : IsLeastTarget s j) where
   abbrev depth : ℕ
   depth = deep s.mem s.changes
 
@@ -249,7 +251,7 @@ module _ (s : State) (sound : IsSound s) (some : 0 < s.mem) (honest : s.updates 
             let parts = ap (λ (levels : List Level). sum_by count levels) (filter-append (λ (level : Level). leb level.number (j - 1)) taken kept) in
             let both = sum_by-append count (levels_to (j - 1) taken) (levels_to (j - 1) kept) in
             let none = ap (λ (levels : List Level). sum_by count levels) (filter_none (λ (level : Level). leb level.number (j - 1)) kept (λ level among.
-            let deep' = kept_deep s sound j taken kept fresh entries r 0 0 level among in lt-leb level.number (j - 1) (omega (arith, deep', low)))) in
+            let deep' = kept_deep s sound j taken kept fresh entries over r 0 0 level among in lt-leb level.number (j - 1) (omega (arith, deep', low)))) in
             omega (arith, crowd, initial, is, cut, parts, both, none)
       ]
 
@@ -263,7 +265,7 @@ module _ (s : State) (sound : IsSound s) (some : 0 < s.mem) (honest : s.updates 
   weight_fresh : (e : ℕ) → weight e fresh ≡ sum_by count fresh * (e - j)
   weight_fresh e =
       sum_same (λ (level : Level). count level * (e - level.number)) (λ level. count level * (e - j)) fresh (λ level here.
-      ap (λ (k : ℕ). count level * (e - k)) (fresh_is s sound j taken kept fresh entries r 0 0 level here).number)
+      ap (λ (k : ℕ). count level * (e - k)) (fresh_is s sound j taken kept fresh entries over r 0 0 level here).number)
       ∙ sym (sum_times count (e - j) fresh)
 
   weight_after : (e : ℕ) → weight e (fresh ++ kept) ≡ sum_by count fresh * (e - j) + weight e kept
@@ -276,12 +278,12 @@ module _ (s : State) (sound : IsSound s) (some : 0 < s.mem) (honest : s.updates 
       omega (arith, before, parts)
 
   written_few : entries_written fresh ≤ 2 * sum_by count fresh
-  written_few = levels_written s j fresh (λ level here. fresh_is s sound j taken kept fresh entries r 0 0 level here)
+  written_few = levels_written s j fresh (λ level here. fresh_is s sound j taken kept fresh entries over r 0 0 level here)
 
   fresh_small : sum_by count fresh ≤ length (level_zero s) + sum_by count taken
   fresh_small =
       let size = length-flat_map level_leads fresh in
-      let small = union_small s sound j taken kept entries r.takes r.union (flat_map level_leads fresh) (fresh_single s sound j taken kept fresh entries r 0 0) (fresh_among s sound j taken kept fresh entries r 0 0) in
+      let small = union_small s sound j taken kept entries r.takes r.union (flat_map level_leads fresh) (fresh_single s sound j taken kept fresh entries over r 0 0) (fresh_among s sound j taken kept fresh entries over r 0 0) in
       omega (arith, size, small)
 
   fresh_room : sum_by count fresh ≤ 2 * (s.mem * 2 ^ (j - 1))
@@ -296,7 +298,7 @@ module _ (s : State) (sound : IsSound s) (some : 0 < s.mem) (honest : s.updates 
 
   all_few : sum_by count fresh + sum_by count kept ≤ s.changes + length s.journal
   all_few =
-      let few = leb-true (sum_by count (fresh ++ kept)) (updates_of s) (replaced_sound s sound j taken kept fresh entries r 0 0).few in
+      let few = leb-true (sum_by count (fresh ++ kept)) (updates_of s) (replaced_ordered s sound j taken kept fresh entries over r 0 0).few in
       let parts = sum_by-append count fresh kept in
       let updates = updates_few s.journal in
       omega (arith, few, parts, updates, honest)
@@ -305,7 +307,7 @@ module _ (s : State) (sound : IsSound s) (some : 0 < s.mem) (honest : s.updates 
   taken_moved e le =
       let low = r.takes.least in
       let moved = weights_moved (j - 1) e taken (omega (arith, le, low)) (λ level here.
-      let shallow = leb-true level.number j (all_at (λ l. leb l.number j) level taken r.takes.shallow here) in omega (arith, shallow, low)) in
+      let shallow = leb-true level.number j (all_at (λ l. leb l.number j) level taken low_taken here) in omega (arith, shallow, low)) in
       let same : e - ((j - 1) + 1) ≡ e - j = omega (arith, low) in
       let equal = ap (λ (k : ℕ). sum_by count taken * k) same in
       omega (arith, moved, equal)
@@ -334,7 +336,7 @@ module _ (s : State) (sound : IsSound s) (some : 0 < s.mem) (honest : s.updates 
       let nothing : (depth + 1) - j ≡ 0 = omega (arith, is) in
       let same = ap (λ (k : ℕ). sum_by count fresh * k) nothing in
       let none = sum_none (λ (level : Level). count level * ((depth + 1) - level.number)) kept (λ level there.
-      let deep' = kept_deep s sound j taken kept fresh entries r 0 0 level there in
+      let deep' = kept_deep s sound j taken kept fresh entries over r 0 0 level there in
       let gone : (depth + 1) - level.number ≡ 0 = omega (arith, deep', is) in
       let term = ap (λ (k : ℕ). count level * k) gone in
       omega (arith, term)) in
@@ -367,11 +369,11 @@ module _ (s : State) (sound : IsSound s) (some : 0 < s.mem) (honest : s.updates 
         all_from (λ level. eqb (count level) 0 || leb level.number depth_after) (fresh ++ kept) (λ level among.
         elim (among_split fresh kept level among) [
           | inl here ↦
-              let number = (fresh_is s sound j taken kept fresh entries r 0 0 level here).number in
+              let number = (fresh_is s sound j taken kept fresh entries over r 0 0 level here).number in
               let low = target_depth in
               or_right (eqb (count level) 0) (leb level.number depth_after) (le-leb level.number depth_after (omega (arith, number, low)))
           | inr there ↦
-              let was = kept_was s sound j taken kept fresh entries r 0 0 level there in
+              let was = kept_was s sound j taken kept fresh entries over r 0 0 level there in
               elim (or_cases (eqb (count level) 0) (leb level.number depth) (all_at (λ l. eqb (count l) 0 || leb l.number depth) level s.levels paid.shallow was)) [
                 | inl none ↦ or_left (eqb (count level) 0) (leb level.number depth_after) none
                 | inr low ↦

@@ -6,14 +6,15 @@ use Rattle.std.specs.Option.{option_and_then, option_map_or}
 use Rattle.std.proofs.lemmas.List.Concat.{length-flat_map}
 use Rattle.std.proofs.lemmas.List.Folds.{flat_map-map}
 use Rattle.strat_base.specs.Tree.{Parents, parent_of, IsTree}
-use Rattle.strat_base.specs.Entries.{Entry, is_of, is_at, is_single, is_ascending}
+use Rattle.strat_base.specs.Entries.{Entry, is_of, is_at, is_single, is_ascending, holds_entry}
+use Rattle.strat_state.specs.Maps.{value_over}
 use Rattle.strat_state.specs.Level.{Level, level_leads, IsStratified}
 use Rattle.strat_state.specs.Reading.{level_zero}
 use Rattle.strat_state.specs.State.{State, versions_of, journal_updates}
-use Rattle.strat_state.specs.Sound.{IsSound}
+use Rattle.strat_state.specs.Sound.{IsOrdered}
 use Rattle.strat_base.proofs.ListFacts.{Among, among_left, among_right, among_split, among_flat, among_in_flat}
 use Rattle.strat_base.proofs.ListFacts.{find_some, find_none, filter_among, all_at, all_from, any_among, any_from}
-use Rattle.strat_base.proofs.EntryLemmas.{same_bytes, is_of_key, is_at_key}
+use Rattle.strat_base.proofs.EntryLemmas.{same_bytes, is_of_key, is_at_key, held_among, among_held}
 use Rattle.strat_base.proofs.TreeLemmas.{option_cases}
 use Rattle.strat_state.proofs.LevelLemmas.{ascending_single}
 use Rattle.strat_state.proofs.SoundLemmas.{sound_tree, find-latest}
@@ -28,9 +29,10 @@ use Rattle.strat_plan.proofs.SplitLemmas.{plan_of_groups}
 use Rattle.strat_promotion.specs.Union.{IsUnion}
 use Rattle.strat_promotion.specs.Purge.{is_valued, is_needed, purged, entries_over, groups_over}
 use Rattle.strat_promotion.specs.Promoted.{SaysTheSame, told_by, promoted, level_if, Takeable, Promotes, fresh_after, levels_after, PromotesGroups, fresh_of_groups, levels_of_groups}
-use Rattle.strat_promotion.specs.Replaced.{IsNewLevel, Replaces}
+use Rattle.strat_promotion.specs.Replaced.{IsNewLevel, IsWorth, Replaces}
 use Rattle.strat_promotion.proofs.UnionLemmas.{deciding_finds, find_before, find_at, find_alike, found_among, single_fits}
-use Rattle.strat_promotion.proofs.ReplacedLemmas.{over_among, replaced_says, replaced_sound}
+use Rattle.strat_promotion.proofs.PurgeLemmas.{purge_values}
+use Rattle.strat_promotion.proofs.ReplacedLemmas.{over_among, replaced_says}
 
 empty_list : {X : Type 0} (xs : List X) → ((x : X) → Among x xs → ⊥) → xs ≡ []
 empty_list [] none = refl
@@ -40,7 +42,7 @@ over_ascends : (parents : Parents) (kept : List Level) (entries : List Entry) �
 over_ascends parents [] entries up = filter_ascending (is_needed parents entries) entries up
 over_ascends parents (level ∷ kept) entries up = up
 
-module _ (s : State) (sound : IsSound s) (j : ℕ) (taken kept : List Level) (entries : List Entry) (takes : Takeable s j taken kept) (union : IsUnion (told_by s taken) entries) where
+module _ (s : State) (sound : IsOrdered s) (j : ℕ) (taken kept : List Level) (entries : List Entry) (takes : Takeable s j taken kept) (union : IsUnion (told_by s taken) entries) where
   -- a union speaks of versions that there are
   pub union_known : (e : Entry) → Among e entries → e.version < length (versions_of s)
   union_known e among =
@@ -69,43 +71,45 @@ module _ (s : State) (sound : IsSound s) (j : ℕ) (taken kept : List Level) (en
   pub union_fits : (xs : List Entry) → is_single xs ≡ true → ((e : Entry) → Among e xs → Among e entries) → length xs ≤ s.mem * 2 ^ j
   union_fits xs single inside = let small = union_small xs single inside in let room = takes.room in omega (arith, small, room)
 
-module _ (s : State) (sound : IsSound s) (j : ℕ) (taken kept : List Level) (entries : List Entry) (plan : Plan) (first : ℕ) (r : Promotes s j taken kept entries plan) where
+-- entries that are worth a union are planned
+module _ (s : State) (sound : IsOrdered s) (j : ℕ) (taken kept : List Level) (entries over : List Entry) (plan : Plan) (first : ℕ) (takes : Takeable s j taken kept) (union : IsUnion (told_by s taken) entries)
+    (worth : IsWorth s kept entries over) (up : is_ascending over ≡ true) (horizon : horizon_of plan ≡ length (versions_of s)) (split : IsPlan (versions_of s) over plan) where
   abbrev parents : Parents
   parents = versions_of s
-
-  abbrev over : List Entry
-  over = entries_over parents kept entries
 
   abbrev made : Level
   made = planned_level parents over plan j first
 
   tree : IsTree (versions_of s)
-  tree = sound_tree s sound
+  tree = sound_tree s sound.formed
 
-  up : is_ascending over ≡ true
-  up = over_ascends parents kept entries r.union.ascending
+  inside : (e : Entry) → Among e over → Among e entries
+  inside e among = held_among entries e (all_at (holds_entry entries) e over worth.inside among)
 
   low : (e : Entry) → Among e over → e.version < horizon_of plan
-  low e among = let known = union_known s sound j taken kept entries r.takes r.union e (over_among parents kept entries e among) in let horizon = r.horizon in omega (arith, known, horizon)
+  low e among = let known = union_known s sound j taken kept entries takes union e (inside e among) in omega (arith, known, horizon)
 
   made_stratified : IsStratified parents made
-  made_stratified = plan_stratified parents tree over plan low r.split j first up
+  made_stratified = plan_stratified parents tree over plan low split j first up
+
+  made_entry : (e : Entry) → Among e (level_leads made) → Among e over
+  made_entry e among = lead_entry parents tree over plan low split j first up e among
 
   made_new : 0 < length plan.parts → IsNewLevel s j made
   made_new some = record {
     number = refl;
-    horizon = r.horizon;
-    filled = some_length made.arrays (array_of_part parents over plan first 0) (made_among parents tree over plan low r.split j first up 0 some);
+    horizon = horizon;
+    filled = some_length made.arrays (array_of_part parents over plan first 0) (made_among parents tree over plan low split j first up 0 some);
     stratified = made_stratified;
-    room = union_fits s sound j taken kept entries r.takes r.union (level_leads made) made_stratified.single (λ e among. over_among parents kept entries e (lead_entry parents tree over plan low r.split j first up e among));
-    described = rule_k parents tree over plan low r.split j first up;
-    ascending = rule_m parents tree over plan low r.split j first up;
+    room = union_fits s sound j taken kept entries takes union (level_leads made) made_stratified.single (λ e among. inside e (made_entry e among));
+    described = rule_k parents tree over plan low split j first up;
+    ascending = rule_m parents tree over plan low split j first up;
   }
 
   made_leads : (key : List ℕ) (u : ℕ) → find (is_at key u) (level_leads made) ≡ find (is_at key u) over
   made_leads key u =
       find_alike (level_leads made) over made_stratified.single (ascending_single over up)
-      (lead_entry parents tree over plan low r.split j first up) (entry_lead parents tree over plan low r.split j first up) key u
+      (lead_entry parents tree over plan low split j first up) (entry_lead parents tree over plan low split j first up) key u
 
   if_new : (parts : List Part) → plan.parts ≡ parts → AllByRecursion (IsNewLevel s j) (level_if parts made)
   if_new [] are = tt
@@ -117,24 +121,48 @@ module _ (s : State) (sound : IsSound s) (j : ℕ) (taken kept : List Level) (en
 
   if_leads : (parts : List Part) → plan.parts ≡ parts → (key : List ℕ) (u : ℕ) → find (is_at key u) (flat_map level_leads (level_if parts made)) ≡ find (is_at key u) over
   if_leads [] are key u =
-      let none : over ≡ [] = empty_list over (λ e among. let served = lead_served parents tree over plan low r.split e among in let size = ap (λ (ps : List Part). length ps) are in omega (arith, served, size)) in
+      let none : over ≡ [] = empty_list over (λ e among. let served = lead_served parents tree over plan low split e among in let size = ap (λ (ps : List Part). length ps) are in omega (arith, served, size)) in
       ap (λ (es : List Entry). find (is_at key u) es) (sym none)
   if_leads (part ∷ parts) are key u = ap (λ (es : List Entry). find (is_at key u) es) (append-nil (level_leads made)) ∙ made_leads key u
 
-  pub promotion_replaces : Replaces s j taken kept (fresh_after s j kept entries plan first) entries
-  promotion_replaces = record {
-    takes = r.takes;
-    union = r.union;
+  pub planned_replaces : Replaces s j taken kept (level_if plan.parts made) entries over
+  planned_replaces = record {
+    takes = takes;
+    union = union;
     one = if_one plan.parts;
     each = if_new plan.parts refl;
     leads = if_leads plan.parts refl;
+    worth = worth;
   }
 
-  pub promotion_says : (written next_array : ℕ) → SaysTheSame s (promoted s (levels_after s j kept entries plan first) written next_array)
-  promotion_says written next_array = replaced_says s sound j taken kept (level_if plan.parts made) entries promotion_replaces written next_array
+module _ (s : State) (sound : IsOrdered s) (j : ℕ) (taken kept : List Level) (entries : List Entry) (plan : Plan) (first : ℕ) (r : Promotes s j taken kept entries plan) where
+  abbrev versions : Parents
+  versions = versions_of s
 
-  pub promotion_sound : (written next_array : ℕ) → IsSound (promoted s (levels_after s j kept entries plan first) written next_array)
-  promotion_sound written next_array = replaced_sound s sound j taken kept (level_if plan.parts made) entries promotion_replaces written next_array
+  abbrev over : List Entry
+  over = entries_over versions kept entries
+
+  abbrev level_made : Level
+  level_made = planned_level versions over plan j first
+
+  over_worth : (below : List Level) (v : ℕ) (key : List ℕ) → value_over versions (entries_over versions below entries ++ flat_map level_leads below) v key ≡ value_over versions (entries ++ flat_map level_leads below) v key
+  over_worth [] v key =
+      ap (λ (es : List Entry). value_over versions es v key) (append-nil (purged versions entries))
+      ∙ purge_values versions (sound_tree s sound.formed) entries (ascending_single entries r.union.ascending) key v
+      ∙ sym (ap (λ (es : List Entry). value_over versions es v key) (append-nil entries))
+  over_worth (level ∷ below) v key = refl
+
+  worth : IsWorth s kept entries over
+  worth = record {
+    inside = all_from (holds_entry entries) over (λ e among. among_held entries e (over_among versions kept entries e among));
+    values = λ v key living. over_worth kept v key;
+  }
+
+  pub promotion_replaces : Replaces s j taken kept (fresh_after s j kept entries plan first) entries over
+  promotion_replaces = planned_replaces s sound j taken kept entries over plan first r.takes r.union worth (over_ascends versions kept entries r.union.ascending) r.horizon r.split
+
+  pub promotion_says : (written next_array : ℕ) → SaysTheSame s (promoted s (levels_after s j kept entries plan first) written next_array)
+  promotion_says written next_array = replaced_says s sound j taken kept (level_if plan.parts level_made) entries over promotion_replaces written next_array
 
 -- group by group
 
@@ -222,7 +250,7 @@ over_are parents [] groups grouped = record {
 }
 over_are _ (level ∷ kept) groups grouped = grouped
 
-module _ (s : State) (sound : IsSound s) (j : ℕ) (taken kept : List Level) (groups : List (List Entry)) (own seen : ℕ → ℕ) (plan : Plan) (first : ℕ) (r : PromotesGroups s j taken kept groups own seen plan) where
+module _ (s : State) (sound : IsOrdered s) (j : ℕ) (taken kept : List Level) (groups : List (List Entry)) (own seen : ℕ → ℕ) (plan : Plan) (first : ℕ) (r : PromotesGroups s j taken kept groups own seen plan) where
   pub groups_promote : Promotes s j taken kept (grouped_entries groups) plan
   groups_promote = record {
     takes = r.takes;
@@ -230,25 +258,22 @@ module _ (s : State) (sound : IsSound s) (j : ℕ) (taken kept : List Level) (gr
     horizon = r.horizon;
     split =
         subst (λ (es : List Entry). IsPlan (versions_of s) es plan) (over_groups (versions_of s) groups r.grouped kept)
-        (plan_of_groups (versions_of s) (sound_tree s sound) (groups_over (versions_of s) kept groups) own seen plan r.split).1;
+        (plan_of_groups (versions_of s) (sound_tree s sound.formed) (groups_over (versions_of s) kept groups) own seen plan r.split).1;
   }
 
   pub groups_fresh : fresh_of_groups s j kept groups plan first ≡ fresh_after s j kept (grouped_entries groups) plan first
   groups_fresh =
       ap (λ (level : Level). level_if plan.parts level)
-      (sym (level_groups (versions_of s) (sound_tree s sound) (groups_over (versions_of s) kept groups) r.split.grouped plan j first)
+      (sym (level_groups (versions_of s) (sound_tree s sound.formed) (groups_over (versions_of s) kept groups) r.split.grouped plan j first)
       ∙ ap (λ (es : List Entry). planned_level (versions_of s) es plan j first) (over_groups (versions_of s) groups r.grouped kept))
 
   pub groups_levels : levels_of_groups s j kept groups plan first ≡ levels_after s j kept (grouped_entries groups) plan first
   groups_levels = ap (λ (fresh : List Level). fresh ++ kept) groups_fresh
 
-  pub groups_replace : Replaces s j taken kept (fresh_of_groups s j kept groups plan first) (grouped_entries groups)
+  pub groups_replace : Replaces s j taken kept (fresh_of_groups s j kept groups plan first) (grouped_entries groups) (entries_over (versions_of s) kept (grouped_entries groups))
   groups_replace =
-      subst (λ (fresh : List Level). Replaces s j taken kept fresh (grouped_entries groups)) (sym groups_fresh)
+      subst (λ (fresh : List Level). Replaces s j taken kept fresh (grouped_entries groups) (entries_over (versions_of s) kept (grouped_entries groups))) (sym groups_fresh)
       (promotion_replaces s sound j taken kept (grouped_entries groups) plan first groups_promote)
 
   pub groups_say : (written next_array : ℕ) → SaysTheSame s (promoted s (levels_of_groups s j kept groups plan first) written next_array)
-  groups_say written next_array = replaced_says s sound j taken kept (fresh_of_groups s j kept groups plan first) (grouped_entries groups) groups_replace written next_array
-
-  pub groups_sound : (written next_array : ℕ) → IsSound (promoted s (levels_of_groups s j kept groups plan first) written next_array)
-  groups_sound written next_array = replaced_sound s sound j taken kept (fresh_of_groups s j kept groups plan first) (grouped_entries groups) groups_replace written next_array
+  groups_say written next_array = replaced_says s sound j taken kept (fresh_of_groups s j kept groups plan first) (grouped_entries groups) (entries_over (versions_of s) kept (grouped_entries groups)) groups_replace written next_array

@@ -1,5 +1,5 @@
 -- A union is read as the places that it was merged from.
-use Rattle.std.proofs.Common.{◌≡◌, ◌<◌, ℕ, ltb, leb, not, inl, inr, List, ◌++◌, length, sym, ap, ◌∙◌, subst, arith}
+use Rattle.std.proofs.Common.{◌≡◌, ◌<◌, ℕ, false, ltb, leb, not, inl, inr, List, ◌++◌, length, sym, ap, ◌∙◌, subst, arith}
 use Rattle.std.specs.List.{list_all, flat_map, sum_by}
 use Rattle.std.specs.Option.{option_or}
 use Rattle.std.proofs.lemmas.Bool.{leb-true, le-leb, and_parts, and_from}
@@ -7,7 +7,8 @@ use Rattle.std.proofs.lemmas.List.Sums.{sum_by-append}
 use Rattle.strat_base.specs.Entries.{Entry}
 use Rattle.strat_state.specs.Level.{Level, level_leads, IsStratified}
 use Rattle.strat_state.specs.Reading.{live_of, level_zero, found_first}
-use Rattle.strat_state.specs.State.{State, versions_of, journal_updates}
+use Rattle.strat_state.specs.State.{State, versions_of, marks_of, journal_updates}
+use Rattle.strat_base.specs.Marks.{is_dropped}
 use Rattle.strat_state.specs.Sound.{has_child_below, is_numbered_from, shallower, has_room, has_old_horizon, is_above_frozen, is_described, has_ascending_entries, IsSound}
 use Rattle.strat_base.proofs.ListFacts.{Among, all_at, all_from, each_of, each_from, among_left, among_right, among_split, among_flat, among_in_flat, among_filter, filter_among}
 use Rattle.strat_state.proofs.LiveLemmas.{deciding_live}
@@ -35,6 +36,7 @@ module _ (s : State) (sound : IsSound s) (taken kept : List Level) (parts : s.le
   front_sound = record {
     formed = record {
       tree = sound.formed.tree;
+      pruned = sound.formed.pruned;
       numbered = numbered_front 1 taken kept (ap (λ (levels : List Level). is_numbered_from 1 levels) (sym parts) ∙ sound.formed.numbered);
       accepted = sound.formed.accepted;
       fits = sound.formed.fits;
@@ -65,9 +67,9 @@ module _ (s : State) (sound : IsSound s) (taken kept : List Level) (parts : s.le
   }
 
   -- what is live in the union at a version is what the first place with a live entry has
-  pub union_reads : (entries : List Entry) → IsUnion (told_by s taken) entries → (v : ℕ) (key : List ℕ) → v < length (versions_of s)
+  pub union_reads : (entries : List Entry) → IsUnion (told_by s taken) entries → (v : ℕ) (key : List ℕ) → v < length (versions_of s) → is_dropped (marks_of s) v ≡ false
       → live_of (versions_of s) entries v key ≡ option_or (live_of (versions_of s) (level_zero s) v key) (found_first (versions_of s) taken v key)
-  union_reads entries union v key known =
-      deciding_live (versions_of s) (sound_tree s sound) entries key v (ascending_single entries union.ascending)
+  union_reads entries union v key known living =
+      deciding_live (versions_of s) (sound_tree s sound.formed) entries key v (ascending_single entries union.ascending)
       ∙ deciding_finds (versions_of s) entries (told_by s taken) key (union.first key) v
-      ∙ sym (read_decides front front_sound key v known)
+      ∙ sym (read_decides front front_sound key v known living)

@@ -1,28 +1,29 @@
 -- A state whose shallow levels are replaced says the same, and is sound.
-use Rattle.std.proofs.Common.{◌≡◌, ◌<◌, ◌≤◌, ◌*◌, ◌^◌, ℕ, suc, Bool, true, ltb, leb, not, ◌⊎◌, inl, inr, List, [], ◌∷◌, ◌++◌, length, reverse, Option, refl, sym, ap, ◌∙◌, subst, arith, length-append, append-nil}
-use Rattle.std.specs.List.{list_all, flat_map, find, sum_by}
+use Rattle.std.proofs.Common.{◌≡◌, ◌<◌, ◌≤◌, ◌*◌, ◌^◌, ℕ, suc, Bool, true, false, cond, ltb, leb, not, ◌⊎◌, inl, inr, List, [], ◌∷◌, ◌++◌, length, reverse, Option, refl, sym, ap, ◌∙◌, subst, arith, length-append, append-nil}
+use Rattle.std.specs.List.{list_all, flat_map, sum_by}
 use Rattle.std.specs.Option.{option_and_then}
 use Rattle.std.proofs.lemmas.Bool.{lt-ltb, ltb-true, le-leb, leb-true, and_parts, and_from}
 use Rattle.std.proofs.lemmas.List.{append_assoc, length-reverse}
 use Rattle.std.proofs.lemmas.List.Concat.{flat_map-append, length-flat_map}
 use Rattle.std.proofs.lemmas.List.Sums.{sum_by-append}
 use Rattle.strat_base.specs.Tree.{Parents, IsTree}
-use Rattle.strat_base.specs.Entries.{Entry, is_at, is_single}
-use Rattle.strat_state.specs.Maps.{value_over}
+use Rattle.strat_base.specs.Entries.{Entry, is_single, holds_entry}
+use Rattle.strat_state.specs.Maps.{value_over, map_over}
 use Rattle.strat_state.specs.Level.{Level, level_leads, IsStratified}
-use Rattle.strat_state.specs.State.{State, versions_of, journal_updates, sources, updates_of}
-use Rattle.strat_state.specs.Sound.{has_child_below, shallower, has_room, has_old_horizon, is_above_frozen, is_described, has_ascending_entries, is_numbered_from, journal_max, IsSound}
+use Rattle.strat_state.specs.State.{State, versions_of, marks_of, is_living, journal_updates, sources, map_at, updates_of}
+use Rattle.strat_state.specs.Sound.{has_child_below, shallower, has_room, has_old_horizon, is_above_frozen, is_described, has_ascending_entries, is_numbered_from, journal_max, IsOrdered, IsSound}
 use Rattle.strat_base.proofs.ListFacts.{Among, all_at, all_from, each_of, each_from, among_left, among_right, among_split, among_flat, among_in_flat, among_filter, filter_among}
+use Rattle.strat_base.proofs.EntryLemmas.{held_among}
 use Rattle.strat_state.proofs.LevelLemmas.{ascending_single}
-use Rattle.strat_state.proofs.SoundLemmas.{sound_tree, among_back}
+use Rattle.strat_state.proofs.MarkLemmas.{pruned_test}
+use Rattle.strat_state.proofs.SoundLemmas.{sound_tree, sound_pruned, ordered, with_settled, among_back}
 use Rattle.strat_state.proofs.AppendedLemmas.{length-grown}
 use Rattle.strat_state.proofs.ValueLemmas.{maps_same}
-use Rattle.strat_promotion.specs.Purge.{purged, is_needed, entries_over}
+use Rattle.strat_promotion.specs.Purge.{is_needed, entries_over}
 use Rattle.strat_promotion.specs.Promoted.{SaysTheSame, told_by, promoted}
 use Rattle.strat_promotion.specs.Replaced.{IsNewLevel, Replaces}
 use Rattle.strat_promotion.proofs.UnionLemmas.{deciding_finds, find_before, found_among, single_fits}
-use Rattle.strat_promotion.proofs.PurgeLemmas.{purge_values}
-use Rattle.strat_promotion.proofs.LevelsLemmas.{tree_test, numbered_from, numbered_tail, numbered_least}
+use Rattle.strat_promotion.proofs.LevelsLemmas.{tree_test, numbered_from, numbered_tail, numbered_least, numbered_apart}
 
 -- what is written is of the union
 pub over_among : (parents : Parents) (kept : List Level) (entries : List Entry) (e : Entry) → Among e (entries_over parents kept entries) → Among e entries
@@ -35,12 +36,12 @@ one_single [] one single = refl
 one_single (level ∷ []) one single = ap is_single (append-nil (level_leads level)) ∙ single level (inl refl)
 one_single (level ∷ other ∷ rest) one single = absurd (omega (arith, one))
 
-module _ (s : State) (sound : IsSound s) (j : ℕ) (taken kept fresh : List Level) (entries : List Entry) (r : Replaces s j taken kept fresh entries) where
+module _ (s : State) (sound : IsOrdered s) (j : ℕ) (taken kept fresh : List Level) (entries over : List Entry) (r : Replaces s j taken kept fresh entries over) where
   abbrev parents : Parents
   parents = versions_of s
 
   tree : IsTree (versions_of s)
-  tree = sound_tree s sound
+  tree = sound_tree s sound.formed
 
   union_single : is_single entries ≡ true
   union_single = ascending_single entries r.union.ascending
@@ -53,27 +54,20 @@ module _ (s : State) (sound : IsSound s) (j : ℕ) (taken kept fresh : List Leve
       ∙ ap (λ (es : List Entry). reverse (journal_updates s) ++ es) (flat_map-append level_leads taken kept)
       ∙ sym (append_assoc (reverse (journal_updates s)) (flat_map level_leads taken) (flat_map level_leads kept))
 
-  over_values : (below : List Level) → ((key : List ℕ) (u : ℕ) → find (is_at key u) (flat_map level_leads fresh) ≡ find (is_at key u) (entries_over parents below entries)) → (v : ℕ) (key : List ℕ)
-      → value_over parents (flat_map level_leads fresh ++ flat_map level_leads below) v key ≡ value_over parents (told_by s taken ++ flat_map level_leads below) v key
-  over_values [] leads v key =
-      ap (λ (es : List Entry). value_over parents es v key) (append-nil (flat_map level_leads fresh))
-      ∙ ap (λ (o : Option Entry). option_and_then (λ e. e.value) o) (deciding_finds parents (flat_map level_leads fresh) (purged parents entries) key (leads key) v)
-      ∙ purge_values parents tree entries union_single key v
-      ∙ ap (λ (o : Option Entry). option_and_then (λ e. e.value) o) (deciding_finds parents entries (told_by s taken) key (r.union.first key) v)
-      ∙ sym (ap (λ (es : List Entry). value_over parents es v key) (append-nil (told_by s taken)))
-  over_values (level ∷ below) leads v key =
-      ap (λ (o : Option Entry). option_and_then (λ e. e.value) o)
-      (deciding_finds parents (flat_map level_leads fresh ++ flat_map level_leads (level ∷ below)) (told_by s taken ++ flat_map level_leads (level ∷ below)) key
-      (λ u. find_before (flat_map level_leads fresh) (told_by s taken) (flat_map level_leads (level ∷ below)) key u (leads key u ∙ r.union.first key u)) v)
-
   module _ (written next_array : ℕ) where
     abbrev new : State
     new = promoted s (fresh ++ kept) written next_array
 
-    pub values_kept : (v : ℕ) (key : List ℕ) → value_over parents (sources new) v key ≡ value_over parents (sources s) v key
-    values_kept v key =
+    pub values_kept : (v : ℕ) (key : List ℕ) → is_living s v ≡ true → value_over parents (sources new) v key ≡ value_over parents (sources s) v key
+    values_kept v key living =
         ap (λ (es : List Entry). value_over parents es v key) (flat_map-append level_leads fresh kept)
-        ∙ over_values kept r.leads v key
+        ∙ ap (λ (o : Option Entry). option_and_then (λ e. e.value) o)
+        (deciding_finds parents (flat_map level_leads fresh ++ flat_map level_leads kept) (over ++ flat_map level_leads kept) key
+        (λ u. find_before (flat_map level_leads fresh) over (flat_map level_leads kept) key u (r.leads key u)) v)
+        ∙ r.worth.values v key living
+        ∙ ap (λ (o : Option Entry). option_and_then (λ e. e.value) o)
+        (deciding_finds parents (entries ++ flat_map level_leads kept) (told_by s taken ++ flat_map level_leads kept) key
+        (λ u. find_before entries (told_by s taken) (flat_map level_leads kept) key u (r.union.first key u)) v)
         ∙ sym (ap (λ (es : List Entry). value_over parents es v key) sources_are)
 
     pub replaced_says : SaysTheSame s new
@@ -82,10 +76,15 @@ module _ (s : State) (sound : IsSound s) (j : ℕ) (taken kept fresh : List Leve
       changes_max = refl;
       versions_max = refl;
       versions = refl;
-      maps = λ v known. maps_same parents parents tree tree (sources s) (sources new) v v (λ q. values_kept v q);
+      marks = refl;
+      maps = λ v known. seen v (is_living s v) refl;
       updates = omega arith;
       changes = omega arith;
     }
+      where
+        seen : (v : ℕ) (b : Bool) → is_living s v ≡ b → map_at new v ≡ map_at s v
+        seen v true is = ap (λ (m : List (List ℕ × List ℕ)). cond (is_living s v) m []) (maps_same parents parents tree tree (sources s) (sources new) v v (λ q. values_kept v q is))
+        seen v false is = ap (λ (b : Bool). cond b (map_over parents (sources new) v) []) is ∙ sym (ap (λ (b : Bool). cond b (map_over parents (sources s) v) []) is)
 
     -- the levels
 
@@ -132,7 +131,7 @@ module _ (s : State) (sound : IsSound s) (j : ℕ) (taken kept fresh : List Leve
         go (level ∷ other ∷ rest) one is behind = absurd (omega (arith, one))
 
     -- nothing stands above a fresh level
-    nothing_above : (level other : Level) → Among level fresh → Among other (shallower new level) → ⊥
+    pub nothing_above : (level other : Level) → Among level fresh → Among other (shallower new level) → ⊥
     nothing_above level other here among =
         let above = filter_among (λ l. ltb l.number level.number) (fresh ++ kept) other among in
         let less = ltb-true other.number level.number above.1 in
@@ -143,7 +142,7 @@ module _ (s : State) (sound : IsSound s) (j : ℕ) (taken kept fresh : List Leve
         ]
 
     -- above a kept level stand fresh ones, and such as stood there
-    above_kept : (level other : Level) → Among level kept → Among other (shallower new level) → Among other fresh ⊎ Among other (shallower s level)
+    pub above_kept : (level other : Level) → Among level kept → Among other (shallower new level) → Among other fresh ⊎ Among other (shallower s level)
     above_kept level other there among =
         let above = filter_among (λ l. ltb l.number level.number) (fresh ++ kept) other among in
         elim (among_split fresh kept other above.0) [
@@ -157,24 +156,23 @@ module _ (s : State) (sound : IsSound s) (j : ℕ) (taken kept fresh : List Leve
     -- the leads of a fresh level are of the union
     pub fresh_among : (e : Entry) → Among e (flat_map level_leads fresh) → Among e entries
     fresh_among e among =
-        over_among parents kept entries e (found_among (flat_map level_leads fresh) (entries_over parents kept entries) r.leads fresh_single e among)
+        held_among entries e (all_at (holds_entry entries) e over r.worth.inside (found_among (flat_map level_leads fresh) over r.leads fresh_single e among))
 
     -- and were said before
     pub fresh_said : (e : Entry) → Among e (flat_map level_leads fresh) → Among e (told_by s taken)
     fresh_said e among = found_among entries (told_by s taken) r.union.first union_single e (fresh_among e among)
 
     -- and stood above each kept level
-    stood_above : (level : Level) → Among level kept → (e : Entry) → Among e (told_by s taken) → Among e (journal_updates s ++ flat_map level_leads (shallower s level))
+    pub stood_above : (level : Level) → Among level kept → (e : Entry) → Among e (told_by s taken) → Among e (journal_updates s ++ flat_map level_leads (shallower s level))
     stood_above level there e among =
         elim (among_split (reverse (journal_updates s)) (flat_map level_leads taken) e among) [
           | inl update ↦ among_left (journal_updates s) (flat_map level_leads (shallower s level)) e (among_back (journal_updates s) e update)
           | inr lead ↦
               let at = among_flat level_leads taken e lead in
-              let low = leb-true at.0.number j (all_at (λ l. leb l.number j) at.0 taken r.takes.shallow at.1) in
-              let deep = kept_deep level there in
+              let deeper = numbered_apart 1 taken kept (ap (λ (levels : List Level). is_numbered_from 1 levels) (sym r.takes.levels_are) ∙ sound.formed.numbered) at.0 level at.1 there in
               among_right (journal_updates s) (flat_map level_leads (shallower s level)) e
               (among_in_flat level_leads (shallower s level) at.0 e
-              (among_filter (λ l. ltb l.number level.number) s.levels at.0 (taken_was at.0 at.1) (lt-ltb at.0.number level.number (omega (arith, low, deep)))) at.2)
+              (among_filter (λ l. ltb l.number level.number) s.levels at.0 (taken_was at.0 at.1) (lt-ltb at.0.number level.number deeper)) at.2)
         ]
 
     -- i
@@ -198,15 +196,15 @@ module _ (s : State) (sound : IsSound s) (j : ℕ) (taken kept fresh : List Leve
         ])))
 
     -- j
-    rule_j : list_all (is_above_frozen new) (fresh ++ kept) ≡ true
-    rule_j =
+    pub rule_j : list_all (is_above_frozen s) s.levels ≡ true → list_all (is_above_frozen new) (fresh ++ kept) ≡ true
+    rule_j settled =
         each_level (is_above_frozen new)
         (λ level here is.
         all_from (λ e. not (has_child_below new level.horizon e.version)) (flat_map level_leads (shallower new level)) (λ e among.
         let at = among_flat level_leads (shallower new level) e among in
         absurd (nothing_above level at.0 here at.1)))
         (λ level there was.
-        let before = all_at (is_above_frozen s) level s.levels sound.settled was in
+        let before = all_at (is_above_frozen s) level s.levels settled was in
         let still : (e : Entry) → Among e (journal_updates s ++ flat_map level_leads (shallower s level)) → not (has_child_below s level.horizon e.version) ≡ true =
         λ e stood. all_at (λ x. not (has_child_below s level.horizon x.version)) e (journal_updates s ++ flat_map level_leads (shallower s level)) before stood in
         all_from (λ e. not (has_child_below new level.horizon e.version)) (flat_map level_leads (shallower new level)) (λ e among.
@@ -231,10 +229,11 @@ module _ (s : State) (sound : IsSound s) (j : ℕ) (taken kept fresh : List Leve
         let less = single_fits (flat_map level_leads fresh) (told_by s taken) fresh_single fresh_said in
         omega (arith, few, old, parts, whole, size, said, turned, leads, less)
 
-    pub replaced_sound : IsSound new
-    replaced_sound = record {
+    pub replaced_ordered : IsOrdered new
+    replaced_ordered = record {
       formed = record {
         tree = tree_test parents tree;
+        pruned = pruned_test parents (marks_of s) (sound_pruned s sound.formed);
         numbered = numbered;
         accepted = refl;
         fits = le-leb 0 (journal_max s.mem) (omega arith);
@@ -250,7 +249,6 @@ module _ (s : State) (sound : IsSound s) (j : ℕ) (taken kept fresh : List Leve
           le-leb (length (level_leads level)) (s.mem * 2 ^ level.number) (subst (λ (n : ℕ). length (level_leads level) ≤ s.mem * 2 ^ n) (sym is.number) room))
           (λ level there was. all_at (has_room s) level s.levels sound.roomy was);
       old = rule_i;
-      settled = rule_j;
       described = each_level (λ level. list_all (is_described new) level.arrays)
           (λ level here is. is.described)
           (λ level there was. all_at (λ l. list_all (is_described s) l.arrays) level s.levels sound.described was);
@@ -259,3 +257,10 @@ module _ (s : State) (sound : IsSound s) (j : ℕ) (taken kept fresh : List Leve
           (λ level here is. is.ascending)
           (λ level there was. all_at (λ l. list_all has_ascending_entries l.arrays) level s.levels sound.ascending was);
     }
+
+-- and keeps rule j too
+pub replaced_sound : (s : State) (sound : IsSound s) (j : ℕ) (taken kept fresh : List Level) (entries over : List Entry) (r : Replaces s j taken kept fresh entries over) (written next_array : ℕ)
+    → IsSound (promoted s (fresh ++ kept) written next_array)
+replaced_sound s sound j taken kept fresh entries over r written next_array =
+    with_settled (promoted s (fresh ++ kept) written next_array) (replaced_ordered s (ordered s sound) j taken kept fresh entries over r written next_array)
+    (rule_j s (ordered s sound) j taken kept fresh entries over r written next_array sound.settled)

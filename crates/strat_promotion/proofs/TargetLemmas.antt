@@ -6,7 +6,7 @@ use Rattle.std.proofs.lemmas.List.Sums.{sum_by-cons}
 use Rattle.strat_state.specs.Level.{Level}
 use Rattle.strat_state.specs.Reading.{level_zero}
 use Rattle.strat_state.specs.State.{State}
-use Rattle.strat_state.specs.Sound.{IsSound}
+use Rattle.strat_state.specs.Sound.{IsOrdered}
 use Rattle.strat_base.proofs.ListFacts.{Among}
 use Rattle.strat_plan.proofs.ListLemmas.{filter_none}
 use Rattle.strat_promotion.specs.Promoted.{levels_to, levels_behind, Takeable}
@@ -66,7 +66,7 @@ range_push f a (suc n) =
     let same : f ((a + 1) + n) ≡ f (a + suc n) = ap f (omega arith) in
     omega (arith, rest, first, second, same)
 
-module _ (s : State) (sound : IsSound s) where
+module _ (s : State) (sound : IsOrdered s) where
   -- the numbers of leads add up
   pub leads_add_up : (j : ℕ) → sum_by (leads_at s) (range_with_len 0 (suc j)) ≡ length (level_zero s) + sum_by count (levels_to j s.levels)
   leads_add_up zero =

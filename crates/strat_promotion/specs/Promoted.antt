@@ -5,19 +5,20 @@ use Rattle.strat_base.specs.declared.limits.TheConstants.{LEVELS}
 use Rattle.strat_base.specs.Entries.{Entry}
 use Rattle.strat_state.specs.Level.{Level, level_leads}
 use Rattle.strat_state.specs.Reading.{level_zero}
-use Rattle.strat_state.specs.State.{State, versions_of, journal_updates, updates_of, changes_of, map_at}
+use Rattle.strat_state.specs.State.{State, versions_of, marks_of, journal_updates, updates_of, changes_of, map_at}
 use Rattle.strat_plan.specs.Groups.{grouped_entries, AreGroups, SplitsGroups, level_of_groups}
 use Rattle.strat_plan.specs.Plan.{Part, Plan, horizon_of}
 use Rattle.strat_plan.specs.Planned.{planned_level, IsPlan}
 use Rattle.strat_promotion.specs.Union.{IsUnion}
 use Rattle.strat_promotion.specs.Purge.{entries_over, groups_over}
 
--- two states say the same: they have the same versions with the same maps, and accepted as much
+-- two states say the same: they have the same versions with the same marks and maps, and accepted as much
 pub record SaysTheSame (old new : State) : Type 0 where
   pub mem : new.mem ≡ old.mem
   pub changes_max : new.changes_max ≡ old.changes_max
   pub versions_max : new.versions_max ≡ old.versions_max
   pub versions : versions_of new ≡ versions_of old
+  pub marks : marks_of new ≡ marks_of old
   pub maps : (v : ℕ) → v < length (versions_of old) → map_at new v ≡ map_at old v
   pub updates : updates_of new ≡ updates_of old
   pub changes : changes_of new ≡ changes_of old
@@ -39,6 +40,7 @@ abbrev pub promoted : State → List Level → ℕ → ℕ → State
 promoted s levels written next_array =
     record s {
       parents = versions_of s;
+      marks = marks_of s;
       changes = changes_of s;
       updates = updates_of s;
       written = written;
@@ -52,12 +54,11 @@ abbrev pub level_if : List Part → Level → List Level
 level_if [] level = []
 level_if (part ∷ parts) level = level ∷ []
 
--- the journal and the taken levels have room in level j, and the others are deeper
+-- the journal and the first levels have room in level j, and the others are deeper
 pub record Takeable (s : State) (j : ℕ) (taken kept : List Level) : Type 0 where
   pub levels_are : s.levels ≡ taken ++ kept
   pub least : 1 ≤ j
   pub most : j ≤ LEVELS
-  pub shallow : IsTrue (list_all (λ level. nat_le level.number j) taken)
   pub deep : IsTrue (list_all (λ level. nat_lt j level.number) kept)
   pub room : length (level_zero s) + sum_by (λ level. length (level_leads level)) taken
       ≤ s.mem * 2 ^ j

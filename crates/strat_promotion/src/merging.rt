@@ -13,7 +13,7 @@ ghost use Rattle.strat_state.specs.Level.{Level};
 ghost use Rattle.strat_state.specs.Live.{deciding};
 ghost use Rattle.strat_state.specs.Reading.{live_of, level_zero, found_first};
 ghost use Rattle.strat_state.specs.Sound.{IsSound};
-ghost use Rattle.strat_state.specs.State.{State, versions_of};
+ghost use Rattle.strat_state.specs.State.{State, versions_of, is_living};
 
 /// Some entries have one union.
 pub fn a_union_is_unique()
@@ -66,12 +66,13 @@ pub fn purging_changes_no_value()
         → AreGroups groups → AreGroups (groups_over parents kept groups) }
 {}
 
-/// Reading the union of the journal and the first levels finds what reading them one after another
-/// finds.
+/// Reading the union of the journal and the first levels at a living version finds what reading them
+/// one after another finds.
 pub fn a_union_is_read_as_its_places()
     ensures { (s : State) (taken kept : List Level) (entries : List Entry) (v : ℕ)
         (key : List ℕ) → IsSound s → s.levels ≡ taken ++ kept
         → IsUnion (told_by s taken) entries → v < length (versions_of s)
+        → IsTrue (is_living s v)
         → live_of (versions_of s) entries v key
         ≡ option_or (live_of (versions_of s) (level_zero s) v key)
         (found_first (versions_of s) taken v key) }

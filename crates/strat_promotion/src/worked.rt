@@ -7,7 +7,7 @@ ghost use Rattle.strat_base.specs.Samples.{says, gone};
 ghost use Rattle.strat_plan.specs.Groups.{group_versions, level_of_groups};
 ghost use Rattle.strat_plan.specs.Splits.{pair, later_groups, later_plan, wide_groups, wide_plan};
 ghost use Rattle.strat_promotion.specs.Begun.{first_writes};
-ghost use Rattle.strat_promotion.specs.Merging.{runs_taken, Merges};
+ghost use Rattle.strat_promotion.specs.Merging.{Merges};
 ghost use Rattle.strat_promotion.specs.Paid.{entries_written, IsLeastTarget};
 ghost use Rattle.strat_promotion.specs.Promoted.{promoted, PromotesGroups, fresh_of_groups, levels_of_groups};
 ghost use Rattle.strat_promotion.specs.Purge.{purged};

@@ -1,5 +1,7 @@
 use Rattle.std.proofs.Common.{arith}
 use Rattle.strat_plan.specs.Groups.{grouped_entries}
+use Rattle.strat_state.specs.State.{versions_of}
+use Rattle.strat_promotion.specs.Purge.{entries_over}
 use Rattle.strat_promotion.specs.Promoted.{fresh_after, fresh_of_groups}
 use Rattle.strat_promotion.proofs.PromotedLemmas.{promotion_replaces, groups_replace}
 use Rattle.strat_promotion.proofs.PaidLemmas.{paid_after, updates_few}
@@ -7,10 +9,11 @@ use Rattle.strat_promotion.proofs.laws.a_promotion_is_paid_for.Goals as goal
 
 pub returns : goal.returns
 returns c = record {
-  replaced = λ s j taken kept fresh entries next_array sound paid some honest r least. paid_after s sound some honest paid j taken kept fresh entries r least next_array;
-  promoted = λ s j taken kept entries plan first next_array sound paid some honest r least.
-      paid_after s sound some honest paid j taken kept (fresh_after s j kept entries plan first) entries (promotion_replaces s sound j taken kept entries plan first r) least next_array;
-  groups = λ s j taken kept groups own seen plan first next_array sound paid some honest r least.
-      paid_after s sound some honest paid j taken kept (fresh_of_groups s j kept groups plan first) (grouped_entries groups) (groups_replace s sound j taken kept groups own seen plan first r) least next_array;
+  replaced = λ s j taken kept fresh entries over next_array is paid some honest r low least. paid_after s is some honest paid j taken kept fresh entries over r low least next_array;
+  promoted = λ s j taken kept entries plan first next_array is paid some honest r low least.
+      paid_after s is some honest paid j taken kept (fresh_after s j kept entries plan first) entries (entries_over (versions_of s) kept entries) (promotion_replaces s is j taken kept entries plan first r) low least next_array;
+  groups = λ s j taken kept groups own seen plan first next_array is paid some honest r low least.
+      paid_after s is some honest paid j taken kept (fresh_of_groups s j kept groups plan first) (grouped_entries groups) (entries_over (versions_of s) kept (grouped_entries groups))
+      (groups_replace s is j taken kept groups own seen plan first r) low least next_array;
   updates = λ s honest. let few = updates_few s.journal in omega (arith, few, honest);
 }

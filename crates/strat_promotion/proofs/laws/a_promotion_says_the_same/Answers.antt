@@ -1,8 +1,15 @@
-use Rattle.strat_promotion.proofs.PromotedLemmas.{promotion_says, promotion_sound}
+use Rattle.strat_state.specs.State.{versions_of}
+use Rattle.strat_state.proofs.SoundLemmas.{ordered}
+use Rattle.strat_promotion.specs.Purge.{entries_over}
+use Rattle.strat_promotion.specs.Promoted.{fresh_after}
+use Rattle.strat_promotion.proofs.ReplacedLemmas.{replaced_sound}
+use Rattle.strat_promotion.proofs.PromotedLemmas.{promotion_says, promotion_replaces}
 use Rattle.strat_promotion.proofs.laws.a_promotion_says_the_same.Goals as goal
 
 pub returns : goal.returns
 returns c = record {
-  says = λ s j taken kept entries plan first written next_array sound r. promotion_says s sound j taken kept entries plan first r written next_array;
-  sound = λ s j taken kept entries plan first written next_array sound r. promotion_sound s sound j taken kept entries plan first r written next_array;
+  replaces = λ s j taken kept entries plan first is r. promotion_replaces s is j taken kept entries plan first r;
+  says = λ s j taken kept entries plan first written next_array is r. promotion_says s is j taken kept entries plan first r written next_array;
+  sound = λ s j taken kept entries plan first written next_array sound r.
+      replaced_sound s sound j taken kept (fresh_after s j kept entries plan first) entries (entries_over (versions_of s) kept entries) (promotion_replaces s (ordered s sound) j taken kept entries plan first r) written next_array;
 }
