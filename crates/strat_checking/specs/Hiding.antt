@@ -1,6 +1,5 @@
 -- Which versions of a key hide what others see, as it is found in one pass from the greatest version down.
-use Rattle.std.specs.Prelude.{ℕ, suc, ◌==◌, nat_lt, ◌&&◌, not, Bool, true, if◌then◌else◌, List, [], ◌∷◌, ◌++◌, map, filter, sum_by}
-use Rattle.std.specs.List.{list_all}
+use Rattle.std.specs.Prelude.{ℕ, suc, ◌==◌, not, if◌then◌else◌, List, [], ◌∷◌, ◌++◌, map, filter, sum_by}
 use Rattle.strat_base.specs.Tree.{Parents, is_ancestor}
 
 -- pairs of a version and the one whose entry it hides, the nearest above it among those behind: `bare` are the

@@ -13,7 +13,7 @@ use Rattle.strat_crash.specs.Image.{Image, window, over}
 use Rattle.strat_format.specs.Block.{block_in, block_bytes, entries_in}
 use Rattle.strat_format.specs.Chain.{link_bytes}
 use Rattle.strat_format.specs.Chained.{chain_from}
-use Rattle.strat_format.specs.Manifest.{all_pass, read_number, read_items, read_extent, read_array, read_level, read_manifest, manifest_in, manifest_bytes}
+use Rattle.strat_format.specs.Manifest.{all_pass, read_number, read_items, read_extent, read_array, read_level, read_mark, read_only, read_manifest, manifest_in, manifest_bytes}
 use Rattle.strat_base.specs.declared.descriptors.ArrayDesc.{ArrayDesc}
 use Rattle.strat_format.specs.Records.{records}
 use Rattle.strat_format.specs.SuperBlock.{slot_of, slot_in, zeros}
@@ -74,7 +74,7 @@ one_is_bad b = (to, from)
     from at = refused (refused_recovers ∙ ap Err (sym at))
 
 pub uncounted_opens : recover uncounted ≡ Ok (Some chain_head)
-unfolding number be window over slot_of slot_in zeros change_in all_pass read_number read_items read_extent read_array read_level read_manifest manifest_in manifest_bytes chain_from records link_bytes
+unfolding number be window over slot_of slot_in zeros change_in all_pass read_number read_items read_extent read_array read_level read_mark read_only read_manifest manifest_in manifest_bytes chain_from records link_bytes
 uncounted_opens = refl
 
 uncounted_seven : block_on uncounted 7 ≡ None
@@ -109,7 +109,7 @@ seven_unnamed b (misplaced a named bad) =
     cc
 
 chain_opens : recover published ≡ Ok (Some chain_head)
-unfolding number be window over slot_of slot_in zeros change_in all_pass read_number read_items read_extent read_array read_level read_manifest manifest_in manifest_bytes chain_from records link_bytes
+unfolding number be window over slot_of slot_in zeros change_in all_pass read_number read_items read_extent read_array read_level read_mark read_only read_manifest manifest_in manifest_bytes chain_from records link_bytes
 chain_opens = refl
 
 chain_read : state_of published chain_head ≡ Some chain
@@ -118,13 +118,13 @@ chain_read = refl
 
 chain_sound : IsSound chain
 unfolding climb
-chain_sound = sound_from_none chain (record { tree = refl; numbered = refl; accepted = refl; fits = refl }) refl
+chain_sound = sound_from_none chain (record { tree = refl; pruned = refl; numbered = refl; accepted = refl; fits = refl }) refl
 
 pub chain_has_none : (b : ℕ) → IsBad published 4 (chain_array ∷ []) (chain_array ∷ []) b → ⊥
 chain_has_none b = no_bad_block published chain_head chain b chain_opens chain_read chain_sound
 
 pub split_opens : recover (split_with (says 97 1 50)) ≡ Ok (Some split_head)
-unfolding number be window over slot_of slot_in zeros change_in all_pass read_number read_items read_extent read_array read_level read_manifest manifest_in manifest_bytes chain_from records link_bytes
+unfolding number be window over slot_of slot_in zeros change_in all_pass read_number read_items read_extent read_array read_level read_mark read_only read_manifest manifest_in manifest_bytes chain_from records link_bytes
 split_opens = refl
 
 split_seven : block_on (split_with (says 97 1 50)) 7 ≡ Some (says 97 1 49 ∷ [])
@@ -182,7 +182,7 @@ nine_unmerged b (unread a named bad) =
 nine_unmerged b (misplaced a named bad) = contained_at a [] named.0 named.1 named.2
 
 whole_opens : recover (split_with (says 98 1 49)) ≡ Ok (Some split_head)
-unfolding number be window over slot_of slot_in zeros change_in all_pass read_number read_items read_extent read_array read_level read_manifest manifest_in manifest_bytes chain_from records link_bytes
+unfolding number be window over slot_of slot_in zeros change_in all_pass read_number read_items read_extent read_array read_level read_mark read_only read_manifest manifest_in manifest_bytes chain_from records link_bytes
 whole_opens = refl
 
 whole_read : state_of (split_with (says 98 1 49)) split_head ≡ Some split_state
@@ -191,7 +191,7 @@ whole_read = refl
 
 whole_sound : IsSound split_state
 unfolding climb
-whole_sound = sound_from_none split_state (record { tree = refl; numbered = refl; accepted = refl; fits = refl }) refl
+whole_sound = sound_from_none split_state (record { tree = refl; pruned = refl; numbered = refl; accepted = refl; fits = refl }) refl
 
 pub whole_has_none : (b : ℕ) → IsBad (split_with (says 98 1 49)) 4 (split_array ∷ []) (split_array ∷ []) b → ⊥
 whole_has_none b = no_bad_block (split_with (says 98 1 49)) split_head split_state b whole_opens whole_read whole_sound

@@ -2,9 +2,9 @@
 use Rattle.std.specs.Prelude.{ℕ, List, [], ◌∷◌}
 use Rattle.strat_crash.specs.Image.{Image, patch}
 use Rattle.strat_format.specs.Chained.{Chained}
-use Rattle.strat_format.specs.Manifest.{Manifest}
+use Rattle.strat_format.specs.Manifest.{Manifest, new_manifest}
 use Rattle.strat_base.specs.declared.descriptors.ArrayDesc.{ArrayDesc}
-use Rattle.strat_format.specs.SuperBlock.{spelled, fields}
+use Rattle.strat_format.specs.SuperBlock.{Super, spelled, fields}
 use Rattle.strat_recovery.specs.Disks.{formatted, new_super, chain_manifest}
 use Rattle.strat_pins.specs.Formats.{from_block, odd_level}
 
@@ -57,3 +57,17 @@ with_second_slot generation =
 -- an array in blocks 7 and 8, for version 0
 abbrev pub in_two_blocks : ArrayDesc
 in_two_blocks = record (array_at 1 0 7) { extents = from_block 7 2 ∷ [] }
+
+-- a superblock of format 2, with the manifest of a store without levels in block 8 and this region active
+abbrev pub second_format : ℕ → Super
+second_format region = record new_super {
+  format = 2;
+  generation = 2;
+  manifest = 8;
+  length = 38;
+  region = region;
+}
+
+-- the manifest of a store after one change, with 258 entries compacted
+abbrev pub compacted_manifest : Manifest
+compacted_manifest = record new_manifest { changes = 1; compacted = 258 }

@@ -1,5 +1,5 @@
 -- Descriptors, superblocks and disks that stand exactly at a bound of the formats, or one past it.
-use Rattle.std.specs.Prelude.{ℕ, ◌+◌, List, [], ◌∷◌, ◌++◌, length, map, replicate, Some}
+use Rattle.std.specs.Prelude.{ℕ, true, false, ◌+◌, List, [], ◌∷◌, ◌++◌, length, map, replicate, suc, Some}
 use Rattle.strat_base.specs.Entries.{Entry}
 use Rattle.strat_base.specs.Change.{Change, Put}
 use Rattle.strat_base.specs.Numbers.{be}
@@ -10,7 +10,7 @@ use Rattle.strat_base.specs.declared.descriptors.ArrayDesc.{ArrayDesc}
 use Rattle.strat_base.specs.declared.descriptors.LevelDesc.{LevelDesc}
 use Rattle.strat_format.specs.Layout.{open_flag}
 use Rattle.strat_format.specs.Records.{records_bytes}
-use Rattle.strat_format.specs.SuperBlock.{Super, Slot}
+use Rattle.strat_format.specs.SuperBlock.{Super}
 
 -- four keys with values of 1,024 bytes, and of so many for the last key
 abbrev pub four_entries : ℕ → List Entry
@@ -52,8 +52,10 @@ with_arrays arrays = record {
   changes = 2;
   updates = 2;
   written = 2;
+  compacted = 0;
   next_array = 2;
   parents = 0 ∷ 1 ∷ [];
+  marks = replicate 3 false;
   levels = odd_level 1 3 arrays ∷ [];
 }
 
@@ -67,10 +69,34 @@ without_levels changes = record {
   changes = changes;
   updates = changes;
   written = 0;
+  compacted = 0;
   next_array = 1;
   parents = [];
+  marks = false ∷ [];
   levels = [];
 }
+
+-- the same of a store whose versions from 1 on have these parents
+abbrev pub with_parents : List ℕ → Manifest
+with_parents parents = record (without_levels 0) {
+  parents = parents;
+  marks = replicate (suc (length parents)) false;
+}
+
+-- the same of a store with version 1, which was dropped, and so many entries compacted
+abbrev pub after_a_drop : ℕ → Manifest
+after_a_drop compacted = record (with_parents (0 ∷ [])) {
+  compacted = compacted;
+  marks = false ∷ true ∷ [];
+}
+
+-- its bytes in format 2, with these as marks: counts, the entries compacted and the next array, two versions, the parent of
+-- version 1, and no level
+abbrev pub after_a_drop_bytes : List ℕ → List ℕ
+after_a_drop_bytes marks =
+    0 ∷ 0 ∷ 0 ∷ 0 ∷ 0 ∷ 0 ∷ 0 ∷ 0 ∷ 0 ∷ 0 ∷ 0 ∷ 0 ∷ 0 ∷ 0 ∷ 0 ∷ 0
+    ∷ 0 ∷ 0 ∷ 0 ∷ 0 ∷ 0 ∷ 0 ∷ 1 ∷ 2 ∷ 0 ∷ 0 ∷ 0 ∷ 0 ∷ 0 ∷ 0 ∷ 0 ∷ 1
+    ∷ 0 ∷ 0 ∷ 0 ∷ 2 ∷ 0 ∷ 0 ∷ 0 ∷ 0 ∷ (marks ++ 0 ∷ [])
 
 -- two arrays in level 1, the second in two extents
 abbrev pub two_arrays : Manifest
@@ -78,8 +104,10 @@ two_arrays = record {
   changes = 4;
   updates = 3;
   written = 5;
+  compacted = 0;
   next_array = 3;
   parents = 0 ∷ [];
+  marks = replicate 2 false;
   levels = odd_level 1 2 (
       record {
         id = 1;
@@ -115,6 +143,7 @@ two_arrays_bytes =
 -- the superblock with all fields as small as they may be
 abbrev pub least_super : Super
 least_super = record {
+  format = 1;
   generation = 1;
   manifest = 6;
   length = 29;
@@ -127,6 +156,7 @@ least_super = record {
 -- the superblock with all fields that have a greatest value at that
 abbrev pub greatest_super : Super
 greatest_super = record {
+  format = 1;
   generation = 18446744073709551615;
   manifest = 4294967294;
   length = 4294967295;
@@ -136,14 +166,10 @@ greatest_super = record {
   versions_max = 16384;
 }
 
--- a slot with this superblock
-abbrev pub slot_with : Super → Slot
-slot_with sb = record { format = 1; sb = sb }
-
--- the slot of a superblock with this generation and region
-abbrev pub slot_of_generation : ℕ → ℕ → Slot
-slot_of_generation generation region =
-    slot_with (record least_super { generation = generation; region = region })
+-- a superblock with this generation and region
+abbrev pub of_generation : ℕ → ℕ → Super
+of_generation generation region =
+    record least_super { generation = generation; region = region }
 
 -- a put at version 0 of a key of one byte
 abbrev pub put_of : ℕ → Change

@@ -1,5 +1,6 @@
 pub mod BadDisks
 pub mod Disks
+pub mod Drops
 pub mod Formats
 pub mod Openings
 pub mod States

@@ -5,13 +5,14 @@ use Rattle.strat_state.specs.Level.{TaggedArray}
 use Rattle.strat_state.specs.State.{State}
 use Rattle.strat_state.specs.Worked.{array_of, first_level, chain}
 
--- the chain with its limits, updates, writes and number of arrays at their most
+-- the chain with its limits, updates, entries written and compacted, and number of arrays at their most
 abbrev pub filled_chain : State
 filled_chain = record chain {
   changes_max = 5;
   versions_max = 4;
   updates = 4;
   written = 134217728;
+  compacted = 134217728;
   next_array = 65537;
 }
 

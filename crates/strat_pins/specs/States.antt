@@ -1,7 +1,8 @@
 -- States that stand exactly at a bound of a definition, or one past it.
-use Rattle.std.specs.Prelude.{ℕ, List, [], ◌∷◌, replicate, Some, None}
+use Rattle.std.specs.Prelude.{ℕ, true, false, List, [], ◌∷◌, replicate, Some, None}
 use Rattle.strat_base.specs.Change.{Put}
 use Rattle.strat_base.specs.Samples.{says}
+use Rattle.strat_base.specs.Tree.{Parents}
 use Rattle.strat_state.specs.Level.{TaggedArray, Level}
 use Rattle.strat_state.specs.State.{State}
 use Rattle.strat_state.specs.Worked.{array_of, first_level, fan}
@@ -85,3 +86,11 @@ all_broken = record (with_empty_journal (None ∷ Some 0 ∷ Some 0 ∷ Some 0 �
     array_of 1 (0 ∷ 1 ∷ []) (says 98 0 49 ∷ says 97 0 49 ∷ says 97 0 50 ∷ []) 9 3 3
     ∷ array_of 2 (1 ∷ 2 ∷ []) (says 97 2 49 ∷ says 99 3 57 ∷ says 100 3 49 ∷ []) 3 1 1 ∷ [])
     ∷ level_with 2 6 (array_of 3 (0 ∷ []) (says 97 0 49 ∷ []) 1 1 1 ∷ []) ∷ [])) { mem = 1 }
+
+-- version 0 with two children
+abbrev pub two_children : Parents
+two_children = None ∷ Some 0 ∷ Some 0 ∷ []
+
+-- the fan without its last version, which was dropped
+abbrev pub drop_of_three : State
+drop_of_three = record fan { marks = false ∷ false ∷ false ∷ true ∷ [] }

@@ -7,11 +7,12 @@ ghost use Rattle.std.specs.Prelude.{◌≡◌, [], ◌∷◌, Some, None, Ok, Er
 ghost use Rattle.strat_base.specs.Change.{Put, Clone};
 ghost use Rattle.strat_base.specs.Samples.{says};
 ghost use Rattle.strat_crash.specs.Image.{patch};
-ghost use Rattle.strat_format.specs.SuperBlock.{newest_in};
+ghost use Rattle.strat_format.specs.SuperBlock.{spelled, fields, newest_in};
 ghost use Rattle.strat_recovery.specs.Bad.{fits_behind};
 ghost use Rattle.strat_recovery.specs.Disks.{formatted, new_super, chain_super, chain_manifest, published_by};
-ghost use Rattle.strat_recovery.specs.Opening.{belongs, accepted_in, recover};
-ghost use Rattle.strat_pins.specs.Disks.{array_at, having, in_block_eight, led_by, after_two_changes, with_second_slot, in_two_blocks};
+ghost use Rattle.strat_recovery.specs.Opening.{belongs, accepted_in, recover_manifest, recover_journal, recover};
+ghost use Rattle.strat_pins.specs.Formats.{put_of, with_puts, with_parents, after_a_drop};
+ghost use Rattle.strat_pins.specs.Disks.{array_at, having, in_block_eight, led_by, after_two_changes, with_second_slot, in_two_blocks, second_format, compacted_manifest};
 
 /// Two arrays may be the same in all but their numbers, blocks and versions, and share none of these.
 pub fn arrays_share_no_number_block_or_version()
@@ -43,7 +44,7 @@ pub fn arrays_are_filled()
 {}
 
 /// Each bound on what a manifest counts, met exactly and passed by one: for two changes there are at most
-/// three generations, 32,768 arrays and 67,108,864 written entries.
+/// three generations, 32,768 arrays, and 67,108,864 entries written and as many compacted.
 pub fn manifests_belong_up_to_their_bounds()
     ensures generation { (belongs
         (record chain_super { generation = 3 }) (in_block_eight (after_two_changes 1 0))
@@ -54,6 +55,10 @@ pub fn manifests_belong_up_to_their_bounds()
         × (belongs chain_super (in_block_eight (after_two_changes 32770 0)) ≡ false) }
     ensures written { (belongs chain_super (in_block_eight (after_two_changes 1 67108864)) ≡ true)
         × (belongs chain_super (in_block_eight (after_two_changes 1 67108865)) ≡ false) }
+    ensures compacted { (belongs chain_super
+        (in_block_eight (record (after_two_changes 1 0) { compacted = 67108864 })) ≡ true)
+        × (belongs chain_super
+        (in_block_eight (record (after_two_changes 1 0) { compacted = 67108865 })) ≡ false) }
     ensures changes { (belongs
         (record chain_super { changes_max = 4 }) (in_block_eight chain_manifest) ≡ true)
         × (belongs (record chain_super { changes_max = 3 }) (in_block_eight chain_manifest)
@@ -65,6 +70,24 @@ pub fn manifests_belong_up_to_their_bounds()
     ensures updates { (belongs chain_super
         (in_block_eight (record (led_by 2 3) { updates = 2 })) ≡ true)
         × (belongs chain_super (in_block_eight (record (led_by 2 3) { updates = 1 })) ≡ false) }
+{}
+
+/// A manifest with a version that was dropped belongs to no superblock, whichever version it is.
+pub fn manifests_with_drops_belong_to_none()
+    ensures last { belongs chain_super (in_block_eight
+        (record chain_manifest { marks = false ∷ false ∷ false ∷ true ∷ [] })) ≡ false }
+    ensures first { belongs chain_super (in_block_eight
+        (record chain_manifest { marks = false ∷ true ∷ true ∷ true ∷ [] })) ≡ false }
+{}
+
+/// A superblock of format 2 is refused, in either slot, and its block is named.
+pub fn the_second_format_is_refused()
+    ensures first { newest_in (patch formatted 0 (0xa7 ∷ spelled (fields (second_format 0))))
+        ≡ Err 0 }
+    ensures second { newest_in (patch formatted 4096 (0xa7 ∷ spelled (fields (second_format 1))))
+        ≡ Err 1 }
+    ensures recovery { recover (patch formatted 4096 (0xa7 ∷ spelled (fields (second_format 1))))
+        ≡ Err 1 }
 {}
 
 /// Of two open superblocks with one generation the first slot's is the newest.
@@ -86,19 +109,19 @@ pub fn the_chosen_slot_is_judged()
 
 /// A record that the table refuses in its turn is blamed on the block of its own gate.
 pub fn refused_records_are_named()
-    ensures ok { accepted_in 2 2 (None ∷ []) 0
+    ensures ok { accepted_in 2 2 (None ∷ []) (false ∷ []) 0
         (record { change = Clone 0; block = 2 } ∷ record { change = Put 1 [] []; block = 3 } ∷ [])
         ≡ Ok (Clone 0 ∷ Put 1 [] [] ∷ []) }
-    ensures unknown { accepted_in 2 2 (None ∷ []) 0
+    ensures unknown { accepted_in 2 2 (None ∷ []) (false ∷ []) 0
         (record { change = Put 1 [] []; block = 3 } ∷ record { change = Clone 0; block = 4 } ∷ [])
         ≡ Err 3 }
-    ensures frozen { accepted_in 2 2 (None ∷ []) 0
+    ensures frozen { accepted_in 2 2 (None ∷ []) (false ∷ []) 0
         (record { change = Clone 0; block = 2 } ∷ record { change = Put 0 [] []; block = 3 } ∷ [])
         ≡ Err 3 }
-    ensures changes { accepted_in 2 2 (None ∷ []) 1
+    ensures changes { accepted_in 2 2 (None ∷ []) (false ∷ []) 1
         (record { change = Clone 0; block = 2 } ∷ record { change = Put 1 [] []; block = 3 } ∷ [])
         ≡ Err 3 }
-    ensures versions { accepted_in 2 2 (None ∷ []) 0
+    ensures versions { accepted_in 2 2 (None ∷ []) (false ∷ []) 0
         (record { change = Clone 0; block = 2 } ∷ record { change = Clone 1; block = 3 } ∷ [])
         ≡ Err 3 }
 {}
@@ -127,4 +150,21 @@ pub fn entries_fit_their_place()
 pub fn manifests_are_tested_before_journals()
     ensures { recover (patch (published_by (record chain_super { versions_max = 3 }) chain_manifest)
         16385 (0 ∷ [])) ≡ Err 8 }
+{}
+
+/// The manifest of a superblock is read in its format.
+pub fn manifests_are_read_in_the_format_of_their_superblock()
+    ensures ok { recover_manifest (published_by (second_format 1) compacted_manifest)
+        (second_format 1) ≡ Ok compacted_manifest }
+    ensures other { recover_manifest (published_by (second_format 1) compacted_manifest)
+        (record (second_format 1) { format = 1 }) ≡ Err 8 }
+{}
+
+/// The records of a journal find the versions as the manifest has them: a version is frozen by a child there, and not by one
+/// that was dropped.
+pub fn journals_begin_with_the_marks_of_the_manifest()
+    ensures dropped { recover_journal (with_puts (97 ∷ []) []) new_super (after_a_drop 0)
+        ≡ Ok (put_of 97 ∷ []) }
+    ensures living { recover_journal (with_puts (97 ∷ []) []) new_super (with_parents (0 ∷ []))
+        ≡ Err 2 }
 {}

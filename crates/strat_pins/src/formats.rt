@@ -1,13 +1,13 @@
 //! Values at the bounds of the formats: at each bound one that passes, and one past it that doesn't. Each is
 //! the contract of a function that does nothing.
 
-#![tactic(auto, unfolding(strat_base::specs::Numbers::be, strat_base::specs::Numbers::number, strat_base::specs::Change::change_in, strat_crash::specs::Image::window, strat_crash::specs::Image::over, strat_format::specs::Block::block_bytes, strat_format::specs::Chained::chain_from, strat_format::specs::Manifest::all_pass, strat_format::specs::Manifest::manifest_bytes, strat_format::specs::Manifest::manifest_in, strat_format::specs::Manifest::read_manifest, strat_format::specs::Manifest::read_level, strat_format::specs::Manifest::read_array, strat_format::specs::Manifest::read_extent, strat_format::specs::Manifest::read_items, strat_format::specs::Manifest::read_number, strat_format::specs::Records::records, strat_format::specs::SuperBlock::slot_of, strat_format::specs::SuperBlock::zeros))]
+#![tactic(auto, unfolding(strat_base::specs::Numbers::be, strat_base::specs::Numbers::number, strat_base::specs::Change::change_in, strat_crash::specs::Image::window, strat_crash::specs::Image::over, strat_format::specs::Block::block_bytes, strat_format::specs::Chained::chain_from, strat_format::specs::Manifest::all_pass, strat_format::specs::Manifest::manifest_bytes, strat_format::specs::Manifest::manifest_in, strat_format::specs::Manifest::read_manifest, strat_format::specs::Manifest::read_only, strat_format::specs::Manifest::read_mark, strat_format::specs::Manifest::read_level, strat_format::specs::Manifest::read_array, strat_format::specs::Manifest::read_extent, strat_format::specs::Manifest::read_items, strat_format::specs::Manifest::read_number, strat_format::specs::Records::records, strat_format::specs::SuperBlock::slot_of, strat_format::specs::SuperBlock::zeros))]
 
 ghost use Rattle.std.specs.Prelude.{◌≡◌, [], ◌∷◌, ◌++◌, map, replicate, Some, None, Ok, Err, true, false, take};
 ghost use Rattle.strat_base.specs.Samples.{says, gone};
 ghost use Rattle.strat_format.specs.Block.{fits_block, block_bytes};
-ghost use Rattle.strat_format.specs.Manifest.{is_lawful_extent, is_lawful_array, is_lawful_level, is_lawful_manifest, manifest_bytes, manifest_in, new_manifest};
-ghost use Rattle.strat_pins.specs.Formats.{four_entries, from_block, two_leads, in_extents, for_versions, odd_level, with_arrays, second_extent_at, without_levels, two_arrays, two_arrays_bytes, least_super, greatest_super, slot_with, slot_of_generation, put_of, with_puts, with_gate, bytes_from, chain_links};
+ghost use Rattle.strat_format.specs.Manifest.{is_lawful_extent, is_lawful_array, is_lawful_level, is_lawful_manifest, has_fields, manifest_bytes, manifest_in, new_manifest};
+ghost use Rattle.strat_pins.specs.Formats.{four_entries, from_block, two_leads, in_extents, for_versions, odd_level, with_arrays, second_extent_at, without_levels, with_parents, after_a_drop, after_a_drop_bytes, two_arrays, two_arrays_bytes, least_super, greatest_super, of_generation, put_of, with_puts, with_gate, bytes_from, chain_links};
 ghost use Rattle.strat_format.specs.Chain.{chain_length};
 ghost use Rattle.strat_format.specs.Chained.{may_follow, chain_from, manifest_filled, manifest_at};
 ghost use Rattle.strat_format.specs.Layout.{region_size};
@@ -69,14 +69,15 @@ pub fn wrong_links_are_named()
 
 /// The manifest of one level with two arrays, as it is written and read.
 pub fn bytes_of_two_arrays()
-    ensures written { manifest_bytes two_arrays ≡ two_arrays_bytes }
-    ensures read { manifest_in two_arrays_bytes ≡ Some two_arrays }
+    ensures written { manifest_bytes 1 two_arrays ≡ two_arrays_bytes }
+    ensures read { manifest_in 1 two_arrays_bytes ≡ Some two_arrays }
 {}
 
 /// A manifest with extents that touch is not read, though one with the same extents apart is.
 pub fn touching_extents_are_not_read()
-    ensures apart { manifest_in (manifest_bytes (second_extent_at 9)) ≡ Some (second_extent_at 9) }
-    ensures touching { manifest_in (manifest_bytes (second_extent_at 8)) ≡ None }
+    ensures apart { manifest_in 1 (manifest_bytes 1 (second_extent_at 9))
+        ≡ Some (second_extent_at 9) }
+    ensures touching { manifest_in 1 (manifest_bytes 1 (second_extent_at 8)) ≡ None }
 {}
 
 /// Extents have a block each and end at a block number. No extent goes on where the one before it ends.
@@ -84,8 +85,8 @@ pub fn extents_do_not_touch()
     ensures last { is_lawful_extent (from_block 4294967294 1) ≡ true }
     ensures past { is_lawful_extent (from_block 4294967294 2) ≡ false }
     ensures none { is_lawful_extent (from_block 7 0) ≡ false }
-    ensures apart { is_lawful_manifest (second_extent_at 9) ≡ true }
-    ensures touching { is_lawful_manifest (second_extent_at 8) ≡ false }
+    ensures apart { is_lawful_manifest 1 (second_extent_at 9) ≡ true }
+    ensures touching { is_lawful_manifest 1 (second_extent_at 8) ≡ false }
 {}
 
 /// The bounds of a descriptor: its number, its entries, its leads and least live ones, its extents, its tag.
@@ -126,29 +127,28 @@ pub fn levels_are_lawful_up_to_their_bounds()
 
 /// The bounds of a manifest's numbers, of its tree and of its levels.
 pub fn manifests_are_lawful_up_to_their_bounds()
-    ensures ok { is_lawful_manifest (with_arrays (two_leads ∷ [])) ≡ true }
-    ensures changes { (is_lawful_manifest (without_levels 4294967295) ≡ true)
-        × (is_lawful_manifest (without_levels 4294967296) ≡ false) }
-    ensures updates { is_lawful_manifest (record (without_levels 4) { updates = 5 }) ≡ false }
-    ensures written { (is_lawful_manifest
+    ensures ok { is_lawful_manifest 1 (with_arrays (two_leads ∷ [])) ≡ true }
+    ensures changes { (is_lawful_manifest 1 (without_levels 4294967295) ≡ true)
+        × (is_lawful_manifest 1 (without_levels 4294967296) ≡ false) }
+    ensures updates { is_lawful_manifest 1 (record (without_levels 4) { updates = 5 }) ≡ false }
+    ensures written { (is_lawful_manifest 1
         (record (without_levels 0) { written = 18446744073709551615 }) ≡ true)
-        × (is_lawful_manifest (record (without_levels 0) { written = 18446744073709551616 })
+        × (is_lawful_manifest 1 (record (without_levels 0) { written = 18446744073709551616 })
         ≡ false) }
-    ensures next { (is_lawful_manifest
-        (record (without_levels 0) { next_array = 18446744073709551615 })
-        ≡ true)
-        × (is_lawful_manifest (record (without_levels 0) { next_array = 18446744073709551616 })
+    ensures next { (is_lawful_manifest 1
+        (record (without_levels 0) { next_array = 18446744073709551615 }) ≡ true)
+        × (is_lawful_manifest 1 (record (without_levels 0) { next_array = 18446744073709551616 })
         ≡ false)
-        × (is_lawful_manifest (record (without_levels 0) { next_array = 0 }) ≡ false) }
-    ensures older { (is_lawful_manifest (record (without_levels 0) { parents = 0 ∷ 1 ∷ [] }) ≡ true)
-        × (is_lawful_manifest (record (without_levels 0) { parents = 0 ∷ 2 ∷ [] }) ≡ false) }
-    ensures versions { (is_lawful_manifest
-        (record (without_levels 0) { parents = replicate 16383 0 }) ≡ true)
-        × (is_lawful_manifest (record (without_levels 0) { parents = replicate 16384 0 })
-        ≡ false) }
-    ensures horizon { is_lawful_manifest
-        (record (with_arrays (two_leads ∷ [])) { parents = 0 ∷ [] }) ≡ false }
-    ensures rising { is_lawful_manifest (record (with_arrays (two_leads ∷ [])) {
+        × (is_lawful_manifest 1 (record (without_levels 0) { next_array = 0 }) ≡ false) }
+    ensures older { (is_lawful_manifest 1 (with_parents (0 ∷ 1 ∷ [])) ≡ true)
+        × (is_lawful_manifest 1 (with_parents (0 ∷ 2 ∷ [])) ≡ false) }
+    ensures versions { (is_lawful_manifest 1 (with_parents (replicate 16383 0)) ≡ true)
+        × (is_lawful_manifest 1 (with_parents (replicate 16384 0)) ≡ false) }
+    ensures horizon { is_lawful_manifest 1 (record (with_arrays (two_leads ∷ [])) {
+      parents = 0 ∷ [];
+      marks = false ∷ false ∷ [];
+    }) ≡ false }
+    ensures rising { is_lawful_manifest 1 (record (with_arrays (two_leads ∷ [])) {
       levels = odd_level 1 3 (two_leads ∷ []) ∷ odd_level 1 3 (two_leads ∷ []) ∷ [];
     }) ≡ false }
 {}
@@ -156,31 +156,31 @@ pub fn manifests_are_lawful_up_to_their_bounds()
 /// A superblock is good with all fields at their least, and with all at their greatest. It is not where one
 /// of them is past that.
 pub fn superblocks_are_good_up_to_their_bounds()
-    ensures least { in_range (slot_with least_super) ≡ true }
-    ensures most { in_range (slot_with greatest_super) ≡ true }
-    ensures format { (in_range (record (slot_with least_super) { format = 0 }) ≡ false)
-        × (in_range (record (slot_with least_super) { format = 2 }) ≡ false) }
-    ensures generation { in_range (slot_with (record least_super { generation = 0 })) ≡ false }
-    ensures manifest { (in_range (slot_with (record least_super { manifest = 5 })) ≡ false)
-        × (in_range (slot_with (record greatest_super { manifest = 4294967295 })) ≡ false) }
-    ensures length { in_range (slot_with (record least_super { length = 28 })) ≡ false }
-    ensures region { in_range (slot_with (record greatest_super { region = 2 })) ≡ false }
-    ensures mem { (in_range (slot_with (record least_super { mem = 3 })) ≡ false)
-        × (in_range (slot_with (record greatest_super { mem = 4097 })) ≡ false) }
-    ensures changes { (in_range (slot_with (record least_super { changes_max = 0 })) ≡ false)
-        × (in_range (slot_with (record greatest_super { changes_max = 16777217 })) ≡ false) }
-    ensures versions { (in_range (slot_with (record least_super { versions_max = 0 })) ≡ false)
-        × (in_range (slot_with (record greatest_super { versions_max = 16385 })) ≡ false) }
+    ensures least { in_range least_super ≡ true }
+    ensures most { in_range greatest_super ≡ true }
+    ensures format { (in_range (record greatest_super { format = 0 }) ≡ false)
+        × (in_range (record greatest_super { format = 2 }) ≡ false) }
+    ensures generation { in_range (record least_super { generation = 0 }) ≡ false }
+    ensures manifest { (in_range (record least_super { manifest = 5 }) ≡ false)
+        × (in_range (record greatest_super { manifest = 4294967295 }) ≡ false) }
+    ensures length { in_range (record least_super { length = 28 }) ≡ false }
+    ensures region { in_range (record greatest_super { region = 2 }) ≡ false }
+    ensures mem { (in_range (record least_super { mem = 3 }) ≡ false)
+        × (in_range (record greatest_super { mem = 4097 }) ≡ false) }
+    ensures changes { (in_range (record least_super { changes_max = 0 }) ≡ false)
+        × (in_range (record greatest_super { changes_max = 16777217 }) ≡ false) }
+    ensures versions { (in_range (record least_super { versions_max = 0 }) ≡ false)
+        × (in_range (record greatest_super { versions_max = 16385 }) ≡ false) }
 {}
 
 /// Of two slots the one of greater generation is chosen, and the first of two that have the same one.
 pub fn ties_go_to_the_first_slot()
-    ensures tie { newer (Some (slot_of_generation 2 0)) (Some (slot_of_generation 2 1))
-        ≡ Some (0, slot_of_generation 2 0) }
-    ensures second { newer (Some (slot_of_generation 2 0)) (Some (slot_of_generation 3 1))
-        ≡ Some (1, slot_of_generation 3 1) }
-    ensures first { newer (Some (slot_of_generation 3 0)) (Some (slot_of_generation 2 1))
-        ≡ Some (0, slot_of_generation 3 0) }
+    ensures tie { newer (Some (of_generation 2 0)) (Some (of_generation 2 1))
+        ≡ Some (0, of_generation 2 0) }
+    ensures second { newer (Some (of_generation 2 0)) (Some (of_generation 3 1))
+        ≡ Some (1, of_generation 3 1) }
+    ensures first { newer (Some (of_generation 3 0)) (Some (of_generation 2 1))
+        ≡ Some (0, of_generation 3 0) }
 {}
 
 /// A journal goes on in the other region once its active one is full, and not before.
@@ -228,19 +228,58 @@ pub fn records_are_known_by_their_gates()
     ensures none { records (bytes_from 12287 (0xa7 ∷ [])) 12310 1 12287 ≡ Err 2 }
 {}
 
-/// A superblock's generation is read with all of its eight bytes.
+/// A superblock's generation is read with all of its eight bytes, and its format with both of its bytes.
 pub fn generations_have_eight_bytes()
-    ensures { slot_of (take 40 (0xa7 ∷ body (record new_super { generation = 4294967298 })))
-        ≡ Some (slot_with (record new_super { generation = 4294967298 })) }
+    ensures format { slot_of (take 40 (0xa7 ∷ body (record new_super { format = 258 })))
+        ≡ Some (record new_super { format = 258 }) }
+    ensures ok { slot_of (take 40 (0xa7 ∷ body (record new_super { generation = 4294967298 })))
+        ≡ Some (record new_super { generation = 4294967298 }) }
 {}
 
 /// What fills the last block behind a manifest is 0, from its first byte on.
 pub fn the_first_byte_behind_a_manifest_counts()
-    ensures ok { manifest_filled 29 (manifest_bytes new_manifest ++ 0 ∷ []) ≡ Some new_manifest }
-    ensures fill { manifest_filled 29 (manifest_bytes new_manifest ++ 1 ∷ []) ≡ None }
+    ensures ok { manifest_filled 1 29 (manifest_bytes 1 new_manifest ++ 0 ∷ [])
+        ≡ Some new_manifest }
+    ensures fill { manifest_filled 1 29 (manifest_bytes 1 new_manifest ++ 1 ∷ []) ≡ None }
 {}
 
 /// Where a whole chain has no manifest its first block is blamed.
 pub fn the_first_block_of_a_chain_is_blamed()
-    ensures { manifest_at (chain_links 7 0) 6 4093 ≡ Err 6 }
+    ensures { manifest_at 1 (chain_links 7 0) 6 4093 ≡ Err 6 }
+{}
+
+/// Format 2 has a place for entries that were compacted and for versions that were dropped, and format 1 has none.
+pub fn the_first_format_has_no_drops()
+    ensures one { (has_fields 1 (after_a_drop 0) ≡ false)
+        × (has_fields 1 (record (after_a_drop 0) { marks = false ∷ false ∷ [] }) ≡ true)
+        × (has_fields 1 (record (after_a_drop 1) { marks = false ∷ false ∷ [] }) ≡ false) }
+    ensures two { has_fields 2 (after_a_drop 1) ≡ true }
+    ensures other { (has_fields 0 new_manifest ≡ false) × (has_fields 3 new_manifest ≡ false) }
+{}
+
+/// The manifest of a store with a version that was dropped, as it is written and read in format 2. Each mark is 0 or 1.
+pub fn bytes_of_a_drop()
+    ensures written { manifest_bytes 2 (after_a_drop 258) ≡ after_a_drop_bytes (0 ∷ 1 ∷ []) }
+    ensures read { manifest_in 2 (after_a_drop_bytes (0 ∷ 1 ∷ [])) ≡ Some (after_a_drop 258) }
+    ensures living { manifest_in 2 (after_a_drop_bytes (0 ∷ 0 ∷ []))
+        ≡ Some (record (after_a_drop 258) { marks = false ∷ false ∷ [] }) }
+    ensures mark { manifest_in 2 (after_a_drop_bytes (0 ∷ 2 ∷ [])) ≡ None }
+    ensures root { manifest_in 2 (after_a_drop_bytes (1 ∷ 1 ∷ [])) ≡ None }
+    ensures few { manifest_in 2 (after_a_drop_bytes (0 ∷ [])) ≡ None }
+    ensures one { manifest_in 1 (after_a_drop_bytes (0 ∷ 1 ∷ [])) ≡ None }
+{}
+
+/// The bounds of what format 2 has beside: entries compacted in eight bytes, a mark for each version, and version 0 living.
+pub fn drops_are_lawful_up_to_their_bounds()
+    ensures compacted { (is_lawful_manifest 2 (after_a_drop 18446744073709551615) ≡ true)
+        × (is_lawful_manifest 2 (after_a_drop 18446744073709551616) ≡ false) }
+    ensures marks { (is_lawful_manifest 2 (record (after_a_drop 0) { marks = false ∷ [] }) ≡ false)
+        × (is_lawful_manifest 2 (record (after_a_drop 0) { marks = true ∷ true ∷ [] }) ≡ false) }
+    ensures below { (is_lawful_manifest 2
+        (record (after_a_drop 0) { parents = 0 ∷ 1 ∷ []; marks = false ∷ true ∷ true ∷ [] })
+        ≡ true)
+        × (is_lawful_manifest 2
+        (record (after_a_drop 0) { parents = 0 ∷ 1 ∷ []; marks = false ∷ true ∷ false ∷ [] })
+        ≡ false) }
+    ensures format { is_lawful_manifest 1 (after_a_drop 0) ≡ false }
 {}

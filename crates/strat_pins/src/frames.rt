@@ -7,7 +7,7 @@ ghost use Rattle.std.specs.Prelude.{◌≡◌, [], ◌∷◌, ◌++◌, replicat
 ghost use Rattle.strat_model.specs.declared.replies.Refusal.TheVariants as why;
 ghost use Rattle.strat_model.specs.declared.replies.Reply.TheVariants as reply;
 ghost use Rattle.strat_model.specs.Answer.{plain, as_told};
-ghost use Rattle.strat_model.specs.Request.{Put, Delete, Get, Clone, Scan, Info, OpenCursor, NextPairs, CloseCursor, Stat};
+ghost use Rattle.strat_model.specs.Request.{Put, Delete, Get, Clone, Scan, Info, OpenCursor, NextPairs, CloseCursor, Stat, DropVersion};
 ghost use Rattle.strat_model.specs.Spelling.{command_bytes, command_body, size_refusal, FitsFields, FitsParent, FitsReply, FitsPairs, HasForm, reply_body, tag_of};
 ghost use Rattle.strat_model.specs.Stream.{Whole, Rest, Long, ending_of, IsBody};
 
@@ -48,7 +48,8 @@ pub fn ranges_are_refused_for_bounds_and_limits()
         × (size_refusal (NextPairs 1 256) ≡ None)
         × (size_refusal (NextPairs 1 257) ≡ Some why.ScanSize) }
     ensures none { (size_refusal (Clone 0) ≡ None) × (size_refusal (Info 0) ≡ None)
-        × (size_refusal (CloseCursor 1) ≡ None) × (size_refusal Stat ≡ None) }
+        × (size_refusal (CloseCursor 1) ≡ None) × (size_refusal Stat ≡ None)
+        × (size_refusal (DropVersion 0) ≡ None) }
 {}
 
 /// Of two unlawful sizes that of a key or a bound is told.
@@ -77,6 +78,7 @@ pub fn bytes_of_commands()
     ensures close { command_bytes (CloseCursor 1)
         ≡ 9 ∷ 0 ∷ 0 ∷ 0 ∷ 0 ∷ 0 ∷ 0 ∷ 0 ∷ 1 ∷ [] }
     ensures stat { command_bytes Stat ≡ 10 ∷ [] }
+    ensures drop { command_bytes (DropVersion 258) ≡ 11 ∷ 0 ∷ 0 ∷ 1 ∷ 2 ∷ [] }
 {}
 
 /// The tag of a body that has four bytes is the number in them, and 0 of any other.

@@ -6,11 +6,13 @@
 pub mod bad_disks;
 pub mod crashes;
 pub mod disks;
+pub mod drops;
 pub mod formats;
 pub mod frames;
 pub mod journals;
 pub mod limits;
 pub mod look_ups;
+pub mod marks;
 pub mod openings;
 pub mod runs;
 pub mod scans;

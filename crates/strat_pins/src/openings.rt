@@ -7,8 +7,8 @@ ghost use Rattle.strat_format.specs.SuperBlock.{AreLimits};
 ghost use Rattle.strat_recovery.specs.Passed.{is_sized, PassesOpening};
 ghost use Rattle.strat_pins.specs.Openings.{filled_chain, chain_with, chained_array};
 
-/// After four changes there are at most four updates, 65,536 arrays and 134,217,728 entries written; the change and
-/// the versions of the journal count, and its keys have lawful sizes.
+/// After four changes there are at most four updates, 65,536 arrays, 134,217,728 entries written and as many compacted; no
+/// version was dropped; the change and the versions of the journal count, and its keys have lawful sizes.
 pub fn states_open_up_to_their_bounds()
     ensures ok { PassesOpening filled_chain }
     ensures updates { ¬ PassesOpening (record filled_chain { updates = 5 }) }
@@ -17,6 +17,9 @@ pub fn states_open_up_to_their_bounds()
     ensures next { ¬ PassesOpening (record filled_chain { next_array = 65538 }) }
     ensures none { ¬ PassesOpening (record filled_chain { next_array = 0; levels = [] }) }
     ensures written { ¬ PassesOpening (record filled_chain { written = 134217729 }) }
+    ensures compacted { ¬ PassesOpening (record filled_chain { compacted = 134217729 }) }
+    ensures marks { ¬ PassesOpening
+        (record filled_chain { marks = false ∷ false ∷ false ∷ true ∷ [] }) }
     ensures journal { ¬ PassesOpening (record filled_chain { journal = Put 3 [] [] ∷ [] }) }
 {}
 

@@ -4,17 +4,17 @@
 ghost use Rattle.std.specs.Prelude.{◌≡◌, ◌≤◌, ℕ, List, [], ◌∷◌, length, Some, None, true, false};
 ghost use Rattle.strat_model.specs.Answer.{accepts, refusal};
 ghost use Rattle.strat_model.specs.Batch.{Continuation, IsChangeMade, tables_continued};
-ghost use Rattle.strat_model.specs.Request.{Request, Put, Delete, Get, Clone, Scan, Info, OpenCursor, NextPairs, CloseCursor, Stat};
+ghost use Rattle.strat_model.specs.Request.{Request, Put, Delete, Get, Clone, Scan, Info, OpenCursor, NextPairs, CloseCursor, Stat, DropVersion};
 ghost use Rattle.strat_model.specs.Run.{is_change, takes_memory, reaches_disk, MayFill, fill_after, is_carried_out, IsAfter, EmptiesAtOnce, Position, Response, AnswersNoCommand, AnswersNoMemory, AnswersFault, Exchange, Interruption, IsTranscript, bodies_of, responses_of, tables_of, positions_of, UsesOneRegion, AnswersByTable, IsFault, IsRun, Transcript};
 ghost use Rattle.strat_model.specs.Step.{step};
 ghost use Rattle.strat_model.specs.Table.{fresh, bare};
 ghost use Rattle.strat_model.specs.Spelling.{Spells};
 ghost use Rattle.strat_model.specs.declared.replies.Refusal.TheVariants as why;
 
-/// A put, a delete and a clone change a store.
-pub fn three_commands_are_changes()
+/// A put, a delete, a clone and a drop change a store.
+pub fn four_commands_are_changes()
     ensures some { (is_change (Put 0 [] []) ≡ true) × (is_change (Delete 0 []) ≡ true)
-        × (is_change (Clone 0) ≡ true) }
+        × (is_change (Clone 0) ≡ true) × (is_change (DropVersion 0) ≡ true) }
     ensures none { (is_change (Get 0 []) ≡ false) × (is_change (Scan 0 [] [] 1) ≡ false)
         × (is_change (Info 0) ≡ false) × (is_change (OpenCursor 0 [] []) ≡ false)
         × (is_change (NextPairs 1 1) ≡ false) × (is_change (CloseCursor 1) ≡ false)
@@ -22,9 +22,10 @@ pub fn three_commands_are_changes()
 {}
 
 /// Memory may run out for these, and where a cursor is opened.
-pub fn four_commands_take_memory()
+pub fn five_commands_take_memory()
     ensures some { (takes_memory (Put 0 [] []) ≡ true) × (takes_memory (Delete 0 []) ≡ true)
-        × (takes_memory (Clone 0) ≡ true) × (takes_memory (OpenCursor 0 [] []) ≡ true) }
+        × (takes_memory (Clone 0) ≡ true) × (takes_memory (DropVersion 0) ≡ true)
+        × (takes_memory (OpenCursor 0 [] []) ≡ true) }
     ensures none { (takes_memory (Get 0 []) ≡ false) × (takes_memory (Scan 0 [] [] 1) ≡ false)
         × (takes_memory (Info 0) ≡ false) × (takes_memory (NextPairs 1 1) ≡ false)
         × (takes_memory (CloseCursor 1) ≡ false) × (takes_memory Stat ≡ false) }
@@ -76,10 +77,11 @@ pub fn interruptions_come_last()
 {}
 
 /// The disk may fail at a change and at what reads pairs.
-pub fn six_commands_reach_the_disk()
+pub fn seven_commands_reach_the_disk()
     ensures some { (reaches_disk (Put 0 [] []) ≡ true) × (reaches_disk (Delete 0 []) ≡ true)
         × (reaches_disk (Get 0 []) ≡ true) × (reaches_disk (Clone 0) ≡ true)
-        × (reaches_disk (Scan 0 [] [] 1) ≡ true) × (reaches_disk (NextPairs 1 1) ≡ true) }
+        × (reaches_disk (Scan 0 [] [] 1) ≡ true) × (reaches_disk (NextPairs 1 1) ≡ true)
+        × (reaches_disk (DropVersion 0) ≡ true) }
     ensures none { (reaches_disk (Info 0) ≡ false) × (reaches_disk (OpenCursor 0 [] []) ≡ false)
         × (reaches_disk (CloseCursor 1) ≡ false) × (reaches_disk Stat ≡ false) }
 {}

@@ -48,10 +48,12 @@ pub fn leads_are_counted()
 {}
 
 /// A journal has two changes fewer than both regions take, and no more: six for regions of four. Levels begin with level 1.
+/// Each version has a mark.
 pub fn states_are_formed_up_to_their_bounds()
     ensures most { IsWellFormed (after_puts 6) }
     ensures more { ¬ IsWellFormed (after_puts 7) }
     ensures level { ¬ IsWellFormed (eight_leads_in 4 0) }
+    ensures marks { ¬ IsWellFormed (record (after_puts 6) { marks = [] }) }
     ensures rising { is_numbered_from 1
         ((eight_leads_in 4 2).levels ++ (eight_leads_in 4 2).levels) ≡ false }
     ensures arrays { is_numbered_from 1 (record { number = 1; horizon = 1; arrays = [] } ∷ [])
@@ -114,9 +116,9 @@ pub fn breaches_are_told_in_order()
 
 /// Each change of a journal counts against the most that a store takes.
 pub fn changes_of_a_journal_are_counted()
-    ensures most { are_accepted 2 1 (None ∷ []) 0
+    ensures most { are_accepted 2 1 (None ∷ []) (false ∷ []) 0
         (Put 0 (97 ∷ []) [] ∷ Put 0 (97 ∷ []) [] ∷ []) ≡ true }
-    ensures more { are_accepted 1 1 (None ∷ []) 0
+    ensures more { are_accepted 1 1 (None ∷ []) (false ∷ []) 0
         (Put 0 (97 ∷ []) [] ∷ Put 0 (97 ∷ []) [] ∷ []) ≡ false }
 {}
 

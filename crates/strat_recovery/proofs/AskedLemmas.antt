@@ -11,7 +11,7 @@ use Rattle.strat_state.specs.Level.{TaggedArray, Level}
 use Rattle.strat_state.specs.LookUp.{first_live, looked_up, of_state}
 use Rattle.strat_state.specs.Reading.{level_zero}
 use Rattle.strat_state.specs.Sound.{IsSound}
-use Rattle.strat_state.specs.State.{State, versions_of}
+use Rattle.strat_state.specs.State.{State, versions_of, is_living}
 use Rattle.strat_state.proofs.LookUpLemmas.{place_in, looked_up_read}
 use Rattle.strat_model.specs.Pairs.{value_of}
 use Rattle.strat_model.specs.Step.{pairs_at}
@@ -71,8 +71,8 @@ bytes_shown c h s parents zeros v key e =
     ap (λ (found : List (List Entry)). first_live parents (zeros ++ found) v key)
     (levels_shown c key parents v h.manifest.levels made.0 made.1 ∙ ap (λ (x : State). filter_map (place_in of_state parents v key) x.levels) made.2)
 
-pub asked_same : (c : Image) (h : Head) (s : State) (v : ℕ) (key : List ℕ) → state_of c h ≡ Some s → IsSound s → v < length (versions_of s)
+pub asked_same : (c : Image) (h : Head) (s : State) (v : ℕ) (key : List ℕ) → state_of c h ≡ Some s → IsSound s → v < length (versions_of s) → is_living s v ≡ true
     → asked c (versions_of s) (level_zero s ∷ []) h.manifest.levels v key ≡ value_of (pairs_at (table_of s) v) key
-asked_same c h s v key e sound known =
+asked_same c h s v key e sound known living =
     ap (λ (o : Option Entry). option_and_then (λ x. x.value) o) (bytes_shown c h s (versions_of s) (level_zero s ∷ []) v key e ∙ looked_up_read s v key)
-    ∙ sym (read_same s v key sound known)
+    ∙ sym (read_same s v key sound known living)

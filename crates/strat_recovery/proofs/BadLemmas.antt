@@ -146,7 +146,7 @@ module _ (c : Image) (h : Head) (s : State) (reads : state_of c h ≡ Some s) (s
       let t = there in
       let strat : IsStratified (versions_of s) t.level = each_of (IsStratified (versions_of s)) s.levels t.level sound.stratified t.among in
       let lead = held_among (level_leads t.level) e (all_at (holds_entry (level_leads t.level)) e t.array.content (all_at (is_drawn t.level) t.array t.level.arrays strat.drawn t.within) among) in
-      let low : e.version < t.level.horizon = lead_below (versions_of s) (sound_tree s sound) t.level strat e lead in
+      let low : e.version < t.level.horizon = lead_below (versions_of s) (sound_tree s sound.formed) t.level strat e lead in
       let old = and_parts (leb t.level.horizon (length s.parents)) (list_all (λ other. leb t.level.horizon other.horizon) (shallower s t.level)) (all_at (has_old_horizon s) t.level s.levels sound.old t.among) in
       let le = leb-true t.level.horizon (length s.parents) old.0 in
       let more : length s.parents ≤ length (versions_of s) = length-grown s.parents s.journal in

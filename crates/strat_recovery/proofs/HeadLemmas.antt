@@ -54,7 +54,7 @@ parents_said (p ∷ ps) = ap (λ (x : List ℕ). p ∷ x) (parents_said ps)
 -- the head without where its parts lie
 abbrev head_unplaced : Head → Head
 head_unplaced h = record h {
-  sb = record (h.sb) { manifest = 0; length = 0; region = 0 };
+  sb = record (h.sb) { format = 0; manifest = 0; length = 0; region = 0 };
   manifest = record (h.manifest) { levels = map level_unplaced h.manifest.levels };
 }
 
@@ -65,9 +65,11 @@ state_with h levels = record {
   changes_max = h.sb.changes_max;
   versions_max = h.sb.versions_max;
   parents = parents_in h.manifest;
+  marks = h.manifest.marks;
   changes = h.manifest.changes;
   updates = h.manifest.updates;
   written = h.manifest.written;
+  compacted = h.manifest.compacted;
   next_array = h.manifest.next_array;
   levels = levels;
   journal = h.journal;
@@ -79,8 +81,8 @@ head_said c h s e =
     let made = map_some (state_with h) (all_some (level_on c) m.levels) s e in
     ap (head_of h.sb.generation) (sym made.2)
     ∙ (λ i. record {
-      sb = record { generation = h.sb.generation; manifest = 0; length = 0; region = 0; mem = h.sb.mem; changes_max = h.sb.changes_max; versions_max = h.sb.versions_max };
-      manifest = record { changes = m.changes; updates = m.updates; written = m.written; next_array = m.next_array; parents = parents_said m.parents i; levels = levels_said c m.levels made.0 made.1 i };
+      sb = record { format = 0; generation = h.sb.generation; manifest = 0; length = 0; region = 0; mem = h.sb.mem; changes_max = h.sb.changes_max; versions_max = h.sb.versions_max };
+      manifest = record { changes = m.changes; updates = m.updates; written = m.written; compacted = m.compacted; next_array = m.next_array; parents = parents_said m.parents i; marks = m.marks; levels = levels_said c m.levels made.0 made.1 i };
       journal = h.journal;
     })
 

@@ -8,11 +8,11 @@ use Rattle.strat_crash.specs.Image.{Image}
 use Rattle.strat_base.specs.Tree.{Parents}
 use Rattle.strat_base.specs.Change.{Change}
 use Rattle.strat_state.specs.Level.{Level}
-use Rattle.strat_format.specs.Manifest.{Manifest, is_rising, are_older, is_counted, first_version, versions_in, is_lawful_array, is_lawful_level, is_lawful_manifest, manifest_in}
+use Rattle.strat_format.specs.Manifest.{Manifest, is_rising, are_older, is_counted, first_version, versions_in, is_lawful_array, is_lawful_level, is_lawful_manifest, manifest_in, has_fields}
 use Rattle.strat_base.specs.declared.descriptors.LevelDesc.{LevelDesc}
 use Rattle.strat_format.specs.Arrays.{all_some}
 use Rattle.strat_recovery.specs.Opened.{array_on, level_on, parents_in}
-use Rattle.strat_state.specs.State.{State, tree_after}
+use Rattle.strat_state.specs.State.{State, tree_after, marks_after}
 use Rattle.strat_state.specs.Sound.{is_tree, is_tree_from, is_numbered_from, is_accepted, are_accepted, journal_max, IsWellFormed}
 use Rattle.strat_format.specs.SuperBlock.{Super, newest_in}
 use Rattle.strat_format.specs.Damage.{Read, and_then, passed_or, put_first}
@@ -24,6 +24,7 @@ use Rattle.strat_format.proofs.ManifestLemmas.{pass_at, manifest_in-some}
 use Rattle.strat_format.proofs.TwoRegionsLemmas.{length-two}
 use Rattle.strat_recovery.specs.Head.{Head}
 use Rattle.strat_recovery.specs.Opening.{belongs, recover_manifest, accepted_in, recover_journal, recover_head, recover_slot, recover, opened, state_of, reads_as}
+use Rattle.strat_base.specs.Marks.{Marks, are_pruned}
 
 pub map_some : {A B : Type 0} (f : A → B) (o : Option A) (y : B) → option_map f o ≡ Some y → (x : A) × (o ≡ Some x) × (f x ≡ y)
 map_some f None y e = absurd (cc)
@@ -56,22 +57,23 @@ both_true : (a b : Bool) → a ≡ true → b ≡ true → a && b ≡ true
 both_true a b e f = (λ i. e i && b) ∙ f
 
 -- the tests of a manifest, and of a level
-abbrev pub manifest_tests : Manifest → List Bool
-manifest_tests m =
+abbrev pub manifest_tests : ℕ → Manifest → List Bool
+manifest_tests format m =
     ltb m.changes (2 ^ 32) ∷ leb m.updates m.changes ∷ ltb m.written (2 ^ 64) ∷ leb 1 m.next_array ∷ ltb m.next_array (2 ^ 64)
     ∷ leb (versions_in m) VERSIONS_MAX ∷ are_older 1 m.parents ∷ leb (length m.levels) LEVELS
-    ∷ list_all (is_lawful_level (versions_in m) m.next_array) m.levels ∷ is_rising (map (λ level. level.number) m.levels) ∷ []
+    ∷ list_all (is_lawful_level (versions_in m) m.next_array) m.levels ∷ is_rising (map (λ level. level.number) m.levels)
+    ∷ has_fields format m ∷ ltb m.compacted (2 ^ 64) ∷ are_pruned (parents_in m) m.marks ∷ []
 
 abbrev pub level_tests : ℕ → ℕ → LevelDesc → List Bool
 level_tests versions next d =
     leb 1 d.number ∷ leb d.number LEVELS ∷ leb 1 d.horizon ∷ leb d.horizon versions
     ∷ is_counted d.arrays ∷ list_all (is_lawful_array next) d.arrays ∷ is_rising (map first_version d.arrays) ∷ []
 
-lawful_tree : (m : Manifest) → is_lawful_manifest m ≡ true → is_tree (parents_in m) ≡ true
-lawful_tree m lawful =
+lawful_tree : (format : ℕ) (m : Manifest) → is_lawful_manifest format m ≡ true → is_tree (parents_in m) ≡ true
+lawful_tree format m lawful =
     both_true (ltb 0 (length (parents_in m))) (is_tree_from 0 (parents_in m))
     (lt-ltb 0 (length (parents_in m)) (omega arith))
-    (sym (older_tree 1 m.parents) ∙ pass_at (manifest_tests m) 6 lawful)
+    (sym (older_tree 1 m.parents) ∙ pass_at (manifest_tests format m) 6 lawful)
 
 -- a level is numbered from a number on, if there is one
 abbrev Begins : ℕ → List LevelDesc → Type 0
@@ -115,25 +117,25 @@ begins_lawful versions next (d ∷ ds) lawful =
     leb-true 1 d.number (pass_at (level_tests versions next d) 0 laws.0)
 
 -- changes that are accepted in their turn
-accepted_all : (changes_max versions_max : ℕ) (parents : Parents) (changes : ℕ) (logged : List Logged) (journal : List Change)
-    → accepted_in changes_max versions_max parents changes logged ≡ Ok journal
-    → (are_accepted changes_max versions_max parents changes journal ≡ true) × (length journal ≡ length logged)
-accepted_all changes_max versions_max parents changes [] journal e =
+accepted_all : (changes_max versions_max : ℕ) (parents : Parents) (marks : Marks) (changes : ℕ) (logged : List Logged) (journal : List Change)
+    → accepted_in changes_max versions_max parents marks changes logged ≡ Ok journal
+    → (are_accepted changes_max versions_max parents marks changes journal ≡ true) × (length journal ≡ length logged)
+accepted_all changes_max versions_max parents marks changes [] journal e =
     let none : [] ≡ journal = cc in
-    let P : List Change → Type 0 = λ j. (are_accepted changes_max versions_max parents changes j ≡ true) × (length j ≡ 0) in
+    let P : List Change → Type 0 = λ j. (are_accepted changes_max versions_max parents marks changes j ≡ true) × (length j ≡ 0) in
     subst P none (refl, refl)
-accepted_all changes_max versions_max parents changes (l ∷ logged) journal e =
-    by_test (is_accepted changes_max versions_max parents changes l.change) refl
-    (accepted_all changes_max versions_max (tree_after parents l.change) (suc changes) logged) e
+accepted_all changes_max versions_max parents marks changes (l ∷ logged) journal e =
+    by_test (is_accepted changes_max versions_max parents marks changes l.change) refl
+    (accepted_all changes_max versions_max (tree_after parents l.change) (marks_after marks l.change) (suc changes) logged) e
   where
     later : Read (List Change)
-    later = accepted_in changes_max versions_max (tree_after parents l.change) (suc changes) logged
+    later = accepted_in changes_max versions_max (tree_after parents l.change) (marks_after marks l.change) (suc changes) logged
 
     P : List Change → Type 0
-    P j = (are_accepted changes_max versions_max parents changes j ≡ true) × (length j ≡ suc (length logged))
+    P j = (are_accepted changes_max versions_max parents marks changes j ≡ true) × (length j ≡ suc (length logged))
 
-    by_test : (b : Bool) → is_accepted changes_max versions_max parents changes l.change ≡ b
-        → ((j : List Change) → later ≡ Ok j → (are_accepted changes_max versions_max (tree_after parents l.change) (suc changes) j ≡ true) × (length j ≡ length logged))
+    by_test : (b : Bool) → is_accepted changes_max versions_max parents marks changes l.change ≡ b
+        → ((j : List Change) → later ≡ Ok j → (are_accepted changes_max versions_max (tree_after parents l.change) (marks_after marks l.change) (suc changes) j ≡ true) × (length j ≡ length logged))
         → cond b (put_first l.change later) (Err l.block) ≡ Ok journal → P journal
     by_test true is rest e =
         let parts = put_first_ok l.change later journal e in
@@ -146,28 +148,28 @@ cond_some true o y e = e
 cond_some false o y e = absurd (cc)
 
 -- a manifest that is read has a spelling
-pub lawful_read : (c : Image) (first n : ℕ) (blocks : List ℕ) (found : Chained) → manifest_in_chain c first n blocks ≡ Ok found → is_lawful_manifest found.manifest ≡ true
-lawful_read c first n blocks found e =
+pub lawful_read : (format : ℕ) (c : Image) (first n : ℕ) (blocks : List ℕ) (found : Chained) → manifest_in_chain format c first n blocks ≡ Ok found → is_lawful_manifest format found.manifest ≡ true
+lawful_read format c first n blocks found e =
     let bytes : List ℕ = chained_bytes c blocks in
-    let read = map_some (λ m. record { manifest = m; blocks = blocks }) (manifest_filled n bytes) found (found_ok first (option_map (λ m. record { manifest = m; blocks = blocks }) (manifest_filled n bytes)) found e) in
-    let here = cond_some (list_all (λ x. eqb x 0) (drop n bytes)) (manifest_in (take n bytes)) read.0 read.1 in
-    let P : Chained → Type 0 = λ x. is_lawful_manifest x.manifest ≡ true in
-    subst P read.2 (manifest_in-some read.0 (take n bytes) here).lawful
+    let read = map_some (λ m. record { manifest = m; blocks = blocks }) (manifest_filled format n bytes) found (found_ok first (option_map (λ m. record { manifest = m; blocks = blocks }) (manifest_filled format n bytes)) found e) in
+    let here = cond_some (list_all (λ x. eqb x 0) (drop n bytes)) (manifest_in format (take n bytes)) read.0 read.1 in
+    let P : Chained → Type 0 = λ x. is_lawful_manifest format x.manifest ≡ true in
+    subst P read.2 (manifest_in-some format read.0 (take n bytes) here).lawful
 
 module _ (c : Image) (sb : Super) (m : Manifest) (journal : List Change) (found : recover_manifest c sb ≡ Ok m) (changes : recover_journal c sb m ≡ Ok journal) where
-  pub lawful_found : is_lawful_manifest m ≡ true
+  pub lawful_found : is_lawful_manifest sb.format m ≡ true
   lawful_found =
       let test : Chained → Read Manifest = λ x. passed_or sb.manifest (belongs sb x) x.manifest in
-      let chained = and_then_ok (manifest_at c sb.manifest sb.length) test m found in
-      let blocks = and_then_ok (chain_from c [] sb.manifest (chain_length sb.length - 1)) (manifest_in_chain c sb.manifest sb.length) chained.0 chained.1 in
+      let chained = and_then_ok (manifest_at sb.format c sb.manifest sb.length) test m found in
+      let blocks = and_then_ok (chain_from c [] sb.manifest (chain_length sb.length - 1)) (manifest_in_chain sb.format c sb.manifest sb.length) chained.0 chained.1 in
       let here = passed_ok sb.manifest (belongs sb chained.0) chained.0.manifest m chained.2 in
-      let P : Manifest → Type 0 = λ x. is_lawful_manifest x ≡ true in
-      subst P here.1 (lawful_read c sb.manifest sb.length blocks.0 chained.0 blocks.2)
+      let P : Manifest → Type 0 = λ x. is_lawful_manifest sb.format x ≡ true in
+      subst P here.1 (lawful_read sb.format c sb.manifest sb.length blocks.0 chained.0 blocks.2)
 
-  pub journal_tests : (are_accepted sb.changes_max sb.versions_max (parents_in m) m.changes journal ≡ true) × (length journal ≤ journal_max sb.mem)
+  pub journal_tests : (are_accepted sb.changes_max sb.versions_max (parents_in m) m.marks m.changes journal ≡ true) × (length journal ≤ journal_max sb.mem)
   journal_tests =
-      let read = and_then_ok (journal_in_two c sb.mem sb.region) (accepted_in sb.changes_max sb.versions_max (parents_in m) m.changes) journal changes in
-      let accepted = accepted_all sb.changes_max sb.versions_max (parents_in m) m.changes read.0 journal read.2 in
+      let read = and_then_ok (journal_in_two c sb.mem sb.region) (accepted_in sb.changes_max sb.versions_max (parents_in m) m.marks m.changes) journal changes in
+      let accepted = accepted_all sb.changes_max sb.versions_max (parents_in m) m.marks m.changes read.0 journal read.2 in
       let few = length-two c sb.mem sb.region read.0 read.1 in
       (accepted.0, omega (arith, accepted.1, few))
 
@@ -178,19 +180,22 @@ module _ (c : Image) (sb : Super) (m : Manifest) (journal : List Change) (found 
         changes_max = sb.changes_max;
         versions_max = sb.versions_max;
         parents = parents_in m;
+        marks = m.marks;
         changes = m.changes;
         updates = m.updates;
         written = m.written;
+        compacted = m.compacted;
         next_array = m.next_array;
         levels = levels;
         journal = journal;
       } in
       let made = map_some make (all_some (level_on c) m.levels) s e in
-      let laws : list_all (is_lawful_level (versions_in m) m.next_array) m.levels ≡ true = pass_at (manifest_tests m) 8 lawful_found in
+      let laws : list_all (is_lawful_level (versions_in m) m.next_array) m.levels ≡ true = pass_at (manifest_tests sb.format m) 8 lawful_found in
       let tests = journal_tests in
       subst IsWellFormed made.2 (record {
-        tree = lawful_tree m lawful_found;
-        numbered = numbered c (versions_in m) m.next_array m.levels made.0 1 made.1 laws (pass_at (manifest_tests m) 9 lawful_found) (begins_lawful (versions_in m) m.next_array m.levels laws);
+        tree = lawful_tree sb.format m lawful_found;
+        pruned = pass_at (manifest_tests sb.format m) 12 lawful_found;
+        numbered = numbered c (versions_in m) m.next_array m.levels made.0 1 made.1 laws (pass_at (manifest_tests sb.format m) 9 lawful_found) (begins_lawful (versions_in m) m.next_array m.levels laws);
         accepted = tests.0;
         fits = le-leb (length journal) (journal_max sb.mem) tests.1;
       })

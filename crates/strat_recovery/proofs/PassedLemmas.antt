@@ -1,5 +1,5 @@
 -- What an opening reads has what it tested.
-use Rattle.std.proofs.Common.{◌≡◌, ◌≤◌, ◌+◌, ◌-◌, ◌*◌, ◌^◌, ℕ, zero, suc, Bool, true, false, cond, eqb, leb, ltb, get_or, not, ◌&&◌, inl, inr, List, [], ◌∷◌, ◌++◌, length, take, drop, map, Option, Some, None, Ok, Err, refl, sym, ap, ◌∙◌, subst, arith, length-append}
+use Rattle.std.proofs.Common.{◌≡◌, ◌≤◌, ◌+◌, ◌-◌, ◌*◌, ◌^◌, ℕ, zero, suc, Bool, true, false, cond, eqb, leb, ltb, get_or, not, ◌&&◌, inl, inr, List, [], ◌∷◌, ◌++◌, length, take, drop, map, Option, Some, None, Ok, Err, refl, sym, ap, ◌∙◌, subst, arith, length-append, ◌||◌}
 use Rattle.std.specs.Prelude.{option_map, option_and_then, flat_map, filter_map, fold}
 use Rattle.std.specs.Option.{option_map_or}
 use Rattle.std.specs.List.{list_all, AllByRecursion}
@@ -12,8 +12,8 @@ use Rattle.strat_base.specs.declared.limits.TheConstants.{BLOCK}
 use Rattle.strat_base.specs.Numbers.{number}
 use Rattle.strat_base.specs.Sizes.{is_key, is_value}
 use Rattle.strat_base.specs.Fields.{key_field, key_in, value_in}
-use Rattle.strat_base.specs.Tree.{Parents, is_known, has_child}
-use Rattle.strat_base.specs.Change.{Change, Put, Delete, Clone, change_bytes, change_of_kind, change_in}
+use Rattle.strat_base.specs.Tree.{Parents}
+use Rattle.strat_base.specs.Change.{Change, Put, Delete, Clone, DropVersion, change_bytes, change_of_kind, change_in}
 use Rattle.strat_base.specs.Entries.{Entry, is_ascending}
 use Rattle.strat_base.specs.EntryBytes.{fits_fields, is_markable}
 use Rattle.strat_base.proofs.FieldLemmas.{key_in-some}
@@ -27,14 +27,14 @@ use Rattle.strat_format.specs.Manifest.{Manifest, versions_in, is_rising, are_ap
 use Rattle.strat_base.specs.declared.descriptors.ArrayDesc.{ArrayDesc}
 use Rattle.strat_base.specs.declared.descriptors.LevelDesc.{LevelDesc}
 use Rattle.strat_format.specs.Records.{Logged, block_of, record_then, records, first_records, records_behind, journal_in_two}
-use Rattle.strat_format.specs.SuperBlock.{Super, Slot, AreLimits, in_range, chosen_in, verdict}
+use Rattle.strat_format.specs.SuperBlock.{Super, AreLimits, in_range, chosen_in, verdict}
 use Rattle.strat_format.proofs.BlockLemmas.{block_in-some}
 use Rattle.strat_format.proofs.DamageLemmas.{and_then_ok, passed_ok, put_first_ok}
 use Rattle.strat_format.proofs.ManifestLemmas.{pass_at}
 use Rattle.strat_format.proofs.TwoRegionsLemmas.{journal_cut}
 use Rattle.strat_state.specs.Level.{TaggedArray, Level, is_distinct}
-use Rattle.strat_state.specs.State.{State, tree_after, update_of}
-use Rattle.strat_state.specs.Sound.{is_accepted, are_accepted}
+use Rattle.strat_state.specs.State.{State, tree_after, update_of, marks_after}
+use Rattle.strat_state.specs.Sound.{is_accepted, are_accepted, is_there, takes_updates}
 use Rattle.strat_recovery.specs.Head.{descriptors}
 use Rattle.strat_format.specs.Arrays.{blocks_of, entries_on}
 use Rattle.strat_format.specs.Arrays.{all_some}
@@ -42,6 +42,8 @@ use Rattle.strat_recovery.specs.Opened.{array_on, level_on, parents_in}
 use Rattle.strat_recovery.specs.Opening.{has_own_blocks, has_own_ids, has_own_versions, is_filled, has_few_publications, belongs, recover_manifest, accepted_in, recover_journal, state_of, reads_as}
 use Rattle.strat_recovery.specs.Passed.{is_sized, IsTestedArray, IsTestedLevel, PassesOpening}
 use Rattle.strat_recovery.proofs.OpeningLemmas.{map_some, next_some, each_some, manifest_tests, level_tests, lawful_found, journal_tests, state_found}
+use Rattle.strat_base.specs.Marks.{Marks, none_dropped, takes_drops}
+use Rattle.strat_state.proofs.MarkLemmas.{accepted_drop}
 
 -- an entry that is read from a block has lawful sizes
 sized_fits : (e : Entry) → fits_fields e ≡ true → is_sized e ≡ true
@@ -155,26 +157,29 @@ apart : (n m : ℕ) → not (eqb n m) ≡ true → n ≤ m → suc n ≤ m
 apart n m differ le = grind (arith, nat_tests)
 
 module _ (changes_max versions_max : ℕ) where
-  one_within : (parents : Parents) (n : ℕ) (c : Change) → is_accepted changes_max versions_max parents n c ≡ true → n ≤ changes_max → length parents ≤ versions_max
+  one_within : (parents : Parents) (marks : Marks) (n : ℕ) (c : Change) → is_accepted changes_max versions_max parents marks n c ≡ true → n ≤ changes_max → length parents ≤ versions_max
       → (suc n ≤ changes_max) × (length (tree_after parents c) ≤ versions_max)
-  one_within parents n (Put v key value) is le few =
-      let parts = and_parts (is_known parents v && not (has_child parents v)) (not (eqb n changes_max)) is in
+  one_within parents marks n (Put v key value) is le few =
+      let parts = and_parts (takes_updates parents marks v) (not (eqb n changes_max)) is in
       (apart n changes_max parts.1 le, few)
-  one_within parents n (Delete v key) is le few =
-      let parts = and_parts (is_known parents v && not (has_child parents v)) (not (eqb n changes_max)) is in
+  one_within parents marks n (Delete v key) is le few =
+      let parts = and_parts (takes_updates parents marks v) (not (eqb n changes_max)) is in
       (apart n changes_max parts.1 le, few)
-  one_within parents n (Clone v) is le few =
-      let parts = and_parts (is_known parents v && not (eqb (length parents) versions_max)) (not (eqb n changes_max)) is in
-      let more = apart (length parents) versions_max (and_parts (is_known parents v) (not (eqb (length parents) versions_max)) parts.0).1 few in
+  one_within parents marks n (Clone v) is le few =
+      let parts = and_parts (is_there parents marks v && not (eqb (length parents) versions_max)) (not (eqb n changes_max)) is in
+      let more = apart (length parents) versions_max (and_parts (is_there parents marks v) (not (eqb (length parents) versions_max)) parts.0).1 few in
       (apart n changes_max parts.1 le, omega (arith, more, length-append parents (Some v ∷ [])))
+  one_within parents marks n (DropVersion v) is le few =
+      let parts = and_parts (takes_updates parents marks v && not (eqb v 0)) (not (eqb n changes_max)) (accepted_drop changes_max versions_max parents marks n v is) in
+      (apart n changes_max parts.1 le, few)
 
-  within : (parents : Parents) (n : ℕ) (journal : List Change) → are_accepted changes_max versions_max parents n journal ≡ true → n ≤ changes_max → length parents ≤ versions_max
+  within : (parents : Parents) (marks : Marks) (n : ℕ) (journal : List Change) → are_accepted changes_max versions_max parents marks n journal ≡ true → n ≤ changes_max → length parents ≤ versions_max
       → (n + length journal ≤ changes_max) × (length (fold tree_after parents journal) ≤ versions_max)
-  within parents n [] all' le few = (omega (arith, le), few)
-  within parents n (c ∷ journal) all' le few =
-      let parts = and_parts (is_accepted changes_max versions_max parents n c) (are_accepted changes_max versions_max (tree_after parents c) (suc n) journal) all' in
-      let more = one_within parents n c parts.0 le few in
-      let rest = within (tree_after parents c) (suc n) journal parts.1 more.0 more.1 in
+  within parents marks n [] all' le few = (omega (arith, le), few)
+  within parents marks n (c ∷ journal) all' le few =
+      let parts = and_parts (is_accepted changes_max versions_max parents marks n c) (are_accepted changes_max versions_max (tree_after parents c) (marks_after marks c) (suc n) journal) all' in
+      let more = one_within parents marks n c parts.0 le few in
+      let rest = within (tree_after parents c) (marks_after marks c) (suc n) journal parts.1 more.0 more.1 in
       (omega (arith, rest.0), rest.1)
 
 -- what a change writes has lawful sizes
@@ -189,7 +194,7 @@ value_sized bytes value e =
     subst (λ (x : List ℕ). is_value x ≡ true) found.1 (and_parts (leb (2 + n) (length bytes)) (is_value here) found.0).1
 
 kind_sized : (kind v : ℕ) (fields : List ℕ) (c : Change) → change_of_kind kind v fields ≡ Some c → is_sized_change c ≡ true
-kind_sized kind v fields c e = by_kind (eqb kind 1) (eqb kind 2) (eqb kind 3) e
+kind_sized kind v fields c e = by_kind (eqb kind 1) (eqb kind 2) (eqb kind 3) (eqb kind 4) e
   where
     P : Change → Type 0
     P x = is_sized_change x ≡ true
@@ -197,16 +202,17 @@ kind_sized kind v fields c e = by_kind (eqb kind 1) (eqb kind 2) (eqb kind 3) e
     put : List ℕ → Option Change
     put key = option_map (λ value. Put v key value) (value_in (drop (length (key_field key)) fields))
 
-    by_kind : (one two three : Bool) → cond one (option_and_then put (key_in fields)) (cond two (option_map (λ key. Delete v key) (key_in fields)) (cond three (Some (Clone v)) None)) ≡ Some c → P c
-    by_kind true two three e =
+    by_kind : (one two three four : Bool) → cond one (option_and_then put (key_in fields)) (cond two (option_map (λ key. Delete v key) (key_in fields)) (cond three (Some (Clone v)) (cond four (Some (DropVersion v)) None))) ≡ Some c → P c
+    by_kind true two three four e =
         let key = next_some put (key_in fields) c e in
         let value = map_some (λ value. Put v key.0 value) (value_in (drop (length (key_field key.0)) fields)) c key.2 in
         subst P value.2 (and_from (is_key key.0) (is_value value.0) (key_in-some fields key.0 key.1).0 (value_sized (drop (length (key_field key.0)) fields) value.0 value.1))
-    by_kind false true three e =
+    by_kind false true three four e =
         let key = map_some (λ key. Delete v key) (key_in fields) c e in
         subst P key.2 (and_from (is_key key.0) true (key_in-some fields key.0 key.1).0 refl)
-    by_kind false false true e = let same : Clone v ≡ c = cc in subst P same refl
-    by_kind false false false e = absurd (cc)
+    by_kind false false true four e = let same : Clone v ≡ c = cc in subst P same refl
+    by_kind false false false true e = let same : DropVersion v ≡ c = cc in subst P same refl
+    by_kind false false false false e = absurd (cc)
 
 change_sized : (bytes : List ℕ) (c : Change) → change_in bytes ≡ Some c → is_sized_change c ≡ true
 unfolding change_in
@@ -238,15 +244,15 @@ records_sized c end (suc n) at logged e =
         let parts = put_first_ok (record { change = change; block = block_of at }) (records c end n next) logged e in
         subst P parts.2 (and_from (is_sized_change change) (list_all is_sized_record parts.0) (change_sized (window c (at + 1) (end - (at + 1))) change is) (rest next parts.0 parts.1))
 
-accepted_sized : (changes_max versions_max : ℕ) (parents : Parents) (changes : ℕ) (logged : List Logged) (journal : List Change)
-    → accepted_in changes_max versions_max parents changes logged ≡ Ok journal → list_all is_sized_record logged ≡ true → list_all is_sized_change journal ≡ true
-accepted_sized changes_max versions_max parents changes [] journal e all' = let none : [] ≡ journal = cc in ap (list_all is_sized_change) (sym none)
-accepted_sized changes_max versions_max parents changes (l ∷ logged) journal e all' =
-    by_test (is_accepted changes_max versions_max parents changes l.change)
-    (accepted_sized changes_max versions_max (tree_after parents l.change) (suc changes) logged) e
+accepted_sized : (changes_max versions_max : ℕ) (parents : Parents) (marks : Marks) (changes : ℕ) (logged : List Logged) (journal : List Change)
+    → accepted_in changes_max versions_max parents marks changes logged ≡ Ok journal → list_all is_sized_record logged ≡ true → list_all is_sized_change journal ≡ true
+accepted_sized changes_max versions_max parents marks changes [] journal e all' = let none : [] ≡ journal = cc in ap (list_all is_sized_change) (sym none)
+accepted_sized changes_max versions_max parents marks changes (l ∷ logged) journal e all' =
+    by_test (is_accepted changes_max versions_max parents marks changes l.change)
+    (accepted_sized changes_max versions_max (tree_after parents l.change) (marks_after marks l.change) (suc changes) logged) e
   where
     later : Read (List Change)
-    later = accepted_in changes_max versions_max (tree_after parents l.change) (suc changes) logged
+    later = accepted_in changes_max versions_max (tree_after parents l.change) (marks_after marks l.change) (suc changes) logged
 
     P : List Change → Type 0
     P j = list_all is_sized_change j ≡ true
@@ -268,6 +274,7 @@ updates_sized (Delete v key ∷ journal) all' =
     let parts = and_parts (is_sized_change (Delete v key)) (list_all is_sized_change journal) all' in
     and_from (is_sized_change (Delete v key)) (list_all is_sized (filter_map update_of journal)) parts.0 (updates_sized journal parts.1)
 updates_sized (Clone v ∷ journal) all' = updates_sized journal (and_parts true (list_all is_sized_change journal) all').1
+updates_sized (DropVersion v ∷ journal) all' = updates_sized journal (and_parts true (list_all is_sized_change journal) all').1
 
 region_sized : (c : Image) (mem region n : ℕ) (logged : List Logged) → first_records c mem region n ≡ Ok logged → list_all is_sized_record logged ≡ true
 region_sized c mem region n logged e = records_sized c (region_at mem region + region_size mem) n (region_at mem region) logged e
@@ -291,12 +298,12 @@ two_sized c mem active logged e = elim (journal_cut c mem active (records_behind
 
 journal_sized : (c : Image) (sb : Super) (m : Manifest) (journal : List Change) → recover_journal c sb m ≡ Ok journal → list_all is_sized (filter_map update_of journal) ≡ true
 journal_sized c sb m journal e =
-    let read = and_then_ok (journal_in_two c sb.mem sb.region) (accepted_in sb.changes_max sb.versions_max (parents_in m) m.changes) journal e in
+    let read = and_then_ok (journal_in_two c sb.mem sb.region) (accepted_in sb.changes_max sb.versions_max (parents_in m) m.marks m.changes) journal e in
     let sized = two_sized c sb.mem sb.region read.0 read.1 in
-    updates_sized journal (accepted_sized sb.changes_max sb.versions_max (parents_in m) m.changes read.0 journal read.2 sized)
+    updates_sized journal (accepted_sized sb.changes_max sb.versions_max (parents_in m) m.marks m.changes read.0 journal read.2 sized)
 
 -- the limits in a superblock that was chosen
-limits_from : (s : Slot) → in_range s ≡ true → AreLimits s.sb.mem s.sb.changes_max s.sb.versions_max
+limits_from : (s : Super) → in_range s ≡ true → AreLimits s.mem s.changes_max s.versions_max
 limits_from s e =
     let v_most = and_parts _ _ e in
     let v_least = and_parts _ _ v_most.0 in
@@ -309,21 +316,21 @@ limits_from s e =
     let m_most = and_parts _ _ first.0 in
     let m_least = and_parts _ _ m_most.0 in
     record {
-      mem_least = leb-true 4 s.sb.mem m_least.1;
-      mem_most = leb-true s.sb.mem 4096 m_most.1;
-      changes_least = leb-true 1 s.sb.changes_max c_least.1;
-      changes_most = leb-true s.sb.changes_max 16777216 c_most.1;
-      versions_least = leb-true 1 s.sb.versions_max v_least.1;
-      versions_most = leb-true s.sb.versions_max 16384 v_most.1;
+      mem_least = leb-true 4 s.mem m_least.1;
+      mem_most = leb-true s.mem 4096 m_most.1;
+      changes_least = leb-true 1 s.changes_max c_least.1;
+      changes_most = leb-true s.changes_max 16777216 c_most.1;
+      versions_least = leb-true 1 s.versions_max v_least.1;
+      versions_most = leb-true s.versions_max 16384 v_most.1;
     }
 
-limits_of : (o : Option (ℕ × Slot)) (slot : ℕ × Super) → verdict o ≡ Ok (Some slot) → AreLimits slot.1.mem slot.1.changes_max slot.1.versions_max
+limits_of : (o : Option (ℕ × Super)) (slot : ℕ × Super) → verdict o ≡ Ok (Some slot) → AreLimits slot.1.mem slot.1.changes_max slot.1.versions_max
 limits_of None slot e = absurd (cc)
 limits_of (Some x) slot e = by_range (in_range x.1) refl e
   where
-    by_range : (b : Bool) → in_range x.1 ≡ b → cond b (Ok (Some (x.0, x.1.sb))) (Err x.0) ≡ Ok (Some slot) → AreLimits slot.1.mem slot.1.changes_max slot.1.versions_max
+    by_range : (b : Bool) → in_range x.1 ≡ b → cond b (Ok (Some (x.0, x.1))) (Err x.0) ≡ Ok (Some slot) → AreLimits slot.1.mem slot.1.changes_max slot.1.versions_max
     by_range true is e =
-        let same : (x.0, x.1.sb) ≡ slot = cc in
+        let same : (x.0, x.1) ≡ slot = cc in
         subst (λ (y : ℕ × Super). AreLimits y.1.mem y.1.changes_max y.1.versions_max) same (limits_from x.1 is)
     by_range false is e = absurd (cc)
 
@@ -332,7 +339,8 @@ belonging_tests sb found =
     has_own_blocks sb found.blocks found.manifest ∷ has_own_ids found.manifest ∷ list_all has_own_versions found.manifest.levels
     ∷ leb (versions_in found.manifest) sb.versions_max ∷ leb found.manifest.changes sb.changes_max
     ∷ leb (fold (λ n a. n + a.leads) 0 (descriptors found.manifest)) found.manifest.updates
-    ∷ list_all is_filled (descriptors found.manifest) ∷ has_few_publications sb found.manifest ∷ []
+    ∷ list_all is_filled (descriptors found.manifest) ∷ has_few_publications sb found.manifest
+    ∷ (takes_drops || none_dropped found.manifest.marks) ∷ []
 
 -- what an opening tests of a manifest with its superblock
 record Belongs (sb : Super) (m : Manifest) : Type 0 where
@@ -341,23 +349,28 @@ record Belongs (sb : Super) (m : Manifest) : Type 0 where
   changes : m.changes ≤ sb.changes_max
   next : m.next_array ≤ 16384 * m.changes + 1
   written : m.written ≤ 33554432 * m.changes
+  compacted : m.compacted ≤ 33554432 * m.changes
+  undropped : (takes_drops || none_dropped m.marks) ≡ true
 
 belongs_from : (sb : Super) (x : Chained) → belongs sb x ≡ true → Belongs sb x.manifest
 belongs_from sb x e =
     let m : Manifest = x.manifest in
-    let few = and_parts (leb sb.generation (m.changes + 1) && leb m.next_array (16384 * m.changes + 1)) (leb m.written (33554432 * m.changes)) (pass_at (belonging_tests sb x) 7 e) in
+    let tests = and_parts (leb sb.generation (m.changes + 1) && leb m.next_array (16384 * m.changes + 1) && leb m.written (33554432 * m.changes)) (leb m.compacted (33554432 * m.changes)) (pass_at (belonging_tests sb x) 7 e) in
+    let few = and_parts (leb sb.generation (m.changes + 1) && leb m.next_array (16384 * m.changes + 1)) (leb m.written (33554432 * m.changes)) tests.0 in
     record {
       ids = pass_at (belonging_tests sb x) 1 e;
       versions = leb-true (versions_in m) sb.versions_max (pass_at (belonging_tests sb x) 3 e);
       changes = leb-true m.changes sb.changes_max (pass_at (belonging_tests sb x) 4 e);
       next = leb-true m.next_array (16384 * m.changes + 1) (and_parts (leb sb.generation (m.changes + 1)) (leb m.next_array (16384 * m.changes + 1)) few.0).1;
       written = leb-true m.written (33554432 * m.changes) few.1;
+      compacted = leb-true m.compacted (33554432 * m.changes) tests.1;
+      undropped = pass_at (belonging_tests sb x) 8 e;
     }
 
 belongs_read : (c : Image) (sb : Super) (m : Manifest) → recover_manifest c sb ≡ Ok m → Belongs sb m
 belongs_read c sb m e =
     let test : Chained → Read Manifest = λ x. passed_or sb.manifest (belongs sb x) x.manifest in
-    let chained = and_then_ok (manifest_at c sb.manifest sb.length) test m e in
+    let chained = and_then_ok (manifest_at sb.format c sb.manifest sb.length) test m e in
     let here = passed_ok sb.manifest (belongs sb chained.0) chained.0.manifest m chained.2 in
     subst (Belongs sb) here.1 (belongs_from sb chained.0 here.0)
 
@@ -369,28 +382,32 @@ module _ (c : Image) (sb : Super) (m : Manifest) (journal : List Change) (found 
         changes_max = sb.changes_max;
         versions_max = sb.versions_max;
         parents = parents_in m;
+        marks = m.marks;
         changes = m.changes;
         updates = m.updates;
         written = m.written;
+        compacted = m.compacted;
         next_array = m.next_array;
         levels = levels;
         journal = journal;
       } in
       let made = map_some make (all_some (level_on c) m.levels) s e in
-      let lawful : is_lawful_manifest m ≡ true = lawful_found c sb m journal found changes in
+      let lawful : is_lawful_manifest sb.format m ≡ true = lawful_found c sb m journal found changes in
       let fits = belongs_read c sb m found in
       let tree : length (parents_in m) ≤ sb.versions_max = omega (arith, fits.versions, length-map m.parents (λ p. Some p)) in
-      let counts = within sb.changes_max sb.versions_max (parents_in m) m.changes journal (journal_tests c sb m journal found changes).0 fits.changes tree in
+      let counts = within sb.changes_max sb.versions_max (parents_in m) m.marks m.changes journal (journal_tests c sb m journal found changes).0 fits.changes tree in
       subst PassesOpening made.2 (record {
         limits = limits;
-        few_updates = leb-true m.updates m.changes (pass_at (manifest_tests m) 1 lawful);
+        few_updates = leb-true m.updates m.changes (pass_at (manifest_tests sb.format m) 1 lawful);
         few_changes = counts.0;
         few_versions = counts.1;
-        next_least = leb-true 1 m.next_array (pass_at (manifest_tests m) 3 lawful);
+        next_least = leb-true 1 m.next_array (pass_at (manifest_tests sb.format m) 3 lawful);
         next_most = fits.next;
         written_most = fits.written;
+        compacted_most = fits.compacted;
+        undropped = fits.undropped;
         distinct = ap is_distinct (ids_kept c m.levels made.0 made.1) ∙ fits.ids;
-        tested = levels_tested c (versions_in m) m.next_array m.levels made.0 made.1 (pass_at (manifest_tests m) 8 lawful);
+        tested = levels_tested c (versions_in m) m.next_array m.levels made.0 made.1 (pass_at (manifest_tests sb.format m) 8 lawful);
         sized = journal_sized c sb m journal changes;
       })
 

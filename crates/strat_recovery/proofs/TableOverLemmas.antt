@@ -9,12 +9,15 @@ use Rattle.strat_base.proofs.TreeLemmas.{tree_grown}
 use Rattle.strat_state.specs.Maps.{value_over, map_over}
 use Rattle.strat_state.specs.Setting.{set_entry, set_all}
 use Rattle.strat_state.specs.Level.{Level, level_leads}
-use Rattle.strat_state.specs.State.{State, versions_of, journal_updates, sources}
-use Rattle.strat_state.specs.Sound.{IsSound}
+use Rattle.strat_state.specs.State.{State, versions_of, marks_of, map_at, journal_updates, sources}
+use Rattle.strat_state.specs.Sound.{IsWellFormed, IsSound}
 use Rattle.strat_state.proofs.MapLemmas.{value_in-lookup}
 use Rattle.strat_state.proofs.ValueLemmas.{map_value}
 use Rattle.strat_state.proofs.SettingLemmas.{find_set, set_among}
-use Rattle.strat_state.proofs.SoundLemmas.{tree_from_test, sound_tree}
+use Rattle.strat_state.proofs.SoundLemmas.{tree_from_test, sound_tree, ordered}
+use Rattle.strat_state.proofs.UndroppedLemmas.{there_made, none_now, all_living}
+use Rattle.strat_base.specs.Marks.{none_dropped}
+use Rattle.strat_base.proofs.MarkLemmas.{living_at, living_child}
 use Rattle.strat_state.proofs.StepMaps.{known_sources}
 use Rattle.strat_state.proofs.UpdateLemmas.{all_among, all_found}
 use Rattle.strat_model.specs.Pairs.{Pairs, value_of, set, unset}
@@ -26,7 +29,7 @@ use Rattle.strat_model.specs.Request.{Put, Delete, Get, Clone, Info, Stat}
 use Rattle.strat_model.specs.Step.{Outcome, refuses, replies_with, step, update, found, has_row, is_frozen, pairs_at, with_pairs}
 use Rattle.strat_recovery.specs.StateTable.{table_of}
 use Rattle.strat_recovery.specs.TableOver.{rows_over, IsTableOver, update_over, clone_over, get_over, info_over, stat_over}
-use Rattle.strat_recovery.proofs.RowLemmas.{length-rows, parents-rows, pairs_over, rows_found, put_rows, delete_rows, clone_rows}
+use Rattle.strat_recovery.proofs.RowLemmas.{rows_many, parents_are, rows_known, rows_frozen, rows_same, pairs_over, rows_found, put_rows, delete_rows, clone_rows}
 
 -- an update, by what refuses it and the rows that it makes
 abbrev update_chosen : Table → Bool → Bool → Bool → List Row → Outcome
@@ -58,7 +61,7 @@ told_same t false answer other same = refl
 told_same t true answer other same = ap (replies_with t) (same refl)
 
 abbrev child_row : ℕ → Pairs → Row
-child_row p m = record { parent = Some p; pairs = m }
+child_row p m = record { parent = Some p; dropped = false; pairs = m }
 
 -- a new table is that of version 0 alone and no entry
 pub fresh_over : (changes_max versions_max : ℕ) → IsTableOver (None ∷ []) [] (fresh changes_max versions_max)
@@ -66,16 +69,16 @@ fresh_over changes_max versions_max = record { tree = tree_from_test (None ∷ [
 
 module _ (parents : Parents) (entries : List Entry) (t : Table) (over : IsTableOver parents entries t) where
   pub length_over : length t.rows ≡ length parents
-  length_over = ap (λ (x : List Row). length x) over.rows ∙ length-rows (map_over parents entries) 0 parents
+  length_over = rows_many (map_over parents entries) [] parents t over.rows
 
   parents_over : parents_of t ≡ parents
-  parents_over = ap (λ (x : List Row). parents_of (record t { rows = x })) over.rows ∙ parents-rows (map_over parents entries) 0 parents
+  parents_over = parents_are (map_over parents entries) [] parents t over.rows
 
   pub known_over : (v : ℕ) → has_row t v ≡ is_known parents v
-  known_over v = ap (ltb v) length_over
+  known_over v = rows_known (map_over parents entries) [] parents t over.rows v ∙ there_made parents [] refl v
 
   pub frozen_over : (v : ℕ) → is_frozen t v ≡ has_child parents v
-  frozen_over v = ap (λ (p : Parents). has_child p v) parents_over
+  frozen_over v = rows_frozen (map_over parents entries) [] parents t over.rows v ∙ living_child parents [] refl v
 
   pub map_over_is : (v : ℕ) → is_known parents v ≡ true → pairs_at t v ≡ map_over parents entries v
   map_over_is v known = ap (λ (x : List Row). pairs_at (record t { rows = x }) v) over.rows ∙ pairs_over parents entries v (ltb-true v (length parents) known)
@@ -144,20 +147,27 @@ module _ (parents : Parents) (entries : List Entry) (t : Table) (over : IsTableO
       ∙ told_same t (is_known parents v) (found key (value_of (pairs_at t v) key)) (found key (value_over parents entries v key)) (λ known. ap (found key) (value_is_over v key known))
 
   pub info_is_over : (v : ℕ) → step t (Info v) ≡ info_over parents t v
-  info_is_over v = λ i. told_chosen t (known_over v i) (plain (reply.Info (parent_of (parents_over i) v) (depth (parents_over i) v) (has_child (parents_over i) v)))
+  info_is_over v = λ i. told_chosen t (known_over v i) (plain (reply.Info (parent_of (parents_over i) v) (depth (parents_over i) v) (frozen_over v i)))
 
   pub stat_is_over : step t Stat ≡ stat_over parents t
   stat_is_over = ap (λ (n : ℕ). replies_with t (plain (reply.Stat n t.updates t.changes (length t.cursors)))) length_over
 
--- a sound state without levels means the table of its versions and of what its updates leave
-pub state_over : (s : State) → IsSound s → s.levels ≡ [] → IsTableOver (versions_of s) (set_all (journal_updates s)) (table_of s)
-state_over s sound none =
+-- a sound state none of whose versions was dropped means the table of its versions and sources
+pub living_rows : (s : State) → IsWellFormed s → none_dropped s.marks ≡ true → (table_of s).rows ≡ rows_over (versions_of s) (sources s)
+living_rows s formed none =
+    rows_same (map_over (versions_of s) (sources s)) (map_at s) [] (marks_of s) 0 (versions_of s)
+    (λ u le lt. ap (λ (b : Bool). if b then map_over (versions_of s) (sources s) u else []) (all_living s formed none u))
+    (λ u. living_at (marks_of s) (none_now s formed none) u)
+
+-- and without levels, that of what its updates leave
+pub state_over : (s : State) → IsSound s → none_dropped s.marks ≡ true → s.levels ≡ [] → IsTableOver (versions_of s) (set_all (journal_updates s)) (table_of s)
+state_over s sound living none =
     let updates : List Entry = journal_updates s in
     let all : sources s ≡ reverse updates = ap (λ (x : List Level). reverse updates ++ flat_map level_leads x) none ∙ append-nil (reverse updates) in
     record {
-      tree = sound_tree s sound;
+      tree = sound_tree s sound.formed;
       known = all_from (λ e. is_known (versions_of s) e.version) (set_all updates) (λ e among.
           let here : Among e (sources s) = subst (Among e) (sym all) (among_reverse updates e (subst (Among e) (append-nil updates) (all_among updates e among))) in
-          lt-ltb e.version (length (versions_of s)) (known_sources s sound e here));
-      rows = rows_found (versions_of s) (sound_tree s sound) (set_all updates) (sources s) (λ key u. ap (find (is_at key u)) all ∙ sym (all_found key u updates));
+          lt-ltb e.version (length (versions_of s)) (known_sources s (ordered s sound) e here));
+      rows = living_rows s sound.formed living ∙ rows_found (versions_of s) (sound_tree s sound.formed) (set_all updates) (sources s) (λ key u. ap (find (is_at key u)) all ∙ sym (all_found key u updates));
     }

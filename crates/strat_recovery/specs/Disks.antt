@@ -1,5 +1,5 @@
 -- Disks written out, for a journal of four changes, 100 changes and 10 versions in all.
-use Rattle.std.specs.Prelude.{ℕ, List, [], ◌∷◌, ◌++◌, replicate}
+use Rattle.std.specs.Prelude.{ℕ, false, List, [], ◌∷◌, ◌++◌, replicate}
 use Rattle.strat_crash.specs.Image.{Image, patch}
 use Rattle.strat_base.specs.EntryBytes.{entry_bytes}
 use Rattle.strat_base.specs.Numbers.{be}
@@ -30,6 +30,7 @@ formatted = patch (patch (λ i. 0) 0 first_block) 24576 manifest_block
 -- the superblock of a new store
 abbrev pub new_super : Super
 new_super = record {
+  format = 1;
   generation = 1;
   manifest = 6;
   length = 29;
@@ -50,8 +51,10 @@ chain_manifest = record {
   changes = 4;
   updates = 1;
   written = 1;
+  compacted = 0;
   next_array = 2;
   parents = 0 ∷ 1 ∷ 2 ∷ [];
+  marks = replicate 4 false;
   levels = record {
     number = 1;
     horizon = 4;
@@ -69,6 +72,7 @@ chain_manifest = record {
 -- its superblock: the second generation, with the manifest in block 8 and the other region active
 abbrev pub chain_super : Super
 chain_super = record {
+  format = 1;
   generation = 2;
   manifest = 8;
   length = 98;
@@ -86,8 +90,9 @@ array_block = 0x00 ∷ 0x01 ∷ 0x00 ∷ 0x04 ∷ entry_bytes (says 97 1 49)
 -- region 1
 abbrev pub published_by : Super → Manifest → Image
 published_by sb m =
-    patch (patch (patch (patch formatted 28672 array_block) 32768 (be 4 0 ++ manifest_bytes m))
-    4096 (0xa7 ∷ spelled (fields sb))) 16384 (0xa7 ∷ change_bytes (Put 3 (98 ∷ []) (49 ∷ [])))
+    patch (patch (patch (patch formatted 28672 array_block) 32768
+    (be 4 0 ++ manifest_bytes sb.format m)) 4096 (0xa7 ∷ spelled (fields sb)))
+    16384 (0xa7 ∷ change_bytes (Put 3 (98 ∷ []) (49 ∷ [])))
 
 -- the disk after that publication
 abbrev pub published : Image

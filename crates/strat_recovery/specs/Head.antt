@@ -1,13 +1,14 @@
 -- What recovery finds of a store beside the blocks of its arrays.
 use Rattle.std.specs.Prelude.{ℕ, ◌+◌, List, [], length, map, flat_map, filter_map, fold, sum_by}
 use Rattle.strat_base.specs.Tree.{Parents}
+use Rattle.strat_base.specs.Marks.{Marks}
 use Rattle.strat_base.specs.Change.{Change}
 use Rattle.strat_state.specs.Level.{TaggedArray, Level}
 use Rattle.strat_format.specs.Manifest.{Manifest}
 use Rattle.strat_base.specs.declared.descriptors.ArrayDesc.{ArrayDesc}
 use Rattle.strat_base.specs.declared.descriptors.LevelDesc.{LevelDesc}
 use Rattle.strat_recovery.specs.Opened.{parents_in}
-use Rattle.strat_state.specs.State.{State, tree_after, update_of}
+use Rattle.strat_state.specs.State.{State, tree_after, marks_after, update_of}
 use Rattle.strat_format.specs.SuperBlock.{Super}
 
 -- a head: the superblock, the manifest, and the changes of the journal
@@ -19,6 +20,10 @@ pub record Head : Type 0 where
 -- the versions of the manifest, and those that the journal made
 abbrev pub head_versions : Head → Parents
 head_versions h = fold tree_after (parents_in h.manifest) h.journal
+
+-- which of them were dropped
+abbrev pub head_marks : Head → Marks
+head_marks h = fold marks_after h.manifest.marks h.journal
 
 -- how many updates the journal has
 abbrev pub journal_count : Head → ℕ
@@ -60,10 +65,11 @@ level_described level =
 abbrev pub parent_numbers : Parents → List ℕ
 parent_numbers parents = filter_map (λ parent. parent) parents
 
--- the head of a state at a generation, without where on the disk its parts lie
+-- the head of a state at a generation, without where on the disk its parts lie and in what format
 abbrev pub head_of : ℕ → State → Head
 head_of generation s = record {
   sb = record {
+    format = 0;
     generation = generation;
     manifest = 0;
     length = 0;
@@ -76,8 +82,10 @@ head_of generation s = record {
     changes = s.changes;
     updates = s.updates;
     written = s.written;
+    compacted = s.compacted;
     next_array = s.next_array;
     parents = parent_numbers s.parents;
+    marks = s.marks;
     levels = map level_described s.levels;
   };
   journal = s.journal;

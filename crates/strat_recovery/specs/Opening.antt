@@ -1,15 +1,16 @@
 -- What recovery finds in the bytes of a disk, and the state that they read as.
-use Rattle.std.specs.Prelude.{ℕ, suc, ◌+◌, ◌*◌, nat_lt, nat_le, ◌&&◌, Bool, if◌then◌else◌, List, [], ◌∷◌, ◌++◌, map, flat_map, sum_by, Option, Some, None, Ok, Err, option_and_then}
+use Rattle.std.specs.Prelude.{ℕ, suc, ◌+◌, ◌*◌, nat_lt, nat_le, ◌&&◌, ◌||◌, Bool, if◌then◌else◌, List, [], ◌∷◌, ◌++◌, map, flat_map, sum_by, Option, Some, None, Ok, Err, option_and_then}
 use Rattle.std.specs.List.{list_all}
 use Rattle.strat_crash.specs.Image.{Image}
 use Rattle.strat_base.specs.Tree.{Parents}
+use Rattle.strat_base.specs.Marks.{Marks, none_dropped, takes_drops}
 use Rattle.strat_state.specs.Level.{is_distinct}
 use Rattle.strat_format.specs.Manifest.{Manifest, all_pass, versions_in}
 use Rattle.strat_base.specs.declared.descriptors.ArrayDesc.{ArrayDesc}
 use Rattle.strat_base.specs.declared.descriptors.LevelDesc.{LevelDesc}
 use Rattle.strat_format.specs.Arrays.{blocks_of}
 use Rattle.strat_recovery.specs.Opened.{parents_in, state_on}
-use Rattle.strat_state.specs.State.{State, tree_after}
+use Rattle.strat_state.specs.State.{State, tree_after, marks_after}
 use Rattle.strat_state.specs.Sound.{is_accepted}
 use Rattle.strat_format.specs.SuperBlock.{Super, newest_in}
 use Rattle.strat_base.specs.Change.{Change}
@@ -43,11 +44,11 @@ has_own_versions level =
 abbrev pub is_filled : ArrayDesc → Bool
 is_filled a = nat_le a.entries (2 * a.leads) && nat_le (array_blocks a) a.entries
 
--- for each change there are at most one publication, 16384 new arrays and 2^25 entries written
+-- for each change there are at most one publication, 16384 new arrays, and 2^25 entries written and as many compacted
 abbrev pub has_few_publications : Super → Manifest → Bool
 has_few_publications sb m =
     nat_le sb.generation (m.changes + 1) && nat_le m.next_array (16384 * m.changes + 1)
-    && nat_le m.written (33554432 * m.changes)
+    && nat_le m.written (33554432 * m.changes) && nat_le m.compacted (33554432 * m.changes)
 
 -- a manifest in a chain of blocks is one that a store with this superblock may have
 abbrev pub belongs : Super → Chained → Bool
@@ -60,28 +61,30 @@ belongs sb found = all_pass (
     ∷ nat_le (sum_by (λ a. a.leads) (descriptors found.manifest)) found.manifest.updates
     ∷ list_all is_filled (descriptors found.manifest)
     ∷ has_few_publications sb found.manifest
+    ∷ (takes_drops || none_dropped found.manifest.marks)
     ∷ [])
 
 -- the manifest of a superblock, or the block that is damaged
 abbrev pub recover_manifest : Image → Super → Read Manifest
 recover_manifest c sb =
-    and_then (manifest_at c sb.manifest sb.length)
+    and_then (manifest_at sb.format c sb.manifest sb.length)
     (λ found. passed_or sb.manifest (belongs sb found) found.manifest)
 
 -- the changes of these records, each accepted in its turn, or the block of the first that is not
-abbrev pub accepted_in : ℕ → ℕ → Parents → ℕ → List Logged → Read (List Change)
-accepted_in changes_max versions_max parents changes [] = Ok []
-accepted_in changes_max versions_max parents changes (l ∷ logged) =
-    if is_accepted changes_max versions_max parents changes l.change
+abbrev pub accepted_in : ℕ → ℕ → Parents → Marks → ℕ → List Logged → Read (List Change)
+accepted_in changes_max versions_max parents marks changes [] = Ok []
+accepted_in changes_max versions_max parents marks changes (l ∷ logged) =
+    if is_accepted changes_max versions_max parents marks changes l.change
     then put_first l.change
-    (accepted_in changes_max versions_max (tree_after parents l.change) (suc changes) logged)
+    (accepted_in changes_max versions_max (tree_after parents l.change)
+    (marks_after marks l.change) (suc changes) logged)
     else Err l.block
 
 -- the journal of a superblock and a manifest, or the block that is damaged
 abbrev pub recover_journal : Image → Super → Manifest → Read (List Change)
 recover_journal c sb m =
     and_then (journal_in_two c sb.mem sb.region)
-    (accepted_in sb.changes_max sb.versions_max (parents_in m) m.changes)
+    (accepted_in sb.changes_max sb.versions_max (parents_in m) m.marks m.changes)
 
 -- the head of a store with this superblock, or the block that is damaged
 abbrev pub recover_head : Image → Super → Read Head

@@ -2,6 +2,7 @@
 use Rattle.std.specs.Prelude.{◌≡◌, ℕ, suc, ◌+◌, ◌==◌, Bool, not, if◌then◌else◌, List, [], ◌∷◌, length, IsTrue}
 use Rattle.std.specs.List.{list_all}
 use Rattle.strat_base.specs.Tree.{Parents, is_known, has_child, parent_of, depth, with_child, IsTree}
+use Rattle.strat_base.specs.Marks.{Marks, is_dropped}
 use Rattle.strat_base.specs.Entries.{Entry}
 use Rattle.strat_state.specs.Maps.{value_over, map_over}
 use Rattle.strat_state.specs.Setting.{set_entry}
@@ -12,21 +13,22 @@ use Rattle.strat_model.specs.declared.replies.Refusal.TheVariants as why
 use Rattle.strat_model.specs.Answer.{plain}
 use Rattle.strat_model.specs.Step.{Outcome, refuses, replies_with, found}
 
--- a row for each of these versions, which are numbered from v on, with the maps that they have
-abbrev pub rows_from : (ℕ → Pairs) → ℕ → Parents → List Row
-rows_from maps v [] = []
-rows_from maps v (parent ∷ parents) =
-    record { parent = parent; pairs = maps v } ∷ rows_from maps (suc v) parents
+-- a row for each of these versions, which are numbered from v on, with the marks and maps that they have
+abbrev pub rows_from : (ℕ → Pairs) → Marks → ℕ → Parents → List Row
+rows_from maps marks v [] = []
+rows_from maps marks v (parent ∷ parents) =
+    record { parent = parent; dropped = is_dropped marks v; pairs = maps v }
+    ∷ rows_from maps marks (suc v) parents
 
--- a row for each version: its parent, and the map that the entries give it
+-- a row for each version, none of which was dropped: its parent, and the map that the entries give it
 abbrev pub rows_over : Parents → List Entry → List Row
-rows_over parents entries = rows_from (map_over parents entries) 0 parents
+rows_over parents entries = rows_from (map_over parents entries) [] 0 parents
 
 -- each of these entries is at a version of the tree
 abbrev pub are_known : Parents → List Entry → Bool
 are_known parents entries = list_all (λ e. is_known parents e.version) entries
 
--- a table has the rows of a tree and of entries at its versions
+-- a table has the rows of a tree and of entries at its versions, as all do while a build takes no drops
 pub record IsTableOver (parents : Parents) (entries : List Entry) (t : Table) : Type 0 where
   pub tree : IsTree parents
   pub known : IsTrue (are_known parents entries)

@@ -21,7 +21,7 @@ pub fn formatted_disks_open()
     ensures found { recover formatted ≡ Ok (Some new_head) }
     ensures ok { reads_as formatted ≡ Some (fresh_state 4 100 10) }
     ensures block { first_block ≡ take 40 (0xa7 ∷ body new_super) }
-    ensures manifest { manifest_block ≡ be 4 0 ++ manifest_bytes new_manifest }
+    ensures manifest { manifest_block ≡ be 4 0 ++ manifest_bytes 1 new_manifest }
 {}
 
 /// A record in the journal's active region is read: a put of `a` with the value `1` at version 0.
@@ -41,7 +41,7 @@ pub fn published_disks_open()
 
 /// What recovery refuses: a superblock out of its ranges, a chain that goes on after its last
 /// block or back to its first, bytes after the manifest that are no zeros, an open gate with no change
-/// after it, a change that the table refuses, and an open gate in the other region where the active one is
+/// after it, a change that the table refuses, a drop of a version, and an open gate in the other region where the active one is
 /// full. A disk of zeros is no store.
 pub fn damage_is_named()
     ensures none { recover (λ i. 0) ≡ Ok None }
@@ -52,6 +52,8 @@ pub fn damage_is_named()
     ensures gate { recover (patch formatted 8192 (0xa7 ∷ [])) ≡ Err 2 }
     ensures refused { recover (patch formatted 8192
         (0xa7 ∷ 1 ∷ 0 ∷ 0 ∷ 0 ∷ 5 ∷ 1 ∷ 0x61 ∷ 0 ∷ 1 ∷ 0x31 ∷ 0 ∷ [])) ≡ Err 2 }
+    ensures drop { recover (patch formatted 8192
+        (0xa7 ∷ 3 ∷ 0 ∷ 0 ∷ 0 ∷ 0 ∷ 0xa7 ∷ 4 ∷ 0 ∷ 0 ∷ 0 ∷ 1 ∷ 0 ∷ [])) ≡ Err 2 }
     ensures full { recover doubly_open ≡ Err 4 }
 {}
 

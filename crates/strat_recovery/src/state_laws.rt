@@ -1,11 +1,11 @@
 //! Laws that tie the states of a store to the tables that they mean. Each is a call that does
 //! nothing, and its clauses are what it says.
 
-ghost use Rattle.std.specs.Prelude.{◌≡◌, ℕ, ◌<◌, List, length, fold, option_and_then};
+ghost use Rattle.std.specs.Prelude.{◌≡◌, ℕ, ◌<◌, List, length, fold, option_and_then, IsTrue};
 ghost use Rattle.strat_base.specs.Change.{Change};
 ghost use Rattle.strat_state.specs.Reading.{read_at};
 ghost use Rattle.strat_state.specs.Sound.{accepts_change, IsSound, Takes};
-ghost use Rattle.strat_state.specs.State.{State, fresh_state, versions_of, appended};
+ghost use Rattle.strat_state.specs.State.{State, fresh_state, versions_of, is_living, appended};
 ghost use Rattle.strat_model.specs.Answer.{accepts};
 ghost use Rattle.strat_model.specs.Examples.{staging};
 ghost use Rattle.strat_recovery.specs.Settings.{settings};
@@ -40,7 +40,7 @@ pub fn changes_in_the_journal_are_steps()
 /// Reading a sound state level by level finds what its table has.
 pub fn reading_finds_the_tables_value()
     ensures ok { (s : State) (v : ℕ) (key : List ℕ) → IsSound s → v < length (versions_of s)
-        → value_of (pairs_at (table_of s) v) key
+        → IsTrue (is_living s v) → value_of (pairs_at (table_of s) v) key
         ≡ option_and_then (λ e. e.value) (read_at s v key) }
 {}
 

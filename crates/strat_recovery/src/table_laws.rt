@@ -4,6 +4,7 @@
 
 ghost use Rattle.std.specs.Prelude.{◌≡◌, ℕ, List, [], ◌∷◌, Some, None, IsTrue};
 ghost use Rattle.strat_base.specs.Entries.{Entry};
+ghost use Rattle.strat_base.specs.Marks.{none_dropped};
 ghost use Rattle.strat_base.specs.Tree.{Parents, is_known, with_child};
 ghost use Rattle.strat_model.specs.Request.{Put, Delete, Get, Clone, Info, Stat};
 ghost use Rattle.strat_model.specs.Step.{step};
@@ -12,7 +13,7 @@ ghost use Rattle.strat_recovery.specs.StateTable.{table_of};
 ghost use Rattle.strat_recovery.specs.TableOver.{rows_over, IsTableOver, update_over, clone_over, get_over, info_over, stat_over};
 ghost use Rattle.strat_state.specs.Setting.{set_entry, set_all};
 ghost use Rattle.strat_state.specs.Sound.{IsSound};
-ghost use Rattle.strat_state.specs.State.{State, versions_of, journal_updates};
+ghost use Rattle.strat_state.specs.State.{State, versions_of, sources, journal_updates};
 
 /// A new table is that of version 0 alone and no entry.
 pub fn new_tables_are_over_no_entry()
@@ -53,8 +54,11 @@ pub fn changed_tables_are_over_changed_entries()
         → IsTableOver (with_child parents p) entries after }
 {}
 
-/// A sound state without levels means the table of its versions and of what its updates leave.
+/// A sound state none of whose versions was dropped means the table of its versions and of what it says of keys, and
+/// without levels that of what its updates leave.
 pub fn states_without_levels_mean_their_updates()
-    ensures { (s : State) → IsSound s → s.levels ≡ []
+    ensures rows { (s : State) → IsSound s → IsTrue (none_dropped s.marks)
+        → (table_of s).rows ≡ rows_over (versions_of s) (sources s) }
+    ensures ok { (s : State) → IsSound s → IsTrue (none_dropped s.marks) → s.levels ≡ []
         → IsTableOver (versions_of s) (set_all (journal_updates s)) (table_of s) }
 {}

@@ -1,6 +1,6 @@
 //! Laws of the changes of a workload. Each is the contract of a function that does nothing.
 
-ghost use Rattle.std.specs.Prelude.{◌≡◌, ◌≤◌, ℕ, [], ◌∷◌, length, None, IsTrue};
+ghost use Rattle.std.specs.Prelude.{◌≡◌, ◌≤◌, ℕ, [], ◌∷◌, length, None, false, IsTrue};
 ghost use Rattle.strat_state.specs.Sound.{are_accepted};
 ghost use Rattle.strat_recovery.specs.Workload.{workload_changes, workload};
 
@@ -11,5 +11,5 @@ pub fn workloads_are_accepted()
         × (length (workload seed count) ≡ count) }
     ensures ok { (seed count changes_max versions_max : ℕ) → count ≤ changes_max
         → 128 ≤ versions_max → IsTrue (are_accepted changes_max versions_max
-        (None ∷ []) 0 (workload_changes seed count)) }
+        (None ∷ []) (false ∷ []) 0 (workload_changes seed count)) }
 {}

@@ -25,10 +25,11 @@ use Rattle.strat_slicing.proofs.BudgetLemmas.{begun as begun_on_time}
 use Rattle.strat_standing.specs.Contents.{Contents, contents_state, sealed_state}
 use Rattle.strat_standing.specs.Occupied.{IsSpaceOf}
 use Rattle.strat_standing.specs.Standing.{ReadsAs}
-use Rattle.strat_standing.proofs.PromotedLemmas.{sealed_sound}
+use Rattle.strat_standing.proofs.PromotedLemmas.{sealed_ordered}
 use Rattle.strat_state.specs.Setting.{set_all}
 use Rattle.strat_state.specs.Sound.{IsSound}
 use Rattle.strat_state.specs.State.{versions_of, journal_updates}
+use Rattle.strat_state.proofs.SoundLemmas.{ordered}
 
 -- what is begun with a list of items is begun with each of as many
 begun_any : (zero other : ItemList) (levels : List (Option LevelDesc)) (mem n id : ℕ) (p : Promotion) → length other.items ≡ length zero.items → IsBegun zero levels mem n id p → IsBegun other levels mem n id p
@@ -85,11 +86,11 @@ module _ (f : Image) (x : Contents) (sealed : List Entry) (levels : List (Option
   sum_counts : total ≡ input_count f (job_open x levels p)
   sum_counts =
       subst (λ (ls : List (Option LevelDesc)). leads_down_to (leads_listed inputs.zero ls) (target_of p) ≡ input_count f (job_of_state (sealed_state x) ls (target_of p))) lent.levels_are
-      (begun_sum f (sealed_state x) inputs p (sealed_sound x sound) over)
+      (begun_sum f (sealed_state x) inputs p (sealed_ordered x (ordered (contents_state x) sound)) over)
 
   few_all : input_count f (job_open x levels p) ≤ 2 ^ 24
   few_all = subst (λ (ls : List (Option LevelDesc)). input_count f (job_of_state (sealed_state x) ls (target_of p)) ≤ 2 ^ 24) lent.levels_are
-      (begun_its_job f (sealed_state x) inputs p (sealed_sound x sound) over).over.few
+      (begun_its_job f (sealed_state x) inputs p (sealed_ordered x (ordered (contents_state x) sound)) over).over.few
 
   few_total : total ≤ 2 ^ 24
   few_total = omega (arith, few_all, sum_counts)

@@ -55,7 +55,7 @@ module _ (v0 mid lay v1 v2 : DiskView) (x y : Contents) (sealed : List Entry) (l
   pub end_takes : Takes (contents_state y) change
   end_takes = record {
     sound = p.prepared.next.sound;
-    accepted = (λ i. is_accepted (says.changes_max i) (says.versions_max i) (says.versions i) (says.changes i) change) ∙ ends.accepted;
+    accepted = (λ i. is_accepted (says.changes_max i) (says.versions_max i) (says.versions i) (says.marks i) (says.changes i) change) ∙ ends.accepted;
     room = omega (arith, filled.1);
   }
 

@@ -27,10 +27,11 @@ use Rattle.strat_standing.specs.Contents.{Contents, contents_state, sealed_state
 use Rattle.strat_standing.specs.Next.{IsPromotion}
 use Rattle.strat_standing.specs.Publication.{Succeeds}
 use Rattle.strat_standing.specs.Standing.{LiesIn}
-use Rattle.strat_standing.proofs.PromotedLemmas.{sealed_sound, sealed_whole, none_later}
+use Rattle.strat_standing.proofs.PromotedLemmas.{sealed_ordered, sealed_whole, none_later}
 use Rattle.strat_state.specs.Level.{Level}
-use Rattle.strat_state.specs.Sound.{journal_max, IsSound}
+use Rattle.strat_state.specs.Sound.{journal_max, IsOrdered, IsSound}
 use Rattle.strat_state.specs.State.{State, IsPaid}
+use Rattle.strat_state.proofs.SoundLemmas.{ordered}
 
 -- the last slice: the level is made
 module _ (f g : Image) (x : Contents) (fill : ℕ) (sealed : List Entry) (levels : List (Option LevelDesc)) (others : List Extent) (o : OpenPromotion) (q : Promotion) (inputs : Inputs)
@@ -41,8 +42,8 @@ module _ (f g : Image) (x : Contents) (fill : ℕ) (sealed : List Entry) (levels
   whole : SamePromotion p.going.was q
   whole = record { task = s.same.task ∙ p.going.same.task }
 
-  before : IsSound (sealed_state x)
-  before = sealed_sound x s.sound
+  before : IsOrdered (sealed_state x)
+  before = sealed_ordered x (ordered (contents_state x) s.sound)
 
   target_same : target_of q ≡ target_of p.going.was
   target_same = ap (λ (t : Task). t.target) whole.task

@@ -1,11 +1,13 @@
 -- Level 0 and a sealed one.
-use Rattle.std.proofs.Common.{◌≡◌, ◌≤◌, ◌<◌, ◌+◌, ◌-◌, ◌*◌, ℕ, List, [], ◌∷◌, ◌++◌, length, take, drop, Option, Some, None, refl, sym, ap, ◌∙◌, arith, length-append}
+use Rattle.std.proofs.Common.{◌≡◌, ◌≤◌, ◌<◌, ◌+◌, ◌-◌, ◌*◌, ℕ, true, List, [], ◌∷◌, ◌++◌, length, take, drop, Option, Some, None, refl, sym, ap, ◌∙◌, arith, length-append}
 use Rattle.std.specs.List.{filter_map}
 use Rattle.std.specs.Prelude.{option_and_then}
 use Rattle.std.specs.Option.{option_or, option_to_list}
+use Rattle.std.proofs.lemmas.Bool.{not-true}
 use Rattle.std.proofs.lemmas.List.{append-nil, length-drop, take-append-drop, take_all, drop_all, take-append-le, drop-append-le}
-use Rattle.strat_base.specs.Change.{Change, Put, Delete, Clone}
+use Rattle.strat_base.specs.Change.{Change, Put, Delete, Clone, DropVersion}
 use Rattle.strat_base.specs.Entries.{Entry, latest}
+use Rattle.strat_base.specs.Marks.{is_dropped}
 use Rattle.strat_base.specs.Tree.{Parents, IsTree}
 use Rattle.strat_base.proofs.ListFacts.{filter_map-append, fold-push}
 use Rattle.strat_crash.specs.Image.{Image}
@@ -21,7 +23,7 @@ use Rattle.strat_state.specs.LookUp.{looked_up, first_live, of_state, places}
 use Rattle.strat_state.specs.Reading.{live_of, level_zero, read_at}
 use Rattle.strat_state.specs.Setting.{set_entry, set_all}
 use Rattle.strat_state.specs.Sound.{IsSound}
-use Rattle.strat_state.specs.State.{State, versions_of, update_of, journal_updates}
+use Rattle.strat_state.specs.State.{State, versions_of, marks_of, is_living, update_of, journal_updates}
 use Rattle.strat_state.proofs.LookUpLemmas.{looked_up_read}
 use Rattle.strat_state.proofs.SealLemmas.{sealed_read}
 use Rattle.strat_state.proofs.SoundLemmas.{sound_tree}
@@ -41,30 +43,30 @@ module _ (parents : Parents) (tree : IsTree parents) (v : ℕ) (key : List ℕ) 
   same_one : (updates : List Entry) (later : Option Entry) → option_or (live_of parents (set_all updates) v key) later ≡ option_or (live_of parents (latest updates) v key) later
   same_one updates later = ap (λ (o : Option Entry). option_or o later) (all_lives parents tree updates v key)
 
-pub lists_look : (s : State) (entries : List Entry) (sealed : Option (List Entry)) (spare v : ℕ) (key : List ℕ) → IsSound s → HoldLists s.mem s.journal entries sealed spare
+pub lists_look : (s : State) (entries : List Entry) (sealed : Option (List Entry)) (spare v : ℕ) (key : List ℕ) → IsSound s → HoldLists s.mem s.journal entries sealed spare → is_living s v ≡ true
     → looked_up of_state (versions_of s) (lists_read entries sealed) s.levels v key ≡ read_at s v key
-lists_look s entries None spare v key sound h =
+lists_look s entries None spare v key sound h living =
     let parents : Parents = versions_of s in
     ap (λ (es : List Entry). looked_up of_state parents (es ∷ []) s.levels v key) h.1
-    ∙ same_one parents (sound_tree s sound) v key (journal_updates s) (first_live parents (places of_state parents [] s.levels v key) v key)
+    ∙ same_one parents (sound_tree s sound.formed) v key (journal_updates s) (first_live parents (places of_state parents [] s.levels v key) v key)
     ∙ looked_up_read s v key
-lists_look s entries (Some sealed) spare v key sound h =
+lists_look s entries (Some sealed) spare v key sound h living =
     let parents : Parents = versions_of s in
     let older : List Change = take s.mem s.journal in
     let newer : List Change = drop s.mem s.journal in
     let rest : Option Entry = first_live parents (places of_state parents [] s.levels v key) v key in
     (λ i. looked_up of_state parents (h.2 i ∷ h.1 i ∷ []) s.levels v key)
-    ∙ same_one parents (sound_tree s sound) v key (filter_map update_of newer) (option_or (live_of parents (entries_left older) v key) rest)
-    ∙ ap (λ (o : Option Entry). option_or (live_of parents (latest (filter_map update_of newer)) v key) o) (same_one parents (sound_tree s sound) v key (filter_map update_of older) rest)
-    ∙ sealed_read s sound older newer (sym (take-append-drop s.mem s.journal)) v key
+    ∙ same_one parents (sound_tree s sound.formed) v key (filter_map update_of newer) (option_or (live_of parents (entries_left older) v key) rest)
+    ∙ ap (λ (o : Option Entry). option_or (live_of parents (latest (filter_map update_of newer)) v key) o) (same_one parents (sound_tree s sound.formed) v key (filter_map update_of older) rest)
+    ∙ sealed_read s sound older newer (sym (take-append-drop s.mem s.journal)) v (not-true (is_dropped (marks_of s) v) living) key
 
 pub lists_asked : (c : Image) (h : Head) (s : State) (entries : List Entry) (sealed : Option (List Entry)) (spare v : ℕ) (key : List ℕ) → state_of c h ≡ Some s → IsSound s
-    → HoldLists s.mem s.journal entries sealed spare → v < length (versions_of s) → asked c (versions_of s) (lists_read entries sealed) h.manifest.levels v key ≡ value_of (pairs_at (table_of s) v) key
-lists_asked c h s entries sealed spare v key is sound lists lt =
+    → HoldLists s.mem s.journal entries sealed spare → v < length (versions_of s) → is_living s v ≡ true → asked c (versions_of s) (lists_read entries sealed) h.manifest.levels v key ≡ value_of (pairs_at (table_of s) v) key
+lists_asked c h s entries sealed spare v key is sound lists lt living =
     let value : Option Entry → Option (List ℕ) = λ o. option_and_then (λ e. e.value) o in
-    ap value (bytes_shown c h s (versions_of s) (lists_read entries sealed) v key is ∙ lists_look s entries sealed spare v key sound lists ∙ sym (looked_up_read s v key)
+    ap value (bytes_shown c h s (versions_of s) (lists_read entries sealed) v key is ∙ lists_look s entries sealed spare v key sound lists living ∙ sym (looked_up_read s v key)
     ∙ sym (bytes_shown c h s (versions_of s) (level_zero s ∷ []) v key is))
-    ∙ asked_same c h s v key is sound lt
+    ∙ asked_same c h s v key is sound lt living
 
 -- what one more change leaves
 entries_more : (journal : List Change) (c : Change) (e : Entry) → update_of c ≡ Some e → set_entry e (entries_left journal) ≡ entries_left (journal ++ c ∷ [])
@@ -79,6 +81,7 @@ entries_more journal c e is =
     one_update (Put u k x) e is = by_option (Some (record { key = k; version = u; value = Some x })) e is
     one_update (Delete u k) e is = by_option (Some (record { key = k; version = u; value = None })) e is
     one_update (Clone u) e is = absurd (cc)
+    one_update (DropVersion u) e is = absurd (cc)
 
 entries_same : (journal : List Change) (c : Change) → update_of c ≡ None → entries_left journal ≡ entries_left (journal ++ c ∷ [])
 entries_same journal c is = sym (ap set_all (filter_map-append update_of journal (c ∷ []) ∙ ap (λ (es : List Entry). filter_map update_of journal ++ es) (no_update c is) ∙ append-nil (filter_map update_of journal)))
@@ -87,6 +90,7 @@ entries_same journal c is = sym (ap set_all (filter_map-append update_of journal
     no_update (Put u k x) is = absurd (cc)
     no_update (Delete u k) is = absurd (cc)
     no_update (Clone u) is = refl
+    no_update (DropVersion u) is = refl
 
 module _ (mem : ℕ) (journal : List Change) (c : Change) where
   more_front : mem ≤ length journal → take mem (journal ++ c ∷ []) ≡ take mem journal

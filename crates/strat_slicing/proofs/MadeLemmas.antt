@@ -39,13 +39,14 @@ use Rattle.strat_standing.proofs.ComputedLemmas.{promotion_next, computed_prepar
 use Rattle.strat_standing.proofs.ListLemmas.{among_contained}
 use Rattle.strat_standing.proofs.LocalLemmas.{levels_local, level_blocks}
 use Rattle.strat_standing.proofs.PartLemmas.{arrays_new}
-use Rattle.strat_standing.proofs.PromotedLemmas.{sealed_sound}
-use Rattle.strat_standing.specs.Contents.{Contents, sealed_state}
+use Rattle.strat_standing.proofs.PromotedLemmas.{sealed_ordered}
+use Rattle.strat_standing.specs.Contents.{Contents, contents_state, sealed_state}
 use Rattle.strat_standing.specs.Next.{AreNewArrays, AreArraysOf, IsNextOf, HasManifest, arrays_made}
 use Rattle.strat_standing.specs.Occupied.{IsSpaceOf}
 use Rattle.strat_standing.specs.Publication.{IsPrepared}
 use Rattle.strat_standing.specs.Standing.{ReadsAs, LeavesContent, ContentsStand}
-use Rattle.strat_state.specs.Sound.{IsSound}
+use Rattle.strat_state.specs.Sound.{IsOrdered}
+use Rattle.strat_state.proofs.SoundLemmas.{ordered}
 
 -- what holds of the extents of each array
 extents_at : (P : List Extent → Type 0) (arrays : List ArrayDesc) (q : ℕ) (a : ArrayDesc) → AllByRecursion P (map (λ (x : ArrayDesc). x.extents) arrays) → slice_get arrays q ≡ Some a → P a.extents
@@ -59,8 +60,8 @@ module _ (f g : Image) (x : Contents) (fill : ℕ) (sealed : List Entry) (levels
   over : IsBegunOver f (sealed_state x) inputs p.going.was
   over = begun_over f x sealed levels p.going.was inputs s.reads.lies p.going.begun s.lent
 
-  before : IsSound (sealed_state x)
-  before = sealed_sound x s.sound
+  before : IsOrdered (sealed_state x)
+  before = sealed_ordered x (ordered (contents_state x) s.sound)
 
   abbrev target : ℕ
   target = target_of p.going.was

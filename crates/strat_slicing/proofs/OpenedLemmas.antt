@@ -45,11 +45,12 @@ use Rattle.strat_standing.specs.Standing.{LiesIn, ReadsAs}
 use Rattle.strat_standing.proofs.ListLemmas.{contained_among}
 use Rattle.strat_standing.proofs.OccupiedLemmas.{joined_beside, named_used, counted_some}
 use Rattle.strat_standing.proofs.PlaceLemmas.{named_behind}
-use Rattle.strat_standing.proofs.PromotedLemmas.{sealed_sound}
+use Rattle.strat_standing.proofs.PromotedLemmas.{sealed_ordered}
 use Rattle.strat_promotion.specs.Sealed.{sealed_at}
 use Rattle.strat_state.specs.Setting.{set_all}
 use Rattle.strat_state.specs.Sound.{IsSound}
 use Rattle.strat_state.specs.State.{State, versions_of, journal_updates}
+use Rattle.strat_state.proofs.SoundLemmas.{ordered}
 
 -- what is lent is what it was begun with
 module _ (f : Image) (x : Contents) (sealed : List Entry) (levels : List (Option LevelDesc)) (was : Promotion) (inputs : Inputs) (lies : LiesIn f x) (b : IsBegunOf x sealed levels was)
@@ -73,7 +74,7 @@ module _ (f : Image) (x : Contents) (sealed : List Entry) (levels : List (Option
 pub does_its_job : (f : Image) (x : Contents) (fill : ℕ) (sealed : List Entry) (levels : List (Option LevelDesc)) (others : List Extent) (o : OpenPromotion) (inputs : Inputs) → ReadsAs f x
     → IsSound (contents_state x) → (p : IsOpenOver f x fill sealed levels others o) → AreLent sealed levels (sealed_state x) inputs → IsItsJob f o.promotion inputs (job_open x levels p.going.was)
 does_its_job f x fill sealed levels others o inputs reads sound p lent =
-    let at_was = begun_its_job f (sealed_state x) inputs p.going.was (sealed_sound x sound) (begun_over f x sealed levels p.going.was inputs reads.lies p.going.begun lent) in
+    let at_was = begun_its_job f (sealed_state x) inputs p.going.was (sealed_ordered x (ordered (contents_state x) sound)) (begun_over f x sealed levels p.going.was inputs reads.lies p.going.begun lent) in
     let here : IsTaskIn f p.going.was.task inputs (job_open x levels p.going.was) = subst (λ (ls : List (Option LevelDesc)). IsTaskIn f p.going.was.task inputs (job_of_state (sealed_state x) ls (target_of p.going.was))) lent.levels_are at_was in
     subst (λ (t : Task). IsTaskIn f t inputs (job_open x levels p.going.was)) (sym p.going.same.task) here
 

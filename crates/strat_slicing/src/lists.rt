@@ -1,6 +1,6 @@
 //! Laws of level 0 and of a sealed one. Each is the contract of a function that does nothing.
 
-ghost use Rattle.std.specs.Prelude.{◌≡◌, ◌≤◌, ◌<◌, ℕ, ◌+◌, ◌-◌, ◌*◌, List, [], ◌∷◌, ◌++◌, length, take, drop, filter_map, Option, Some, None};
+ghost use Rattle.std.specs.Prelude.{◌≡◌, ◌≤◌, ◌<◌, ℕ, ◌+◌, ◌-◌, ◌*◌, List, [], ◌∷◌, ◌++◌, length, take, drop, filter_map, Option, Some, None, IsTrue};
 ghost use Rattle.strat_base.specs.Change.{Change, Put, Delete, Clone};
 ghost use Rattle.strat_base.specs.Entries.{Entry};
 ghost use Rattle.strat_crash.specs.Image.{Image};
@@ -16,7 +16,7 @@ ghost use Rattle.strat_state.specs.LookUp.{looked_up, of_state};
 ghost use Rattle.strat_state.specs.Reading.{read_at};
 ghost use Rattle.strat_state.specs.Setting.{set_entry, set_all};
 ghost use Rattle.strat_state.specs.Sound.{IsSound};
-ghost use Rattle.strat_state.specs.State.{State, versions_of, update_of, journal_updates};
+ghost use Rattle.strat_state.specs.State.{State, versions_of, is_living, update_of, journal_updates};
 
 /// While a journal fits one region, level 0 may hold all of it, with as much room as the region has left. Below a
 /// full region this is the only way: nothing is sealed then.
@@ -48,15 +48,18 @@ pub fn sealing_changes_nothing()
         → HoldLists mem journal [] (Some entries) mem }
 {}
 
-/// Both lists, and then the levels, are read as the state is; and the bytes of the levels as its table.
+/// At a living version both lists, and then the levels, are read as the state is; and the bytes of the levels as its
+/// table.
 pub fn both_lists_are_read()
     ensures read { (s : State) (entries : List Entry) (sealed : Option (List Entry)) (spare v : ℕ)
         (key : List ℕ) → IsSound s → HoldLists s.mem s.journal entries sealed spare
+        → IsTrue (is_living s v)
         → looked_up of_state (versions_of s) (lists_read entries sealed) s.levels v key
         ≡ read_at s v key }
     ensures asked { (c : Image) (h : Head) (s : State) (entries : List Entry)
         (sealed : Option (List Entry)) (spare v : ℕ) (key : List ℕ) → state_of c h ≡ Some s
         → IsSound s → HoldLists s.mem s.journal entries sealed spare → v < length (versions_of s)
+        → IsTrue (is_living s v)
         → asked c (versions_of s) (lists_read entries sealed) h.manifest.levels v key
         ≡ value_of (pairs_at (table_of s) v) key }
 {}

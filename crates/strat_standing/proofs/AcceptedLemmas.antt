@@ -8,21 +8,22 @@ use Rattle.strat_format.specs.Records.{Logged}
 use Rattle.strat_format.proofs.DamageLemmas.{put_first_ok}
 use Rattle.strat_recovery.specs.Opening.{accepted_in}
 use Rattle.strat_state.specs.Sound.{is_accepted, are_accepted}
-use Rattle.strat_state.specs.State.{tree_after}
+use Rattle.strat_state.specs.State.{tree_after, marks_after}
+use Rattle.strat_base.specs.Marks.{Marks}
 
 -- the changes of records, in order
 abbrev pub changes_logged : List Logged → List Change
 changes_logged logged = map (λ l. l.change) logged
 
 -- records that were accepted are these changes
-pub accepted_changes : (changes_max versions_max : ℕ) (parents : Parents) (n : ℕ) (logged : List Logged) (journal : List Change)
-    → accepted_in changes_max versions_max parents n logged ≡ Ok journal → changes_logged logged ≡ journal
-accepted_changes changes_max versions_max parents n [] journal e = cc
-accepted_changes changes_max versions_max parents n (l ∷ logged) journal e =
-    by_test (is_accepted changes_max versions_max parents n l.change) (accepted_changes changes_max versions_max (tree_after parents l.change) (suc n) logged) e
+pub accepted_changes : (changes_max versions_max : ℕ) (parents : Parents) (marks : Marks) (n : ℕ) (logged : List Logged) (journal : List Change)
+    → accepted_in changes_max versions_max parents marks n logged ≡ Ok journal → changes_logged logged ≡ journal
+accepted_changes changes_max versions_max parents marks n [] journal e = cc
+accepted_changes changes_max versions_max parents marks n (l ∷ logged) journal e =
+    by_test (is_accepted changes_max versions_max parents marks n l.change) (accepted_changes changes_max versions_max (tree_after parents l.change) (marks_after marks l.change) (suc n) logged) e
   where
     later : Read (List Change)
-    later = accepted_in changes_max versions_max (tree_after parents l.change) (suc n) logged
+    later = accepted_in changes_max versions_max (tree_after parents l.change) (marks_after marks l.change) (suc n) logged
 
     by_test : (b : Bool) → ((j : List Change) → later ≡ Ok j → changes_logged logged ≡ j)
         → cond b (put_first l.change later) (Err l.block) ≡ Ok journal → l.change ∷ changes_logged logged ≡ journal
@@ -32,10 +33,10 @@ accepted_changes changes_max versions_max parents n (l ∷ logged) journal e =
         ap (λ (j : List Change). l.change ∷ j) (rest parts.0 parts.1) ∙ parts.2
 
 -- changes that are each accepted in turn are accepted as records
-pub accepted_logged : (changes_max versions_max : ℕ) (parents : Parents) (n : ℕ) (logged : List Logged)
-    → are_accepted changes_max versions_max parents n (changes_logged logged) ≡ true → accepted_in changes_max versions_max parents n logged ≡ Ok (changes_logged logged)
-accepted_logged changes_max versions_max parents n [] e = refl
-accepted_logged changes_max versions_max parents n (l ∷ logged) e =
-    let parts = and_parts (is_accepted changes_max versions_max parents n l.change) (are_accepted changes_max versions_max (tree_after parents l.change) (suc n) (changes_logged logged)) e in
-    cond-true (is_accepted changes_max versions_max parents n l.change) (put_first l.change (accepted_in changes_max versions_max (tree_after parents l.change) (suc n) logged)) (Err l.block) parts.0
-    ∙ ap (λ (r : Read (List Change)). put_first l.change r) (accepted_logged changes_max versions_max (tree_after parents l.change) (suc n) logged parts.1)
+pub accepted_logged : (changes_max versions_max : ℕ) (parents : Parents) (marks : Marks) (n : ℕ) (logged : List Logged)
+    → are_accepted changes_max versions_max parents marks n (changes_logged logged) ≡ true → accepted_in changes_max versions_max parents marks n logged ≡ Ok (changes_logged logged)
+accepted_logged changes_max versions_max parents marks n [] e = refl
+accepted_logged changes_max versions_max parents marks n (l ∷ logged) e =
+    let parts = and_parts (is_accepted changes_max versions_max parents marks n l.change) (are_accepted changes_max versions_max (tree_after parents l.change) (marks_after marks l.change) (suc n) (changes_logged logged)) e in
+    cond-true (is_accepted changes_max versions_max parents marks n l.change) (put_first l.change (accepted_in changes_max versions_max (tree_after parents l.change) (marks_after marks l.change) (suc n) logged)) (Err l.block) parts.0
+    ∙ ap (λ (r : Read (List Change)). put_first l.change r) (accepted_logged changes_max versions_max (tree_after parents l.change) (marks_after marks l.change) (suc n) logged parts.1)

@@ -31,7 +31,7 @@ pub changes_read : (c : Image) (x : Contents) → ReadsAs c x → journal_change
 changes_read c x r =
     let fits = newest_fits c x.slot x.sb r.newest in
     ap changes_in_order (two_whole c x.sb.mem x.sb.region (omega (arith, fits.mem_least)) r.logged.logged r.logged.read).0
-    ∙ ap (λ (j : List Change). Ok j) (accepted_changes x.sb.changes_max x.sb.versions_max (parents_in x.chained.manifest) x.chained.manifest.changes r.logged.logged x.journal r.logged.accepted)
+    ∙ ap (λ (j : List Change). Ok j) (accepted_changes x.sb.changes_max x.sb.versions_max (parents_in x.chained.manifest) x.chained.manifest.marks x.chained.manifest.changes r.logged.logged x.journal r.logged.accepted)
 
 -- what the journal in memory asks of the disk
 pub stands_journal : (v : DiskView) (x : Contents) (log : Log) → ContentsStand v x → IsLogOf x log → Stands v log
@@ -51,8 +51,8 @@ reads_changes d c x region journal one r out given sound =
     let same : changes_logged found.0 ≡ journal = cc in
     let fit = leb-true (length journal) (journal_max x.sb.mem) sound.formed.fits in
     let few : length found.0 ≤ 2 * x.sb.mem - 2 = omega (arith, fit, ap length same, length-map found.0 (λ (l : Logged). l.change)) in
-    let accepted : are_accepted x.sb.changes_max x.sb.versions_max (parents_in x.chained.manifest) x.chained.manifest.changes (changes_logged found.0) ≡ true =
-    ap (are_accepted x.sb.changes_max x.sb.versions_max (parents_in x.chained.manifest) x.chained.manifest.changes) same ∙ sound.formed.accepted in
+    let accepted : are_accepted x.sb.changes_max x.sb.versions_max (parents_in x.chained.manifest) x.chained.manifest.marks x.chained.manifest.changes (changes_logged found.0) ≡ true =
+    ap (are_accepted x.sb.changes_max x.sb.versions_max (parents_in x.chained.manifest) x.chained.manifest.marks x.chained.manifest.changes) same ∙ sound.formed.accepted in
     record {
       newest = newest_local d c (record { byte = λ i low high. out.below i (omega (arith, high, p.behind_slots)) }) ∙ r.newest;
       lies = let lies = lies_local d c x r.lies (λ b among.
@@ -62,7 +62,7 @@ reads_changes d c x region journal one r out given sound =
       logged = record {
         logged = found.0;
         read = whole_two c x.sb.mem x.sb.region (omega (arith, fits.mem_least)) found.0 found.1 few;
-        accepted = accepted_logged x.sb.changes_max x.sb.versions_max (parents_in x.chained.manifest) x.chained.manifest.changes found.0 accepted ∙ ap (λ (j : List Change). Ok j) same;
+        accepted = accepted_logged x.sb.changes_max x.sb.versions_max (parents_in x.chained.manifest) x.chained.manifest.marks x.chained.manifest.changes found.0 accepted ∙ ap (λ (j : List Change). Ok j) same;
       };
     }
 

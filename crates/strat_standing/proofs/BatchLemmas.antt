@@ -13,8 +13,8 @@ use Rattle.strat_promotion.proofs.SealedLemmas.{sound_after}
 use Rattle.strat_recovery.specs.StateTable.{table_of}
 use Rattle.strat_recovery.proofs.StateTableLemmas.{stays_sound, steps_to}
 use Rattle.strat_state.specs.Sound.{IsSound, Takes, are_accepted, is_accepted}
-use Rattle.strat_state.specs.State.{State, appended, changes_of, tree_after, versions_of}
-use Rattle.strat_state.proofs.StepLemmas.{versions-appended}
+use Rattle.strat_state.specs.State.{State, appended, changes_of, tree_after, versions_of, marks_of, marks_after}
+use Rattle.strat_state.proofs.StepLemmas.{versions-appended, marks-appended}
 use Rattle.strat_standing.specs.Appending.{AppendsBatch, IsLogOf, with_batch}
 use Rattle.strat_standing.specs.Contents.{Contents, contents_state}
 use Rattle.strat_standing.specs.Batches.{TakesBatch, tables_through}
@@ -48,17 +48,17 @@ put_in shows v start x y between t = trail_put_in shows v start (x ∷ []) betwe
 -- the first change of a batch is taken, and after it the others are
 takes_first : (s : State) (c : Change) (batch : List Change) → TakesBatch s (c ∷ batch) → Takes s c
 takes_first s c batch takes =
-    let parts = and_parts (is_accepted s.changes_max s.versions_max (versions_of s) (changes_of s) c) (are_accepted s.changes_max s.versions_max (tree_after (versions_of s) c) (suc (changes_of s)) batch) takes.accepted in
+    let parts = and_parts (is_accepted s.changes_max s.versions_max (versions_of s) (marks_of s) (changes_of s) c) (are_accepted s.changes_max s.versions_max (tree_after (versions_of s) c) (marks_after (marks_of s) c) (suc (changes_of s)) batch) takes.accepted in
     record { sound = takes.sound; accepted = parts.0; room = omega (arith, takes.room) }
 
 takes_others : (s : State) (c : Change) (batch : List Change) → TakesBatch s (c ∷ batch) → TakesBatch (appended s c) batch
 takes_others s c batch takes =
-    let parts = and_parts (is_accepted s.changes_max s.versions_max (versions_of s) (changes_of s) c) (are_accepted s.changes_max s.versions_max (tree_after (versions_of s) c) (suc (changes_of s)) batch) takes.accepted in
+    let parts = and_parts (is_accepted s.changes_max s.versions_max (versions_of s) (marks_of s) (changes_of s) c) (are_accepted s.changes_max s.versions_max (tree_after (versions_of s) c) (marks_after (marks_of s) c) (suc (changes_of s)) batch) takes.accepted in
     let more = length-append s.journal (c ∷ []) in
     let counted : changes_of (appended s c) ≡ suc (changes_of s) = omega (arith, more) in
     record {
       sound = stays_sound s c (takes_first s c batch takes);
-      accepted = (λ i. are_accepted s.changes_max s.versions_max (versions-appended s c i) (counted i) batch) ∙ parts.1;
+      accepted = (λ i. are_accepted s.changes_max s.versions_max (versions-appended s c i) (marks-appended s c i) (counted i) batch) ∙ parts.1;
       room = omega (arith, takes.room, more);
     }
 

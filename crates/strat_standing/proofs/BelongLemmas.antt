@@ -79,13 +79,16 @@ module _ (f g : Image) (old new : Contents) (made : Option LevelDesc) (taken kep
 
   pub few_publications : has_few_publications new.sb now ≡ true
   few_publications =
-      let before = and_parts (leb old.sb.generation (was.changes + 1) && leb was.next_array (16384 * was.changes + 1)) (leb was.written (33554432 * was.changes)) (pass_at (belonging_tests old.sb old.chained) 7 m.reads.lies.belonging) in
+      let limited = and_parts (leb old.sb.generation (was.changes + 1) && leb was.next_array (16384 * was.changes + 1) && leb was.written (33554432 * was.changes)) (leb was.compacted (33554432 * was.changes)) (pass_at (belonging_tests old.sb old.chained) 7 m.reads.lies.belonging) in
+      let before = and_parts (leb old.sb.generation (was.changes + 1) && leb was.next_array (16384 * was.changes + 1)) (leb was.written (33554432 * was.changes)) limited.0 in
       let generation = leb-true old.sb.generation (was.changes + 1) (and_parts (leb old.sb.generation (was.changes + 1)) (leb was.next_array (16384 * was.changes + 1)) before.0).0 in
-      and_from (leb new.sb.generation (now.changes + 1) && leb now.next_array (16384 * now.changes + 1)) (leb now.written (33554432 * now.changes))
+      and_from (leb new.sb.generation (now.changes + 1) && leb now.next_array (16384 * now.changes + 1) && leb now.written (33554432 * now.changes)) (leb now.compacted (33554432 * now.changes))
+      (and_from (leb new.sb.generation (now.changes + 1) && leb now.next_array (16384 * now.changes + 1)) (leb now.written (33554432 * now.changes))
       (and_from (leb new.sb.generation (now.changes + 1)) (leb now.next_array (16384 * now.changes + 1))
       (le-leb new.sb.generation (now.changes + 1) (omega (arith, m.next.generation, generation, next.changes_more f g old new made taken kept m)))
       (le-leb now.next_array (16384 * now.changes + 1) (next.next_most f g old new made taken kept m)))
-      (le-leb now.written (33554432 * now.changes) (next.written_most f g old new made taken kept m))
+      (le-leb now.written (33554432 * now.changes) (next.written_most f g old new made taken kept m)))
+      (le-leb now.compacted (33554432 * now.changes) (next.compacted_most f g old new made taken kept m))
 
   -- the next manifest belongs to its superblock where its blocks are its own
   pub next_belongs : has_own_blocks new.sb new.chained.blocks now ≡ true → belongs new.sb new.chained ≡ true
@@ -94,4 +97,5 @@ module _ (f g : Image) (old new : Contents) (made : Option LevelDesc) (taken kep
       (next.pass_more _ _ (le-leb (versions_in now) new.sb.versions_max (next.versions_most f g old new made taken kept m))
       (next.pass_more _ _ (le-leb now.changes new.sb.changes_max (next.changes_most f g old new made taken kept m))
       (next.pass_more _ _ (le-leb _ now.updates (next.leads_within f g old new made taken kept m))
-      (next.pass_more _ _ filled (next.pass_more _ _ few_publications next.pass_none)))))))
+      (next.pass_more _ _ filled (next.pass_more _ _ few_publications
+      (next.pass_more _ _ (next.undropped f g old new made taken kept m) next.pass_none))))))))

@@ -51,7 +51,7 @@ module _ (f g : Image) (old new : Contents) (made : Option LevelDesc) (taken kep
     -- and lie where they were written
     pub computed_lie : all_some (level_on c) new.chained.manifest.levels ≡ Some new.levels → LiesIn c new
     computed_lie arrays =
-        lies_written c new has.others (manifest_bytes new.chained.manifest) (next_spelled f g old new made taken kept m) has.chain has.blocks has.size
+        lies_written c new has.others (manifest_bytes new.sb.format new.chained.manifest) (next_spelled f g old new made taken kept m) has.chain has.blocks has.size
         (next_belongs f g old new made taken kept m (own_blocks s new others space)) arrays
 
 -- so a sync prepares them

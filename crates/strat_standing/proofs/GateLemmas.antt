@@ -26,7 +26,7 @@ use Rattle.strat_standing.proofs.PlaceLemmas.{places, newest_fits, newest_local,
 pub length-logged : (c : Image) (x : Contents) (l : IsLogged c x) → length l.logged ≡ length x.journal
 length-logged c x l =
     sym (length-map l.logged (λ (r : Logged). r.change))
-    ∙ ap (λ (j : List Change). length j) (accepted_changes x.sb.changes_max x.sb.versions_max (parents_in x.chained.manifest) x.chained.manifest.changes l.logged x.journal l.accepted)
+    ∙ ap (λ (j : List Change). length j) (accepted_changes x.sb.changes_max x.sb.versions_max (parents_in x.chained.manifest) x.chained.manifest.marks x.chained.manifest.changes l.logged x.journal l.accepted)
 
 -- where the journal leaves room nothing looks at the first gate of the other region
 pub gate_reads : (d c : Image) (x : Contents) → ReadsAs d x → length x.journal < x.sb.mem → Outside (region_at x.sb.mem (other_region x.sb.region)) 1 d c → ReadsAs c x

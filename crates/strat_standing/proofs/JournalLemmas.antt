@@ -6,9 +6,9 @@ use Rattle.std.proofs.lemmas.Option.{cond_some}
 use Rattle.strat_base.specs.Numbers.{number}
 use Rattle.strat_base.specs.Sizes.{is_value}
 use Rattle.strat_base.specs.Fields.{key_field, key_in, value_in}
-use Rattle.strat_base.specs.Change.{Change, Put, Delete, Clone, change_bytes, change_of_kind, change_in}
+use Rattle.strat_base.specs.Change.{Change, Put, Delete, Clone, DropVersion, change_bytes, change_of_kind, change_in}
 use Rattle.strat_base.proofs.FieldLemmas.{key_max, value_max, key_in-some}
-use Rattle.strat_base.proofs.SizeLemmas.{length-put, length-delete, length-clone}
+use Rattle.strat_base.proofs.SizeLemmas.{length-put, length-delete, length-clone, length-drop_version}
 use Rattle.strat_crash.specs.Image.{Image, SameIn, window}
 use Rattle.strat_crash.proofs.ImageLemmas.{window_same}
 use Rattle.strat_format.specs.Damage.{Read, and_then, passed_or, put_first}
@@ -33,21 +33,24 @@ put_at v fields key = option_map (λ value. Put v key value) (value_in (drop (le
 
 -- of any kind, whatever the version and the fields
 kind_short : (kind v : ℕ) (fields : List ℕ) (c : Change) → change_of_kind kind v fields ≡ Some c → length (change_bytes c) ≤ 1287
-kind_short kind v fields c e = by_test (eqb kind 1) (eqb kind 2) (eqb kind 3) e
+kind_short kind v fields c e = by_test (eqb kind 1) (eqb kind 2) (eqb kind 3) (eqb kind 4) e
   where
-    by_test : (one two three : Bool) → cond one (option_and_then (put_at v fields) (key_in fields)) (cond two (option_map (λ key. Delete v key) (key_in fields)) (cond three (Some (Clone v)) None)) ≡ Some c → length (change_bytes c) ≤ 1287
-    by_test true two three e =
+    by_test : (one two three four : Bool) → cond one (option_and_then (put_at v fields) (key_in fields)) (cond two (option_map (λ key. Delete v key) (key_in fields)) (cond three (Some (Clone v)) (cond four (Some (DropVersion v)) None))) ≡ Some c → length (change_bytes c) ≤ 1287
+    by_test true two three four e =
         let key = next_some (put_at v fields) (key_in fields) c e in
         let value = map_some (λ value. Put v key.0 value) (value_in (drop (length (key_field key.0)) fields)) c key.2 in
         subst (λ (d : Change). length (change_bytes d) ≤ 1287) value.2
         (omega (arith, length-put v key.0 value.0, key_short fields key.0 key.1, value_short (drop (length (key_field key.0)) fields) value.0 value.1))
-    by_test false true three e =
+    by_test false true three four e =
         let key = map_some (λ key. Delete v key) (key_in fields) c e in
         subst (λ (d : Change). length (change_bytes d) ≤ 1287) key.2 (omega (arith, length-delete v key.0, key_short fields key.0 key.1))
-    by_test false false true e =
+    by_test false false true four e =
         let same : Clone v ≡ c = cc in
         subst (λ (d : Change). length (change_bytes d) ≤ 1287) same (omega (arith, length-clone v))
-    by_test false false false e = absurd (cc)
+    by_test false false false true e =
+        let same : DropVersion v ≡ c = cc in
+        subst (λ (d : Change). length (change_bytes d) ≤ 1287) same (omega (arith, length-drop_version v))
+    by_test false false false false e = absurd (cc)
 
 -- a change that is read has at most 1,287 bytes, whatever bytes it is read from
 pub change_short : (bytes : List ℕ) (c : Change) → change_in bytes ≡ Some c → length (change_bytes c) ≤ 1287

@@ -68,14 +68,14 @@ bytes_local : (f c : Image) (blocks : List ℕ) → SameOn f c blocks → chaine
 bytes_local f c [] same = refl
 bytes_local f c (b ∷ blocks) same = λ i. text_same f c b (same b (inl refl)) i ++ bytes_local f c blocks (λ d among. same d (inr among)) i
 
-pub manifest_local : (f c : Image) (first n : ℕ) (x : Chained) → manifest_at f first n ≡ Ok x → SameOn f c x.blocks → manifest_at c first n ≡ Ok x
-manifest_local f c first n x e same =
-    let read = and_then_ok (chain_from f [] first (chain_length n - 1)) (manifest_in_chain f first n) x e in
-    let made = map_some (λ m. record { manifest = m; blocks = read.0 }) (manifest_filled n (chained_bytes f read.0)) x
-    (found_ok first (option_map (λ m. record { manifest = m; blocks = read.0 }) (manifest_filled n (chained_bytes f read.0))) x read.2) in
+pub manifest_local : (format : ℕ) (f c : Image) (first n : ℕ) (x : Chained) → manifest_at format f first n ≡ Ok x → SameOn f c x.blocks → manifest_at format c first n ≡ Ok x
+manifest_local format f c first n x e same =
+    let read = and_then_ok (chain_from f [] first (chain_length n - 1)) (manifest_in_chain format f first n) x e in
+    let made = map_some (λ m. record { manifest = m; blocks = read.0 }) (manifest_filled format n (chained_bytes f read.0)) x
+    (found_ok first (option_map (λ m. record { manifest = m; blocks = read.0 }) (manifest_filled format n (chained_bytes f read.0))) x read.2) in
     let on : SameOn f c read.0 = subst (λ (l : List ℕ). SameOn f c l) (sym (ap (λ (y : Chained). y.blocks) made.2)) same in
-    ap (λ (r : Read (List ℕ)). and_then r (manifest_in_chain c first n)) (chain_local f c [] first (chain_length n - 1) read.0 read.1 on)
-    ∙ ap (λ (l : List ℕ). found_or first (option_map (λ m. record { manifest = m; blocks = read.0 }) (manifest_filled n l))) (bytes_local f c read.0 on)
+    ap (λ (r : Read (List ℕ)). and_then r (manifest_in_chain format c first n)) (chain_local f c [] first (chain_length n - 1) read.0 read.1 on)
+    ∙ ap (λ (l : List ℕ). found_or first (option_map (λ m. record { manifest = m; blocks = read.0 }) (manifest_filled format n l))) (bytes_local f c read.0 on)
     ∙ read.2
 
 pub entries_local : (f c : Image) (blocks : List ℕ) → SameOn f c blocks → entries_on c blocks ≡ entries_on f blocks
@@ -123,7 +123,7 @@ pub lies_local : (f c : Image) (x : Contents) → LiesIn f x → SameOn f c (nam
 lies_local f c x lies same =
     let arrays : List ℕ = level_blocks x.chained.manifest.levels in
     record {
-      chain = manifest_local f c x.sb.manifest x.sb.length x.chained lies.chain (λ b among. same b (among_left x.chained.blocks arrays b among));
+      chain = manifest_local x.sb.format f c x.sb.manifest x.sb.length x.chained lies.chain (λ b among. same b (among_left x.chained.blocks arrays b among));
       belonging = lies.belonging;
       arrays = levels_local f c x.chained.manifest.levels (λ b among. same b (among_right x.chained.blocks arrays b among)) ∙ lies.arrays;
     }

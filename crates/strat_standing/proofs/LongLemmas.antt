@@ -1,5 +1,5 @@
 -- How many bytes the next manifest has, and that its superblock is lawful.
-use Rattle.std.proofs.Common.{◌≡◌, ◌≤◌, ◌<◌, ◌+◌, ◌*◌, ◌^◌, ℕ, inl, inr, true, false, eqb, leb, ltb, ◌&&◌, List, [], ◌∷◌, ◌++◌, length, Option, refl, sym, subst, arith, length-append}
+use Rattle.std.proofs.Common.{◌≡◌, ◌≤◌, ◌<◌, ◌+◌, ◌*◌, ◌^◌, ℕ, inl, inr, true, false, eqb, leb, ltb, ◌&&◌, List, [], ◌∷◌, ◌++◌, length, Option, refl, sym, subst, arith, length-append, Bool, cond, if◌then◌else◌, ap, Some}
 use Rattle.std.specs.List.{list_all, flat_map, sum_by, IsDistinct}
 use Rattle.std.proofs.lemmas.Bool.{and_parts, eqb-true, leb-true, ltb-true, false_from_ne_true}
 use Rattle.std.proofs.lemmas.List.Sums.{sum_by-cons, sum_by-append}
@@ -12,8 +12,8 @@ use Rattle.strat_base.specs.declared.limits.TheConstants.{LEVELS}
 use Rattle.strat_base.proofs.ListFacts.{Among, all_at, any_among, each_from, among_left, among_right, among_flat}
 use Rattle.strat_base.proofs.NumberLemmas.{length-be}
 use Rattle.strat_crash.specs.Image.{Image}
-use Rattle.strat_format.specs.Layout.{first_free}
-use Rattle.strat_format.specs.Manifest.{Manifest, versions_in, is_lawful_array, list_bytes, extent_bytes, array_bytes, level_bytes, manifest_bytes}
+use Rattle.strat_format.specs.Layout.{first_free, shortest_manifest}
+use Rattle.strat_format.specs.Manifest.{Manifest, versions_in, is_lawful_array, list_bytes, extent_bytes, array_bytes, level_bytes, manifest_bytes, only, mark_bytes}
 use Rattle.strat_format.specs.SuperBlock.{IsLawful}
 use Rattle.strat_format.proofs.ManifestLemmas.{pass_at}
 use Rattle.strat_plan.proofs.ListLemmas.{distinct_head, distinct_tail}
@@ -28,6 +28,10 @@ use Rattle.strat_standing.specs.Next.{MayBeNext}
 use Rattle.strat_standing.specs.Publication.{Succeeds}
 use Rattle.strat_standing.proofs.BelongLemmas as belong
 use Rattle.strat_standing.proofs.NextLemmas as next
+use Rattle.strat_base.specs.Marks.{Marks}
+use Rattle.strat_state.proofs.MarkLemmas.{pruned_from_test}
+use Rattle.strat_recovery.specs.Opened.{parents_in}
+use Rattle.std.proofs.Math.ListN.{length-map}
 
 -- numbers below another, none of which stands twice, are no more than that
 pairs_apart : (xs : List ℕ) → is_distinct xs ≡ true → IsDistinct eqb xs
@@ -118,20 +122,38 @@ levels_long (d ∷ ds) tags each =
       sum_by-append (λ (a : ArrayDesc). a.entries) d.arrays rest,
     )
 
-manifest_long : (m : Manifest) → length (manifest_bytes m) ≡ 29 + 4 * length m.parents + length (flat_map level_bytes m.levels)
+-- the fields that a format has alone
+only_few : (format : ℕ) (bytes : List ℕ) → length (only format bytes) ≤ length bytes
+only_few format bytes = by (eqb format 2)
+  where
+    by : (b : Bool) → length (cond b bytes []) ≤ length bytes
+    by true = omega arith
+    by false = omega arith
+
+marks_long : (marks : Marks) → length (flat_map mark_bytes marks) ≡ length marks
+marks_long [] = refl
+marks_long (mark ∷ marks) = omega (arith, length-append (mark_bytes mark) (flat_map mark_bytes marks), marks_long marks, length-be 1 (if mark then 1 else 0))
+
+manifest_long : (format : ℕ) (m : Manifest) → length (manifest_bytes format m)
+    ≡ 29 + 4 * length m.parents + length (flat_map level_bytes m.levels) + length (only format (be 8 m.compacted)) + length (only format (flat_map mark_bytes m.marks))
 unfolding manifest_bytes
-manifest_long m =
+manifest_long format m =
     let levels : List ℕ = be 1 (length m.levels) ++ flat_map level_bytes m.levels in
-    let parents : List ℕ = flat_map (be 4) m.parents ++ levels in
+    let marked : List ℕ = only format (flat_map mark_bytes m.marks) ++ levels in
+    let parents : List ℕ = flat_map (be 4) m.parents ++ marked in
     let versions : List ℕ = be 4 (versions_in m) ++ parents in
+    let arrays : List ℕ = be 8 m.next_array ++ versions in
+    let compacted : List ℕ = only format (be 8 m.compacted) ++ arrays in
     omega (
       arith,
-      length-append (be 4 m.changes) (be 4 m.updates ++ (be 8 m.written ++ (be 8 m.next_array ++ versions))),
-      length-append (be 4 m.updates) (be 8 m.written ++ (be 8 m.next_array ++ versions)),
-      length-append (be 8 m.written) (be 8 m.next_array ++ versions),
+      length-append (be 4 m.changes) (be 4 m.updates ++ (be 8 m.written ++ compacted)),
+      length-append (be 4 m.updates) (be 8 m.written ++ compacted),
+      length-append (be 8 m.written) compacted,
+      length-append (only format (be 8 m.compacted)) arrays,
       length-append (be 8 m.next_array) versions,
       length-append (be 4 (versions_in m)) parents,
-      length-append (flat_map (be 4) m.parents) levels,
+      length-append (flat_map (be 4) m.parents) marked,
+      length-append (only format (flat_map mark_bytes m.marks)) levels,
       length-append (be 1 (length m.levels)) (flat_map level_bytes m.levels),
       length-be 4 m.changes,
       length-be 4 m.updates,
@@ -162,31 +184,48 @@ module _ (f g : Image) (old new : Contents) (made : Option LevelDesc) (taken kep
       let short = next.extents_few a.extents (pass_at (array_tests now.next_array a) 7 array) in
       record { some = leb-true 1 a.entries (pass_at (array_tests now.next_array a) 2 array); few = omega (arith, short, x.few) }
 
-  pub bytes_few : length (manifest_bytes now) < 2 ^ 31
+  marks_few : length now.marks ≤ 16384
+  marks_few =
+      let pruned = pruned_from_test (parents_in now) now.marks m.is_sound.formed.pruned in
+      omega (arith, pruned.len, length-map now.parents (λ p. Some p), next.versions_bound f g old new made taken kept m)
+
+  pub bytes_few : length (manifest_bytes new.sb.format now) < 2 ^ 31
   bytes_few =
       omega (
         arith,
-        manifest_long now,
+        manifest_long new.sb.format now,
+        only_few new.sb.format (be 8 now.compacted),
+        length-be 8 now.compacted,
+        only_few new.sb.format (flat_map mark_bytes now.marks),
+        marks_long now.marks,
+        marks_few,
         levels_long now.levels tags_few small,
         next.entries_all f g old new made taken kept m,
         next.versions_bound f g old new made taken kept m,
-        leb-true (length now.levels) LEVELS (pass_at (manifest_tests now) 7 (next.next_lawful f g old new made taken kept m)),
+        leb-true (length now.levels) LEVELS (pass_at (manifest_tests new.sb.format now) 7 (next.next_lawful f g old new made taken kept m)),
       )
 
-  pub bytes_some : 29 ≤ length (manifest_bytes now)
-  bytes_some = omega (arith, manifest_long now)
+  -- each publication writes the newest format
+  shortest : shortest_manifest new.sb.format ≡ 29
+  shortest = ap shortest_manifest m.next.promoted.format
 
-  module _ (length_is : new.sb.length ≡ length (manifest_bytes now)) (blocks : List ℕ) (blocks_are : new.chained.blocks ≡ new.sb.manifest ∷ blocks)
+  pub bytes_some : shortest_manifest new.sb.format ≤ length (manifest_bytes new.sb.format now)
+  bytes_some = omega (arith, manifest_long new.sb.format now, shortest)
+
+  module _ (length_is : new.sb.length ≡ length (manifest_bytes new.sb.format now)) (blocks : List ℕ) (blocks_are : new.chained.blocks ≡ new.sb.manifest ∷ blocks)
       (own : has_own_blocks new.sb new.chained.blocks now ≡ true) (below : new.sb.manifest < 4294967295) where
     super_lawful : IsLawful new.sb
     super_lawful =
         let limits = (next.passed f g old new made taken kept m).limits in
         let promoted = m.next.promoted in
-        let few = and_parts (leb new.sb.generation (now.changes + 1) && leb now.next_array (16384 * now.changes + 1)) (leb now.written (33554432 * now.changes)) (belong.few_publications f g old new made taken kept m) in
+        let limited = and_parts (leb new.sb.generation (now.changes + 1) && leb now.next_array (16384 * now.changes + 1) && leb now.written (33554432 * now.changes)) (leb now.compacted (33554432 * now.changes)) (belong.few_publications f g old new made taken kept m) in
+        let few = and_parts (leb new.sb.generation (now.changes + 1) && leb now.next_array (16384 * now.changes + 1)) (leb now.written (33554432 * now.changes)) limited.0 in
         let generation = leb-true new.sb.generation (now.changes + 1) (and_parts (leb new.sb.generation (now.changes + 1)) (leb now.next_array (16384 * now.changes + 1)) few.0).0 in
         let behind = and_parts (is_distinct (named_blocks new)) (list_all (λ b. leb (first_free new.sb.mem) b) (named_blocks new)) own in
         let named : Among new.sb.manifest (named_blocks new) = among_left new.chained.blocks _ new.sb.manifest (subst (Among new.sb.manifest) (sym blocks_are) (inl refl)) in
         record {
+          format_least = omega (arith, promoted.format);
+          format_most = omega (arith, promoted.format);
           generation_least = omega (arith, m.next.generation);
           generation_fits = omega (arith, generation, next.changes_bound f g old new made taken kept m);
           manifest_least = leb-true (first_free new.sb.mem) new.sb.manifest (all_at (λ b. leb (first_free new.sb.mem) b) new.sb.manifest (named_blocks new) behind.1 named);

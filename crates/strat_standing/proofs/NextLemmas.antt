@@ -1,8 +1,8 @@
 -- The manifest of next contents has a spelling.
-use Rattle.std.proofs.Common.{◌≡◌, ◌≤◌, ◌<◌, ◌+◌, ◌-◌, ◌*◌, ◌^◌, ℕ, suc, Bool, true, leb, ltb, get_or, ◌&&◌, inl, inr, List, [], ◌∷◌, ◌++◌, length, map, Option, Some, None, refl, sym, ap, ◌∙◌, subst, arith}
+use Rattle.std.proofs.Common.{◌≡◌, ◌≤◌, ◌<◌, ◌+◌, ◌-◌, ◌*◌, ◌^◌, ℕ, suc, Bool, true, leb, ltb, get_or, ◌&&◌, inl, inr, List, [], ◌∷◌, ◌++◌, length, map, Option, Some, None, refl, sym, ap, ◌∙◌, subst, arith, eqb}
 use Rattle.std.specs.List.{list_all, flat_map, sum_by, fold, range_with_len}
 use Rattle.std.specs.Option.{option_to_list}
-use Rattle.std.proofs.lemmas.Bool.{and_parts, and_from, leb-true, ltb-true, le-leb, lt-ltb}
+use Rattle.std.proofs.lemmas.Bool.{and_parts, and_from, leb-true, ltb-true, le-leb, lt-ltb, eqb-true, eq-eqb}
 use Rattle.std.proofs.lemmas.List.{length-map, length-take-le, take-append-drop}
 use Rattle.std.proofs.lemmas.List.Sums.{fold-append, sum_by-cons, sum_by-append}
 use Rattle.strat_base.specs.declared.descriptors.ArrayDesc.{ArrayDesc}
@@ -15,7 +15,7 @@ use Rattle.strat_crash.specs.Image.{Image}
 use Rattle.strat_format.specs.Arrays.{all_some, blocks_of}
 use Rattle.strat_format.specs.Chain.{chain_length}
 use Rattle.strat_format.specs.Chained.{chain_from, manifest_in_chain}
-use Rattle.strat_format.specs.Manifest.{Manifest, versions_in, is_rising, is_lawful_extent, all_pass, is_lawful_array, first_version, is_lawful_level, is_lawful_manifest, manifest_bytes, SpellsManifest}
+use Rattle.strat_format.specs.Manifest.{Manifest, versions_in, is_rising, is_lawful_extent, all_pass, is_lawful_array, first_version, is_lawful_level, is_lawful_manifest, manifest_bytes, SpellsManifest, has_fields}
 use Rattle.strat_format.proofs.DamageLemmas.{and_then_ok}
 use Rattle.strat_format.proofs.ManifestLemmas.{pass_at}
 use Rattle.strat_plan.proofs.ListLemmas.{map_among, among_map}
@@ -26,16 +26,19 @@ use Rattle.strat_recovery.specs.Passed.{PassesOpening}
 use Rattle.strat_recovery.proofs.OpeningLemmas.{map_some, length-all_some, older_tree, manifest_tests, level_tests, lawful_read}
 use Rattle.strat_recovery.proofs.PassedLemmas.{kept_in_order, array_tests, read_passes}
 use Rattle.strat_state.specs.Level.{TaggedArray, Level, level_leads, tagged_versions, IsStratified}
-use Rattle.strat_state.specs.Sound.{is_tree_from, is_numbered_from, has_old_horizon, shallower}
+use Rattle.strat_state.specs.Sound.{is_tree_from, is_numbered_from, has_old_horizon, shallower, IsWellFormed}
 use Rattle.strat_state.specs.State.{State, versions_of, tree_after}
 use Rattle.strat_state.proofs.AppendedLemmas.{length-grown}
 use Rattle.strat_state.proofs.LevelLemmas.{tagged_below}
-use Rattle.strat_state.proofs.SoundLemmas.{sound_tree}
+use Rattle.strat_state.proofs.SoundLemmas.{sound_tree, ordered as in_order}
 use Rattle.strat_standing.specs.Contents.{Contents, contents_state, sealed_state, sealed_part, later_part}
 use Rattle.strat_standing.specs.Next.{arrays_made, IsNewArray, MayBeNext}
 use Rattle.strat_standing.proofs.DescribedLemmas.{blocks_counted, StandsAsLevel, StandsAsArray, level_there, array_there, leads_counted}
 use Rattle.strat_standing.proofs.PartsLemmas.{reads_state}
-use Rattle.strat_standing.proofs.PromotedLemmas.{promoted_state}
+use Rattle.strat_standing.proofs.PromotedLemmas.{promoted_state, sealed_ordered}
+use Rattle.strat_base.specs.Marks.{none_dropped}
+use Rattle.strat_state.proofs.UndroppedLemmas.{none_now}
+use Rattle.strat_standing.proofs.PlaceLemmas.{newest_fits}
 
 -- one more test that passes
 pub pass_more : (test : Bool) (tests : List Bool) → test ≡ true → all_pass tests ≡ true → all_pass (test ∷ tests) ≡ true
@@ -172,10 +175,10 @@ module _ (f g : Image) (old new : Contents) (made : Option LevelDesc) (taken kep
   pub passed : PassesOpening (contents_state old)
   passed = read_passes f (contents_state old) (reads_state f old m.reads)
 
-  pub was_lawful : is_lawful_manifest was ≡ true
+  pub was_lawful : is_lawful_manifest old.sb.format was ≡ true
   was_lawful =
-      let blocks = and_then_ok (chain_from f [] old.sb.manifest (chain_length old.sb.length - 1)) (manifest_in_chain f old.sb.manifest old.sb.length) old.chained m.reads.lies.chain in
-      lawful_read f old.sb.manifest old.sb.length blocks.0 old.chained blocks.2
+      let blocks = and_then_ok (chain_from f [] old.sb.manifest (chain_length old.sb.length - 1)) (manifest_in_chain old.sb.format f old.sb.manifest old.sb.length) old.chained m.reads.lies.chain in
+      lawful_read old.sb.format f old.sb.manifest old.sb.length blocks.0 old.chained blocks.2
 
   -- the counts
   -- what was sealed fills a region, and the versions of then are there still
@@ -260,7 +263,7 @@ module _ (f g : Image) (old new : Contents) (made : Option LevelDesc) (taken kep
       let l = level_at d in_levels in
       let x = array_at d a in_levels among in
       let tagged : Among v (tagged_versions l.level) = among_in_flat (λ (y : TaggedArray). y.tag) l.level.arrays x.array v x.among (subst (Among v) (sym x.tag) there) in
-      let below = tagged_below (versions_of state) (sound_tree state m.is_sound) l.level (each_of (IsStratified (versions_of state)) new.levels l.level m.is_sound.stratified l.among) v tagged in
+      let below = tagged_below (versions_of state) (sound_tree state m.is_sound.formed) l.level (each_of (IsStratified (versions_of state)) new.levels l.level m.is_sound.stratified l.among) v tagged in
       omega (arith, below, l.aged)
 
   pub horizon_most : (d : LevelDesc) → Among d now.levels → d.horizon ≤ versions_in now
@@ -342,7 +345,7 @@ module _ (f g : Image) (old new : Contents) (made : Option LevelDesc) (taken kep
   kept_was d among = subst (Among d) (sym m.next.levels_were) (among_right taken kept d among)
 
   pub lawful_was : (d : LevelDesc) → Among d was.levels → is_lawful_level (versions_in was) was.next_array d ≡ true
-  lawful_was d among = all_at (is_lawful_level (versions_in was) was.next_array) d was.levels (pass_at (manifest_tests was) 8 was_lawful) among
+  lawful_was d among = all_at (is_lawful_level (versions_in was) was.next_array) d was.levels (pass_at (manifest_tests old.sb.format was) 8 was_lawful) among
 
   pub lawful_at : (d : LevelDesc) → Among d now.levels → is_lawful_level (versions_in now) now.next_array d ≡ true
   lawful_at d among = elim (among_split (option_to_list made) kept d (subst (Among d) m.next.levels_are among)) [
@@ -364,7 +367,25 @@ module _ (f g : Image) (old new : Contents) (made : Option LevelDesc) (taken kep
   pub written_most : now.written ≤ 33554432 * now.changes
   written_most = omega (arith, m.next.written, entries_made, passed.written_most, changes_more)
 
-  pub next_lawful : is_lawful_manifest now ≡ true
+  pub compacted_most : now.compacted ≤ 33554432 * now.changes
+  compacted_most = omega (arith, m.next.promoted.compacted, passed.compacted_most, changes_more)
+
+  -- no version was dropped, and nothing compacted, by a build that writes format 1
+  sealed_formed : IsWellFormed (sealed_state old)
+  sealed_formed = (sealed_ordered old (in_order (contents_state old) m.was_sound)).formed
+
+  pub undropped : none_dropped now.marks ≡ true
+  undropped = ap none_dropped m.next.promoted.marks ∙ none_now (sealed_state old) sealed_formed passed.undropped
+
+  in_format : has_fields new.sb.format now ≡ true
+  in_format =
+      let was_format : old.sb.format ≡ 1 = (newest_fits f old.slot old.sb m.reads.newest).format in
+      let was_fields : (eqb was.compacted 0 && none_dropped was.marks) ≡ true = ap (λ (format : ℕ). has_fields format was) (sym was_format) ∙ pass_at (manifest_tests old.sb.format was) 10 was_lawful in
+      let none = eqb-true was.compacted 0 (and_parts (eqb was.compacted 0) (none_dropped was.marks) was_fields).0 in
+      ap (λ (format : ℕ). has_fields format now) m.next.promoted.format
+      ∙ and_from (eqb now.compacted 0) (none_dropped now.marks) (eq-eqb now.compacted 0 (m.next.promoted.compacted ∙ none)) undropped
+
+  pub next_lawful : is_lawful_manifest new.sb.format now ≡ true
   next_lawful =
       let numbered = m.is_sound.formed.numbered in
       let tree = and_parts (ltb 0 (length (parents_in now))) (is_tree_from 0 (parents_in now)) m.is_sound.formed.tree in
@@ -379,7 +400,9 @@ module _ (f g : Image) (old new : Contents) (made : Option LevelDesc) (taken kep
       (pass_more _ _ (older_tree 1 now.parents ∙ (and_parts true (is_tree_from 1 (map (λ p. Some p) now.parents)) tree.1).1)
       (pass_more _ _ (le-leb (length now.levels) LEVELS (omega (arith, long, numbered_few 1 new.levels (omega arith) numbered)))
       (pass_more _ _ (all_from (is_lawful_level (versions_in now) now.next_array) now.levels lawful_at)
-      (pass_more _ _ (ap is_rising (sym numbers) ∙ numbered_rising 1 new.levels numbered) pass_none)))))))))
+      (pass_more _ _ (ap is_rising (sym numbers) ∙ numbered_rising 1 new.levels numbered)
+      (pass_more _ _ in_format (pass_more _ _ (lt-ltb now.compacted (2 ^ 64) (omega (arith, compacted_most, changes_bound)))
+      (pass_more _ _ m.is_sound.formed.pruned pass_none))))))))))))
 
-  pub next_spelled : SpellsManifest (manifest_bytes now) now
+  pub next_spelled : SpellsManifest new.sb.format (manifest_bytes new.sb.format now) now
   next_spelled = record { lawful = next_lawful; text = refl }

@@ -33,7 +33,7 @@ module _ (c : Image) (x : Contents) (r : ReadsAs c x) where
 
   journal_read : recover_journal c x.sb x.chained.manifest ≡ Ok x.journal
   journal_read =
-      ap (λ (found : Read (List Logged)). and_then found (accepted_in x.sb.changes_max x.sb.versions_max (parents_in x.chained.manifest) x.chained.manifest.changes)) r.logged.read
+      ap (λ (found : Read (List Logged)). and_then found (accepted_in x.sb.changes_max x.sb.versions_max (parents_in x.chained.manifest) x.chained.manifest.marks x.chained.manifest.changes)) r.logged.read
       ∙ r.logged.accepted
 
   head_read : recover_head c x.sb ≡ Ok (contents_head x)
@@ -66,9 +66,9 @@ pub state_parts : (c : Image) (s : State) → reads_as c ≡ Some s → StatePar
 state_parts c s e =
     let found = state_found c s e in
     let sb : Super = found.slot.1 in
-    let chained = and_then_ok (manifest_at c sb.manifest sb.length) (λ y. passed_or sb.manifest (belongs sb y) y.manifest) found.manifest found.chained in
+    let chained = and_then_ok (manifest_at sb.format c sb.manifest sb.length) (λ y. passed_or sb.manifest (belongs sb y) y.manifest) found.manifest found.chained in
     let passed = passed_ok sb.manifest (belongs sb chained.0) chained.0.manifest found.manifest chained.2 in
-    let logged = and_then_ok (journal_in_two c sb.mem sb.region) (accepted_in sb.changes_max sb.versions_max (parents_in found.manifest) found.manifest.changes) found.journal found.logged in
+    let logged = and_then_ok (journal_in_two c sb.mem sb.region) (accepted_in sb.changes_max sb.versions_max (parents_in found.manifest) found.manifest.marks found.manifest.changes) found.journal found.logged in
     let levels = map_some (HeadLemmas.state_with (record { sb = sb; manifest = found.manifest; journal = found.journal })) (all_some (level_on c) found.manifest.levels) s found.state in
     record {
       contents = record { slot = found.slot.0; sb = sb; chained = chained.0; journal = found.journal; levels = levels.0 };
@@ -82,7 +82,7 @@ state_parts c s e =
         logged = record {
           logged = logged.0;
           read = logged.1;
-          accepted = ap (λ (m : Manifest). accepted_in sb.changes_max sb.versions_max (parents_in m) m.changes logged.0) passed.1 ∙ logged.2;
+          accepted = ap (λ (m : Manifest). accepted_in sb.changes_max sb.versions_max (parents_in m) m.marks m.changes logged.0) passed.1 ∙ logged.2;
         };
       };
       state = ap (λ (m : Manifest). HeadLemmas.state_with (record { sb = sb; manifest = m; journal = found.journal }) levels.0) passed.1 ∙ levels.2;
@@ -119,7 +119,7 @@ module _ (c : Image) (x y : Contents) (r : ReadsAs c x) (s : ReadsAs c y) where
 
   same_chained : x.chained ≡ y.chained
   same_chained =
-      let e : Ok x.chained ≡ Ok y.chained = sym r.lies.chain ∙ ap (λ (sb : Super). manifest_at c sb.manifest sb.length) same_super.1 ∙ s.lies.chain in
+      let e : Ok x.chained ≡ Ok y.chained = sym r.lies.chain ∙ ap (λ (sb : Super). manifest_at sb.format c sb.manifest sb.length) same_super.1 ∙ s.lies.chain in
       cc
 
   same_levels : x.levels ≡ y.levels

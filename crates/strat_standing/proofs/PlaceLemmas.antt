@@ -4,8 +4,8 @@ use Rattle.std.proofs.lemmas.Bool.{and_parts, leb-true}
 use Rattle.strat_base.proofs.ListFacts.{Among, all_at}
 use Rattle.strat_crash.specs.Image.{Image, SameIn}
 use Rattle.strat_format.specs.Damage.{Read}
-use Rattle.strat_format.specs.Layout.{region_at, region_size, other_region, first_free}
-use Rattle.strat_format.specs.SuperBlock.{Super, Slot, in_range, newer, chosen_in, verdict, newest_in}
+use Rattle.strat_format.specs.Layout.{region_at, region_size, other_region, first_free, newest_format, shortest_manifest}
+use Rattle.strat_format.specs.SuperBlock.{Super, in_range, newer, chosen_in, verdict, newest_in}
 use Rattle.strat_format.proofs.ManifestLemmas.{pass_at}
 use Rattle.strat_format.proofs.SuperBlockLemmas.{slot_same}
 use Rattle.std.specs.List.{list_all}
@@ -50,29 +50,28 @@ one_super n m x y e =
 
 -- the slot that is chosen, where the newest superblock is this one
 pub record Chosen (c : Image) (slot : ℕ) (sb : Super) : Type 0 where
-  pub format : ℕ
-  pub found : chosen_in c ≡ Some (slot, record { format = format; sb = sb })
-  pub fits : in_range (record { format = format; sb = sb }) ≡ true
+  pub found : chosen_in c ≡ Some (slot, sb)
+  pub fits : in_range sb ≡ true
 
 pub newest_chosen : (c : Image) (slot : ℕ) (sb : Super) → newest_in c ≡ Ok (Some (slot, sb)) → Chosen c slot sb
 newest_chosen c slot sb e = by_slot (chosen_in c) refl e
   where
-    by_test : (n : ℕ) (s : Slot) (b : Bool) → chosen_in c ≡ Some (n, s) → in_range s ≡ b → cond b (slot_read n s.sb) (Err n) ≡ slot_read slot sb → Chosen c slot sb
+    by_test : (n : ℕ) (s : Super) (b : Bool) → chosen_in c ≡ Some (n, s) → in_range s ≡ b → cond b (slot_read n s) (Err n) ≡ slot_read slot sb → Chosen c slot sb
     by_test n s false is fits e = absurd (cc)
     by_test n s true is fits e =
-        let same = one_super n slot s.sb sb e in
+        let same = one_super n slot s sb e in
         record {
-          format = s.format;
-          found = is ∙ (λ i. Some (same.0 i, record { format = s.format; sb = same.1 i }));
-          fits = ap (λ (x : Super). in_range (record { format = s.format; sb = x })) (sym same.1) ∙ fits;
+          found = is ∙ (λ i. Some (same.0 i, same.1 i));
+          fits = ap in_range (sym same.1) ∙ fits;
         }
 
-    by_slot : (found : Option (ℕ × Slot)) → chosen_in c ≡ found → verdict found ≡ Ok (Some (slot, sb)) → Chosen c slot sb
+    by_slot : (found : Option (ℕ × Super)) → chosen_in c ≡ found → verdict found ≡ Ok (Some (slot, sb)) → Chosen c slot sb
     by_slot None is e = absurd (cc)
     by_slot (Some s) is e = by_test s.0 s.1 (in_range s.1) is refl e
 
 -- what proofs need of the fields of the newest superblock
 pub record Fits (sb : Super) : Type 0 where
+  pub format : sb.format ≡ newest_format
   pub region : sb.region ≤ 1
   pub mem_least : 4 ≤ sb.mem
   pub mem_most : sb.mem ≤ 4096
@@ -85,12 +84,14 @@ newest_fits c slot sb e =
     let p3 = and_parts _ (leb sb.changes_max 16777216) p2.0 in
     let p4 = and_parts _ (leb 1 sb.changes_max) p3.0 in
     let p5 = and_parts _ (leb sb.region 1) p4.0 in
-    let p6 = and_parts _ (leb 29 sb.length) p5.0 in
+    let p6 = and_parts _ (leb (shortest_manifest sb.format) sb.length) p5.0 in
     let p7 = and_parts _ (ltb sb.manifest 4294967295) p6.0 in
     let p8 = and_parts _ (leb (first_free sb.mem) sb.manifest) p7.0 in
     let p9 = and_parts _ (leb sb.mem 4096) p8.0 in
     let p10 = and_parts _ (leb 4 sb.mem) p9.0 in
-    record { region = leb-true sb.region 1 p5.1; mem_least = leb-true 4 sb.mem p10.1; mem_most = leb-true sb.mem 4096 p9.1 }
+    let p11 = and_parts _ (leb 1 sb.generation) p10.0 in
+    let p12 = and_parts (leb 1 sb.format) (leb sb.format newest_format) p11.0 in
+    record { format = omega (arith, leb-true 1 sb.format p12.0, leb-true sb.format 1 p12.1); region = leb-true sb.region 1 p5.1; mem_least = leb-true 4 sb.mem p10.1; mem_most = leb-true sb.mem 4096 p9.1 }
 
 -- the newest superblock is read from blocks 0 and 1
 pub newest_local : (f c : Image) → SameIn 0 8192 f c → newest_in c ≡ newest_in f

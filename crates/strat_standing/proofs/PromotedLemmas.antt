@@ -12,7 +12,7 @@ use Rattle.strat_format.specs.Manifest.{SpellsManifest}
 use Rattle.strat_format.proofs.ChainLemmas.{chain_read}
 use Rattle.strat_promotion.specs.Promoted.{promoted}
 use Rattle.strat_promotion.specs.Sealed.{sealed_at, grown_by}
-use Rattle.strat_promotion.proofs.SealedLemmas.{before_sound}
+use Rattle.strat_promotion.proofs.SealedLemmas.{before_ordered}
 use Rattle.std.proofs.lemmas.List.{take_all, drop_all, take-append-drop}
 use Rattle.strat_promotion.proofs.LevelsLemmas.{tree_test}
 use Rattle.strat_recovery.specs.Head.{parent_numbers}
@@ -20,9 +20,9 @@ use Rattle.strat_recovery.specs.Opened.{parents_in, level_on}
 use Rattle.strat_recovery.specs.Opening.{belongs}
 use Rattle.strat_recovery.proofs.OpeningLemmas.{each_some}
 use Rattle.strat_state.specs.Level.{Level}
-use Rattle.strat_state.specs.Sound.{is_tree, is_tree_from, IsSound}
+use Rattle.strat_state.specs.Sound.{is_tree, is_tree_from, IsSound, IsOrdered}
 use Rattle.strat_state.specs.State.{versions_of}
-use Rattle.strat_state.proofs.SoundLemmas.{sound_tree}
+use Rattle.strat_state.proofs.SoundLemmas.{sound_tree, ordered}
 use Rattle.strat_standing.specs.Contents.{Contents, contents_state, sealed_state, sealed_part, later_part}
 use Rattle.strat_standing.specs.Next.{state_after}
 use Rattle.strat_standing.specs.Standing.{LiesIn}
@@ -44,8 +44,8 @@ parents_back (Some p ∷ parents) tree =
     let rest = (and_parts (ltb 0 (length (Some p ∷ parents))) (is_tree_from 0 (Some p ∷ parents)) tree).1 in
     absurd (omega (arith, ltb-true p 0 (and_parts (ltb p 0) (is_tree_from 1 parents) rest).0))
 
-pub sealed_sound : (x : Contents) → IsSound (contents_state x) → IsSound (sealed_state x)
-sealed_sound x sound = before_sound (contents_state x) sound (sealed_part x) (later_part x) (sym (take-append-drop x.sb.mem x.journal))
+pub sealed_ordered : (x : Contents) → IsOrdered (contents_state x) → IsOrdered (sealed_state x)
+sealed_ordered x sound = before_ordered (contents_state x) sound (sealed_part x) (later_part x) (sym (take-append-drop x.sb.mem x.journal))
 
 -- where a journal has no more changes than a region takes, all of it is sealed and nothing is behind it
 pub none_later : (x : Contents) → length x.journal ≤ x.sb.mem → later_part x ≡ []
@@ -63,17 +63,19 @@ pub promoted_state : (old new : Contents) → IsSound (contents_state old) → I
     → contents_state new ≡ state_after old new
 promoted_state old new sound is =
     let versions : Parents = versions_of (sealed_state old) in
-    let before : IsSound (sealed_state old) = sealed_sound old sound in
+    let before : IsOrdered (sealed_state old) = sealed_ordered old (ordered (contents_state old) sound) in
     let parents : parents_in new.chained.manifest ≡ versions =
-    ap (λ (numbers : List ℕ). None ∷ map (λ p. Some p) numbers) is.parents ∙ parents_back versions (tree_test versions (sound_tree (sealed_state old) before)) in
+    ap (λ (numbers : List ℕ). None ∷ map (λ p. Some p) numbers) is.parents ∙ parents_back versions (tree_test versions (sound_tree (sealed_state old) before.formed)) in
     λ i. record {
       mem = is.mem i;
       changes_max = is.changes_max i;
       versions_max = is.versions_max i;
       parents = parents i;
+      marks = is.marks i;
       changes = is.changes i;
       updates = is.updates i;
       written = new.chained.manifest.written;
+      compacted = is.compacted i;
       next_array = new.chained.manifest.next_array;
       levels = new.levels;
       journal = is.journal i;
@@ -100,10 +102,10 @@ levels_replaced c x taken kept fresh levels lies split made =
     all_some_joined (level_on c) fresh kept levels (drop (length taken) x.levels) made
     (all_some_second (level_on c) taken kept x.levels (ap (all_some (level_on c)) (sym split) ∙ lies.arrays))
 
-pub lies_written : (c : Image) (y : Contents) (blocks bytes : List ℕ) → SpellsManifest bytes y.chained.manifest → IsChain c (y.sb.manifest ∷ blocks) bytes
+pub lies_written : (c : Image) (y : Contents) (blocks bytes : List ℕ) → SpellsManifest y.sb.format bytes y.chained.manifest → IsChain c (y.sb.manifest ∷ blocks) bytes
     → y.chained.blocks ≡ y.sb.manifest ∷ blocks → y.sb.length ≡ length bytes → belongs y.sb y.chained ≡ true → all_some (level_on c) y.chained.manifest.levels ≡ Some y.levels → LiesIn c y
 lies_written c y blocks bytes spells chain blocks_are length_is belonging arrays = record {
-  chain = ap (manifest_at c y.sb.manifest) length_is ∙ chain_read c y.sb.manifest blocks bytes y.chained.manifest spells chain
+  chain = ap (manifest_at y.sb.format c y.sb.manifest) length_is ∙ chain_read y.sb.format c y.sb.manifest blocks bytes y.chained.manifest spells chain
       ∙ (λ i. Ok (record { manifest = y.chained.manifest; blocks = sym blocks_are i }));
   belonging = belonging;
   arrays = arrays;

@@ -11,7 +11,7 @@ use Rattle.strat_crash.proofs.MomentLemmas.{now_since_start, each_then, settled_
 use Rattle.strat_crash.proofs.TrailLemmas.{trail_of_one}
 use Rattle.strat_format.specs.Layout.{region_at, other_region, first_free}
 use Rattle.strat_format.specs.Records.{Logged, region_records, records_behind}
-use Rattle.strat_format.specs.SuperBlock.{Slot, newest_in}
+use Rattle.strat_format.specs.SuperBlock.{newest_in, Super}
 use Rattle.strat_format.proofs.TwoRegionsLemmas.{join_short}
 use Rattle.strat_gate.specs.Laying.{LaysOver}
 use Rattle.strat_recovery.specs.Opened.{parents_in}
@@ -59,7 +59,7 @@ module _ (v1 : DiskView) (x y : Contents) (p : IsPrepared v1 x y) where
   pub lays_over : LaysOver v1 p.stands.content y.slot y.sb
   lays_over =
       let chosen = newest_chosen p.stands.content x.slot x.sb (p.stands.reads p.stands.content p.stands.left).newest in
-      let P : Option (ℕ × Slot) → Type 0 = λ o. IfSome o (λ s. (s.0 ≢ y.slot) × (s.1.sb.generation < y.sb.generation)) in
+      let P : Option (ℕ × Super) → Type 0 = λ o. IfSome o (λ s. (s.0 ≢ y.slot) × (s.1.generation < y.sb.generation)) in
       let other : x.slot ≢ y.slot = λ e. omega (arith, e, p.next.slot) in
       record {
         content = p.stands.exposed;
@@ -89,20 +89,20 @@ module _ (v1 : DiskView) (x y : Contents) (p : IsPrepared v1 x y) where
       let turned = journal_turned c x.sb.mem x.sb.region old_logged.logged (omega (arith, fits.mem_least)) region_few old_logged.read long in
       let here : region_records c y.sb.mem y.sb.region ≡ Ok turned.0 = (λ i. region_records c (same_mem i) (p.next.region i)) ∙ turned.5 in
       let few : length turned.0 < y.sb.mem = omega (arith, turned.4, same_mem) in
-      let mapped : changes_logged old_logged.logged ≡ x.journal = accepted_changes x.sb.changes_max x.sb.versions_max (parents_in x.chained.manifest) x.chained.manifest.changes old_logged.logged x.journal old_logged.accepted in
+      let mapped : changes_logged old_logged.logged ≡ x.journal = accepted_changes x.sb.changes_max x.sb.versions_max (parents_in x.chained.manifest) x.chained.manifest.marks x.chained.manifest.changes old_logged.logged x.journal old_logged.accepted in
       let both : changes_logged turned.1 ++ changes_logged turned.0 ≡ x.journal = sym (map-append (λ (l : Logged). l.change) turned.1 turned.0) ∙ ap changes_logged turned.3 ∙ mapped in
       let long_front : length (changes_logged turned.1) ≡ x.sb.mem = length-map turned.1 (λ (l : Logged). l.change) ∙ turned.2 in
       let changes_are : changes_logged turned.0 ≡ y.journal =
       sym (drop_at (changes_logged turned.1) (changes_logged turned.0) x.sb.mem long_front) ∙ ap (λ (j : List Change). drop x.sb.mem j) both ∙ sym p.next.journal in
-      let accepted : are_accepted y.sb.changes_max y.sb.versions_max (parents_in y.chained.manifest) y.chained.manifest.changes (changes_logged turned.0) ≡ true =
-      ap (are_accepted y.sb.changes_max y.sb.versions_max (parents_in y.chained.manifest) y.chained.manifest.changes) changes_are ∙ p.next.sound.formed.accepted in
+      let accepted : are_accepted y.sb.changes_max y.sb.versions_max (parents_in y.chained.manifest) y.chained.manifest.marks y.chained.manifest.changes (changes_logged turned.0) ≡ true =
+      ap (are_accepted y.sb.changes_max y.sb.versions_max (parents_in y.chained.manifest) y.chained.manifest.marks y.chained.manifest.changes) changes_are ∙ p.next.sound.formed.accepted in
       record {
         newest = newest;
         lies = lies_behind_slots d c y same (p.lies d was);
         logged = record {
           logged = turned.0;
           read = join_short c y.sb.mem y.sb.region (records_behind c y.sb.mem (other_region y.sb.region)) turned.0 here few;
-          accepted = accepted_logged y.sb.changes_max y.sb.versions_max (parents_in y.chained.manifest) y.chained.manifest.changes turned.0 accepted ∙ ap (λ (j : List Change). Ok j) changes_are;
+          accepted = accepted_logged y.sb.changes_max y.sb.versions_max (parents_in y.chained.manifest) y.chained.manifest.marks y.chained.manifest.changes turned.0 accepted ∙ ap (λ (j : List Change). Ok j) changes_are;
         };
       }
 

@@ -11,7 +11,7 @@ use Rattle.strat_format.specs.Arrays.{entries_on}
 use Rattle.strat_format.specs.Block.{block_in, block_bytes, entries_in}
 use Rattle.strat_format.specs.Chain.{link_bytes, HoldsChain}
 use Rattle.strat_format.specs.Chained.{chain_from}
-use Rattle.strat_format.specs.Manifest.{all_pass, read_number, read_items, read_extent, read_array, read_level, read_manifest, manifest_in, manifest_bytes}
+use Rattle.strat_format.specs.Manifest.{all_pass, read_number, read_items, read_extent, read_array, read_level, read_mark, read_only, read_manifest, manifest_in, manifest_bytes}
 use Rattle.strat_format.specs.Records.{records}
 use Rattle.strat_format.specs.SuperBlock.{IsLawful, slot_of, slot_in, zeros}
 use Rattle.strat_promotion.specs.Promoted.{SaysTheSame}
@@ -31,7 +31,7 @@ use Rattle.strat_standing.specs.Worked.{resting, new_contents, chain_logged, cha
 use Rattle.strat_standing.proofs.ListLemmas.{contained_among}
 
 formatted_reads : ReadsAs formatted new_contents
-unfolding number be window over slot_of slot_in zeros change_in all_pass read_number read_items read_extent read_array read_level read_manifest manifest_in manifest_bytes chain_from records
+unfolding number be window over slot_of slot_in zeros change_in all_pass read_number read_items read_extent read_array read_level read_mark read_only read_manifest manifest_in manifest_bytes chain_from records
 formatted_reads = record {
   newest = refl;
   lies = record { chain = refl; belonging = refl; arrays = refl };
@@ -39,7 +39,7 @@ formatted_reads = record {
 }
 
 prepared_reads : ReadsAs prepared_disk chain_logged
-unfolding number be window over slot_of slot_in zeros change_in all_pass read_number read_items read_extent read_array read_level read_manifest manifest_in manifest_bytes chain_from records
+unfolding number be window over slot_of slot_in zeros change_in all_pass read_number read_items read_extent read_array read_level read_mark read_only read_manifest manifest_in manifest_bytes chain_from records
 prepared_reads = record {
   newest = refl;
   lies = record { chain = refl; belonging = refl; arrays = refl };
@@ -51,7 +51,7 @@ prepared_reads = record {
 }
 
 next_lies : LiesIn prepared_disk chain_next
-unfolding number be window over slot_of slot_in zeros change_in all_pass read_number read_items read_extent read_array read_level read_manifest manifest_in manifest_bytes chain_from records block_in block_bytes entry_in entries_in link_bytes entries_on
+unfolding number be window over slot_of slot_in zeros change_in all_pass read_number read_items read_extent read_array read_level read_mark read_only read_manifest manifest_in manifest_bytes chain_from records block_in block_bytes entry_in entries_in link_bytes entries_on
 next_lies = record { chain = refl; belonging = refl; arrays = refl }
 
 formatted_shut : formatted 16384 ≢ 0xa7
@@ -64,15 +64,15 @@ prepared_shut e = let bad : 0 ≡ 0xa7 = e in omega (arith, bad)
 
 new_sound : IsSound (contents_state new_contents)
 unfolding climb deep
-new_sound = sound_from_none (contents_state new_contents) (record { tree = refl; numbered = refl; accepted = refl; fits = refl }) refl
+new_sound = sound_from_none (contents_state new_contents) (record { tree = refl; pruned = refl; numbered = refl; accepted = refl; fits = refl }) refl
 
 logged_sound : IsSound (contents_state chain_logged)
 unfolding climb deep
-logged_sound = sound_from_none (contents_state chain_logged) (record { tree = refl; numbered = refl; accepted = refl; fits = refl }) refl
+logged_sound = sound_from_none (contents_state chain_logged) (record { tree = refl; pruned = refl; numbered = refl; accepted = refl; fits = refl }) refl
 
 next_sound : IsSound (contents_state chain_next)
 unfolding climb deep
-next_sound = sound_from_none (contents_state chain_next) (record { tree = refl; numbered = refl; accepted = refl; fits = refl }) refl
+next_sound = sound_from_none (contents_state chain_next) (record { tree = refl; pruned = refl; numbered = refl; accepted = refl; fits = refl }) refl
 
 next_says : SaysTheSame (contents_state chain_logged) (contents_state chain_next)
 unfolding climb
@@ -81,6 +81,7 @@ next_says = record {
   changes_max = refl;
   versions_max = refl;
   versions = refl;
+  marks = refl;
   maps = each;
   updates = refl;
   changes = refl;
@@ -95,6 +96,8 @@ next_says = record {
 
 chain_lawful : (generation : ℕ) → 1 ≤ generation → generation < 2 ^ 64 → IsLawful (at_generation generation chain_next).sb
 chain_lawful generation least most = record {
+  format_least = omega arith;
+  format_most = omega arith;
   generation_least = least;
   generation_fits = most;
   manifest_least = omega arith;
@@ -183,7 +186,7 @@ next_computed = record {
     slot = refl;
     generation = refl;
     region = refl;
-    promoted = record { mem = refl; changes_max = refl; versions_max = refl; parents = refl; updates = refl; changes = refl; journal = refl };
+    promoted = record { mem = refl; changes_max = refl; versions_max = refl; format = refl; parents = refl; marks = refl; compacted = refl; updates = refl; changes = refl; journal = refl };
     written = refl;
     next_array = refl;
     levels_were = refl;
@@ -228,7 +231,7 @@ abbrev wrong_state : State
 wrong_state = record chain { levels = first_level 4 (array_of 1 (1 ∷ 2 ∷ 3 ∷ []) (says 97 1 49 ∷ []) 2 1 1 ∷ []) }
 
 wrong_read : reads_as miscounted ≡ Some wrong_state
-unfolding number be window over slot_of slot_in zeros change_in all_pass read_number read_items read_extent read_array read_level read_manifest manifest_in manifest_bytes chain_from records block_in block_bytes entry_in entries_in link_bytes entries_on
+unfolding number be window over slot_of slot_in zeros change_in all_pass read_number read_items read_extent read_array read_level read_mark read_only read_manifest manifest_in manifest_bytes chain_from records block_in block_bytes entry_in entries_in link_bytes entries_on
 wrong_read = refl
 
 pub no_table : (t : Table) → ShowsTable miscounted t → ⊥

@@ -5,13 +5,13 @@ use Rattle.strat_model.specs.Step.{step}
 use Rattle.strat_model.specs.Table.{Table}
 use Rattle.strat_recovery.specs.StateTable.{request_for}
 use Rattle.strat_state.specs.Sound.{IsSound, are_accepted, journal_max}
-use Rattle.strat_state.specs.State.{State, changes_of, versions_of}
+use Rattle.strat_state.specs.State.{State, changes_of, versions_of, marks_of}
 
 -- a sound state accepts these changes one after the other, and its journal has room for them
 pub record TakesBatch (s : State) (batch : List Change) : Type 0 where
   pub sound : IsSound s
   pub accepted : IsTrue
-      (are_accepted s.changes_max s.versions_max (versions_of s) (changes_of s) batch)
+      (are_accepted s.changes_max s.versions_max (versions_of s) (marks_of s) (changes_of s) batch)
   pub room : length s.journal + length batch ≤ journal_max s.mem
 
 -- the tables after each of these changes, as the table steps through them

@@ -83,8 +83,9 @@ pub record MayBeNext (f g : Image) (old new : Contents) (made : Option LevelDesc
 pub record HasManifest (c : Image) (x : Contents) : Type 0 where
   pub others : List ℕ
   pub blocks : x.chained.blocks ≡ x.sb.manifest ∷ others
-  pub size : x.sb.length ≡ length (manifest_bytes x.chained.manifest)
-  pub chain : IsChain c (x.sb.manifest ∷ others) (manifest_bytes x.chained.manifest)
+  pub size : x.sb.length ≡ length (manifest_bytes x.sb.format x.chained.manifest)
+  pub chain : IsChain c (x.sb.manifest ∷ others)
+      (manifest_bytes x.sb.format x.chained.manifest)
 
 -- the state after a promotion of what contents sealed, with the levels and the counts of others, and what came since
 abbrev pub state_after : Contents → Contents → State

@@ -2,13 +2,13 @@
 use Rattle.std.specs.Prelude.{◌≡◌, ◌≤◌, ◌<◌, ℕ, ◌-◌, ◌*◌, length, Some, Ok}
 use Rattle.strat_crash.specs.Image.{Image}
 use Rattle.strat_crash.specs.Moments.{DiskView, Images, Since, Passes, TearsOnly, IsDurable}
-use Rattle.strat_format.specs.Layout.{other_region}
+use Rattle.strat_format.specs.Layout.{other_region, newest_format}
 use Rattle.strat_format.specs.SuperBlock.{Super, IsLawful, newest_in}
 use Rattle.strat_gate.specs.Laying.{LaysOver, OldOrNew}
 use Rattle.strat_promotion.specs.Promoted.{SaysTheSame}
 use Rattle.strat_recovery.specs.Head.{parent_numbers}
 use Rattle.strat_state.specs.Sound.{IsSound}
-use Rattle.strat_state.specs.State.{versions_of, updates_of, changes_of}
+use Rattle.strat_state.specs.State.{versions_of, updates_of, changes_of, marks_of}
 use Rattle.strat_standing.specs.Contents.{Contents, contents_state, sealed_state, later_part}
 use Rattle.strat_standing.specs.Standing.{LiesIn, ContentsStand}
 
@@ -46,13 +46,16 @@ pub record HasLaid (old new : DiskView) (slot : ℕ) (sb : Super) : Type 0 where
   pub found : (f : Image) → LaysOver old f slot sb
       → (c : Image) → Images new c → newest_in c ≡ Ok (Some (slot, sb))
 
--- the manifest, the limits and the journal of contents are those that a promotion of what others sealed leaves,
--- whatever its levels are
+-- the manifest, the limits and the journal of contents are those that a promotion of what others sealed leaves, in the
+-- newest format, whatever its levels are
 pub record IsPromotedFrom (old new : Contents) : Type 0 where
   pub mem : new.sb.mem ≡ old.sb.mem
   pub changes_max : new.sb.changes_max ≡ old.sb.changes_max
   pub versions_max : new.sb.versions_max ≡ old.sb.versions_max
+  pub format : new.sb.format ≡ newest_format
   pub parents : new.chained.manifest.parents ≡ parent_numbers (versions_of (sealed_state old))
+  pub marks : new.chained.manifest.marks ≡ marks_of (sealed_state old)
+  pub compacted : new.chained.manifest.compacted ≡ old.chained.manifest.compacted
   pub updates : new.chained.manifest.updates ≡ updates_of (sealed_state old)
   pub changes : new.chained.manifest.changes ≡ changes_of (sealed_state old)
   pub journal : new.journal ≡ later_part old

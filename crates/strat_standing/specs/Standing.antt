@@ -20,7 +20,7 @@ use Rattle.strat_standing.specs.Contents.{Contents, contents_state, named_blocks
 -- an image has the manifest of these contents where their superblock says, and the arrays where the
 -- manifest says; of the slots and the journal it says nothing
 pub record LiesIn (c : Image) (x : Contents) : Type 0 where
-  pub chain : manifest_at c x.sb.manifest x.sb.length ≡ Ok x.chained
+  pub chain : manifest_at x.sb.format c x.sb.manifest x.sb.length ≡ Ok x.chained
   pub belonging : IsTrue (belongs x.sb x.chained)
   pub arrays : all_some (level_on c) x.chained.manifest.levels ≡ Some x.levels
 
@@ -31,7 +31,7 @@ pub record IsLogged (c : Image) (x : Contents) : Type 0 where
   pub read : journal_in_two c x.sb.mem x.sb.region ≡ Ok logged
   pub accepted :
       accepted_in x.sb.changes_max x.sb.versions_max (parents_in x.chained.manifest)
-      x.chained.manifest.changes logged
+      x.chained.manifest.marks x.chained.manifest.changes logged
       ≡ Ok x.journal
 
 -- an image reads as these contents: their superblock is its newest one, and it has all the rest

@@ -11,6 +11,7 @@ ghost use Rattle.strat_extent.specs.Blocks.{SpaceView};
 ghost use Rattle.strat_format.specs.Arrays.{all_some};
 ghost use Rattle.strat_recovery.specs.Opened.{level_on};
 ghost use Rattle.strat_state.specs.Sound.{IsSound};
+ghost use Rattle.strat_format.specs.Layout.{shortest_manifest};
 ghost use Rattle.strat_format.specs.Manifest.{SpellsManifest, manifest_bytes};
 ghost use Rattle.strat_plan.specs.Plan.{Plan, IsSplit};
 ghost use Rattle.strat_promotion.specs.Promoted.{SaysTheSame};
@@ -35,15 +36,17 @@ pub fn the_arrays_of_a_plan_are_new()
 pub fn the_next_manifest_has_a_spelling()
     ensures ok { (f g : Image) (old new : Contents) (made : Option LevelDesc)
         (taken kept : List LevelDesc) → MayBeNext f g old new made taken kept
-        → SpellsManifest (manifest_bytes new.chained.manifest) new.chained.manifest }
+        → SpellsManifest new.sb.format (manifest_bytes new.sb.format new.chained.manifest)
+        new.chained.manifest }
 {}
 
-/// It has at least the 29 bytes of a new store's, and few enough for its chain.
+/// It has at least the bytes of a new store's, and few enough for its chain.
 pub fn the_next_manifest_is_short()
     ensures len { (f g : Image) (old new : Contents) (made : Option LevelDesc)
         (taken kept : List LevelDesc) → MayBeNext f g old new made taken kept
-        → (29 ≤ length (manifest_bytes new.chained.manifest))
-        × (length (manifest_bytes new.chained.manifest) < 2 ^ 31) }
+        → (shortest_manifest new.sb.format
+        ≤ length (manifest_bytes new.sb.format new.chained.manifest))
+        × (length (manifest_bytes new.sb.format new.chained.manifest) < 2 ^ 31) }
 {}
 
 /// It belongs to its superblock, where its blocks are its own.

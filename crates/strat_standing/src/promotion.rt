@@ -47,7 +47,8 @@ pub fn contents_lie_where_they_were_written()
         → all_some (level_on c) fresh ≡ Some levels
         → all_some (level_on c) (fresh ++ kept) ≡ Some (levels ++ drop (length taken) x.levels) }
     ensures lies { (c : Image) (y : Contents) (blocks bytes : List ℕ)
-        → SpellsManifest bytes y.chained.manifest → IsChain c (y.sb.manifest ∷ blocks) bytes
+        → SpellsManifest y.sb.format bytes y.chained.manifest
+        → IsChain c (y.sb.manifest ∷ blocks) bytes
         → y.chained.blocks ≡ y.sb.manifest ∷ blocks → y.sb.length ≡ length bytes
         → IsTrue (belongs y.sb y.chained)
         → all_some (level_on c) y.chained.manifest.levels ≡ Some y.levels → LiesIn c y }

@@ -7,7 +7,7 @@ use Rattle.strat_pins.proofs.journals.a_change_is_taken_while_the_journal_has_ro
 
 five_sound : IsSound (after_puts 5)
 unfolding climb
-five_sound = sound_from_none (after_puts 5) (record { tree = refl; numbered = refl; accepted = refl; fits = refl }) refl
+five_sound = sound_from_none (after_puts 5) (record { tree = refl; pruned = refl; numbered = refl; accepted = refl; fits = refl }) refl
 
 pub returns : goal.returns
 unfolding climb

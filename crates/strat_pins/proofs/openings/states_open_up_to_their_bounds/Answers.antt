@@ -18,6 +18,8 @@ returns c = record {
     next_least = omega arith;
     next_most = omega arith;
     written_most = omega arith;
+    compacted_most = omega arith;
+    undropped = refl;
     distinct = refl;
     tested = (
       record {
@@ -35,5 +37,7 @@ returns c = record {
   next = λ p. let le : 65538 ≤ 65537 = p.next_most in omega (arith, le);
   none = λ p. let le : 1 ≤ 0 = p.next_least in omega (arith, le);
   written = λ p. let le : 134217729 ≤ 134217728 = p.written_most in omega (arith, le);
+  compacted = λ p. let le : 134217729 ≤ 134217728 = p.compacted_most in omega (arith, le);
+  marks = λ p. true≢false (sym p.undropped);
   journal = λ p. true≢false (sym p.sized);
 }

@@ -5,6 +5,6 @@ use Rattle.strat_standing.proofs.worked.a_disk_is_prepared.Goals as goal
 pub returns : goal.returns
 returns c = record {
   prepared = next_prepared;
-  promoted = record { mem = refl; changes_max = refl; versions_max = refl; parents = refl; updates = refl; changes = refl; journal = refl };
+  promoted = record { mem = refl; changes_max = refl; versions_max = refl; format = refl; parents = refl; marks = refl; compacted = refl; updates = refl; changes = refl; journal = refl };
   generation = next_succeeds 3 (omega arith) (omega arith);
 }
