@@ -67,7 +67,7 @@ pub marked_none : (before after : SpaceView) (xs : List Extent) → IsMarked bef
     → is_used before b ≡ false
 marked_none before after xs m b p = none_of (is_used before b) (is_used after b) (times_in xs b) (m.used b) p
 
-inside_summed : (low high start n : ℕ) → low ≤ high → sum_by (λ b. inside low high b) (range_with_len start n) ≡ min high (start + n) - max low start
+pub inside_summed : (low high start n : ℕ) → low ≤ high → sum_by (λ b. inside low high b) (range_with_len start n) ≡ min high (start + n) - max low start
 inside_summed low high start zero le = omega arith
 inside_summed low high start (suc n) le =
     let rest : sum_by (λ b. inside low high b) (range_with_len (start + 1) n) ≡ min high (start + 1 + n) - max low (start + 1)
@@ -82,12 +82,12 @@ inside_summed low high start (suc n) le =
       ]
     ]
 
-two_summed : (f g h : ℕ → ℕ) → ((b : ℕ) → f b + g b ≡ h b) → (xs : List ℕ) → sum_by f xs + sum_by g xs ≡ sum_by h xs
+pub two_summed : (f g h : ℕ → ℕ) → ((b : ℕ) → f b + g b ≡ h b) → (xs : List ℕ) → sum_by f xs + sum_by g xs ≡ sum_by h xs
 two_summed f g h same [] = omega arith
 two_summed f g h same (x ∷ xs) =
     omega (arith, same x, two_summed f g h same xs, sum_by-cons f x xs, sum_by-cons g x xs, sum_by-cons h x xs)
 
-none_summed : (xs : List ℕ) → sum_by (λ b. 0) xs ≡ 0
+pub none_summed : (xs : List ℕ) → sum_by (λ b. 0) xs ≡ 0
 none_summed [] = refl
 none_summed (x ∷ xs) = omega (arith, none_summed xs, sum_by-cons (λ (b : ℕ). 0) x xs)
 

@@ -3,3 +3,4 @@ pub mod RunLemmas
 pub mod ChangeLemmas
 pub mod TakeLemmas
 pub mod BlockLemmas
+pub mod AmongLemmas

@@ -3,7 +3,7 @@
 ghost use Rattle.std.specs.Prelude.{◌≡◌, ℕ, ◌<◌, ◌≤◌, ◌-◌, false, ◌||◌, nat_lt, ◌==◌, List, length};
 ghost use Rattle.std.specs.List.{count_by, range_with_len};
 ghost use Rattle.strat_base.specs.declared.descriptors.Extent.{Extent};
-ghost use Rattle.strat_extent.specs.Blocks.{SpaceView, AreRuns, times_in, total_len, is_used, used_count};
+ghost use Rattle.strat_extent.specs.Blocks.{SpaceView, AreRuns, times_in, total_len, is_used, uses, used_count};
 ghost use Rattle.strat_extent.specs.Change.{IsMarked};
 ghost use Rattle.strat_format.specs.Arrays.{blocks_of};
 
@@ -29,4 +29,11 @@ pub fn marked_blocks_are_used_too()
 pub fn used_blocks_are_counted()
     ensures { (s : SpaceView) → AreRuns s.first s.holes s.end → s.first ≤ s.end
         → used_count s ≡ count_by (λ b. is_used s b) (range_with_len s.first (s.end - s.first)) }
+{}
+
+/// No more blocks are used than extents have together in which each block that is used stands.
+pub fn used_blocks_are_no_more_than_those_of_extents()
+    ensures { (s : SpaceView) (xs : List Extent) → AreRuns s.first s.holes s.end
+        → s.first ≤ s.end → ((b : ℕ) → uses s b ≤ times_in xs b)
+        → used_count s ≤ total_len xs }
 {}

@@ -1,7 +1,8 @@
 //! Which blocks of a file are used: the lowest free ones are taken, and blocks are given back.
 
-ghost use Rattle.std.specs.Prelude.{◌≡◌, ℕ, ◌+◌, ◌-◌, ◌<◌, ◌≤◌, ◌^◌, ◌↔◌, true, false, [], ◌∷◌, ◌++◌, MatchBool, IfOk, OnOk, OnErr};
-ghost use Rattle.strat_extent.specs.Blocks.{AreRuns, total_len, is_used, used_count};
+ghost use Rattle.std.specs.Prelude.{◌≡◌, ℕ, ◌+◌, ◌-◌, ◌<◌, ◌≤◌, ◌^◌, ◌↔◌, true, false, List, [], ◌∷◌, ◌++◌, MatchBool, IfOk, OnOk, OnErr};
+ghost use Rattle.strat_base.specs.declared.descriptors.Extent.{Extent as TheExtent};
+ghost use Rattle.strat_extent.specs.Blocks.{AreRuns, times_in, total_len, is_used, uses, used_count};
 ghost use Rattle.strat_extent.specs.Gap.{IsInHole};
 ghost use Rattle.strat_extent.specs.Change.{IsMarked, SameBlocks, CanMark, CanGive, AreLowest};
 
@@ -51,6 +52,8 @@ impl Space {
     /// How many blocks may still be taken. O(1).
     pub fn free(&self) -> u32
         ensures ok { result ≡ 4294967295 - self.now.first - used_count self.now }
+        ensures len { (xs : List TheExtent) → ((b : ℕ) → uses self.now b ≤ times_in xs b)
+            → 4294967295 ≤ self.now.first + total_len xs + result }
     {
         u32::MAX - self.first - self.used
     }

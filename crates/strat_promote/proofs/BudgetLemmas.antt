@@ -55,7 +55,7 @@ fewer_merged key runs (group ∷ groups) left steps =
     omega (arith, rest, first)
 
 -- what goes with a key are the entries of the key
-goes_with : (key : List ℕ) (runs : List (List Entry)) → of_key key runs + length (grouped_entries (map (rest_of key) runs)) ≡ length (grouped_entries runs)
+pub goes_with : (key : List ℕ) (runs : List (List Entry)) → of_key key runs + length (grouped_entries (map (rest_of key) runs)) ≡ length (grouped_entries runs)
 goes_with key runs =
     let both = length-filter_both (is_of key) (λ (e : Entry). not (is_of key e)) (λ e. refl) (grouped_entries runs) in
     let size = ap (λ (es : List Entry). length es) (rest_all key runs) in

@@ -24,3 +24,5 @@ pub mod BetweenLemmas
 pub mod StateLeadsLemmas
 pub mod StateInputsLemmas
 pub mod OwnedLemmas
+pub mod BoundLemmas
+pub mod PlanBlocksLemmas

@@ -94,7 +94,7 @@ module _ (f : Image) (task : Task) (inputs : Inputs) (job : Job) (ready : IsRead
       let one : Among a (arrays_to inputs.levels task.target) = subst (λ (xs : List ArrayDesc). Among a xs) told.over.arrays_are array.1 in
       ready.arrays.low a e.version (contains_from _ a one) passes.1
 
-  input_low : (e : Entry) → Among e (grouped_entries (runs_in f job)) → e.version < task.horizon
+  pub input_low : (e : Entry) → Among e (grouped_entries (runs_in f job)) → e.version < task.horizon
   input_low e among =
       elim (among_split job.zero (grouped_entries (map (leads_in f) job.arrays)) e among) [ inl here ↦ zero_low e here | inr there ↦ lead_low e there ]
 

@@ -94,7 +94,7 @@ pub read_fewer : (f : Image) (arrays : List ArrayDesc) (old new : List RunView) 
     → ((b : ℕ) → IsBadFor new f b → IsBadFor old f b) → AreReadOf f arrays old → AreReadOf f arrays new
 read_fewer f arrays old new fewer blames read = record { within = λ b here. read.within b (fewer b here); blames = λ b is. read.blames b (blames b is) }
 
-filter_fewer : {X : Type 0} (p : X → Bool) (xs : List X) → length (filter p xs) ≤ length xs
+pub filter_fewer : {X : Type 0} (p : X → Bool) (xs : List X) → length (filter p xs) ≤ length xs
 filter_fewer p [] = omega arith
 filter_fewer {X} p (x ∷ xs) = go (p x) (filter_fewer p xs)
   where

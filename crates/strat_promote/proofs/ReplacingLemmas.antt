@@ -18,19 +18,21 @@ use Rattle.strat_plan.proofs.LawLemmas.{groups_described}
 use Rattle.strat_plan.proofs.ListLemmas.{among_map}
 use Rattle.strat_promotion.specs.Merging.{runs_taken, Merges}
 use Rattle.strat_promotion.specs.Promoted.{promoted, level_if, Takeable, PromotesGroups, fresh_of_groups}
-use Rattle.strat_promotion.specs.Purge.{purged, groups_over}
+use Rattle.strat_promotion.specs.Purge.{purged, entries_over, groups_over}
+use Rattle.strat_promotion.specs.Replaced.{Replaces}
 use Rattle.strat_promotion.specs.Sealed.{sealed_at, grown_by}
 use Rattle.strat_promotion.proofs.MergingLemmas.{merged, runs_union}
-use Rattle.strat_promotion.proofs.PromotedLemmas.{groups_say, groups_sound}
-use Rattle.strat_promotion.proofs.SealedLemmas.{before_sound, sealed_follows}
+use Rattle.strat_promotion.proofs.PromotedLemmas.{groups_replace}
+use Rattle.strat_promotion.proofs.ReplacedLemmas.{replaced_says, replaced_sound}
+use Rattle.strat_promotion.proofs.SealedLemmas.{before_ordered, follows_says, follows_sound}
 use Rattle.strat_recovery.specs.Opened.{array_on, level_on}
 use Rattle.strat_recovery.proofs.OpeningLemmas.{map_some, each_some}
 use Rattle.strat_state.specs.Counted.{own_at, keys_at}
 use Rattle.strat_state.specs.Level.{TaggedArray, Level, own_leads, least_live}
 use Rattle.strat_state.specs.Setting.{set_all}
-use Rattle.strat_state.specs.Sound.{has_ascending_entries, IsSound}
+use Rattle.strat_state.specs.Sound.{has_ascending_entries, IsOrdered, IsSound}
 use Rattle.strat_state.specs.State.{State, versions_of, journal_updates}
-use Rattle.strat_state.proofs.SoundLemmas.{sound_tree}
+use Rattle.strat_state.proofs.SoundLemmas.{sound_tree, ordered}
 use Rattle.strat_promote.specs.Job.{Job, runs_in, groups_kept}
 use Rattle.strat_promote.specs.Leads.{leads_in}
 use Rattle.strat_promote.specs.Replacing.{IsJobOf, LeavesTheSame}
@@ -72,7 +74,7 @@ module _ (f : Image) where
       ∙ (λ i. level_leads desc parts.0 parts.2 ups.0 i ++ levels_leads descs parts.1 parts.3 ups.1 i)
       ∙ ap (λ (ls : List Level). flat_map (λ level. map own_leads level.arrays) ls) parts.4
 
-  pub runs_same : (s : State) (taken kept : List Level) (descs : List LevelDesc) (job : Job) → IsSound s → s.levels ≡ taken ++ kept → all_some (level_on f) descs ≡ Some taken
+  pub runs_same : (s : State) (taken kept : List Level) (descs : List LevelDesc) (job : Job) → IsOrdered s → s.levels ≡ taken ++ kept → all_some (level_on f) descs ≡ Some taken
       → job.zero ≡ set_all (journal_updates s) → job.arrays ≡ flat_map (λ level. level.arrays) descs → runs_in f job ≡ runs_taken s taken
   runs_same s taken kept descs job sound levels on first arrays =
       let up : list_all (λ (level : Level). list_all has_ascending_entries level.arrays) taken ≡ true =
@@ -149,14 +151,14 @@ module _ (f g : Image) (s : State) (j first : ℕ) (taken kept : List Level) (jo
         split = splits;
       }
 
-  module _ (sound : IsSound s) where
+  module _ (rules : IsOrdered s) where
     counted : (q : ℕ) → q < length m.plan.parts → (part_at m.plan q).entries ≡ length (array_of_groups (versions_of s) over m.plan first q).content
     counted q within =
         let t : TaggedArray = array_of_groups (versions_of s) over m.plan first q in
         let there : Among t (level_of_groups (versions_of s) over m.plan j first).arrays =
         among_map (array_of_groups (versions_of s) over m.plan first) (range_with_len 0 (length m.plan.parts)) q (among_range 0 (length m.plan.parts) q (omega arith) (omega (arith, within))) in
         let described = all_at (λ (a : TaggedArray). (eqb a.entries (length a.content) && eqb a.leads (length (own_leads a))) && eqb a.least (least_live (versions_of s) a)) t
-        (level_of_groups (versions_of s) over m.plan j first).arrays (groups_described (versions_of s) (sound_tree s sound) over _ _ m.plan j first splits) there in
+        (level_of_groups (versions_of s) over m.plan j first).arrays (groups_described (versions_of s) (sound_tree s rules.formed) over _ _ m.plan j first splits) there in
         eqb-true t.entries (length t.content)
         (and_parts (eqb t.entries (length t.content)) (eqb t.leads (length (own_leads t)))
         (and_parts (eqb t.entries (length t.content) && eqb t.leads (length (own_leads t))) (eqb t.least (least_live (versions_of s) t)) described).0).0
@@ -195,27 +197,36 @@ module _ (f g : Image) (s : State) (j first : ℕ) (taken kept : List Level) (jo
     pub made_read : all_some (level_on g) (option_to_list made) ≡ Some (fresh_of_groups s j kept m.groups m.plan first)
     made_read = fresh_read made m.level
 
-    -- the state with the level says the same
-    pub made_leaves : Takeable s j taken kept → LeavesTheSame g made s (λ fresh written next_array. promoted s (fresh ++ kept) written next_array)
-    made_leaves takes =
-        let promotes = made_promotes takes in
-        record {
-          fresh = fresh_of_groups s j kept m.groups m.plan first;
-          read = made_read;
-          says = λ written next_array. groups_say s sound j taken kept m.groups _ _ m.plan first promotes written next_array;
-          sound = λ written next_array. groups_sound s sound j taken kept m.groups _ _ m.plan first promotes written next_array;
-        }
+    -- it replaces what was taken
+    pub made_replaces : (takes : Takeable s j taken kept) → Replaces s j taken kept (fresh_of_groups s j kept m.groups m.plan first) (grouped_entries m.groups) (entries_over (versions_of s) kept (grouped_entries m.groups))
+    made_replaces takes = groups_replace s rules j taken kept m.groups _ _ m.plan first (made_promotes takes)
+
+  -- the state with the level says the same
+  pub made_leaves : IsSound s → Takeable s j taken kept → LeavesTheSame g made s (λ fresh written next_array. promoted s (fresh ++ kept) written next_array)
+  made_leaves sound takes =
+      let entries = grouped_entries m.groups in
+      let made_of = fresh_of_groups s j kept m.groups m.plan first in
+      let replaces = made_replaces (ordered s sound) takes in
+      record {
+        fresh = made_of;
+        read = made_read (ordered s sound);
+        says = λ written next_array. replaced_says s (ordered s sound) j taken kept made_of entries (entries_over (versions_of s) kept entries) replaces written next_array;
+        sound = λ written next_array. replaced_sound s sound j taken kept made_of entries (entries_over (versions_of s) kept entries) replaces written next_array;
+      }
 
 -- and still does where changes came since the level was begun
 module _ (f g : Image) (s : State) (before rest : List Change) (j first : ℕ) (taken kept : List Level) (job : Job) (made : Option LevelDesc) (m : IsMade f g job j first made)
     (of : IsJobOf f (sealed_at s before) taken kept job) (sound : IsSound s) (parts : s.journal ≡ before ++ rest) where
   pub made_leaves_later : Takeable (sealed_at s before) j taken kept → LeavesTheSame g made s (λ fresh written next_array. grown_by (promoted (sealed_at s before) (fresh ++ kept) written next_array) rest)
   made_leaves_later takes =
-      let old : IsSound (sealed_at s before) = before_sound s sound before rest parts in
-      let leaves = made_leaves f g (sealed_at s before) j first taken kept job made m of old takes in
+      let old : IsOrdered (sealed_at s before) = before_ordered s (ordered s sound) before rest parts in
+      let entries = grouped_entries m.groups in
+      let over = entries_over (versions_of (sealed_at s before)) kept entries in
+      let made_of = fresh_of_groups (sealed_at s before) j kept m.groups m.plan first in
+      let replaces = made_replaces f g (sealed_at s before) j first taken kept job made m of old takes in
       record {
-        fresh = leaves.fresh;
-        read = leaves.read;
-        says = λ written next_array. (sealed_follows s sound before rest parts (promoted (sealed_at s before) (leaves.fresh ++ kept) written next_array) (leaves.sound written next_array) (leaves.says written next_array) refl).1;
-        sound = λ written next_array. (sealed_follows s sound before rest parts (promoted (sealed_at s before) (leaves.fresh ++ kept) written next_array) (leaves.sound written next_array) (leaves.says written next_array) refl).0;
+        fresh = made_of;
+        read = made_read f g (sealed_at s before) j first taken kept job made m of old;
+        says = λ written next_array. follows_says s sound before rest parts j taken kept made_of entries over replaces written next_array;
+        sound = λ written next_array. follows_sound s sound before rest parts j taken kept made_of entries over replaces written next_array;
       }

@@ -12,7 +12,7 @@ use Rattle.strat_array.specs.Progress.{ArrayProgress}
 use Rattle.strat_array.specs.Taking.{AreUsed}
 use Rattle.strat_format.specs.Arrays.{blocks_of}
 use Rattle.strat_array.proofs.TakesLemmas.{used_agree}
-use Rattle.strat_extent.specs.Blocks.{SpaceView, is_free}
+use Rattle.strat_extent.specs.Blocks.{SpaceView, is_free, used_count}
 use Rattle.strat_merge.specs.MergerFields.{views_of}
 use Rattle.strat_merge.specs.Runs.{ReadsLeft}
 use Rattle.strat_promote.specs.InputFields.{input_seen}
@@ -21,9 +21,9 @@ use Rattle.strat_promotion.specs.Merging.{Merges}
 use Rattle.strat_promote.specs.Budget.{IsNearLimit, TakesOneKey}
 use Rattle.strat_promote.specs.Closing.{AreAllUsed, all_extents}
 use Rattle.strat_promote.specs.Job.{Job, IsBadInput, runs_in, input_count, arrays_to, blocks_listed}
-use Rattle.strat_promote.specs.Spaces.{TakesMore}
+use Rattle.strat_promote.specs.Spaces.{HasAmpleRoom, HasFewFree, TakesMore}
 use Rattle.strat_promote.specs.Stages.{IsSteady, IsUnderway, IsMade, IsReadFrom, IsReadOf, ReadsOnce, HasLeft, IsTakenUp, stage_writers, stage_consumed, blocks_due, how_far}
-use Rattle.strat_promote.specs.Steps.{Inputs, IsTaskIn, StepsOn, SlicesOn}
+use Rattle.strat_promote.specs.Steps.{Inputs, IsReadySource, IsTaskIn, StepsOn, SlicesOn}
 use Rattle.strat_promote.specs.Turning.{GoesFurther, stage_after, AreAllNew, WritesOn}
 use Rattle.strat_promote.specs.declared.counting.Counting.{Counting}
 use Rattle.strat_promote.specs.declared.input.Input.{Input}
@@ -34,6 +34,7 @@ use Rattle.strat_promote.specs.declared.step.Step.{Step}
 use Rattle.strat_promote.specs.declared.step.Step.TheVariants as step
 use Rattle.strat_promote.specs.declared.step.Task.{Task}
 use Rattle.strat_promote.proofs.BudgetLemmas.{IsHeld, far_most, near_next, key_more, key_same, none_taken, taken_most, entry_left, none_left_in}
+use Rattle.strat_promote.proofs.PlanBlocksLemmas.{writers_few}
 use Rattle.strat_promote.proofs.PushingLemmas.{still_told}
 use Rattle.strat_promote.proofs.SpacesLemmas.{takes_refl, takes_trans, torn_on}
 use Rattle.strat_promote.proofs.WrittenLemmas.{inputs_same, bad_input_same}
@@ -73,6 +74,15 @@ count_same f g job agree = ap (λ (rs : List (List Entry)). length (grouped_entr
 -- what a job reads keeps its bytes, both ways
 pub agree_back : (blocks : List ℕ) (f g : Image) → AgreeOn blocks f g → AgreeOn blocks g f
 agree_back blocks f g agree = λ b here. let same = agree b here in record { byte = λ i from to. sym (same.byte i from to) }
+
+-- the arrays of a stage of a job have few blocks
+stage_few : (f : Image) (task : Task) (inputs : Inputs) (job : Job) (s : Stage) → IsReadySource task inputs → IsTaskIn f task inputs job → IsSteady task.horizon s → IsUnderway f job task.first s
+    → length (blocks_of (all_extents (stage_writers s))) ≤ 2 ^ 25
+stage_few f task inputs job stage.Begun ready told steady underway = omega arith
+stage_few f task inputs job (stage.Counting c) ready told steady underway = omega arith
+stage_few f task inputs job (stage.Writing w before) ready told steady underway =
+    let writing = underway.0 in
+    writers_few f task inputs job task.first w writing.all writing.groups ready told steady.filling writing.merged writing.planned _ writing.runs.merged writing.content
 
 -- some steps were taken, and there is more to do
 pub record IsSlicing (task : Task) (inputs : Inputs) (limit count : ℕ) (start now : DiskView) (s t : SpaceView) (old new : Stage) (faults failed reads read : ℕ) : Type 0 where
@@ -155,13 +165,19 @@ module _ (task : Task) (inputs : Inputs) (limit count : ℕ) (start mid now : Di
       let agree = inputs_agree s (blocks_listed arrays) start mid f between.0 used slicing.torn told between.1 in
       bad_input_same between.0 f arrays b (agree_back (blocks_listed arrays) f between.0 agree) (blames between.0 between.1 (slicing.readable f between.0 told between.1 used read))
 
-  -- what a step finds unfit, no store has
-  pub slice_fits : ((f : Image) (job : Job) → Exposes mid f → IsTaskIn f task inputs job → IsUnderway f job task.first stage → ⊥)
-      → (f : Image) (job : Job) → Exposes start f → IsTaskIn f task inputs job → AreUsed s (blocks_listed job.arrays) → IsUnderway f job task.first old → ⊥
-  slice_fits fits f job told is used underway =
+  -- what a step finds unfit, no store has where there is room
+  pub slice_fits : IsReadySource task inputs → ((f : Image) (job : Job) → Exposes mid f → IsTaskIn f task inputs job → IsUnderway f job task.first stage → HasFewFree t (2 ^ 28 + 16384))
+      → HasAmpleRoom s → (f : Image) (job : Job) → Exposes start f → IsTaskIn f task inputs job → AreUsed s (blocks_listed job.arrays) → IsUnderway f job task.first old → ⊥
+  slice_fits ready fits room f job told is used underway =
       let between = still_told start mid f slicing.torn.time told in
       let agree = inputs_agree s (blocks_listed job.arrays) start mid f between.0 used slicing.torn told between.1 in
-      fits between.0 job between.1 (task_stays f between.0 task inputs job agree is) (slicing.goes f between.0 job told between.1 is used underway).0
+      let still = task_stays f between.0 task inputs job agree is in
+      let went = (slicing.goes f between.0 job told between.1 is used underway).0 in
+      let none = fits between.0 job between.1 still went in
+      let few = stage_few between.0 task inputs job stage ready still slicing.steady went in
+      let count = slicing.takes.count in
+      let first = slicing.takes.first in
+      omega (arith, none, few, count, first, room)
 
   -- one more step
   pub slicing_next : IsSteady task.horizon new → AreAllUsed u (stage_writers new) → after ≡ failed

@@ -1,7 +1,8 @@
 -- Blocks that the writers of a promotion take.
-use Rattle.std.proofs.Common.{◌≡◌, ℕ, zero, suc, ◌+◌, ◌<◌, ◌==◌, cond, Bool, true, false, inl, inr, ◌⊎◌, List, [], ◌∷◌, set, Some, refl, sym, ap, ◌∙◌, subst, arith, true≢false}
-use Rattle.std.specs.List.{slice_get, Contains, count_by}
+use Rattle.std.proofs.Common.{◌≡◌, ℕ, zero, suc, ◌+◌, ◌<◌, ◌==◌, cond, Bool, true, false, inl, inr, ◌⊎◌, List, [], ◌∷◌, ◌++◌, length, length-append, set, Some, refl, sym, ap, ◌∙◌, subst, arith, true≢false}
+use Rattle.std.specs.List.{slice_get, Contains, count_by, range_with_len}
 use Rattle.std.proofs.lemmas.Bool.{eqb-true, false_from_ne_true}
+use Rattle.std.proofs.lemmas.Grind.{flat_map-append}
 use Rattle.std.proofs.lemmas.List.Sums.{sum_by-cons}
 use Rattle.strat_base.specs.Entries.{Entry}
 use Rattle.strat_base.specs.declared.descriptors.Extent.{Extent}
@@ -50,6 +51,7 @@ takes_more s t old new takes = record {
   free = λ b is. from_free b (is_free s b) refl is;
   mine = mine_from s t old new takes.used;
   first = takes.first;
+  count = omega (arith, takes.count, ap (λ (bs : List ℕ). length bs) takes.blocks, length-append (blocks_of old) takes.taken);
 }
   where
     from_free : (b : ℕ) (p : Bool) → is_free s b ≡ p → is_free t b ≡ true → is_free s b ≡ true
@@ -57,7 +59,7 @@ takes_more s t old new takes = record {
     from_free b false e is = absurd (true≢false (sym is ∙ taken_stay s t old new takes b e))
 
 pub takes_refl : (s : SpaceView) (xs : List Extent) → TakesMore s s xs xs
-takes_refl s xs = record { used = λ b. refl; kept = λ b is. is; free = λ b is. is; mine = λ b there. inl there; first = refl }
+takes_refl s xs = record { used = λ b. refl; kept = λ b is. is; free = λ b is. is; mine = λ b there. inl there; first = refl; count = refl }
 
 pub takes_trans : (s t u : SpaceView) (old mid new : List Extent) → TakesMore s t old mid → TakesMore t u mid new → TakesMore s u old new
 takes_trans s t u old mid new one two =
@@ -68,6 +70,7 @@ takes_trans s t u old mid new one two =
       free = λ b is. one.free b (two.free b is);
       mine = mine_from s u old new used';
       first = two.first ∙ one.first;
+      count = omega (arith, one.count, two.count);
     }
 
 -- the blocks of extents that took more are used where those before were
@@ -92,13 +95,26 @@ times_set (w ∷ old) zero was is b there =
 times_set (w ∷ old) (suc part) was is b there =
     omega (arith, times_set old part was is b there, times_append w.extents (all_extents (set old part is)) b, times_append w.extents (all_extents old) b)
 
+pub blocks_joined : (xs ys : List Extent) → length (blocks_of (xs ++ ys)) ≡ length (blocks_of xs) + length (blocks_of ys)
+blocks_joined xs ys =
+    omega (arith, ap (λ (bs : List ℕ). length bs) (flat_map-append (λ (x : Extent). range_with_len x.start x.len) xs ys), length-append (blocks_of xs) (blocks_of ys))
+
+blocks_set : (old : List ArrayProgress) (part : ℕ) (was is : ArrayProgress) → slice_get old part ≡ Some was
+    → length (blocks_of (all_extents (set old part is))) + length (blocks_of was.extents) ≡ length (blocks_of (all_extents old)) + length (blocks_of is.extents)
+blocks_set [] part was is there = absurd (cc)
+blocks_set (w ∷ old) zero was is there =
+    let same : w ≡ was = cc in
+    omega (arith, ap (λ (x : ArrayProgress). length (blocks_of x.extents)) same, blocks_joined is.extents (all_extents old), blocks_joined w.extents (all_extents old))
+blocks_set (w ∷ old) (suc part) was is there =
+    omega (arith, blocks_set old part was is there, blocks_joined w.extents (all_extents (set old part is)), blocks_joined w.extents (all_extents old))
+
 -- so all of them take more
 pub takes_all : (s t : SpaceView) (old : List ArrayProgress) (part : ℕ) (was is : ArrayProgress) → TakesMore s t was.extents is.extents → slice_get old part ≡ Some was
     → TakesMore s t (all_extents old) (all_extents (set old part is))
 takes_all s t old part was is takes there =
     let used' : (b : ℕ) → uses t b + times_in (all_extents old) b ≡ uses s b + times_in (all_extents (set old part is)) b
     = λ b. omega (arith, takes.used b, times_set old part was is b there) in
-    record { used = used'; kept = takes.kept; free = takes.free; mine = mine_from s t (all_extents old) (all_extents (set old part is)) used'; first = takes.first }
+    record { used = used'; kept = takes.kept; free = takes.free; mine = mine_from s t (all_extents old) (all_extents (set old part is)) used'; first = takes.first; count = omega (arith, takes.count, blocks_set old part was is there) }
 
 -- what stands in a list after a change is what was put there, or stood there before
 pub set_or_before : {X : Type 0} (xs : List X) (i q : ℕ) (y x : X) → slice_get (set xs i y) q ≡ Some x → (y ≡ x) ⊎ (slice_get xs q ≡ Some x)

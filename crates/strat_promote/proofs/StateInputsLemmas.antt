@@ -21,18 +21,18 @@ use Rattle.strat_promotion.specs.Merging.{runs_taken}
 use Rattle.strat_promotion.specs.Paid.{leads_at, IsLeastTarget}
 use Rattle.strat_promotion.specs.Promoted.{levels_to, levels_behind, promoted, Takeable, fresh_of_groups}
 use Rattle.strat_promotion.specs.Sealed.{sealed_at, grown_by}
-use Rattle.strat_promotion.proofs.CutLemmas.{takeable}
+use Rattle.strat_promotion.specs.Purge.{entries_over}
+use Rattle.strat_promotion.proofs.CutLemmas.{takeable, shallow_taken}
 use Rattle.strat_promotion.proofs.PaidLemmas.{count, paid_after}
-use Rattle.strat_promotion.proofs.PromotedLemmas.{groups_replace}
-use Rattle.strat_promotion.proofs.SealedLemmas.{before_sound}
+use Rattle.strat_promotion.proofs.SealedLemmas.{before_ordered}
 use Rattle.strat_promotion.proofs.TargetLemmas.{leads_add_up}
 use Rattle.strat_recovery.specs.Opened.{level_on}
 use Rattle.strat_state.specs.Level.{TaggedArray, Level, level_leads, own_leads}
 use Rattle.strat_state.specs.Reading.{level_zero}
 use Rattle.strat_state.specs.Setting.{set_all}
-use Rattle.strat_state.specs.Sound.{IsSound}
-use Rattle.strat_state.specs.State.{State, journal_updates, IsPaid}
-use Rattle.strat_state.proofs.SoundLemmas.{sound_tree}
+use Rattle.strat_state.specs.Sound.{IsOrdered, IsSound}
+use Rattle.strat_state.specs.State.{State, versions_of, journal_updates, IsPaid}
+use Rattle.strat_state.proofs.SoundLemmas.{sound_tree, ordered}
 use Rattle.strat_promote.specs.Closing.{AreAllUsed}
 use Rattle.strat_promote.specs.Job.{runs_in, Job, blocks_listed, arrays_to}
 use Rattle.strat_promote.specs.Promotions.{IsBegun, IsOpen, HasBegun, IsItsJob, leads_listed, target_of, writers_of, SamePromotion}
@@ -44,11 +44,11 @@ use Rattle.strat_promote.specs.declared.promotion.Promotion.{Promotion}
 use Rattle.strat_promote.specs.declared.stage.Stage.{Stage}
 use Rattle.strat_promote.specs.declared.step.Task.{Task}
 use Rattle.strat_promote.proofs.OpeningLemmas.{level_here}
-use Rattle.strat_promote.proofs.ReplacingLemmas.{runs_same, arrays_there, made_promotes, made_read, made_leaves, made_leaves_later}
+use Rattle.strat_promote.proofs.ReplacingLemmas.{runs_same, arrays_there, made_replaces, made_read, made_leaves, made_leaves_later}
 use Rattle.strat_promote.proofs.SliceLemmas.{made_from}
 use Rattle.strat_promote.proofs.StateLeadsLemmas.{there, AreCounted, latest_len, sums_to, taken_on, behind_none, leads_none, leads_found, entries_told}
 
-module _ (f : Image) (s : State) (inputs : Inputs) (sound : IsSound s) (holds : HoldsState f s inputs) where
+module _ (f : Image) (s : State) (inputs : Inputs) (sound : IsOrdered s) (holds : HoldsState f s inputs) where
   counted : AreCounted 0 inputs.levels
   counted i desc at = let e = holds.numbered (i + 1) desc (level_here inputs.levels i ∙ at) in omega (arith, e)
 
@@ -133,7 +133,7 @@ runs_size s taken =
     let both = length-append (set_all (journal_updates s)) (grouped_entries (flat_map (λ level. map own_leads level.arrays) taken)) in
     omega (arith, first, rest, both)
 
-module _ (f : Image) (s : State) (inputs : Inputs) (p : Promotion) (sound : IsSound s) (over : IsBegunOver f s inputs p) where
+module _ (f : Image) (s : State) (inputs : Inputs) (p : Promotion) (sound : IsOrdered s) (over : IsBegunOver f s inputs p) where
   pub begun_takes : Takeable s (target_of p) (levels_to (target_of p) s.levels) (levels_behind (target_of p) s.levels)
   begun_takes =
       let target = over.begun.target in
@@ -170,7 +170,7 @@ module _ (f : Image) (s : State) (inputs : Inputs) (p : Promotion) (sound : IsSo
       let size = runs_size s (levels_to (target_of p) s.levels) in
       record {
         over = record { zero_is = sym over.holds.zero; arrays_are = refl; few = omega (arith, total, some, all, runs, size) };
-        tree = record { rooted = sound_tree s sound; same = over.holds.parents };
+        tree = record { rooted = sound_tree s sound.formed; same = over.holds.parents };
         horizon = sym over.begun.horizon;
         purges = sym begun_purges;
       }
@@ -197,23 +197,23 @@ module _ (f : Image) (s : State) (inputs : Inputs) (p : Promotion) (sound : IsSo
     from_start : IsMade f g job (target_of p) first made
     from_start = made_from f h g job (target_of p) first made agree (subst (λ (t : Task). IsMade h g job t.target first made) same.task m)
 
-    pub begun_leaves : LeavesTheSame g made s (λ fresh written next_array. promoted s (fresh ++ kept) written next_array)
-    begun_leaves = made_leaves f g s (target_of p) first taken kept job made from_start begun_job sound begun_takes
+    pub begun_leaves : IsSound s → LeavesTheSame g made s (λ fresh written next_array. promoted s (fresh ++ kept) written next_array)
+    begun_leaves whole = made_leaves f g s (target_of p) first taken kept job made from_start begun_job whole begun_takes
 
     pub begun_paid : IsPaid s → 0 < s.mem → s.updates ≤ s.changes → (target_of p ≡ 1 → s.mem ≤ length s.journal)
         → LeavesPaid g made s (λ fresh written next_array. promoted s (fresh ++ kept) written next_array)
     begun_paid paid some honest full =
         let start = from_start in
-        let promotes = made_promotes f g s (target_of p) first taken kept job made start begun_job begun_takes in
         let fresh = fresh_of_groups s (target_of p) kept start.groups start.plan first in
+        let entries = grouped_entries start.groups in
         let read = made_read f g s (target_of p) first taken kept job made start begun_job sound in
         record {
           fresh = fresh;
           read = read;
           paid = λ next_array.
               subst (λ (n : ℕ). IsPaid (promoted s (fresh ++ kept) (s.written + n) next_array)) (entries_told g made fresh read)
-              (paid_after s sound some honest paid (target_of p) taken kept fresh (grouped_entries start.groups)
-              (groups_replace s sound (target_of p) taken kept start.groups _ _ start.plan first promotes) (begun_least full) next_array);
+              (paid_after s sound some honest paid (target_of p) taken kept fresh entries (entries_over (versions_of s) kept entries)
+              (made_replaces f g s (target_of p) first taken kept job made start begun_job sound begun_takes) (shallow_taken (target_of p) s.levels) (begun_least full) next_array);
         }
 
 -- and where changes came since
@@ -222,7 +222,7 @@ module _ (f h g : Image) (s : State) (before rest : List Change) (inputs : Input
     (m : IsMade h g (job_of_state (sealed_at s before) inputs.levels (target_of p)) (target_of q) first made) where
   pub begun_leaves_later : LeavesTheSame g made s (λ fresh written next_array. grown_by (promoted (sealed_at s before) (fresh ++ levels_behind (target_of p) s.levels) written next_array) rest)
   begun_leaves_later =
-      let old : IsSound (sealed_at s before) = before_sound s sound before rest parts in
+      let old : IsOrdered (sealed_at s before) = before_ordered s (ordered s sound) before rest parts in
       let start = from_start f (sealed_at s before) inputs p old over h g q first made same agree m in
       made_leaves_later f g s before rest (target_of p) first (levels_to (target_of p) s.levels) (levels_behind (target_of p) s.levels) (job_of_state (sealed_at s before) inputs.levels (target_of p)) made start
       (begun_job f (sealed_at s before) inputs p old over) sound parts (begun_takes f (sealed_at s before) inputs p old over)

@@ -27,6 +27,7 @@ pub record IsFilling (n : ℕ) (a : Filling) : Type 0 where
   pub hangs : a.hanging ≡ carriers_of a.plan.part_of a.plan.parts
   pub heads : length a.dealer.heads ≡ length a.plan.parts
   pub writers : length a.writers.items ≡ length a.plan.parts
+  pub parts : length a.plan.parts ≤ n
 
 -- the same plan is filled
 pub record SameFilling (old new : Filling) : Type 0 where

@@ -1,5 +1,5 @@
 -- Blocks that the arrays of a promotion take, and entries that are pushed into one of them.
-use Rattle.std.specs.Prelude.{◌≡◌, ℕ, ◌+◌, true, List, ◌++◌, Some, slice_set, Result, OnOk, Contains, ◌⊎◌}
+use Rattle.std.specs.Prelude.{◌≡◌, ◌≤◌, ◌<◌, ℕ, ◌+◌, ◌^◌, true, List, ◌++◌, length, Some, slice_set, Result, OnOk, Contains, ◌⊎◌}
 use Rattle.std.specs.List.{slice_get}
 use Rattle.strat_array.specs.Progress.{ArrayProgress}
 use Rattle.strat_array.specs.Pushed.{IsEndOf, IsPushed}
@@ -7,7 +7,7 @@ use Rattle.strat_base.specs.Entries.{Entry}
 use Rattle.strat_base.specs.declared.descriptors.Extent.{Extent}
 use Rattle.strat_crash.specs.Image.{Image}
 use Rattle.strat_crash.specs.Moments.{DiskView, Exposes}
-use Rattle.strat_extent.specs.Blocks.{SpaceView, times_in, is_used, is_free, uses}
+use Rattle.strat_extent.specs.Blocks.{SpaceView, times_in, is_used, is_free, uses, used_count}
 use Rattle.strat_format.specs.Arrays.{blocks_of}
 
 -- some blocks that were free became used, and stand behind the others of the extents now
@@ -18,6 +18,15 @@ pub record TakesMore (before after : SpaceView) (old new : List Extent) : Type 0
   pub mine : (b : ℕ) → Contains (blocks_of new) b
       → Contains (blocks_of old) b ⊎ (is_used after b ≡ true)
   pub first : after.first ≡ before.first
+  pub count : used_count after + length (blocks_of old) ≡ used_count before + length (blocks_of new)
+
+-- at most so many blocks are free
+abbrev pub HasFewFree : SpaceView → ℕ → Type 0
+HasFewFree s n = 4294967295 ≤ s.first + used_count s + n
+
+-- more than 2^29 blocks are free, which is more than any promotion takes
+abbrev pub HasAmpleRoom : SpaceView → Type 0
+HasAmpleRoom s = s.first + used_count s + 2 ^ 29 < 4294967295
 
 -- of some writers one had these entries pushed, and may have written some of them into blocks that were free
 pub record PushesPart {T E : Type 0} (disk now : DiskView) (before after : SpaceView)

@@ -1,52 +1,66 @@
 //! The end of a promotion: the arrays are sealed, and their level is described.
 
 ghost use Rattle.std.specs.List.{range_with_len, slice_get};
-ghost use Rattle.std.specs.Prelude.{◌≡◌, ◌≤◌, ℕ, List, [], ◌∷◌, ◌++◌, length, map, replicate, slice_index_or, slice_set, Some, OnOk, IfOk, MatchResult};
+ghost use Rattle.std.specs.Prelude.{◌≡◌, ◌≤◌, ◌+◌, ℕ, List, [], ◌∷◌, ◌++◌, length, map, replicate, slice_index_or, slice_set, Some, OnOk, OnErr, IfOk, IsErrOf, MatchResult};
 ghost use Rattle.strat_array.specs.Progress.{ArrayProgress};
-ghost use Rattle.strat_array.specs.Pushed.{HasReason, IsPushed};
-ghost use Rattle.strat_array.specs.Taking.{AreUsed};
+ghost use Rattle.strat_array.specs.Pushed.{IsPushed};
+ghost use Rattle.strat_array.specs.Taking.{AreUsed, HasFreeBlock};
 ghost use Rattle.strat_base.specs.Entries.{Entry as TheEntry};
 ghost use Rattle.strat_base.specs.declared.descriptors.ArrayDesc.{ArrayDesc as TheDesc};
 ghost use Rattle.strat_crash.specs.Blocks.{TearsBlocks};
 ghost use Rattle.strat_crash.specs.Image.{Image};
 ghost use Rattle.strat_crash.specs.Moments.{Exposes};
-ghost use Rattle.strat_extent.specs.Blocks.{is_free};
+ghost use Rattle.strat_extent.specs.Blocks.{is_free, used_count};
 ghost use Rattle.strat_format.specs.Arrays.{blocks_of, entries_on};
 ghost use Rattle.strat_plan.specs.Plan.{members};
 ghost use Rattle.strat_promote.specs.Closing.{AreAllUsed, AreSealed, all_extents, IsDescriptor, IsDescribed};
-ghost use Rattle.strat_promote.specs.Spaces.{TakesMore};
+ghost use Rattle.strat_promote.specs.Obstacles.{MeetsObstacle};
+ghost use Rattle.strat_promote.specs.Spaces.{HasFewFree, TakesMore};
+ghost use Rattle.strat_promote.specs.declared.obstacle.Obstacle.TheVariants as obstacle;
 ghost use Rattle.strat_split.specs.PlanSeen.{plan_seen};
 
+use crate::obstacle::{Obstacle, Unfit};
 use std::alloc::Global;
 use std::mem::replace;
 use strat_array::ArrayWriter;
-use strat_base::{Arrays, LevelDesc, NoMemory, Trouble, Versions};
+use strat_base::{Arrays, LevelDesc, NoMemory, Versions};
 use strat_disk::Disk;
 use strat_extent::Space;
 use strat_split::parts::Plan;
 
-/// Writes what of an array is in no block yet. Where no block is free it is told as want of memory: no store that its
-/// levels describe comes so far.
+/// Refuses a space in which no block is free: no store that its levels describe comes so far.
+fn check_free(space: &Space) -> Result<(), Unfit>
+    ensures ok { OnOk result (HasFreeBlock space.now) }
+    ensures cause { OnErr result (HasFewFree space.now 0) }
+{
+    if space.free() == 0 {
+        return Err(Unfit);
+    }
+    Ok(())
+}
+
+/// Writes what of an array is in no block yet. `Unfit`: no block is free.
 fn seal_one<D: Disk>(
     writer: &mut ArrayWriter,
     space: &mut Space,
     disk: &mut D,
-) -> Result<(), Trouble>
+) -> Result<(), Obstacle>
     requires found { AreUsed space.old (blocks_of writer.old.extents) }
     ensures ok { OnOk result ((f g : Image) (es : List TheEntry) → Exposes (D.view disk.old) f
         → Exposes (D.view disk.new) g → IsPushed f writer.old es
         → entries_on g (blocks_of writer.new.extents) ≡ Some es) }
+    ensures fits { IsErrOf result obstacle.Unfit → HasFewFree space.old 0 }
+    ensures used { used_count space.new ≤ used_count space.old + 1 }
     ensures room { TakesMore space.old space.new writer.old.extents writer.new.extents }
     ensures same { TearsBlocks (is_free space.old) (D.view disk.old) (D.view disk.new)
         × (writer.new.id ≡ writer.old.id) × (writer.new.count ≡ writer.old.count) }
     ensures cause { MatchResult result (λ _. D.faults disk.new ≡ D.faults disk.old)
-        (λ e. HasReason e (D.faults disk.old) (D.faults disk.new)) }
+        (λ e. MeetsObstacle e (D.faults disk.old) (D.faults disk.new)) }
     ensures reads { D.reads disk.new ≡ D.reads disk.old }
 {
-    if space.free() == 0 {
-        return Err(Trouble::NoMemory);
-    }
-    writer.seal(space, disk)
+    check_free(space)?;
+    writer.seal(space, disk)?;
+    Ok(())
 }
 
 /// Writes what of the arrays is in no block yet: one write for each at most.
@@ -54,17 +68,19 @@ pub(crate) fn seal_all<D: Disk>(
     writers: &mut Vec<ArrayWriter>,
     space: &mut Space,
     disk: &mut D,
-) -> Result<(), Trouble>
+) -> Result<(), Obstacle>
     requires found { AreAllUsed space.old writers.old.items }
     ensures ok { OnOk result (AreSealed (D.view disk.old) (D.view disk.new)
         writers.old.items writers.new.items) }
     ensures len { length writers.new.items ≡ length writers.old.items }
+    ensures fits { IsErrOf result obstacle.Unfit
+        → HasFewFree space.old (length writers.old.items) }
     ensures found { AreAllUsed space.new writers.new.items }
     ensures room { TakesMore space.old space.new
         (all_extents writers.old.items) (all_extents writers.new.items) }
     ensures same { TearsBlocks (is_free space.old) (D.view disk.old) (D.view disk.new) }
     ensures cause { MatchResult result (λ _. D.faults disk.new ≡ D.faults disk.old)
-        (λ e. HasReason e (D.faults disk.old) (D.faults disk.new)) }
+        (λ e. MeetsObstacle e (D.faults disk.old) (D.faults disk.new)) }
     ensures reads { D.reads disk.new ≡ D.reads disk.old }
 {
     for i in 0..writers.len() {

@@ -21,7 +21,7 @@ ghost use Rattle.strat_recovery.specs.Opened.{level_on};
 ghost use Rattle.strat_state.specs.Counted.{own_at, keys_at};
 ghost use Rattle.strat_state.specs.Level.{Level};
 ghost use Rattle.strat_state.specs.Setting.{set_all};
-ghost use Rattle.strat_state.specs.Sound.{IsSound};
+ghost use Rattle.strat_state.specs.Sound.{IsOrdered, IsSound};
 ghost use Rattle.strat_state.specs.State.{State, versions_of, journal_updates};
 ghost use Rattle.strat_promote.specs.Between.{KeepsItsBlocks, HasUsedBlocks};
 ghost use Rattle.strat_promote.specs.Job.{Job, runs_in, arrays_to, blocks_listed};
@@ -47,10 +47,10 @@ pub fn leads_stay_where_their_blocks_do()
         → (leads_in g a ≡ leads_in f a) × (misfit_in g a ≡ misfit_in f a) }
 {}
 
-/// Where the levels of a sound state stand in an image, a job over their arrays merges the runs of the state.
+/// Where the levels of a state stand in an image, a job over their arrays merges the runs of the state.
 pub fn a_job_merges_the_runs_of_a_state()
     ensures runs { (f : Image) (s : State) (taken kept : List Level) (descs : List LevelDesc)
-        (job : Job) → IsSound s → s.levels ≡ taken ++ kept
+        (job : Job) → IsOrdered s → s.levels ≡ taken ++ kept
         → all_some (level_on f) descs ≡ Some taken → job.zero ≡ set_all (journal_updates s)
         → job.arrays ≡ flat_map (λ level. level.arrays) descs
         → runs_in f job ≡ runs_taken s taken }
@@ -69,7 +69,7 @@ pub fn groups_of_a_made_level_are_promoted()
         m.plan }
     ensures read { (f g : Image) (s : State) (j first : ℕ) (taken kept : List Level) (job : Job)
         (made : Option LevelDesc) (m : IsMade f g job j first made) → IsJobOf f s taken kept job
-        → IsSound s
+        → IsOrdered s
         → all_some (level_on g) (option_to_list made)
         ≡ Some (fresh_of_groups s j kept m.groups m.plan first) }
 {}

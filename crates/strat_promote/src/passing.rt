@@ -1,23 +1,24 @@
 //! One group of the second pass.
 
-ghost use Rattle.std.specs.Prelude.{◌≡◌, ◌≤◌, ℕ, List, length, true, false, IfOk, OnOk, IsTrue};
-ghost use Rattle.strat_base.specs.declared.failures.Trouble.TheVariants.{Damaged, Device};
+ghost use Rattle.std.specs.Prelude.{◌≡◌, ◌≤◌, ◌+◌, ◌^◌, ℕ, List, length, true, false, IfOk, OnOk, IsErrOf, IsTrue};
 ghost use Rattle.strat_crash.specs.Blocks.{TearsBlocks};
 ghost use Rattle.strat_crash.specs.Image.{Image};
 ghost use Rattle.strat_crash.specs.Moments.{Exposes};
-ghost use Rattle.strat_extent.specs.Blocks.{is_free};
+ghost use Rattle.strat_extent.specs.Blocks.{is_free, used_count};
 ghost use Rattle.strat_array.specs.Taking.{AreUsed};
 ghost use Rattle.strat_merge.specs.MergerFields.{consumed_of};
 ghost use Rattle.strat_promote.specs.Budget.{TakesSome};
 ghost use Rattle.strat_promote.specs.Closing.{AreAllUsed, all_extents};
 ghost use Rattle.strat_promote.specs.Job.{Job, IsJobIn, blocks_listed};
-ghost use Rattle.strat_promote.specs.Spaces.{TakesMore};
+ghost use Rattle.strat_promote.specs.Spaces.{HasFewFree, TakesMore};
 ghost use Rattle.strat_promote.specs.Written.{IsWriterOf, IsWriting, IsAllWritten, TakesInput};
+ghost use Rattle.strat_promote.specs.declared.obstacle.Obstacle.TheVariants as obstacle;
+ghost use Rattle.strat_promote.specs.declared.obstacle.Obstacle.TheVariants.{Damaged, Device};
 
+use crate::obstacle::Obstacle;
 use crate::taking::take_group;
 use crate::writing::{Filling, deal_out};
 use strat_arena::Arena;
-use strat_base::Trouble;
 use strat_disk::Disk;
 use strat_extent::Space;
 use strat_merge::{GroupBuf, Merger, Run};
@@ -39,7 +40,7 @@ pub(crate) fn write_group<D: Disk, R: Run<D>>(
     purges: bool,
     space: &mut Space,
     disk: &mut D,
-) -> Result<bool, Trouble>
+) -> Result<bool, Obstacle>
     requires kept { IsWriterOf R.view (length writing.old.filling.plan.part_of) writing.old }
     requires fits { length writing.old.filling.plan.part_of ≤ length tree.now.parents }
     requires found { AreAllUsed space.old writing.old.filling.writers.items }
@@ -56,6 +57,10 @@ pub(crate) fn write_group<D: Disk, R: Run<D>>(
         → Exposes (D.view disk.old) f → Exposes (D.view disk.new) g
         → IsWriting R.view f job first writing.old → IsAllWritten R.view g job first writing.new
         × (consumed_of writing.new.merger ≡ consumed_of writing.old.merger)) }
+    ensures fits { IsErrOf result obstacle.Unfit → (f : Image) (job : Job) (first : ℕ)
+        → Exposes (D.view disk.old) f → IsWriting R.view f job first writing.old
+        → HasFewFree space.old (2 ^ 28) }
+    ensures used { used_count space.new ≤ used_count space.old + 2 ^ 28 }
     ensures found { AreAllUsed space.new writing.new.filling.writers.items }
     ensures room { TakesMore space.old space.new (all_extents writing.old.filling.writers.items)
         (all_extents writing.new.filling.writers.items) }

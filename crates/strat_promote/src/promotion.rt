@@ -53,7 +53,7 @@ impl Promotion {
     ghost use Rattle.strat_promote.specs.Job.{Job, IsBadInput, arrays_to, blocks_listed};
     ghost use Rattle.strat_promote.specs.Promotions.{IsBegun, IsOpen, IsFed, IsItsJob, HasBegun, IsSliced, MatchProgress, SamePromotion, inputs_given, writers_of, ReadsFrom, ReadsOf, ReadsItsBlocks, leads_listed, entries_taken, entries_if_any, extents_taken, has_ended, target_of, level_of};
     ghost use Rattle.strat_promote.specs.Owned.{OwnsItsBlocks};
-    ghost use Rattle.strat_promote.specs.Spaces.{TakesMore};
+    ghost use Rattle.strat_promote.specs.Spaces.{HasAmpleRoom, TakesMore};
 
     /// The promotion of level 0 and the levels down to the first with room for all their leads, where level j has
     /// room for `mem * 2^j`. `horizon` is the number of versions that take part, and the arrays are numbered from
@@ -103,8 +103,8 @@ impl Promotion {
     /// took, and no others.
     ///
     /// `Device` comes only where the disk failed; `Damaged` names a block of an array that holds no entries, or none that
-    /// come after those before it. After an error it is good for nothing but `abandon`. `NoMemory` also stands for a disk on
-    /// which no block is free. `Unfit`: arrays have more leads than their descriptors say, or than any store has.
+    /// come after those before it. After an error it is good for nothing but `abandon`. `Unfit`: arrays have more leads than
+    /// their descriptors say, or than any store has, or an array has more entries, or no block is free.
     pub fn slice<D: Disk>(
         &mut self,
         zero: &Zero,
@@ -141,7 +141,7 @@ impl Promotion {
             → AreUsed space.old (blocks_listed (arrays_to levels.now (target_of self.old)))
             → ReadsOf f (arrays_to levels.now (target_of self.old)) self.old
             → IsBadInput f (arrays_to levels.now (target_of self.old)) b) }
-        ensures fits { IsErrOf result Unfit → (f : Image) (job : Job)
+        ensures fits { IsErrOf result Unfit → HasAmpleRoom space.old → (f : Image) (job : Job)
             → Exposes (D.view disk.old) f → IsItsJob f self.old
             (inputs_given zero.now.list pool.now levels.now tree.now.parents) job
             → AreUsed space.old (blocks_listed job.arrays) → HasBegun f job self.old → ⊥ }

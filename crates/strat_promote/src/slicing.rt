@@ -10,7 +10,7 @@ ghost use Rattle.strat_extent.specs.Blocks.{is_free};
 ghost use Rattle.strat_promote.specs.Closing.{AreAllUsed, all_extents};
 ghost use Rattle.strat_promote.specs.Job.{Job, IsBadInput, arrays_to, blocks_listed};
 ghost use Rattle.strat_promote.specs.Owned.{OwnsItsBlocks};
-ghost use Rattle.strat_promote.specs.Spaces.{TakesMore};
+ghost use Rattle.strat_promote.specs.Spaces.{HasAmpleRoom, TakesMore};
 ghost use Rattle.strat_promote.specs.Stages.{IsSteady, IsUnderway, HasLeft, IsTakenUp, IsReadFrom, IsReadOf, ReadsOnce, stage_writers, stage_consumed};
 ghost use Rattle.strat_promote.specs.Steps.{inputs_of, IsReadySource, IsTaskIn, SlicesOn};
 ghost use Rattle.strat_promote.specs.Turning.{MatchStep};
@@ -104,8 +104,8 @@ pub(crate) fn take_steps<D: Disk>(
         → AreUsed space.old (blocks_listed (arrays_to sources.now.levels.now task.now.target))
         → IsReadOf f (arrays_to sources.now.levels.now task.now.target) stage.old
         → IsBadInput f (arrays_to sources.now.levels.now task.now.target) b) }
-    ensures fits { IsErrOf result Unfit → (f : Image) (job : Job) → Exposes (D.view disk.old) f
-        → IsTaskIn f task.now (inputs_of sources.now) job
+    ensures fits { IsErrOf result Unfit → HasAmpleRoom space.old → (f : Image) (job : Job)
+        → Exposes (D.view disk.old) f → IsTaskIn f task.now (inputs_of sources.now) job
         → AreUsed space.old (blocks_listed job.arrays)
         → IsUnderway f job task.now.first stage.old → ⊥ }
     ensures reads { ReadsOnce (arrays_to sources.now.levels.now task.now.target)

@@ -10,7 +10,7 @@ ghost use Rattle.strat_level.specs.Memtable.{ItemList};
 ghost use Rattle.strat_promotion.specs.Paid.{IsLeastTarget};
 ghost use Rattle.strat_promotion.specs.Promoted.{levels_to, levels_behind, promoted, Takeable};
 ghost use Rattle.strat_promotion.specs.Sealed.{sealed_at, grown_by};
-ghost use Rattle.strat_state.specs.Sound.{IsSound};
+ghost use Rattle.strat_state.specs.Sound.{IsOrdered, IsSound};
 ghost use Rattle.strat_state.specs.State.{State, IsPaid};
 ghost use Rattle.strat_promote.specs.Closing.{AreAllUsed};
 ghost use Rattle.strat_promote.specs.Job.{Job, arrays_to, blocks_listed};
@@ -21,16 +21,16 @@ ghost use Rattle.strat_promote.specs.StateInputs.{IsBegunOver, LeavesPaid, purge
 ghost use Rattle.strat_promote.specs.Steps.{Inputs};
 ghost use Rattle.strat_promote.specs.declared.promotion.Promotion.{Promotion};
 
-/// A promotion that was begun over a sound state may take the state's levels down to its target. The target is the least;
+/// A promotion that was begun over a state may take the state's levels down to its target. The target is the least;
 /// where it is level 1, once the journal is full. Marks that say nothing are dropped where no level lies behind it.
 pub fn a_begun_promotion_takes_the_levels_of_a_state()
-    ensures takes { (f : Image) (s : State) (inputs : Inputs) (p : Promotion) → IsSound s
+    ensures takes { (f : Image) (s : State) (inputs : Inputs) (p : Promotion) → IsOrdered s
         → IsBegunOver f s inputs p → Takeable s (target_of p)
         (levels_to (target_of p) s.levels) (levels_behind (target_of p) s.levels) }
-    ensures least { (f : Image) (s : State) (inputs : Inputs) (p : Promotion) → IsSound s
+    ensures least { (f : Image) (s : State) (inputs : Inputs) (p : Promotion) → IsOrdered s
         → IsBegunOver f s inputs p → (target_of p ≡ 1 → s.mem ≤ length s.journal)
         → IsLeastTarget s (target_of p) }
-    ensures purges { (f : Image) (s : State) (inputs : Inputs) (p : Promotion) → IsSound s
+    ensures purges { (f : Image) (s : State) (inputs : Inputs) (p : Promotion) → IsOrdered s
         → IsBegunOver f s inputs p
         → purges_marks p ≡ (length (levels_behind (target_of p) s.levels) == 0) }
 {}
@@ -45,7 +45,7 @@ pub fn a_begun_promotion_does_the_job_of_a_state()
     ensures found { (zero : ItemList) (levels : List (Option LevelDesc)) (mem versions id : ℕ)
         (p : Promotion) → IsBegun zero levels mem versions id p → (space : SpaceView)
         → AreAllUsed space (writers_of p) }
-    ensures job { (f : Image) (s : State) (inputs : Inputs) (p : Promotion) → IsSound s
+    ensures job { (f : Image) (s : State) (inputs : Inputs) (p : Promotion) → IsOrdered s
         → IsBegunOver f s inputs p
         → IsItsJob f p inputs (job_of_state s inputs.levels (target_of p)) }
 {}
@@ -75,7 +75,7 @@ pub fn a_promotion_of_a_state_says_the_same()
 /// Where the state was paid, the state with that level is paid too, with the entries of the level as written.
 pub fn a_promotion_of_a_state_is_paid_for()
     ensures { (f h g : Image) (s : State) (inputs : Inputs) (p q : Promotion) (first : ℕ)
-        (made : Option LevelDesc) → IsSound s → IsPaid s → 0 < s.mem → s.updates ≤ s.changes
+        (made : Option LevelDesc) → IsOrdered s → IsPaid s → 0 < s.mem → s.updates ≤ s.changes
         → IsBegunOver f s inputs p → (target_of p ≡ 1 → s.mem ≤ length s.journal)
         → SamePromotion p q
         → AgreeOn (blocks_listed (arrays_to inputs.levels (target_of p))) f h

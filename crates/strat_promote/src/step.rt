@@ -11,7 +11,6 @@ ghost use Rattle.strat_crash.specs.Image.{Image};
 ghost use Rattle.strat_crash.specs.Moments.{Exposes};
 ghost use Rattle.strat_extent.specs.Blocks.{is_free};
 ghost use Rattle.strat_level.specs.Memtable.{entries_held, ListStands};
-ghost use Rattle.strat_array.specs.Pushed.{HasReason};
 ghost use Rattle.strat_crash.specs.Moments.{OnlyReads};
 ghost use Rattle.strat_merge.specs.MergerFields.{views_of, consumed_of};
 ghost use Rattle.strat_merge.specs.Runs.{blocks_left, ReadsLeft};
@@ -26,7 +25,8 @@ ghost use Rattle.strat_promote.specs.InputFields.{input_seen};
 ghost use Rattle.strat_promote.specs.Job.{Job, IsBadInput, IsJobIn, AreReadable, arrays_to, blocks_listed};
 ghost use Rattle.strat_promote.specs.Owned.{OwnsItsBlocks};
 ghost use Rattle.strat_promote.specs.Passes.{IsJobOver};
-ghost use Rattle.strat_promote.specs.Spaces.{TakesMore};
+ghost use Rattle.strat_promote.specs.Obstacles.{MeetsObstacle};
+ghost use Rattle.strat_promote.specs.Spaces.{HasFewFree, TakesMore};
 ghost use Rattle.strat_promote.specs.Stages.{IsSteady, IsUnderway, IsMade, AreReadFrom, IsReadFrom, IsReadOf, ReadsOnce, stage_writers, stage_consumed, blocks_due, how_far};
 ghost use Rattle.strat_promote.specs.Steps.{Inputs, inputs_of, IsReadySource, IsTaskIn, StepsOn};
 ghost use Rattle.strat_promote.specs.declared.obstacle.Obstacle.TheVariants.{Damaged, Device, Unfit};
@@ -202,7 +202,7 @@ fn close<D: Disk>(
     writing: &mut Writing<Input>,
     space: &mut Space,
     disk: &mut D,
-) -> Result<Option<LevelDesc>, Trouble>
+) -> Result<Option<LevelDesc>, Obstacle>
     requires kept { IsFilling task.now.horizon writing.old.filling }
     requires found { AreAllUsed space.old writing.old.filling.writers.items }
     ensures ok { IfOk result (λ made. (f g : Image) (inputs : Inputs) (job : Job)
@@ -212,12 +212,13 @@ fn close<D: Disk>(
         → IsMade f g job task.now.target task.now.first made) }
     ensures kept { (writing.new.merger ≡ writing.old.merger)
         × IfOk result (λ made. OwnsItsBlocks writing.new.filling.writers.items made) }
+    ensures fits { IsErrOf result Unfit → HasFewFree space.old 16384 }
     ensures found { AreAllUsed space.new writing.new.filling.writers.items }
     ensures room { TakesMore space.old space.new (all_extents writing.old.filling.writers.items)
         (all_extents writing.new.filling.writers.items) }
     ensures same { TearsBlocks (is_free space.old) (D.view disk.old) (D.view disk.new) }
     ensures cause { MatchResult result (λ _. D.faults disk.new ≡ D.faults disk.old)
-        (λ e. HasReason e (D.faults disk.old) (D.faults disk.new)) }
+        (λ e. MeetsObstacle e (D.faults disk.old) (D.faults disk.new)) }
     ensures reads { D.reads disk.new ≡ D.reads disk.old }
 {
     let filling = &mut writing.filling;
@@ -234,7 +235,7 @@ fn write<D: Disk>(
     sources: &Sources<'_>,
     space: &mut Space,
     disk: &mut D,
-) -> Result<Step, Trouble>
+) -> Result<Step, Obstacle>
     requires kept { IsWriterOf input_seen task.now.horizon writing.old }
     requires fits { IsReadySource task.now (inputs_of sources.now) }
     requires found { AreAllUsed space.old writing.old.filling.writers.items }
@@ -246,12 +247,15 @@ fn write<D: Disk>(
         → AreUsed space.old (blocks_listed job.arrays)
         → IsWriting input_seen f job task.now.first writing.old
         → WritesOn f g task.now job (consumed_of writing.old.merger) writing.new step) }
+    ensures fits { IsErrOf result Unfit → (f : Image) (job : Job) → Exposes (D.view disk.old) f
+        → IsWriting input_seen f job task.now.first writing.old
+        → HasFewFree space.old (2 ^ 28 + 16384) }
     ensures found { AreAllUsed space.new writing.new.filling.writers.items }
     ensures room { TakesMore space.old space.new (all_extents writing.old.filling.writers.items)
         (all_extents writing.new.filling.writers.items) }
     ensures same { TearsBlocks (is_free space.old) (D.view disk.old) (D.view disk.new) }
-    ensures cause { HasCause trouble.Device (D.faults disk.old) (D.faults disk.new) result }
-    ensures damaged { ((b : ℕ) → IsErrOf result (trouble.Damaged b)
+    ensures cause { HasCause Device (D.faults disk.old) (D.faults disk.new) result }
+    ensures damaged { ((b : ℕ) → IsErrOf result (Damaged b)
         → Contains (blocks_left (views_of input_seen writing.old.merger)) b
         × ((f : Image) (arrays : List ArrayDesc) → Exposes (D.view disk.old) f
         → AreReadOf f arrays (views_of input_seen writing.old.merger) → IsBadInput f arrays b))
@@ -328,7 +332,7 @@ pub(crate) fn take_step<D: Disk>(
         (λ level. Unit {0})) }
     ensures fits { IsErrOf result Unfit → (f : Image) (job : Job) → Exposes (D.view disk.old) f
         → IsTaskIn f task.now (inputs_of sources.now) job
-        → IsUnderway f job task.now.first stage.old → ⊥ }
+        → IsUnderway f job task.now.first stage.old → HasFewFree space.old (2 ^ 28 + 16384) }
     ensures reads { ReadsOnce (arrays_to sources.now.levels.now task.now.target)
         (D.reads disk.old) (D.reads disk.new) stage.old stage.new result }
 {

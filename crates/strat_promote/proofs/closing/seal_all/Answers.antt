@@ -1,6 +1,10 @@
-use Rattle.std.proofs.Common.{◌≡◌, ◌∙◌, Some, slice_set, refl, arith}
+use Rattle.std.proofs.Common.{◌≡◌, ◌+◌, ◌∙◌, ℕ, Some, slice_set, refl, subst, arith}
+use Rattle.std.specs.Prelude.{MatchResult}
 use Rattle.std.specs.List.{slice_get}
 use Rattle.std.proofs.lemmas.Option.{slice_get_read}
+use Rattle.strat_array.proofs.SearchLemmas.{err_of}
+use Rattle.strat_promote.specs.Obstacles.{MeetsObstacle}
+use Rattle.strat_promote.proofs.ObstacleLemmas.{gives_kept}
 use Rattle.strat_promote.proofs.ClosingLemmas.{AreTaking, taking_next, sealing_next, all_sealed}
 use Rattle.strat_promote.proofs.closing.seal_all.Given.{Over}
 use Rattle.strat_promote.proofs.closing.seal_all.Goals as goal
@@ -19,6 +23,18 @@ taken g c =
     c.args.writers.now.items c.loop-i.writers.items c.loop-i.i c.index_mut.result.now c.seal_one.new.writer c.loop-i.invariant.0.taking (next_one g c)
     c.seal_one.ensures.room c.seal_one.ensures.same.0
 
+pub returns-in_err-seal_one-clause-fits : goal.returns-in_err-seal_one-clause-fits
+returns-in_err-seal_one-clause-fits g c = λ unfit.
+    let none = c.in_err-seal_one.ensures.fits (err_of c.from_residual.result _ _ c.from_residual.ensures.1 unfit) in
+    let most = c.loop-i.invariant.3 in
+    let first = c.loop-i.invariant.0.taking.takes.first in
+    omega (arith, none, most, first)
+
+pub returns-in_err-seal_one-clause-cause : goal.returns-in_err-seal_one-clause-cause
+returns-in_err-seal_one-clause-cause g c =
+    subst (λ (n : ℕ). MatchResult c.from_residual.result (λ u. g.D.Disk.faults c.seal_one.new.disk ≡ n) (λ e. MeetsObstacle e n (g.D.Disk.faults c.seal_one.new.disk))) c.loop-i.invariant.1
+    (gives_kept c.from_residual.result _ _ _ c.from_residual.ensures.1 c.in_err-seal_one.ensures.cause)
+
 pub returns-in_err-seal_one-clause-found : goal.returns-in_err-seal_one-clause-found
 returns-in_err-seal_one-clause-found g c = (taken g (goal.at.returns-in_err-seal_one-clause-found g c).After-seal_one).used
 
@@ -36,6 +52,7 @@ loop-i-preserved g c = (
       c.in_ok-seal_one.ensures.ok,
   c.in_ok-seal_one.ensures.cause ∙ c.loop-i.invariant.1,
   c.seal_one.ensures.reads ∙ c.loop-i.invariant.2,
+  (let one = c.seal_one.ensures.used in let most = c.loop-i.invariant.3 in let len = c.loop-i.invariant.0.taking.len in omega (arith, one, most, len, c.loop-i-test.true, c.len-i-end.ensures)),
 )
 
 pub returns-clause-ok : goal.returns-clause-ok

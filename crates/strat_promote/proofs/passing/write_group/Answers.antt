@@ -1,4 +1,5 @@
-use Rattle.std.proofs.Common.{◌≡◌, ℕ, Bool, true, List, sym, ap, ◌∙◌, subst}
+use Rattle.std.proofs.Common.{◌≡◌, ℕ, inl, inr, Bool, true, List, sym, ap, ◌∙◌, subst, arith}
+use Rattle.std.specs.Prelude.{IsErrOf}
 use Rattle.std.specs.List.{list_all}
 use Rattle.strat_arena.specs.Items.{entries_of}
 use Rattle.strat_arena.specs.declared.items.Item.{Item}
@@ -7,16 +8,21 @@ use Rattle.strat_crash.specs.Image.{Image}
 use Rattle.strat_crash.specs.Moments.{Exposes}
 use Rattle.strat_crash.proofs.BlockLemmas.{blocks_trans, reads_tear_none, exposed_once}
 use Rattle.strat_extent.specs.Blocks.{is_free}
+use Rattle.strat_array.proofs.SearchLemmas.{err_of}
 use Rattle.strat_array.proofs.TakesLemmas.{used_agree}
+use Rattle.strat_crash.specs.Faults.{HasCause}
 use Rattle.strat_merge.specs.Gathered.{are_under}
 use Rattle.strat_merge.specs.MergerFields.{views_of}
-use Rattle.strat_merge.specs.Runs.{RunView, lefts}
+use Rattle.strat_merge.specs.Runs.{RunView, ReadsLeft, lefts}
 use Rattle.strat_split.specs.Dealing.{IsSplitFor}
 use Rattle.strat_promote.specs.Filled.{AreReadyFor, DealsOut}
 use Rattle.strat_promote.specs.Job.{blocks_listed}
 use Rattle.strat_promote.specs.Taken.{TakesKept}
 use Rattle.strat_promote.specs.Written.{IsAllWritten}
+use Rattle.strat_promote.specs.declared.obstacle.Obstacle.TheVariants.{Damaged, Device}
+use Rattle.strat_promote.proofs.BoundLemmas.{count_fits}
 use Rattle.strat_promote.proofs.BudgetLemmas.{takes_some}
+use Rattle.strat_promote.proofs.ObstacleLemmas.{fit_handed, gives_cause, gives_none, reads_handed}
 use Rattle.strat_promote.proofs.PassLemmas.{under_more}
 use Rattle.strat_promote.proofs.WrittenLemmas.{written_more, written_all, written_stays}
 use Rattle.strat_promote.proofs.passing.write_group.Goals as goal
@@ -33,6 +39,36 @@ returns-then-not-branch-clause-none g c = λ _ f g' job first told tells writing
           (written_all g.R.Run.view g.met.R.Run.leaves_run f job first c.args.writing.now c.take_group.new.merger writing none.0 none.1 (c.in_ok-take_group.ensures.len f told)),
       written_stays g.R.Run.view g.met.R.Run.leaves_run f job first c.args.writing.now c.take_group.new.merger writing none.1 (c.in_ok-take_group.ensures.len f told),
     )
+
+pub returns-in_err-take_group-clause-reads : goal.returns-in_err-take_group-clause-reads
+returns-in_err-take_group-clause-reads g c =
+    let reads = reads_handed _ c.from_residual.result c.from_residual.ensures.1 g.R.Run.view (g.D.Disk.view c.args.disk.now) (g.D.Disk.view c.take_group.new.disk) _ _ _ _ _ _ c.in_err-take_group.ensures.reads in
+    record { cause = reads.cause; named = reads.named; blamed = λ b is f told. reads.blamed b is f told; fewer = λ f b told is. reads.fewer f b told is; left = reads.left }
+
+pub returns-in_err-take_group-clause-fits : goal.returns-in_err-take_group-clause-fits
+returns-in_err-take_group-clause-fits g c = λ unfit. absurd (fit_handed _ c.from_residual.result c.from_residual.ensures.1 unfit)
+
+pub returns-in_err-deal_out-clause-reads : goal.returns-in_err-deal_out-clause-reads
+returns-in_err-deal_out-clause-reads g c =
+    let reads = c.take_group.ensures.reads in
+    let gives = gives_cause c.from_residual-in_err-deal_out.result _ _ _ c.from_residual-in_err-deal_out.ensures.1 c.in_err-deal_out.ensures.cause in
+    let none : (b : ℕ) → IsErrOf c.from_residual-in_err-deal_out.result (Damaged b) → ⊥ =
+    λ b is. gives_none c.from_residual-in_err-deal_out.result _ _ _ b c.from_residual-in_err-deal_out.ensures.1 c.in_err-deal_out.ensures.cause is in
+    record {
+      cause = subst (λ (n : ℕ). HasCause Device n (g.D.Disk.faults c.deal_out.new.disk) c.from_residual-in_err-deal_out.result) c.in_ok-take_group.ensures.reads.cause.ok gives;
+      named = λ b is. absurd (none b is);
+      blamed = λ b is f told. absurd (none b is);
+      fewer = λ f b told is. reads.fewer f b told is;
+      left = subst (λ (n : ℕ). ReadsLeft (views_of g.R.Run.view c.args.writing.now.merger) (views_of g.R.Run.view c.take_group.new.merger) (g.D.Disk.reads c.args.disk.now) n) (sym c.deal_out.ensures.reads) reads.left;
+    }
+
+pub returns-in_err-deal_out-clause-fits : goal.returns-in_err-deal_out-clause-fits
+returns-in_err-deal_out-clause-fits g c = λ unfit f job first told writing.
+    let full = c.in_err-deal_out.ensures.fits (err_of c.from_residual-in_err-deal_out.result _ _ c.from_residual-in_err-deal_out.ensures.1 unfit) in
+    elim full [
+      | inl much ↦ absurd (let few = count_fits g.R.Run.view f job first c.args.writing.now much.0 much.1.0 writing much.1.1 in omega (arith, few, much.1.2))
+      | inr none ↦ none
+    ]
 
 pub returns-in_err-deal_out-clause-same : goal.returns-in_err-deal_out-clause-same
 returns-in_err-deal_out-clause-same g c =

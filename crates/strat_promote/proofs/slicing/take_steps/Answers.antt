@@ -53,9 +53,9 @@ loop-preserved g c =
 pub returns-in_err-level-clause-fits : goal.returns-in_err-level-clause-fits
 returns-in_err-level-clause-fits g c = λ unfit.
     slice_fits c.args.task.now (inputs_of c.args.sources.now) (stage_consumed c.args.stage.now + c.args.budget) c.loop.counter (g.D.Disk.view c.args.disk.now) (g.D.Disk.view c.loop.disk) (g.D.Disk.view c.take_step.new.disk) c.args.space.now c.loop.space c.take_step.new.space c.args.stage.now c.loop.stage c.take_step.new.stage (g.D.Disk.faults c.args.disk.now) (g.D.Disk.faults c.loop.disk) (g.D.Disk.faults c.take_step.new.disk) (g.D.Disk.reads c.args.disk.now) (g.D.Disk.reads c.loop.disk) (g.D.Disk.reads c.take_step.new.disk) c.loop.invariant c.in_err-level.ensures.room c.in_err-level.ensures.same
-    (c.in_err-level.ensures.fits (err_of c.from_residual.result _ _ c.from_residual.ensures.1 unfit))
+    c.requires.fits.0 (c.in_err-level.ensures.fits (err_of c.from_residual.result _ _ c.from_residual.ensures.1 unfit))
 
 pub returns-clause-fits : goal.returns-clause-fits
-returns-clause-fits g c = λ unfit.
+returns-clause-fits g c = λ unfit room.
     steps_fit c.args.task.now (inputs_of c.args.sources.now) (stage_consumed c.args.stage.now + c.args.budget) c.loop.counter (g.D.Disk.view c.args.disk.now) (g.D.Disk.view c.loop.disk) c.args.space.now c.loop.space c.args.stage.now c.loop.stage (g.D.Disk.faults c.args.disk.now) (g.D.Disk.faults c.loop.disk) (g.D.Disk.reads c.args.disk.now) (g.D.Disk.reads c.loop.disk) c.loop.invariant
     (omega (arith, c.loop-test.false))

@@ -98,8 +98,8 @@ returns-in_err-next-in-Counting-clause-damaged g c = (
 
 pub returns-in_err-next-in-Counting-clause-fits : goal.returns-in_err-next-in-Counting-clause-fits
 returns-in_err-next-in-Counting-clause-fits g c = λ unfit f job told task underway.
-    c.in_err-next-in-Counting.ensures.fits (err_of c.from_residual-in_err-next-in-Counting.result _ _ c.from_residual-in_err-next-in-Counting.ensures.1 unfit) f job told task
-    (subst (λ (s : Stage). IsUnderway f job c.args.task.now.first s) c.in-Counting.is underway)
+    absurd (c.in_err-next-in-Counting.ensures.fits (err_of c.from_residual-in_err-next-in-Counting.result _ _ c.from_residual-in_err-next-in-Counting.ensures.1 unfit) f job told task
+    (subst (λ (s : Stage). IsUnderway f job c.args.task.now.first s) c.in-Counting.is underway))
 
 pub returns-in_ok-next-in-Counting-clause-damaged : goal.returns-in_ok-next-in-Counting-clause-damaged
 returns-in_ok-next-in-Counting-clause-damaged g c = (
@@ -112,21 +112,20 @@ returns-in_ok-next-in-Counting-clause-damaged g c = (
       (c.in_ok-next-in-Counting.ensures.found.1 f told (subst (λ (s : Stage). IsReadOf f (arrays_to c.args.sources.now.levels.now c.args.task.now.target) s) c.in-Counting.is read))),
 )
 
-pub returns-in_err-step-in-Writing-clause-cause : goal.returns-in_err-step-in-Writing-clause-cause
-returns-in_err-step-in-Writing-clause-cause g c = cause_handed _ c.from_residual-in_err-step-in-Writing.result c.from_residual-in_err-step-in-Writing.ensures.1 _ _ c.in_err-step-in-Writing.ensures.cause
-
 pub returns-in_err-step-in-Writing-clause-damaged : goal.returns-in_err-step-in-Writing-clause-damaged
 returns-in_err-step-in-Writing-clause-damaged g c = (
   λ b bad.
-      let named = c.in_err-step-in-Writing.ensures.damaged.0 b (block_handed _ c.from_residual-in_err-step-in-Writing.result c.from_residual-in_err-step-in-Writing.ensures.1 b bad) in (
+      let named = c.in_err-step-in-Writing.ensures.damaged.0 b (err_of c.from_residual-in_err-step-in-Writing.result _ _ c.from_residual-in_err-step-in-Writing.ensures.1 bad) in (
         λ from. (subst (λ (s : Stage). IsReadFrom (arrays_to c.args.sources.now.levels.now c.args.task.now.target) s) c.in-Writing.is from) b named.0,
         λ f told read. named.1 f (arrays_to c.args.sources.now.levels.now c.args.task.now.target) told (subst (λ (s : Stage). IsReadOf f (arrays_to c.args.sources.now.levels.now c.args.task.now.target) s) c.in-Writing.is read),
       ),
-  none_ok _ c.from_residual-in_err-step-in-Writing.result c.from_residual-in_err-step-in-Writing.ensures.1 _,
+  none_kept c.from_residual-in_err-step-in-Writing.result _ _ c.from_residual-in_err-step-in-Writing.ensures.1,
 )
 
 pub returns-in_err-step-in-Writing-clause-fits : goal.returns-in_err-step-in-Writing-clause-fits
-returns-in_err-step-in-Writing-clause-fits g c = λ unfit. absurd (fit_handed _ c.from_residual-in_err-step-in-Writing.result c.from_residual-in_err-step-in-Writing.ensures.1 unfit)
+returns-in_err-step-in-Writing-clause-fits g c = λ unfit f job told task underway.
+    c.in_err-step-in-Writing.ensures.fits (err_of c.from_residual-in_err-step-in-Writing.result _ _ c.from_residual-in_err-step-in-Writing.ensures.1 unfit) f job told
+    (subst (λ (s : Stage). IsUnderway f job c.args.task.now.first s) c.in-Writing.is underway).0
 
 pub returns-in_err-step-in-Writing-clause-reads : goal.returns-in_err-step-in-Writing-clause-reads
 returns-in_err-step-in-Writing-clause-reads g c =

@@ -1,4 +1,6 @@
-use Rattle.std.proofs.Common.{sym, ap, ◌∙◌}
+use Rattle.std.proofs.Common.{◌+◌, ℕ, sym, ap, ◌∙◌, subst, arith}
+use Rattle.strat_array.proofs.SearchLemmas.{err_of}
+use Rattle.strat_crash.specs.Faults.{HasCause}
 use Rattle.strat_merge.specs.MergerFields.{views_of}
 use Rattle.strat_merge.specs.declared.merger.Merger.{Merger}
 use Rattle.strat_promote.specs.declared.input.Input.{Input}
@@ -8,6 +10,8 @@ use Rattle.strat_promote.proofs.SliceLemmas.{inputs_agree, task_stays, made_from
 use Rattle.strat_promote.specs.InputFields.{input_seen}
 use Rattle.strat_promote.specs.InputLaw.{input_law}
 use Rattle.strat_promote.specs.Job.{blocks_listed}
+use Rattle.strat_promote.specs.declared.obstacle.Obstacle.TheVariants.{Device}
+use Rattle.strat_promote.proofs.ObstacleLemmas.{gives_cause, gives_none, none_kept}
 use Rattle.strat_promote.proofs.PassLemmas.{read_fewer}
 use Rattle.strat_promote.proofs.WrittenLemmas.{read_stays}
 use Rattle.strat_promote.proofs.step.write.Goals as goal
@@ -19,6 +23,29 @@ returns-in_err-made-clause-same g c =
 pub returns-clause-same : goal.returns-clause-same
 returns-clause-same g c =
     torn_on _ _ _ _ _ _ _ c.in_ok-more.ensures.room c.in_ok-more.ensures.same c.in_ok-made.ensures.same
+
+pub returns-in_err-more-clause-fits : goal.returns-in_err-more-clause-fits
+returns-in_err-more-clause-fits g c = λ unfit f job told writing.
+    let none = c.in_err-more.ensures.fits (err_of c.from_residual.result _ _ c.from_residual.ensures.1 unfit) f job c.args.task.now.first told writing in
+    omega (arith, none)
+
+pub returns-in_err-made-clause-fits : goal.returns-in_err-made-clause-fits
+returns-in_err-made-clause-fits g c = λ unfit f job told writing.
+    let none = c.in_err-made.ensures.fits (err_of c.from_residual-in_err-made.result _ _ c.from_residual-in_err-made.ensures.1 unfit) in
+    let most = c.in_ok-more.ensures.used in
+    let first = c.in_ok-more.ensures.room.first in
+    omega (arith, none, most, first)
+
+pub returns-in_err-made-clause-cause : goal.returns-in_err-made-clause-cause
+returns-in_err-made-clause-cause g c =
+    subst (λ (n : ℕ). HasCause Device n (g.D.Disk.faults c.close.new.disk) c.from_residual-in_err-made.result) c.in_ok-more.ensures.reads.cause.ok
+    (gives_cause c.from_residual-in_err-made.result _ _ _ c.from_residual-in_err-made.ensures.1 c.in_err-made.ensures.cause)
+
+pub returns-in_err-made-clause-damaged : goal.returns-in_err-made-clause-damaged
+returns-in_err-made-clause-damaged g c = (
+  λ b bad. absurd (gives_none c.from_residual-in_err-made.result _ _ _ b c.from_residual-in_err-made.ensures.1 c.in_err-made.ensures.cause bad),
+  none_kept c.from_residual-in_err-made.result _ _ c.from_residual-in_err-made.ensures.1,
+)
 
 pub returns-then-more-clause-ok : goal.returns-then-more-clause-ok
 returns-then-more-clause-ok g c = λ f g' job told tells task used writing.

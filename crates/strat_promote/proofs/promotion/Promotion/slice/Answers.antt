@@ -19,6 +19,6 @@ returns-in-Made-clause-ok g c = λ f g' job told tells its used begun.
     (refl, made.0, made.1, made.2)
 
 pub returns-in_err-take_steps-clause-fits : goal.returns-in_err-take_steps-clause-fits
-returns-in_err-take_steps-clause-fits g c = λ unfit f job told its used begun.
+returns-in_err-take_steps-clause-fits g c = λ unfit room f job told its used begun.
     let task = subst (λ (l : ItemList). IsTaskIn f c.args.self.now.task (inputs_given l c.args.pool.now c.args.levels.now c.args.tree.now.parents) job) (sym c.view.ensures.ok) its in
-    c.in_err-take_steps.ensures.fits (err_of c.from_residual.result _ _ c.from_residual.ensures.1 unfit) f job told task used begun
+    c.in_err-take_steps.ensures.fits (err_of c.from_residual.result _ _ c.from_residual.ensures.1 unfit) room f job told task used begun
