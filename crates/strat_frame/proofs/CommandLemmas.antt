@@ -1,5 +1,5 @@
 -- A command that is read is the command that was spelled, and what was spelled is read again.
-use Rattle.std.proofs.Common.{◌≡◌, ℕ, ◌^◌, ◌<◌, ◌≤◌, true, cond, leb, eqb, List, [], ◌∷◌, ◌++◌, length, Option, Some, None, refl, sym, ap, subst, ◌∙◌, length-append, arith, inl, inr, ◌⊎◌}
+use Rattle.std.proofs.Common.{◌≡◌, ℕ, ◌^◌, ◌<◌, ◌≤◌, true, cond, leb, eqb, List, [], ◌∷◌, ◌++◌, length, Option, Some, None, refl, sym, ap, subst, ◌∙◌, length-append, arith, inl, inr, ◌⊎◌, true≢false}
 use Rattle.std.proofs.lemmas.Bool.{le-leb, eqb-true}
 use Rattle.std.proofs.lemmas.List.{nil_from_length}
 use Rattle.std.proofs.lemmas.Option.{cond_some, same_Some, none-some}
@@ -9,7 +9,7 @@ use Rattle.strat_base.proofs.NumberLemmas.{length-be, number-be, be-number_1}
 use Rattle.strat_model.specs.declared.replies.Refusal.{Refusal}
 use Rattle.strat_model.specs.declared.replies.Refusal.TheVariants as why
 use Rattle.strat_model.specs.Answer.{refusal}
-use Rattle.strat_model.specs.Request.{Request, Put, Delete, Get, Clone, Scan, Info, OpenCursor, NextPairs, CloseCursor, Stat}
+use Rattle.strat_model.specs.Request.{Request, Put, Delete, Get, Clone, Scan, Info, OpenCursor, NextPairs, CloseCursor, Stat, DropVersion}
 use Rattle.strat_model.specs.Run.{Position, Response, Answers, IsAfter}
 use Rattle.strat_model.proofs.FillLemmas.{one_after}
 use Rattle.strat_model.specs.Spelling.{counted, command_bytes, command_body, size_refusal, FitsFields, HasForm, Spells, IsMalformed, HasUnlawfulSize, IsRefusedAs, tag_of}
@@ -104,6 +104,7 @@ command_again tag (Clone version) tag_fits fits =
 command_again tag (Info version) tag_fits fits =
     front_again tag 6 (be 4 version) (Info version) tag_fits (omega arith) (ap (option_map Info) (sole_reads.again version fits))
 command_again tag Stat tag_fits fits = front_again tag 10 [] Stat tag_fits (omega arith) refl
+command_again tag (DropVersion version) tag_fits fits = absurd (true≢false (sym fits.0))
 command_again tag (Scan version lo hi limit) tag_fits fits =
     front_again tag 5 (((be 4 version ++ counted lo) ++ counted hi) ++ be 2 limit) (Scan version lo hi limit) tag_fits (omega arith)
     (ap (option_map (λ (x : ((ℕ × List ℕ) × List ℕ) × ℕ). Scan x.0.0.0 x.0.0.1 x.0.1 x.1)) (version_range_reads.again (((version, lo), hi), limit) (((fits.0, fits.1), fits.2), fits.3)))

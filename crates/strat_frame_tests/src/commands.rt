@@ -249,13 +249,15 @@ fn bodies_are_read_as_commands(rt: HostRuntime) -> Result<(), Fail> {
 }
 
 // Bodies that do not have the form of a command, and the tags of their replies. A field too few or a byte too
-// many comes before any size.
-const MALFORMED: [(&str, u32); 31] = [
+// many comes before any size. No command has opcode 11 yet, whatever follows it.
+const MALFORMED: [(&str, u32); 33] = [
     ("", 0),
     ("aabbcc", 0),
     ("00000009", 9),
     ("00000001 00", 1),
     ("00000001 0b", 1),
+    ("00000001 0b 00000001", 1),
+    ("00000001 0b 00000001 00", 1),
     ("00000001 ff", 1),
     ("00000001 01", 1),
     ("00000004 01 00000000 0001 61", 4),

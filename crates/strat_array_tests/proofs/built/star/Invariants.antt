@@ -1,5 +1,7 @@
-use Rattle.std.proofs.Common.{◌≡◌, length}
+-- As many versions as the loop has come to, and none of them dropped.
+use Rattle.std.proofs.Common.{◌≡◌, ℕ, false, length}
+use Rattle.strat_base.specs.Marks.{is_dropped}
 use Rattle.strat_array_tests.proofs.built.star.Given as goal
 
 abbrev pub invariant-loop-v : goal.invariant-loop-v
-invariant-loop-v l = (length l.tree.parents ≡ l._v) × (l.tree.versions_max ≡ 202)
+invariant-loop-v l = (length l.tree.parents ≡ l._v) × (l.tree.versions_max ≡ 202) × ((w : ℕ) → is_dropped l.tree.marks w ≡ false)

@@ -1,6 +1,7 @@
--- As many versions as the loop has come to.
-use Rattle.std.proofs.Common.{◌≡◌, length}
+-- As many versions as the loop has come to, and none of them dropped.
+use Rattle.std.proofs.Common.{◌≡◌, ℕ, false, length}
+use Rattle.strat_base.specs.Marks.{is_dropped}
 use Rattle.strat_split_tests.proofs.trees.grown.Given as goal
 
 abbrev pub invariant-loop-v : goal.invariant-loop-v
-invariant-loop-v l = (length l.tree.parents ≡ l.v) × (l.tree.versions_max ≡ l.versions)
+invariant-loop-v l = (length l.tree.parents ≡ l.v) × (l.tree.versions_max ≡ l.versions) × ((w : ℕ) → is_dropped l.tree.marks w ≡ false)
