@@ -183,7 +183,7 @@ pub record WasPublished (before now : DiskView) (a : ArrayDesc) : Type 0 where
   pub sb : Super
   pub newest : newest_in image ≡ Ok (Some (slot, sb))
   pub chained : Chained
-  pub chain : manifest_at image sb.manifest sb.length ≡ Ok chained
+  pub chain : manifest_at sb.format image sb.manifest sb.length ≡ Ok chained
   pub named : Contains (descriptors chained.manifest) a
 
 -- a block is one of the arrays of a store whose superblock and manifest are those on the disk now, or

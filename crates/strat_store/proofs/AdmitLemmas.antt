@@ -10,7 +10,7 @@ use Rattle.strat_base.specs.declared.descriptors.Extent.{Extent}
 use Rattle.strat_base.specs.declared.descriptors.LevelDesc.{LevelDesc}
 use Rattle.strat_format.specs.Arrays.{blocks_of}
 use Rattle.strat_format.specs.Chained.{Chained}
-use Rattle.strat_format.specs.Layout.{first_free}
+use Rattle.strat_format.specs.Layout.{first_free, newest_format}
 use Rattle.strat_format.specs.Manifest.{Manifest, all_pass, is_lawful_manifest, is_lawful_level, is_lawful_array, is_lawful_extent, is_rising, versions_in}
 use Rattle.strat_format.specs.SuperBlock.{Super}
 use Rattle.strat_format.proofs.ManifestLemmas.{pass_at}
@@ -19,7 +19,7 @@ use Rattle.strat_recovery.specs.Opening.{has_own_blocks, has_own_ids, has_own_ve
 use Rattle.strat_recovery.proofs.OpeningLemmas.{manifest_tests, level_tests}
 use Rattle.strat_recovery.proofs.PassedLemmas.{array_tests, belonging_tests}
 use Rattle.strat_standing.proofs.ListLemmas.{contained_among}
-use Rattle.strat_standing.proofs.NextLemmas.{pass_more}
+use Rattle.strat_standing.proofs.NextLemmas.{pass_more, pass_none}
 use Rattle.strat_standing.proofs.OccupiedLemmas
 use Rattle.strat_standing.specs.Contents.{Contents, named_blocks}
 use Rattle.strat_standing.specs.Occupied.{IsSpaceOf, arrays_in, extents_of}
@@ -29,18 +29,16 @@ use Rattle.strat_store.specs.Belonging.{UsesJust}
 use Rattle.strat_store.specs.Held.{ArePlaced}
 use Rattle.strat_store.specs.Recovering.{MayBePlaced, counts_belong, count_tests, chained_of, IsAdmitted}
 use Rattle.strat_store.specs.declared.admitting.Published.{Published}
-
-pass_rest : (test : Bool) (tests : List Bool) → all_pass (test ∷ tests) ≡ true → all_pass tests ≡ true
-unfolding all_pass
-pass_rest test tests all = (and_parts test (all_pass tests) all).1
+use Rattle.strat_base.specs.Marks.{none_dropped}
 
 -- the tests that a manifest belongs, one by one
 module _ (sb : Super) (y : Chained) where
-  pub belongs_from : has_own_blocks sb y.blocks y.manifest ≡ true → has_own_ids y.manifest ≡ true → counts_belong sb y.manifest ≡ true → list_all has_own_versions y.manifest.levels ≡ true → belongs sb y ≡ true
-  belongs_from blocks ids counts versions =
-      pass_more (has_own_blocks sb y.blocks y.manifest) (has_own_ids y.manifest ∷ list_all has_own_versions y.manifest.levels ∷ count_tests sb y.manifest) blocks
-      (pass_more (has_own_ids y.manifest) (list_all has_own_versions y.manifest.levels ∷ count_tests sb y.manifest) ids
-      (pass_more (list_all has_own_versions y.manifest.levels) (count_tests sb y.manifest) versions counts))
+  pub belongs_from : has_own_blocks sb y.blocks y.manifest ≡ true → has_own_ids y.manifest ≡ true → counts_belong sb y.manifest ≡ true → list_all has_own_versions y.manifest.levels ≡ true → none_dropped y.manifest.marks ≡ true → belongs sb y ≡ true
+  belongs_from blocks ids counts versions undropped =
+      let at : (k : ℕ) → get_or (count_tests sb y.manifest) k true ≡ true = λ k. pass_at (count_tests sb y.manifest) k counts in
+      pass_more _ _ blocks (pass_more _ _ ids (pass_more _ _ versions
+      (pass_more _ _ (at 0) (pass_more _ _ (at 1) (pass_more _ _ (at 2) (pass_more _ _ (at 3) (pass_more _ _ (at 4)
+      (pass_more _ _ undropped pass_none))))))))
 
   fails : (k : ℕ) → get_or (belonging_tests sb y) k true ≡ false → belongs sb y ≡ false
   fails k no' = false_from_ne_true (belongs sb y) (λ all. true≢false (sym (pass_at (belonging_tests sb y) k all) ∙ no'))
@@ -56,9 +54,9 @@ module _ (sb : Super) (y : Chained) where
 
   pub counts_fail : counts_belong sb y.manifest ≡ false → belongs sb y ≡ false
   counts_fail no' = false_from_ne_true (belongs sb y) (λ all.
-      let counts = pass_rest (list_all has_own_versions y.manifest.levels) (count_tests sb y.manifest)
-      (pass_rest (has_own_ids y.manifest) (list_all has_own_versions y.manifest.levels ∷ count_tests sb y.manifest)
-      (pass_rest (has_own_blocks sb y.blocks y.manifest) (has_own_ids y.manifest ∷ list_all has_own_versions y.manifest.levels ∷ count_tests sb y.manifest) all)) in
+      let at : (k : ℕ) → get_or (belonging_tests sb y) k true ≡ true = λ k. pass_at (belonging_tests sb y) k all in
+      let counts : counts_belong sb y.manifest ≡ true =
+      pass_more _ _ (at 3) (pass_more _ _ (at 4) (pass_more _ _ (at 5) (pass_more _ _ (at 6) (pass_more _ _ (at 7) pass_none)))) in
       true≢false (sym counts ∙ no'))
 
 -- the leads of one level are not more than those of all
@@ -69,9 +67,9 @@ leads_within (l ∷ levels) level (inl here) =
     (omega (arith, sum_by-append (λ (a : ArrayDesc). a.leads) l.arrays (arrays_in levels)))
 leads_within (l ∷ levels) level (inr there) = omega (arith, sum_by-append (λ (a : ArrayDesc). a.leads) l.arrays (arrays_in levels), leads_within levels level there)
 
-module _ (m : Manifest) (lawful : is_lawful_manifest m ≡ true) where
+module _ (m : Manifest) (lawful : is_lawful_manifest newest_format m ≡ true) where
   level_lawful : (level : LevelDesc) → Among level m.levels → is_lawful_level (versions_in m) m.next_array level ≡ true
-  level_lawful level there = all_at (is_lawful_level (versions_in m) m.next_array) level m.levels (pass_at (manifest_tests m) 8 lawful) there
+  level_lawful level there = all_at (is_lawful_level (versions_in m) m.next_array) level m.levels (pass_at (manifest_tests newest_format m) 8 lawful) there
 
   array_lawful : (level : LevelDesc) (a : ArrayDesc) → Among level m.levels → Among a level.arrays → is_lawful_array m.next_array a ≡ true
   array_lawful level a there here = all_at (is_lawful_array m.next_array) a level.arrays (pass_at (level_tests (versions_in m) m.next_array level) 5 (level_lawful level there)) here
@@ -92,11 +90,11 @@ module _ (m : Manifest) (lawful : is_lawful_manifest m ≡ true) where
             arith,
             leads_within m.levels level there,
             leb-true (sum_by (λ (a : ArrayDesc). a.leads) (descriptors m)) m.updates (pass_at (count_tests sb m) 2 counts),
-            leb-true m.updates m.changes (pass_at (manifest_tests m) 1 lawful),
-            ltb-true m.changes (2 ^ 32) (pass_at (manifest_tests m) 0 lawful),
+            leb-true m.updates m.changes (pass_at (manifest_tests newest_format m) 1 lawful),
+            ltb-true m.changes (2 ^ 32) (pass_at (manifest_tests newest_format m) 0 lawful),
           );
         };
-    rise = pass_at (manifest_tests m) 9 lawful;
+    rise = pass_at (manifest_tests newest_format m) 9 lawful;
   }
 
   -- and its extents are lawful
@@ -119,18 +117,18 @@ module _ {E : Type 0} (sb : Super) (m : Manifest) (chain : List Extent) (levels 
   pub space_kept : (r : Result (Option SpaceView) E)
       → IfOk r (λ own. IfSome own (λ space. (x : Contents) → x.sb.mem ≡ sb.mem → x.chained.blocks ≡ blocks_of chain → x.chained.manifest.levels ≡ levels
       → IsSpaceOf space x [] × UsesJust space (first_free x.sb.mem) (named_blocks x)))
-      → has_own_ids m ≡ true → counts_belong sb m ≡ true
+      → has_own_ids m ≡ true → counts_belong sb m ≡ true → none_dropped m.marks ≡ true
       → IfOk r (λ own. IfSome own (λ space. list_all has_own_versions m.levels ≡ true → belongs sb (record { manifest = m; blocks = blocks_of chain }) ≡ true))
-  space_kept (Ok (Some space)) is ids counts = λ versions.
+  space_kept (Ok (Some space)) is ids counts undropped = λ versions.
       belongs_from sb (record { manifest = m; blocks = blocks_of chain })
-      (OccupiedLemmas.own_blocks space (contents_of sb m chain) [] (is (contents_of sb m chain) refl refl (sym same)).0) ids counts versions
-  space_kept (Ok None) is ids counts = tt
-  space_kept (Err e) is ids counts = tt
+      (OccupiedLemmas.own_blocks space (contents_of sb m chain) [] (is (contents_of sb m chain) refl refl (sym same)).0) ids counts versions undropped
+  space_kept (Ok None) is ids counts undropped = tt
+  space_kept (Err e) is ids counts undropped = tt
 
   pub space_none : (r : Result (Option SpaceView) E)
       → IfOk r (λ own. IfNone own ((s : Super) (n : Manifest) → s.mem ≡ sb.mem → n.levels ≡ levels → list_all (λ b. ltb b 4294967295) (blocks_of chain) ≡ true
       → list_all is_lawful_extent (extents_of (arrays_in levels)) ≡ true → has_own_blocks s (blocks_of chain) n ≡ false))
-      → IfOk r (λ own. IfNone own (is_lawful_manifest m ≡ true → list_all (λ b. ltb b 4294967295) (blocks_of chain) ≡ true
+      → IfOk r (λ own. IfNone own (is_lawful_manifest newest_format m ≡ true → list_all (λ b. ltb b 4294967295) (blocks_of chain) ≡ true
       → belongs sb (record { manifest = m; blocks = blocks_of chain }) ≡ false))
   space_none (Ok None) is = λ lawful low.
       blocks_fail sb (record { manifest = m; blocks = blocks_of chain })
@@ -140,10 +138,10 @@ module _ {E : Type 0} (sb : Super) (m : Manifest) (chain : List Extent) (levels 
 
 -- what was taken into memory of a manifest with its levels in their places
 pub admitted : (sb : Super) (m : Manifest) (chain : List Extent) (levels : List (Option LevelDesc)) (p : Published) → chained_of p ≡ record { manifest = m; blocks = blocks_of chain } → p.levels ≡ levels
-    → ArePlaced m.levels levels → is_lawful_manifest m ≡ true → list_all has_own_versions m.levels ≡ true
+    → ArePlaced m.levels levels → is_lawful_manifest newest_format m ≡ true → list_all has_own_versions m.levels ≡ true
     → (list_all has_own_versions m.levels ≡ true → belongs sb (record { manifest = m; blocks = blocks_of chain }) ≡ true) → IsAdmitted sb p
 admitted sb m chain levels p read levels_are placed lawful versions own = record {
-  spelled = subst (λ (y : Chained). is_lawful_manifest y.manifest ≡ true) (sym read) lawful;
+  spelled = subst (λ (y : Chained). is_lawful_manifest newest_format y.manifest ≡ true) (sym read) lawful;
   belonging = subst (λ (y : Chained). belongs sb y ≡ true) (sym read) (own versions);
   placed = subst (λ (y : Chained). ArePlaced y.manifest.levels p.levels) (sym read) (subst (λ (ls : List (Option LevelDesc)). ArePlaced m.levels ls) (sym levels_are) placed);
 }

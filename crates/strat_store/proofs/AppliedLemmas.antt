@@ -65,7 +65,7 @@ clone_beside t rows next v = by (has_row t v) (eqb (length t.rows) t.versions_ma
     done : Table → Outcome
     done z = record {
       answer = plain (reply.Made (length z.rows));
-      table = record z { rows = z.rows ++ record { parent = Some v; pairs = pairs_at z v } ∷ []; changes = z.changes + 1 };
+      table = record z { rows = z.rows ++ record { parent = Some v; dropped = false; pairs = pairs_at z v } ∷ []; changes = z.changes + 1 };
     }
 
     choose : Bool → Bool → Bool → Table → Outcome
@@ -82,6 +82,7 @@ change_beside : (t : Table) (rows : List Cursor) (next : ℕ) (c : Change) → s
 change_beside t rows next (change.Put v key value) = update_beside t rows next v (set key value (pairs_at t v))
 change_beside t rows next (change.Delete v key) = update_beside t rows next v (unset key (pairs_at t v))
 change_beside t rows next (change.Clone v) = clone_beside t rows next v
+change_beside t rows next (change.DropVersion v) = refl
 
 -- a position with other cursors
 abbrev place_beside : Position → List Cursor → ℕ → Position
@@ -96,6 +97,7 @@ takes_for : (c : Change) → takes_memory (request_for c) ≡ true
 takes_for (change.Put v key value) = refl
 takes_for (change.Delete v key) = refl
 takes_for (change.Clone v) = refl
+takes_for (change.DropVersion v) = refl
 
 -- the number of the next array never falls
 pub next_later : (s new : Held) → KeepsPublished s new ⊎ HasPublished s new → s.chained.manifest.next_array ≤ new.chained.manifest.next_array

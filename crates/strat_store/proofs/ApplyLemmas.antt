@@ -31,7 +31,7 @@ use Rattle.strat_model.specs.declared.commands.Command.TheVariants as command
 use Rattle.strat_array.specs.Told.{TheirPairs}
 use Rattle.strat_model.specs.Answer.{Answer, plain, accepts, as_told, refusal}
 use Rattle.strat_model.specs.Pairs.{range, value_of}
-use Rattle.strat_model.specs.Request.{Request, Put, Delete, Get, Clone, Scan, Info, OpenCursor, NextPairs, CloseCursor, Stat}
+use Rattle.strat_model.specs.Request.{Request, Put, Delete, Get, Clone, Scan, Info, OpenCursor, NextPairs, CloseCursor, Stat, DropVersion}
 use Rattle.strat_model.specs.Run.{is_change, reaches_disk, takes_memory}
 use Rattle.strat_model.proofs.FillLemmas.{empties_none, not_carried, stays}
 use Rattle.strat_model.specs.Spelling.{is_bound, is_limit, has_lawful_sizes}
@@ -60,6 +60,7 @@ pub wanted_for : (r : Request) (c : Change) → change_wanted r ≡ Some c → r
 wanted_for (Put v key value) c wanted = let same : change.Put v key value ≡ c = cc in ap request_for (sym same)
 wanted_for (Delete v key) c wanted = let same : change.Delete v key ≡ c = cc in ap request_for (sym same)
 wanted_for (Clone v) c wanted = let same : change.Clone v ≡ c = cc in ap request_for (sym same)
+wanted_for (DropVersion v) c wanted = let same : change.DropVersion v ≡ c = cc in ap request_for (sym same)
 wanted_for _ c wanted = absurd (cc)
 
 -- a change looks nothing up
@@ -67,6 +68,7 @@ pub tells_from_wanted : (f : Image) (s : Held) (r : Request) (c : Change) (answe
 tells_from_wanted f s (Put v key value) c answer wanted = tt
 tells_from_wanted f s (Delete v key) c answer wanted = tt
 tells_from_wanted f s (Clone v) c answer wanted = tt
+tells_from_wanted f s (DropVersion v) c answer wanted = tt
 tells_from_wanted f s _ c answer wanted = absurd (cc)
 
 -- nothing was read
@@ -113,6 +115,7 @@ reaches_wanted : (r : Request) (c : Change) → change_wanted r ≡ Some c → r
 reaches_wanted (Put v key value) c wanted = refl
 reaches_wanted (Delete v key) c wanted = refl
 reaches_wanted (Clone v) c wanted = refl
+reaches_wanted (DropVersion v) c wanted = refl
 reaches_wanted _ c wanted = absurd (cc)
 
 -- where no fault is told of no count rises
@@ -128,12 +131,14 @@ unrefused : (m : Memory) (r : Request) (c : Change) → change_wanted r ≡ Some
 unrefused m (Put v key value) c wanted = refl
 unrefused m (Delete v key) c wanted = refl
 unrefused m (Clone v) c wanted = refl
+unrefused m (DropVersion v) c wanted = refl
 unrefused m _ c wanted = absurd (cc)
 
 takes_wanted : (r : Request) (c : Change) → change_wanted r ≡ Some c → takes_memory r ≡ true
 takes_wanted (Put v key value) c wanted = refl
 takes_wanted (Delete v key) c wanted = refl
 takes_wanted (Clone v) c wanted = refl
+takes_wanted (DropVersion v) c wanted = refl
 takes_wanted _ c wanted = absurd (cc)
 
 pub tells_of_change : (before : DiskView) (old : Held) (r : Request) (c : Change) (told : Reply) → change_wanted r ≡ Some c → ((b : ℕ) → told ≡ reply.Refused (why.Damaged b) → old.log.mem ≤ length old.log.list)
@@ -231,6 +236,7 @@ pub pairs_wanted : (r : Request) (c : Change) (told : Reply) (out : TheirPairs) 
 pairs_wanted (Put v key value) c told out wanted other none = no_pairs told out other none
 pairs_wanted (Delete v key) c told out wanted other none = no_pairs told out other none
 pairs_wanted (Clone v) c told out wanted other none = no_pairs told out other none
+pairs_wanted (DropVersion v) c told out wanted other none = no_pairs told out other none
 pairs_wanted _ c told out wanted other none = absurd (cc)
 
 -- a version that is refused is not there, and a cursor that is refused is not open
@@ -292,6 +298,7 @@ look_kept t Stat other none = refl
 look_kept t (Put v key value) other none = absurd (cc)
 look_kept t (Delete v key) other none = absurd (cc)
 look_kept t (Clone v) other none = absurd (cc)
+look_kept t (DropVersion v) other none = absurd (cc)
 look_kept t _ other none = absurd (true≢false other)
 
 -- it is not a change
@@ -299,6 +306,7 @@ pub look_no_change : (r : Request) → change_wanted r ≡ None → is_change r 
 look_no_change (Put v key value) none = absurd (cc)
 look_no_change (Delete v key) none = absurd (cc)
 look_no_change (Clone v) none = absurd (cc)
+look_no_change (DropVersion v) none = absurd (cc)
 look_no_change _ none = refl
 
 says_no_fault : (k : Bool) (t : Table) (a : Answer) → is_fault a.reply ≡ false → is_fault (if k then replies_with t a else refuses t why.UnknownVersion).answer.reply ≡ false
@@ -318,6 +326,7 @@ look_no_fault t Stat other none = refl
 look_no_fault t (Put v key value) other none = absurd (cc)
 look_no_fault t (Delete v key) other none = absurd (cc)
 look_no_fault t (Clone v) other none = absurd (cc)
+look_no_fault t (DropVersion v) other none = absurd (cc)
 look_no_fault t _ other none = absurd (true≢false other)
 
 -- what reads a version says the same beside any cursors
@@ -440,6 +449,7 @@ query_bare t (CloseCursor n) none = by (list_any (λ (c : Cursor). eqb c.number 
 query_bare t (Put v key value) none = absurd (cc)
 query_bare t (Delete v key) none = absurd (cc)
 query_bare t (Clone v) none = absurd (cc)
+query_bare t (DropVersion v) none = absurd (cc)
 
 -- over a disk that is only read the images show the table, before a command that changes nothing and after it
 pub look_follows : (before now : DiskView) (s : Held) (x : Contents) (r : Request) (answer : Answer) → change_wanted r ≡ None → OnlyReads before now → StandsWith before s x
@@ -527,6 +537,7 @@ spent_tells f s b Stat answer tells = tells
 spent_tells f s b (Put v key value) answer tells = tt
 spent_tells f s b (Delete v key) answer tells = tt
 spent_tells f s b (Clone v) answer tells = tt
+spent_tells f s b (DropVersion v) answer tells = tt
 
 pub spent_reads : (s : Held) (b : Bool) (r : Request) (before now : ℕ) → ReadsForLook s r before now → ReadsForLook (record s { spent = b }) r before now
 spent_reads s b (Get v key) before now reads = reads
@@ -539,3 +550,4 @@ spent_reads s b Stat before now reads = reads
 spent_reads s b (Put v key value) before now reads = reads
 spent_reads s b (Delete v key) before now reads = reads
 spent_reads s b (Clone v) before now reads = reads
+spent_reads s b (DropVersion v) before now reads = reads

@@ -32,7 +32,7 @@ use Rattle.strat_model.specs.Table.{Table, bare}
 use Rattle.strat_model.specs.declared.replies.Refusal.TheVariants as why
 use Rattle.strat_model.specs.declared.replies.Reply.{Reply}
 use Rattle.strat_model.specs.declared.replies.Reply.TheVariants as reply
-use Rattle.strat_recovery.specs.Head.{descriptors}
+use Rattle.strat_recovery.specs.Head.{descriptors, head_marks}
 use Rattle.strat_recovery.specs.Opened.{parents_in}
 use Rattle.strat_recovery.specs.Opening.{state_of}
 use Rattle.strat_recovery.specs.StateTable.{table_of, request_for}
@@ -44,7 +44,7 @@ use Rattle.strat_standing.specs.Standing.{ShowsTable, ContentsStand}
 use Rattle.strat_standing.proofs.ListLemmas.{among_contained, contained_among}
 use Rattle.strat_state.specs.Level.{Level}
 use Rattle.strat_state.specs.Sound.{is_accepted, are_accepted, accepts_change, Takes}
-use Rattle.strat_state.specs.State.{tree_after}
+use Rattle.strat_state.specs.State.{tree_after, marks_after}
 use Rattle.strat_store.specs.Applying.{IsAppliedTo, FollowsStep, is_fault, ran_short, table_left}
 use Rattle.strat_store.specs.Held.{AreKept, head_held, contents_held, IsConsistent, StandsWith, position_with}
 use Rattle.strat_cursor.specs.Looking.{AreCachedFrom}
@@ -54,52 +54,58 @@ use Rattle.strat_store.specs.Recovering.{chained_of, held_of, held_after}
 use Rattle.strat_store.specs.declared.recovering.Recovered.{Recovered}
 use Rattle.strat_store.proofs.KeptLemmas.{named_behind}
 use Rattle.strat_store.proofs.MemoryLawLemmas.{accepted_same, change_answered, change_taken, memory_follows}
+use Rattle.strat_base.specs.Marks.{Marks}
 
 -- a command that asks for a change reaches the disk, and is one
 pub reached : (c : Change) → reaches_disk (request_for c) ≡ true
 reached (change.Put v key value) = refl
 reached (change.Delete v key) = refl
 reached (change.Clone v) = refl
+reached (change.DropVersion v) = refl
 
 pub changes_it : (c : Change) → is_change (request_for c) ≡ true
 changes_it (change.Put v key value) = refl
 changes_it (change.Delete v key) = refl
 changes_it (change.Clone v) = refl
+changes_it (change.DropVersion v) = refl
 
 -- what is told of a change that is accepted is no refusal
 told_well : (m : Memory) (c : Change) → (accepts (reply_to m c) ≡ true) × (is_fault (reply_to m c) ≡ false) × (ran_short (reply_to m c) ≡ false)
 told_well m (change.Put v key value) = (refl, refl, refl)
 told_well m (change.Delete v key) = (refl, refl, refl)
 told_well m (change.Clone v) = (refl, refl, refl)
+told_well m (change.DropVersion v) = (refl, refl, refl)
 
 -- and no value
 pub finds_none : (m : Memory) (c : Change) (told : Reply) → told ≡ reply_to m c → told ≢ reply.Found
 finds_none m (change.Put v key value) told tells found = let e : reply.Done ≡ reply.Found = sym tells ∙ found in absurd (cc)
 finds_none m (change.Delete v key) told tells found = let e : reply.Done ≡ reply.Found = sym tells ∙ found in absurd (cc)
 finds_none m (change.Clone v) told tells found = let e : reply.Made (length m.parents) ≡ reply.Found = sym tells ∙ found in absurd (cc)
+finds_none m (change.DropVersion v) told tells found = let e : reply.Done ≡ reply.Found = sym tells ∙ found in absurd (cc)
 
 -- one more change is accepted behind others
-accepted_more : (cm vm : ℕ) (parents : Parents) (n : ℕ) (journal : List Change) (c : Change) → are_accepted cm vm parents n journal ≡ true
-    → is_accepted cm vm (fold tree_after parents journal) (n + length journal) c ≡ true → are_accepted cm vm parents n (journal ++ c ∷ []) ≡ true
-accepted_more cm vm parents n [] c all one =
+accepted_more : (cm vm : ℕ) (parents : Parents) (marks : Marks) (n : ℕ) (journal : List Change) (c : Change) → are_accepted cm vm parents marks n journal ≡ true
+    → is_accepted cm vm (fold tree_after parents journal) (fold marks_after marks journal) (n + length journal) c ≡ true → are_accepted cm vm parents marks n (journal ++ c ∷ []) ≡ true
+accepted_more cm vm parents marks n [] c all one =
     let at : n + 0 ≡ n = omega arith in
-    and_from (is_accepted cm vm parents n c) true (subst (λ (k : ℕ). is_accepted cm vm parents k c ≡ true) at one) refl
-accepted_more cm vm parents n (d ∷ journal) c all one =
-    let parts = and_parts (is_accepted cm vm parents n d) (are_accepted cm vm (tree_after parents d) (suc n) journal) all in
+    and_from (is_accepted cm vm parents marks n c) true (subst (λ (k : ℕ). is_accepted cm vm parents marks k c ≡ true) at one) refl
+accepted_more cm vm parents marks n (d ∷ journal) c all one =
+    let parts = and_parts (is_accepted cm vm parents marks n d) (are_accepted cm vm (tree_after parents d) (marks_after marks d) (suc n) journal) all in
     let at : n + suc (length journal) ≡ suc n + length journal = omega arith in
-    and_from (is_accepted cm vm parents n d) (are_accepted cm vm (tree_after parents d) (suc n) (journal ++ c ∷ [])) parts.0
-    (accepted_more cm vm (tree_after parents d) (suc n) journal c parts.1 (subst (λ (k : ℕ). is_accepted cm vm (fold tree_after (tree_after parents d) journal) k c ≡ true) at one))
+    and_from (is_accepted cm vm parents marks n d) (are_accepted cm vm (tree_after parents d) (marks_after marks d) (suc n) (journal ++ c ∷ [])) parts.0
+    (accepted_more cm vm (tree_after parents d) (marks_after marks d) (suc n) journal c parts.1 (subst (λ (k : ℕ). is_accepted cm vm (fold tree_after (tree_after parents d) journal) (fold marks_after (marks_after marks d) journal) k c ≡ true) at one))
 
 -- a change leaves cursors alone
 pub cursors_stay : (m : Memory) (c : Change) → (memory_after m c).cursors ≡ m.cursors
 cursors_stay m (change.Put v key value) = refl
 cursors_stay m (change.Delete v key) = refl
 cursors_stay m (change.Clone v) = refl
+cursors_stay m (change.DropVersion v) = refl
 
 kept_still : (sb : Super) (chained : Chained) (levels : List (Option LevelDesc)) (m k : Memory) → k.cursors ≡ m.cursors → AreKept sb chained levels m → AreKept sb chained levels k
 kept_still sb chained levels m k same kept =
     let here : AreKept sb chained levels (record k { cursors = m.cursors }) =
-    record { named = kept.named; needed = kept.needed; ids = kept.ids; below = kept.below; within = kept.within; once = kept.once } in
+    record { named = kept.named; needed = kept.needed; ids = kept.ids; below = kept.below; within = kept.within; once = kept.once; few = kept.few } in
     subst (λ (cs : HeldCursors). AreKept sb chained levels (record k { cursors = cs })) (sym same) here
 
 -- the cursors of a table stay while the versions do
@@ -130,12 +136,13 @@ module _ (r : Recovered) (cached : Blocks) (kept : IsConsistent (held_of r cache
 
   -- a change that is not refused leaves a store consistent
   module _ (c : Change) (lawful : is_lawful c ≡ true) (free : refusal_of_change r.memory c ≡ None) (room : length r.journal.list < r.sb.mem) where
-    accepted_last : are_accepted r.sb.changes_max r.sb.versions_max (parents_in (chained_of r.published).manifest) (chained_of r.published).manifest.changes (r.journal.list ++ c ∷ []) ≡ true
+    accepted_last : are_accepted r.sb.changes_max r.sb.versions_max (parents_in (chained_of r.published).manifest) (chained_of r.published).manifest.marks (chained_of r.published).manifest.changes (r.journal.list ++ c ∷ []) ≡ true
     accepted_last =
-        let one : is_accepted r.memory.changes_max r.memory.versions_max r.memory.parents r.memory.changes c ≡ true =
-        accepted_same r.memory c ∙ ap (λ o. not (is_some o)) free in
-        accepted_more r.sb.changes_max r.sb.versions_max (parents_in (chained_of r.published).manifest) (chained_of r.published).manifest.changes r.journal.list c kept.accepted
-        ((λ i. is_accepted (sym kept.memory.changes_max i) (sym kept.memory.versions_max i) (sym kept.memory.parents i) (sym kept.memory.changes i) c) ∙ one)
+        let marks : Marks = head_marks (head_held (held_of r cached)) in
+        let one : is_accepted r.memory.changes_max r.memory.versions_max r.memory.parents marks r.memory.changes c ≡ true =
+        accepted_same r.memory marks c kept.memory.undropped ∙ ap (λ o. not (is_some o)) free in
+        accepted_more r.sb.changes_max r.sb.versions_max (parents_in (chained_of r.published).manifest) (chained_of r.published).manifest.marks (chained_of r.published).manifest.changes r.journal.list c kept.accepted
+        ((λ i. is_accepted (sym kept.memory.changes_max i) (sym kept.memory.versions_max i) (sym kept.memory.parents i) marks (sym kept.memory.changes i) c) ∙ one)
 
     pub kept_more : (j : Log) (m : Memory) → j ≡ record r.journal { list = r.journal.list ++ c ∷ [] } → m ≡ memory_after r.memory c
         → IsConsistent (held_of (record r { journal = j; memory = m }) cached)
@@ -154,9 +161,9 @@ module _ (r : Recovered) (cached : Blocks) (kept : IsConsistent (held_of r cache
             lawful = subst (λ (cs : List Change). list_all is_lawful cs ≡ true) list
                 (list_all-append is_lawful r.journal.list (c ∷ []) ∙ and_from (list_all is_lawful r.journal.list) (list_all is_lawful (c ∷ [])) kept.log.lawful (and_from (is_lawful c) true lawful refl));
           };
-          accepted = subst (λ (cs : List Change). are_accepted r.sb.changes_max r.sb.versions_max (parents_in (chained_of r.published).manifest) (chained_of r.published).manifest.changes cs ≡ true) list accepted_last;
+          accepted = subst (λ (cs : List Change). are_accepted r.sb.changes_max r.sb.versions_max (parents_in (chained_of r.published).manifest) (chained_of r.published).manifest.marks (chained_of r.published).manifest.changes cs ≡ true) list accepted_last;
           memory =
-              let of : IsMemoryOf (record (head_held (held_of r cached)) { journal = r.journal.list ++ c ∷ [] }) (memory_after r.memory c) = memory_follows (head_held (held_of r cached)) r.memory kept.memory c in
+              let of : IsMemoryOf (record (head_held (held_of r cached)) { journal = r.journal.list ++ c ∷ [] }) (memory_after r.memory c) = memory_follows (head_held (held_of r cached)) r.memory kept.memory c free in
               subst (λ (m : Memory). IsMemoryOf (record (head_held (held_of r cached)) { journal = j.list }) m) (sym follows)
               (subst (λ (cs : List Change). IsMemoryOf (record (head_held (held_of r cached)) { journal = cs }) (memory_after r.memory c)) list of);
           placed = kept.placed;

@@ -1,9 +1,11 @@
 -- The next contents of a store, from what was promoted and written.
-use Rattle.std.proofs.Common.{◌≡◌, ◌+◌, ℕ, Bool, true, false, not, cond, leb, ltb, ◌&&◌, List, [], ◌++◌, map, Contains, flat_map, Option, None, Some, IsSome, refl, sym, ap, ◌∙◌, subst, arith, true≢false}
+use Rattle.std.proofs.Common.{◌≡◌, ◌≤◌, ◌+◌, ◌^◌, ℕ, Bool, true, false, not, cond, inl, inr, leb, ltb, ◌&&◌, List, [], ◌∷◌, ◌++◌, length, map, Contains, flat_map, Option, None, Some, IsSome, refl, sym, ap, ◌∙◌, subst, arith, true≢false}
 use Rattle.std.specs.List.{sum_by}
 use Rattle.std.proofs.lemmas.Bool.{and_parts, and_from, not-true, false_from_ne_true}
 use Rattle.std.proofs.lemmas.List.Elements.{Contains-append_right}
+use Rattle.std.proofs.lemmas.List.Sums.{sum_by-cons}
 use Rattle.strat_array.specs.Taking.{AreUsed}
+use Rattle.strat_base.proofs.ListFacts.{Among, among_flat, among_left}
 use Rattle.strat_base.specs.declared.descriptors.ArrayDesc.{ArrayDesc}
 use Rattle.strat_base.specs.declared.descriptors.Extent.{Extent}
 use Rattle.strat_base.specs.declared.descriptors.LevelDesc.{LevelDesc}
@@ -17,6 +19,7 @@ use Rattle.strat_extent.specs.Change.{IsMarked}
 use Rattle.strat_format.specs.Arrays.{all_some, blocks_of}
 use Rattle.strat_format.specs.Manifest.{Manifest, is_rising}
 use Rattle.strat_journal.specs.Log.{Log}
+use Rattle.strat_promote.proofs.SpacesLemmas.{blocks_joined}
 use Rattle.strat_promote.specs.Job.{blocks_listed}
 use Rattle.strat_promote.specs.Promotions.{entries_if_any}
 use Rattle.strat_promotion.specs.Promoted.{levels_behind, promoted}
@@ -25,7 +28,7 @@ use Rattle.strat_recovery.specs.Opened.{level_on}
 use Rattle.strat_standing.proofs.FreeLemmas.{free_stands}
 use Rattle.strat_standing.proofs.ListLemmas.{contained_among}
 use Rattle.strat_standing.proofs.LongLemmas.{bytes_few}
-use Rattle.strat_standing.proofs.NextLemmas.{changes_bound, next_lawful, next_most, written_most}
+use Rattle.strat_standing.proofs.NextLemmas.{array_at, arrays_are, changes_bound, entries_made, next_lawful, next_most, written_most}
 use Rattle.strat_standing.proofs.OccupiedLemmas.{free_beside, named_used, taken_beside}
 use Rattle.strat_standing.proofs.PromotedLemmas.{promoted_state, promoted_whole}
 use Rattle.strat_standing.specs.Contents.{Contents, contents_state, named_blocks}
@@ -69,6 +72,12 @@ uses_both s t u xs ys first second = record {
 pub entries_counted : (made : Option LevelDesc) → entries_if_any made ≡ sum_by (λ (a : ArrayDesc). a.entries) (arrays_made made)
 entries_counted None = refl
 entries_counted (Some level) = refl
+
+-- arrays of which each has no more blocks than entries
+blocks_filled : (arrays : List ArrayDesc) → ((a : ArrayDesc) → Among a arrays → length (blocks_of a.extents) ≤ a.entries) → length (blocks_of (extents_of arrays)) ≤ sum_by (λ (a : ArrayDesc). a.entries) arrays
+blocks_filled [] each = omega arith
+blocks_filled (a ∷ arrays) each =
+    omega (arith, each a (inl refl), blocks_filled arrays (λ d among. each d (inr among)), blocks_joined a.extents (extents_of arrays), sum_by-cons (λ (d : ArrayDesc). d.entries) a arrays)
 
 -- what a store has that may compute its next contents
 module _ (v : DiskView) (s : SpaceView) (m : Memory) (levels : List (Option LevelDesc)) (log : Log) (x : Contents) (others : List Extent) (may : MayCompute v s m levels log x others) where
@@ -114,7 +123,7 @@ module _ (v : DiskView) (s : SpaceView) (m : Memory) (levels : List (Option Leve
       new = contents_after x m target made (made_here.says.fresh ++ levels_behind target x.levels) first size blocks
 
       next : IsNextOf x new made (descs_to target x.chained.manifest.levels) (descs_behind target x.chained.manifest.levels)
-      next = after_next x m target made (made_here.says.fresh ++ levels_behind target x.levels) first size blocks may.memory (omega (arith, may.full)) rising
+      next = after_next x m target made (made_here.says.fresh ++ levels_behind target x.levels) first size blocks may.memory may.stands.sound (omega (arith, may.full)) rising
 
       follows : MayBeNext at.content at.content x new made (descs_to target x.chained.manifest.levels) (descs_behind target x.chained.manifest.levels)
       follows = (next_here at.content x new target made (at.reads at.content at.left) may.stands.sound may.full made_here.says made_here.fresh refl next rising).0
@@ -138,6 +147,21 @@ module _ (v : DiskView) (s : SpaceView) (m : Memory) (levels : List (Option Leve
           next_array = omega (arith, numbers, bound);
         } in
         subst (λ (k : Manifest). MayBeWritten (manifest_after k m target made)) old_is here
+
+    -- the level that was made has few blocks
+    pub made_blocks : length (blocks_of (extents_of (arrays_made made))) ≤ 2 ^ 25
+    made_blocks =
+        let c = at.content in
+        let to = descs_to target x.chained.manifest.levels in
+        let behind = descs_behind target x.chained.manifest.levels in
+        let y : Contents = new 0 0 [] in
+        let n = follows 0 0 [] in
+        let few = blocks_filled (arrays_made made) (λ a among.
+        let there : Among a (descriptors y.chained.manifest) =
+        subst (λ (rs : List ArrayDesc). Among a rs) (sym (arrays_are c c x y made to behind n)) (among_left (arrays_made made) (flat_map (λ (l : LevelDesc). l.arrays) behind) a among) in
+        let found = among_flat (λ (l : LevelDesc). l.arrays) y.chained.manifest.levels a there in
+        (array_at c c x y made to behind n found.0 a found.1 found.2).few) in
+        omega (arith, few, entries_made c c x y made to behind n)
 
     -- and where it was, they are computed
     module _ (u : DiskView) (t r : SpaceView) (first size : ℕ) (chain : List Extent) (taken : UsesMore s (extents_of (arrays_made made)) t) (writing : TearsBlocks (is_free t) w u) (marked : IsMarked t chain r)
@@ -164,6 +188,7 @@ module _ (v : DiskView) (s : SpaceView) (m : Memory) (levels : List (Option Leve
         used = used_after may.chain may.chain_is;
         manifest = λ g now. stored (some_told w.content at.content at.exposed) g now later (record {
           chained = λ i. record { manifest = (ap (λ (k : Manifest). manifest_after k m target made) old_is ∙ sym manifest_is) i; blocks = blocks_of chain };
+          format = refl;
           first_is = refl;
           length_is = refl;
         });

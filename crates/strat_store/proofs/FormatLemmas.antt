@@ -8,7 +8,7 @@ use Rattle.strat_format.specs.Layout.{region_at, first_free}
 use Rattle.strat_format.specs.Manifest.{manifest_bytes}
 use Rattle.strat_crash.specs.Moments.{DiskView, Images, Since, Passes, TearsOnly, IsDurable}
 use Rattle.strat_base.specs.Numbers.{be}
-use Rattle.strat_format.specs.SuperBlock.{Super, Slot, slot_in, newer, verdict, chosen_in, newest_in}
+use Rattle.strat_format.specs.SuperBlock.{Super, slot_in, newer, verdict, chosen_in, newest_in}
 use Rattle.strat_crash.proofs.ImageLemmas.{over_below, outside_same_above, window_same, window_patch}
 use Rattle.strat_crash.proofs.MomentLemmas.{now_since_start, at_told, settled_at}
 use Rattle.strat_format.proofs.SuperBlockLemmas.{slot_closed}
@@ -75,13 +75,13 @@ lays_over mem v p sb =
     record {
       content = p.exposed;
       same = λ c left. record { byte = λ i from to. λ j. p.only c left j i };
-      newest = subst (λ (o : Option (ℕ × Slot)). IfSome o (λ s. (s.0 ≢ 0) × (s.1.sb.generation < sb.generation))) (sym none) tt;
+      newest = subst (λ (o : Option (ℕ × Super)). IfSome o (λ s. (s.0 ≢ 0) × (s.1.generation < sb.generation))) (sym none) tt;
     }
 
 -- the state of a new store is sound
 fresh_sound : (mem changes_max versions_max : ℕ) → IsSound (fresh_state mem changes_max versions_max)
 fresh_sound mem changes_max versions_max = record {
-  formed = record { tree = refl; numbered = refl; accepted = refl; fits = le-leb 0 (journal_max mem) (omega arith) };
+  formed = record { tree = refl; pruned = refl; numbered = refl; accepted = refl; fits = le-leb 0 (journal_max mem) (omega arith) };
   stratified = tt;
   roomy = refl;
   old = refl;

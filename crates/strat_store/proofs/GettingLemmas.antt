@@ -40,9 +40,9 @@ use Rattle.strat_state.specs.Level.{Level}
 use Rattle.strat_state.specs.LookUp.{looked_up}
 use Rattle.strat_state.specs.Maps.{map_over}
 use Rattle.strat_state.specs.Reading.{level_zero}
-use Rattle.strat_state.specs.State.{State, versions_of, sources}
+use Rattle.strat_state.specs.State.{State, versions_of, sources, is_living}
 use Rattle.strat_store.proofs.LookLawLemmas.{in_order}
-use Rattle.strat_store.proofs.MemoryLawLemmas.{key_unknown, key_found}
+use Rattle.strat_store.proofs.MemoryLawLemmas.{key_unknown, key_found, known_of, living_of}
 use Rattle.strat_store.proofs.KeepingLemmas.{own_numbers, low_numbers}
 use Rattle.strat_store.proofs.WholeLemmas.{whole_promotes}
 use Rattle.strat_store.specs.Applying.{is_fault, IsLookedUp, IsDamagedIn}
@@ -176,7 +176,11 @@ module _ (v : DiskView) (s : Held) (levels : List Level) (whole : IsConsistent s
 
   -- a version is known where the table has it
   pub known : (n : ℕ) → is_known s.memory.parents n ≡ has_row (table_of it) n
-  known n = ap (ltb n) (ap (λ (ps : Parents). length ps) whole.memory.parents ∙ sym (length-rows (map_over (versions_of it) (sources it)) 0 (versions_of it)))
+  known = known_of w.stands.content (head_held s) it s.memory read whole.memory
+
+  -- and lives
+  pub living : (n : ℕ) → is_living it n ≡ true
+  living = living_of w.stands.content (head_held s) it s.memory read whole.memory
 
   stepped : (n : ℕ) (key : List ℕ) → is_known s.memory.parents n ≡ true → (step (table_of it) (Get n key)).answer ≡ found key (value_of (pairs_at (table_of it) n) key)
   stepped n key is =
@@ -190,7 +194,7 @@ module _ (v : DiskView) (s : Held) (levels : List Level) (whole : IsConsistent s
       let here : n < length (versions_of it) = subst (λ (ps : Parents). n < length ps) whole.memory.parents (ltb-true n (length s.memory.parents) is) in
       ap (λ (o : Option Entry). option_and_then (λ x. x.value) (option_or o (looked_up (on_disk w.stands.content) s.memory.parents [] (levels_there s.levels) n key))) same
       ∙ (λ i. asked w.stands.content (whole.memory.parents i) (level_zero it ∷ []) (whole.placed.listed_are i) n key)
-      ∙ asked_same w.stands.content (head_held s) it n key read w.stands.sound here
+      ∙ asked_same w.stands.content (head_held s) it n key read w.stands.sound here (living n)
 
   accepted : (n : ℕ) (key : List ℕ) → is_known s.memory.parents n ≡ true → accepts (step (table_of it) (Get n key)).answer.reply ≡ true
   accepted n key is = ap (λ (a : Answer). accepts a.reply) (stepped n key is) ∙ each (value_of (pairs_at (table_of it) n) key)

@@ -1,25 +1,25 @@
 -- What open cursors hold on to stays there, as a store goes on.
-use Rattle.std.proofs.Common.{◌≡◌, ◌≤◌, ◌<◌, ℕ, Bool, true, false, cond, leb, inl, inr, List, [], ◌∷◌, ◌++◌, filter, Contains, flat_map, Option, refl, sym, ap, subst, ◌∙◌, append-nil, arith}
+use Rattle.std.proofs.Common.{◌≡◌, ◌≤◌, ◌<◌, ◌^◌, ℕ, Bool, true, false, not, cond, eqb, leb, inl, inr, List, [], ◌∷◌, ◌++◌, filter, Contains, flat_map, Option, refl, sym, ap, subst, ◌∙◌, append-nil, arith}
 use Rattle.std.specs.List.{list_all}
 use Rattle.std.specs.Prelude.{fold, if◌then◌else◌}
 use Rattle.std.proofs.lemmas.Bool.{and_parts, ltb-true}
 use Rattle.std.proofs.lemmas.List.Concat.{flat_map-append}
 use Rattle.std.proofs.lemmas.List.Elements.{Contains-append_left}
-use Rattle.strat_base.proofs.ListFacts.{Among, among_left, among_right, among_split}
+use Rattle.strat_base.proofs.ListFacts.{Among, among_left, among_right, among_split, filter_among}
 use Rattle.strat_array.specs.Kept.{Blocks}
-use Rattle.strat_base.specs.Change.{Change, Put, Delete, Clone}
+use Rattle.strat_base.specs.Change.{Change, Put, Delete, Clone, DropVersion}
 use Rattle.strat_base.specs.declared.descriptors.ArrayDesc.{ArrayDesc}
 use Rattle.strat_base.specs.declared.descriptors.LevelDesc.{LevelDesc}
 use Rattle.strat_cursor.proofs.HoldingLemmas.{names_moved, names_without}
 use Rattle.strat_cursor.proofs.PinLemmas.{asked_there}
 use Rattle.strat_cursor.proofs.RetiredLemmas.{closed_from, closed_ids, closed_keeps_named}
-use Rattle.strat_cursor.specs.Cursors.{are_named, arrays_named, closed_at, is_array_named, moved_at, without_cursor}
+use Rattle.strat_cursor.specs.Cursors.{are_named, arrays_named, closed_at, is_array_named, moved_at, moved_on, without_cursor}
 use Rattle.strat_cursor.specs.Held.{HeldCursor, HeldCursors, no_cursors}
-use Rattle.strat_cursor.specs.Looking.{HaveOwnIds, arrays_there, arrays_asked}
+use Rattle.strat_cursor.specs.Looking.{HaveOwnIds, arrays_there, arrays_asked, levels_there}
 use Rattle.strat_extent.proofs.CountLemmas.{times_append}
-use Rattle.strat_extent.specs.Blocks.{times_in}
+use Rattle.strat_extent.specs.Blocks.{times_in, total_len}
 use Rattle.strat_format.proofs.ManifestLemmas.{pass_at}
-use Rattle.strat_format.specs.Layout.{first_free}
+use Rattle.strat_format.specs.Layout.{first_free, newest_format}
 use Rattle.strat_format.specs.Chained.{Chained}
 use Rattle.strat_format.specs.Manifest.{is_lawful_manifest, versions_in}
 use Rattle.strat_format.specs.SuperBlock.{Super}
@@ -33,10 +33,12 @@ use Rattle.strat_model.specs.Pairs.{Pairs}
 use Rattle.strat_model.specs.Request.{Request, OpenCursor, NextPairs, CloseCursor}
 use Rattle.strat_model.specs.declared.replies.Reply.{Reply}
 use Rattle.strat_model.specs.declared.replies.Reply.TheVariants as reply
+use Rattle.strat_plan.proofs.ListLemmas.{map_among}
 use Rattle.strat_standing.proofs.ListLemmas.{among_contained, contained_among}
 use Rattle.strat_standing.specs.Occupied.{extents_of}
 use Rattle.strat_state.specs.Level.{is_distinct}
 use Rattle.strat_store.proofs.OwnLemmas.{once_counted}
+use Rattle.strat_store.proofs.RoomLemmas.{asked_total, there_total}
 use Rattle.strat_store.proofs.NeededLemmas.{needed_still, needed_those}
 use Rattle.strat_store.proofs.WholeLemmas.{array_lawful}
 use Rattle.strat_store.specs.Cursoring.{cursors_after, paged_at}
@@ -57,7 +59,7 @@ times_filtered p (a ∷ arrays) b = by (p a) (times_filtered p arrays b)
 
 -- the arrays of a manifest that belongs have numbers of their own, below the next one
 module _ (sb : Super) (chained : Chained) (levels : List (Option LevelDesc)) (placed : ArePlaced chained.manifest.levels levels)
-    (spelled : is_lawful_manifest chained.manifest ≡ true) (belonging : belongs sb chained ≡ true) where
+    (spelled : is_lawful_manifest newest_format chained.manifest ≡ true) (belonging : belongs sb chained ≡ true) where
   listed : arrays_there levels ≡ descriptors chained.manifest
   listed = ap (flat_map (λ (l : LevelDesc). l.arrays)) placed.listed_are
 
@@ -66,7 +68,7 @@ module _ (sb : Super) (chained : Chained) (levels : List (Option LevelDesc)) (pl
 
   pub low_numbers : (a : ArrayDesc) → Contains (arrays_there levels) a → a.id < chained.manifest.next_array
   low_numbers a of =
-      let lawful = array_lawful (versions_in chained.manifest) chained.manifest.next_array chained.manifest.levels (pass_at (manifest_tests chained.manifest) 8 spelled) (pass_at (belonging_tests sb chained) 2 belonging) in
+      let lawful = array_lawful (versions_in chained.manifest) chained.manifest.next_array chained.manifest.levels (pass_at (manifest_tests newest_format chained.manifest) 8 spelled) (pass_at (belonging_tests sb chained) 2 belonging) in
       ltb-true a.id chained.manifest.next_array (pass_at (array_tests chained.manifest.next_array a) 1
       (lawful a (contained_among (descriptors chained.manifest) a (subst (λ (rs : List ArrayDesc). Contains rs a) listed of))).0)
 
@@ -86,12 +88,13 @@ module _ (sb : Super) (chained : Chained) (levels : List (Option LevelDesc)) (pl
             let few : times_in (extents_of m.cursors.retired) b ≡ 0 = ap (λ (c : HeldCursors). times_in (extents_of c.retired) b) none in
             let own = and_parts (is_distinct (blocks_named chained)) (list_all (λ k. leb (first_free sb.mem) k) (blocks_named chained)) (pass_at (belonging_tests sb chained) 0 belonging) in
             omega (arith, once_counted (blocks_named chained) b own.0, few);
+        few = λ c of. absurd (contained_among [] c (subst (λ (h : HeldCursors). Contains h.opened c) none of));
       }
 
 -- what commands about cursors leave of that
 module _ (sb : Super) (chained : Chained) (levels : List (Option LevelDesc)) (m : Memory) (kept : AreKept sb chained levels m) where
-  pub kept_more : (v : ℕ) (lo hi : List ℕ) → AreKept sb chained levels (record m { cursors = with_cursor m.cursors (cursor_from m levels v lo hi) })
-  kept_more v lo hi = record {
+  pub kept_more : total_len (extents_of (arrays_there levels)) ≤ 2 ^ 25 → (v : ℕ) (lo hi : List ℕ) → AreKept sb chained levels (record m { cursors = with_cursor m.cursors (cursor_from m levels v lo hi) })
+  kept_more small v lo hi = record {
     named = λ a of.
         let asked = arrays_asked m.parents levels v in
         let both : Among a (arrays_named m.cursors.opened ++ (asked ++ [])) =
@@ -111,6 +114,16 @@ module _ (sb : Super) (chained : Chained) (levels : List (Option LevelDesc)) (m 
     below = kept.below;
     within = kept.within;
     once = kept.once;
+    few = λ c of. elim (among_split m.cursors.opened (cursor_from m levels v lo hi ∷ []) c (contained_among (m.cursors.opened ++ cursor_from m levels v lo hi ∷ []) c of)) [
+      | inl before ↦ kept.few c (among_contained m.cursors.opened c before)
+      | inr new ↦ elim new [
+        | inl same ↦
+            let asked = asked_total m.parents (levels_there levels) v in
+            let alike = ap (λ (h : HeldCursor). total_len (extents_of h.arrays)) same in
+            omega (arith, asked, alike, small)
+        | inr none ↦ absurd none
+      ]
+    ];
   }
 
   pub kept_paged : (n : ℕ) (more : Bool) (told : Pairs) → AreKept sb chained levels (record m { cursors = record m.cursors { opened = moved_at n more told m.cursors.opened } })
@@ -122,7 +135,15 @@ module _ (sb : Super) (chained : Chained) (levels : List (Option LevelDesc)) (m 
     below = kept.below;
     within = kept.within;
     once = kept.once;
+    few = λ c of.
+        let from = map_among (λ (h : HeldCursor). if eqb h.number n then moved_on more told h else h) m.cursors.opened c (contained_among (moved_at n more told m.cursors.opened) c of) in
+        let alike = ap (λ (h : HeldCursor). total_len (extents_of h.arrays)) from.2 ∙ arrays_moved (eqb from.0.number n) more told from.0 in
+        omega (arith, kept.few from.0 (among_contained m.cursors.opened from.0 from.1), alike);
   }
+    where
+      arrays_moved : (b : Bool) (more' : Bool) (told' : Pairs) (h : HeldCursor) → total_len (extents_of (if b then moved_on more' told' h else h).arrays) ≡ total_len (extents_of h.arrays)
+      arrays_moved true more' told' h = refl
+      arrays_moved false more' told' h = refl
 
   pub kept_closed : (n : ℕ) → AreKept sb chained levels (record m { cursors = closed_at n m.cursors })
   kept_closed n = record {
@@ -139,6 +160,9 @@ module _ (sb : Super) (chained : Chained) (levels : List (Option LevelDesc)) (m 
     below = λ a of. kept.below a (still a of);
     within = λ b some. kept.within b (omega (arith, some, closed_times b));
     once = λ b. omega (arith, kept.once b, closed_times b);
+    few = λ c of.
+        let there = filter_among (λ (h : HeldCursor). not (eqb h.number n)) m.cursors.opened c (contained_among (without_cursor n m.cursors.opened) c of) in
+        kept.few c (among_contained m.cursors.opened c there.0);
   }
     where
       closed_times : (b : ℕ) → times_in (extents_of (closed_at n m.cursors).retired) b ≤ times_in (extents_of m.cursors.retired) b
@@ -160,6 +184,7 @@ cursors_redone [] m = refl
 cursors_redone (Put version key value ∷ changes) m = cursors_redone changes (memory_after m (Put version key value))
 cursors_redone (Delete version key ∷ changes) m = cursors_redone changes (memory_after m (Delete version key))
 cursors_redone (Clone version ∷ changes) m = cursors_redone changes (memory_after m (Clone version))
+cursors_redone (DropVersion version ∷ changes) m = cursors_redone changes (memory_after m (DropVersion version))
 
 -- so a store stays consistent
 consistent_with : (r : Recovered) (m : Memory) (cached : Blocks) (c : HeldCursors) → IsConsistent (held_of r cached) → m ≡ record r.memory { cursors = c }
@@ -177,6 +202,7 @@ consistent_with r m cached c whole is kept =
         changes_max = whole.memory.changes_max;
         versions_max = whole.memory.versions_max;
         parents = whole.memory.parents;
+        undropped = whole.memory.undropped;
         updates = whole.memory.updates;
         changes = whole.memory.changes;
         entries = whole.memory.entries;
@@ -208,7 +234,7 @@ consistent_after r m request answer whole is cached = consistent_with r m cached
     by : (request : Request) (answer : Answer) → Kept (cursors_after r.memory r.published.levels request answer)
     by (OpenCursor v lo hi) answer =
         by_accept (accepts answer.reply) (with_cursor r.memory.cursors (cursor_from r.memory r.published.levels v lo hi))
-        (kept_more (super_of r.sb) (chained_of r.published) r.published.levels r.memory kept v lo hi)
+        (kept_more (super_of r.sb) (chained_of r.published) r.published.levels r.memory kept (there_total (held_of r cached) (whole cached)) v lo hi)
     by (NextPairs n limit) answer = by_page n answer.reply answer.pairs
     by (CloseCursor n) answer =
         by_accept (accepts answer.reply) (closed_at n r.memory.cursors) (kept_closed (super_of r.sb) (chained_of r.published) r.published.levels r.memory kept n)

@@ -22,7 +22,7 @@ use Rattle.strat_extent.specs.Blocks.{SpaceView, is_used, times_in, uses}
 use Rattle.strat_format.proofs.ManifestLemmas.{pass_at}
 use Rattle.strat_format.specs.Arrays.{blocks_of}
 use Rattle.strat_format.specs.Chained.{Chained}
-use Rattle.strat_format.specs.Layout.{first_free}
+use Rattle.strat_format.specs.Layout.{first_free, newest_format}
 use Rattle.strat_format.specs.Manifest.{Manifest, is_lawful_manifest, versions_in}
 use Rattle.strat_format.specs.SuperBlock.{Super}
 use Rattle.strat_plan.proofs.ListLemmas.{among_map, map_among, distinct_append}
@@ -170,7 +170,7 @@ stand_apart s space after target made chain m whole own more m_is =
         by false = omega arith
 
 module _ (s : Held) (target : ℕ) (sb : Super) (chained : Chained) (levels : List (Option LevelDesc)) (whole : IsConsistent s) (are : ArePublishedTo target s.sb s.chained.manifest s.memory sb chained.manifest)
-    (mem_is : sb.mem ≡ s.sb.mem) (spelled : is_lawful_manifest chained.manifest ≡ true) (belonging : belongs sb chained ≡ true) (placed : ArePlaced chained.manifest.levels levels) (apart : StandApart target s chained) where
+    (mem_is : sb.mem ≡ s.sb.mem) (spelled : is_lawful_manifest newest_format chained.manifest ≡ true) (belonging : belongs sb chained ≡ true) (placed : ArePlaced chained.manifest.levels levels) (apart : StandApart target s chained) where
   abbrev old : Manifest
   old = s.chained.manifest
 
@@ -276,7 +276,7 @@ module _ (s : Held) (target : ℕ) (sb : Super) (chained : Chained) (levels : Li
   next_low : (a : ArrayDesc) → Among a (arrays_there levels) → a.id < next.next_array
   next_low a among =
       let there : Among a (descriptors next) = subst (λ (xs : List ArrayDesc). Among a xs) (ap arrays_in placed.listed_are) among in
-      let lawful = (array_lawful (versions_in next) next.next_array next.levels (pass_at (manifest_tests next) 8 spelled) (pass_at (belonging_tests sb chained) 2 belonging) a there).0 in
+      let lawful = (array_lawful (versions_in next) next.next_array next.levels (pass_at (manifest_tests newest_format next) 8 spelled) (pass_at (belonging_tests sb chained) 2 belonging) a there).0 in
       ltb-true a.id next.next_array (pass_at (array_tests next.next_array a) 1 lawful)
 
   -- where the blocks of the arrays that were taken lie
@@ -327,4 +327,5 @@ module _ (s : Held) (target : ℕ) (sb : Super) (chained : Chained) (levels : Li
       | inr no' ↦ whole.kept.within b (let none = ltb-false 0 (times_in (extents_of taken) b) no' in omega (arith, some, left_times b, none))
     ]);
     once = λ b. omega (arith, apart.once b, left_times b);
+    few = λ k of. whole.kept.few k (subst (λ (cs : List HeldCursor). Contains cs k) (retired_rest c taken).0 of);
   }

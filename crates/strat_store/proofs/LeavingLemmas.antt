@@ -23,7 +23,7 @@ use Rattle.strat_format.specs.SuperBlock.{Super}
 use Rattle.strat_gate.specs.SuperView.{super_of}
 use Rattle.strat_manifest.specs.ManifestView.{manifest_of}
 use Rattle.strat_model.specs.Answer.{Answer, accepts}
-use Rattle.strat_model.specs.Request.{Request, Put, Delete, Clone}
+use Rattle.strat_model.specs.Request.{Request, Put, Delete, Clone, DropVersion}
 use Rattle.strat_model.specs.Run.{is_change}
 use Rattle.strat_model.specs.declared.replies.Refusal.{Refusal}
 use Rattle.strat_model.specs.declared.replies.Refusal.TheVariants as why
@@ -57,11 +57,13 @@ pub taken_well : (m : Memory) (c : Change) (told : Reply) → told ≡ reply_to 
 taken_well m (change.Put v key value) told is = (λ refused. absurd (true≢false (sym (ap accepts is) ∙ refused)), ap may_write is)
 taken_well m (change.Delete v key) told is = (λ refused. absurd (true≢false (sym (ap accepts is) ∙ refused)), ap may_write is)
 taken_well m (change.Clone v) told is = (λ refused. absurd (true≢false (sym (ap accepts is) ∙ refused)), ap may_write is)
+taken_well m (change.DropVersion v) told is = (λ refused. absurd (true≢false (sym (ap accepts is) ∙ refused)), ap may_write is)
 
 pub taken_calm : (m : Memory) (c : Change) (told : Reply) → told ≡ reply_to m c → (b : ℕ) → told ≡ reply.Refused (why.Damaged b) → ⊥
 taken_calm m (change.Put v key value) told is b bad = true≢false (sym (ap accepts is) ∙ ap accepts bad)
 taken_calm m (change.Delete v key) told is b bad = true≢false (sym (ap accepts is) ∙ ap accepts bad)
 taken_calm m (change.Clone v) told is b bad = true≢false (sym (ap accepts is) ∙ ap accepts bad)
+taken_calm m (change.DropVersion v) told is b bad = true≢false (sym (ap accepts is) ∙ ap accepts bad)
 
 -- nor is want of memory, or a fault, one that leaves the disk
 pub troubled : (t : Trouble) (told : Refusal) → told ≡ refusal_of_trouble t → may_write (reply.Refused told) ≡ true
@@ -74,6 +76,7 @@ wanted_change : (r : Request) (c : Change) → change_wanted r ≡ Some c → is
 wanted_change (Put v key value) c wanted = refl
 wanted_change (Delete v key) c wanted = refl
 wanted_change (Clone v) c wanted = refl
+wanted_change (DropVersion v) c wanted = refl
 wanted_change _ c wanted = absurd (cc)
 
 -- a store that keeps what is published, its journal and its memory, but for what stands ready, holds the same
@@ -252,6 +255,7 @@ pub wanted_of : (c : Change) → change_wanted (request_for c) ≡ Some c
 wanted_of (change.Put v key value) = refl
 wanted_of (change.Delete v key) = refl
 wanted_of (change.Clone v) = refl
+wanted_of (change.DropVersion v) = refl
 
 pub cursors_same : (s t : Held) → t.memory.cursors ≡ s.memory.cursors → KeepsCursors s t
 cursors_same s t e = e ∙ (λ i. record s.memory.cursors { room = sym (ap (λ (cs : HeldCursors). cs.room) e) i })

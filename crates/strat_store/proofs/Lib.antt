@@ -33,6 +33,7 @@ pub mod AdmitLemmas
 pub mod RedoLemmas
 pub mod RecoverLemmas
 pub mod OpenLemmas
+pub mod RoomLemmas
 pub mod ThreeTests
 pub mod ApplyLemmas
 pub mod ObstacleLemmas

@@ -1,11 +1,11 @@
 -- What a store has in memory, as its calls change and read it.
-use Rattle.std.proofs.Common.{◌≡◌, ◌<◌, ◌≤◌, ℕ, zero, suc, ◌+◌, true, false, eqb, ltb, leb, inl, inr, List, [], ◌∷◌, length, map, take, Some, None, sym, ap, ◌∙◌, get_or, arith, length-append}
+use Rattle.std.proofs.Common.{◌≡◌, ◌<◌, ◌≤◌, ℕ, zero, suc, ◌+◌, true, false, eqb, ltb, leb, inl, inr, List, [], ◌∷◌, length, map, take, Some, None, sym, ap, ◌∙◌, get_or, arith, length-append, not, refl}
 use Rattle.std.specs.Ordering.{match_ordering}
 use Rattle.std.specs.declared.cmp.Ordering.{Ordering}
 use Rattle.std.specs.declared.cmp.Ordering.TheVariants.{Less, Equal, Greater}
 use Rattle.std.specs.Prelude.{slice_index_or, fold}
 use Rattle.std.specs.List.{list_all, slice_get}
-use Rattle.std.proofs.lemmas.Bool.{and_parts, leb-true, ltb-true, lt-ltb}
+use Rattle.std.proofs.lemmas.Bool.{and_parts, leb-true, ltb-true, lt-ltb, and_from, not_from_false}
 use Rattle.std.proofs.lemmas.List.{length-map, length-take-le}
 use Rattle.std.proofs.lemmas.Option.{slice_get-get_or}
 use Rattle.strat_arena.specs.Items.{entry_of_item}
@@ -29,6 +29,7 @@ use Rattle.strat_state.proofs.SettingLemmas.{set_among}
 use Rattle.strat_model.specs.declared.replies.Refusal.TheVariants as why
 use Rattle.strat_store.specs.Memory.{Memory, refusal_of_update, refusal_of_clone}
 use Rattle.strat_store.proofs.ThreeTests.{three_none}
+use Rattle.strat_base.specs.Marks.{Marks, is_dropped, none_dropped}
 
 -- a parent is older than its version
 pub older_at : (v i d : ℕ) (ps : List ℕ) → are_older v ps ≡ true → i < length ps → get_or ps i d < v + i
@@ -120,3 +121,8 @@ pair_found parents entries v key value i d lawful within at is =
 pub said_found : (parents : Parents) (entries : List Entry) (v : ℕ) (key : List ℕ) (i : ℕ) (d : Entry) → i < length entries
     → slice_get entries i ≡ live_of parents entries v key → live_of parents entries v key ≡ Some (slice_index_or entries i d)
 said_found parents entries v key i d within at = sym at ∙ slice_get-get_or entries i d within
+
+-- where each version lives none was dropped
+pub clear_from : (marks : Marks) → ((v : ℕ) → is_dropped marks v ≡ false) → none_dropped marks ≡ true
+clear_from [] each = refl
+clear_from (m ∷ marks) each = and_from (not m) (none_dropped marks) (not_from_false m (each 0)) (clear_from marks (λ v. each (suc v)))

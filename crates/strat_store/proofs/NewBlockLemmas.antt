@@ -6,6 +6,7 @@ use Rattle.strat_base.specs.Numbers.{be, placed}
 use Rattle.strat_format.specs.SuperBlock.{spelled, zeros}
 use Rattle.strat_format.proofs.SuperBlockLemmas.{spelled_next}
 use Rattle.strat_store.specs.Format.{new_block}
+use Rattle.strat_format.specs.Layout.{newest_format}
 
 -- zeros are zeros in front of zeros
 zeros_joined : (k m : ℕ) → zeros (k + m) ≡ zeros k ++ zeros m
@@ -19,12 +20,12 @@ unfolding zeros be
 front_zeros m = refl
 
 -- the block of a new store's manifest, by its numbers and n zeros
-block_numbers : (n : ℕ) → spelled ((20, 0) ∷ (8, 1) ∷ (4, 1) ∷ []) ++ (zeros 1 ++ zeros n) ≡ be 4 0 ++ (manifest_bytes new_manifest ++ replicate n 0)
+block_numbers : (n : ℕ) → spelled ((20, 0) ∷ (8, 1) ∷ (4, 1) ∷ []) ++ (zeros 1 ++ zeros n) ≡ be 4 0 ++ (manifest_bytes newest_format new_manifest ++ replicate n 0)
 unfolding zeros be manifest_bytes
 block_numbers n = refl
 
 -- behind the manifest there are so many zeros
-rest_zeros : be 4 0 ++ (manifest_bytes new_manifest ++ replicate 4063 0) ≡ new_block
+rest_zeros : be 4 0 ++ (manifest_bytes newest_format new_manifest ++ replicate 4063 0) ≡ new_block
 unfolding link_bytes manifest_bytes be
 rest_zeros = refl
 

@@ -10,10 +10,10 @@ use Rattle.strat_crash.specs.Image.{Image, window}
 use Rattle.strat_format.specs.Chain.{link_bytes, chain_length, HoldsChain, IsChain}
 use Rattle.strat_format.specs.Chained.{Chained, manifest_at}
 use Rattle.strat_format.specs.Damage.{Read, and_then, passed_or}
-use Rattle.strat_format.specs.Layout.{first_free}
+use Rattle.strat_format.specs.Layout.{first_free, newest_format, shortest_manifest}
 use Rattle.strat_format.specs.Manifest.{Manifest, manifest_bytes, all_pass, SpellsManifest, new_manifest}
 use Rattle.strat_format.specs.Records.{Logged, journal_in_two}
-use Rattle.strat_format.specs.SuperBlock.{Super, Slot, in_range, chosen_in, verdict, newest_in}
+use Rattle.strat_format.specs.SuperBlock.{Super, in_range, chosen_in, verdict, newest_in}
 use Rattle.strat_format.proofs.ChainLemmas.{chain_read}
 use Rattle.strat_recovery.specs.Head.{Head}
 use Rattle.strat_recovery.specs.Opened.{parents_in}
@@ -32,21 +32,22 @@ one_super n m x y e =
     ap (λ (p : ℕ × Super). p.1) pair
 
 -- the newest superblock has its fields in range
-pub newest_fits : (c : Image) (slot : ℕ) (sb : Super) → newest_in c ≡ Ok (Some (slot, sb)) → (format : ℕ) × (in_range (record { format = format; sb = sb }) ≡ true)
+pub newest_fits : (c : Image) (slot : ℕ) (sb : Super) → newest_in c ≡ Ok (Some (slot, sb)) → in_range sb ≡ true
 newest_fits c slot sb e = by_slot (chosen_in c) e
   where
-    by_test : (n : ℕ) (s : Slot) (b : Bool) → in_range s ≡ b → cond b (slot_read n s.sb) (Err n) ≡ slot_read slot sb → (format : ℕ) × (in_range (record { format = format; sb = sb }) ≡ true)
+    by_test : (n : ℕ) (s : Super) (b : Bool) → in_range s ≡ b → cond b (slot_read n s) (Err n) ≡ slot_read slot sb → in_range sb ≡ true
     by_test n s false fits e = absurd (cc)
     by_test n s true fits e =
-        let same : s.sb ≡ sb = one_super n slot s.sb sb e in
-        (s.format, ap (λ (x : Super). in_range (record { format = s.format; sb = x })) (sym same) ∙ fits)
+        let same : s ≡ sb = one_super n slot s sb e in
+        ap in_range (sym same) ∙ fits
 
-    by_slot : (found : Option (ℕ × Slot)) → verdict found ≡ Ok (Some (slot, sb)) → (format : ℕ) × (in_range (record { format = format; sb = sb }) ≡ true)
+    by_slot : (found : Option (ℕ × Super)) → verdict found ≡ Ok (Some (slot, sb)) → in_range sb ≡ true
     by_slot None e = absurd (cc)
     by_slot (Some s) e = by_test s.0 s.1 (in_range s.1) refl e
 
 -- what an opening needs of the fields of the newest superblock
 pub record Fits (sb : Super) : Type 0 where
+  pub format : sb.format ≡ newest_format
   pub manifest_least : first_free sb.mem ≤ sb.manifest
   pub manifest_most : sb.manifest < 4294967295
   pub region : sb.region ≤ 1
@@ -57,17 +58,20 @@ pub record Fits (sb : Super) : Type 0 where
 pub fits_of : (c : Image) (slot : ℕ) (sb : Super) → newest_in c ≡ Ok (Some (slot, sb)) → Fits sb
 fits_of c slot sb e =
     let found = newest_fits c slot sb e in
-    let p1 = and_parts _ (leb sb.versions_max 16384) found.1 in
+    let p1 = and_parts _ (leb sb.versions_max 16384) found in
     let p2 = and_parts _ (leb 1 sb.versions_max) p1.0 in
     let p3 = and_parts _ (leb sb.changes_max 16777216) p2.0 in
     let p4 = and_parts _ (leb 1 sb.changes_max) p3.0 in
     let p5 = and_parts _ (leb sb.region 1) p4.0 in
-    let p6 = and_parts _ (leb 29 sb.length) p5.0 in
+    let p6 = and_parts _ (leb (shortest_manifest sb.format) sb.length) p5.0 in
     let p7 = and_parts _ (ltb sb.manifest 4294967295) p6.0 in
     let p8 = and_parts _ (leb (first_free sb.mem) sb.manifest) p7.0 in
     let p9 = and_parts _ (leb sb.mem 4096) p8.0 in
     let p10 = and_parts _ (leb 4 sb.mem) p9.0 in
+    let p11 = and_parts _ (leb 1 sb.generation) p10.0 in
+    let p12 = and_parts (leb 1 sb.format) (leb sb.format newest_format) p11.0 in
     record {
+      format = omega (arith, leb-true 1 sb.format p12.0, leb-true sb.format 1 p12.1);
       manifest_least = leb-true (first_free sb.mem) sb.manifest p8.1;
       manifest_most = ltb-true sb.manifest 4294967295 p7.1;
       region = leb-true sb.region 1 p5.1;
@@ -77,34 +81,34 @@ fits_of c slot sb e =
     }
 
 -- a new store's manifest is spelled in 29 bytes
-new_spelled : SpellsManifest (manifest_bytes new_manifest) new_manifest
+new_spelled : SpellsManifest newest_format (manifest_bytes newest_format new_manifest) new_manifest
 unfolding all_pass
 new_spelled = record { lawful = refl; text = refl }
 
-length-new : length (manifest_bytes new_manifest) ≡ 29
+length-new : length (manifest_bytes newest_format new_manifest) ≡ 29
 unfolding manifest_bytes be
 length-new = refl
 
 -- a superblock of the first generation leads to the manifest of a new store, and to a journal without changes
 module _ (c : Image) (sb : Super) (once : sb.generation ≡ 1) (size : sb.length ≡ 29) (block : window c (BLOCK * sb.manifest) BLOCK ≡ new_block) where
   module _ (fits : Fits sb) where
-    few : length (manifest_bytes new_manifest) ≤ BLOCK - 4
+    few : length (manifest_bytes newest_format new_manifest) ≤ BLOCK - 4
     few = omega (arith, length-new)
 
-    the_chain : IsChain c (sb.manifest ∷ []) (manifest_bytes new_manifest)
+    the_chain : IsChain c (sb.manifest ∷ []) (manifest_bytes newest_format new_manifest)
     unfolding HoldsChain
     the_chain = record {
       holds = (
-        block ∙ ap (link_bytes 0) (sym (take_all (BLOCK - 4) (manifest_bytes new_manifest) few)),
-        drop_all (BLOCK - 4) (manifest_bytes new_manifest) few,
+        block ∙ ap (link_bytes 0) (sym (take_all (BLOCK - 4) (manifest_bytes newest_format new_manifest) few)),
+        drop_all (BLOCK - 4) (manifest_bytes newest_format new_manifest) few,
       );
       count = ap chain_length (sym length-new);
       named = ((omega (arith, fits.manifest_least), omega (arith, fits.manifest_most)), tt);
       distinct = λ i j d lt within. absurd (omega arith);
     }
 
-    found_chain : manifest_at c sb.manifest sb.length ≡ Ok (record { manifest = new_manifest; blocks = sb.manifest ∷ [] })
-    found_chain = ap (manifest_at c sb.manifest) (size ∙ sym length-new) ∙ chain_read c sb.manifest [] (manifest_bytes new_manifest) new_manifest new_spelled the_chain
+    found_chain : manifest_at sb.format c sb.manifest sb.length ≡ Ok (record { manifest = new_manifest; blocks = sb.manifest ∷ [] })
+    found_chain = (λ i. manifest_at (fits.format i) c sb.manifest ((size ∙ sym length-new) i)) ∙ chain_read newest_format c sb.manifest [] (manifest_bytes newest_format new_manifest) new_manifest new_spelled the_chain
 
     it_belongs : belongs sb (record { manifest = new_manifest; blocks = sb.manifest ∷ [] }) ≡ true
     unfolding all_pass
@@ -124,7 +128,7 @@ module _ (c : Image) (sb : Super) (once : sb.generation ≡ 1) (size : sb.length
   -- an opening finds the head, and the image reads as the state of a new store
   module _ (slot : ℕ) (newest : newest_in c ≡ Ok (Some (slot, sb))) (empty : journal_in_two c sb.mem sb.region ≡ Ok []) where
     journal_found : recover_journal c sb new_manifest ≡ Ok []
-    journal_found = ap (λ (r : Read (List Logged)). and_then r (accepted_in sb.changes_max sb.versions_max (parents_in new_manifest) new_manifest.changes)) empty
+    journal_found = ap (λ (r : Read (List Logged)). and_then r (accepted_in sb.changes_max sb.versions_max (parents_in new_manifest) new_manifest.marks new_manifest.changes)) empty
 
     pub head_found : recover c ≡ Ok (Some (record { sb = sb; manifest = new_manifest; journal = [] }))
     head_found =

@@ -1,8 +1,8 @@
 -- The contents that a promotion and the next manifest make.
-use Rattle.std.proofs.Common.{◌≡◌, ◌≤◌, ◌<◌, ℕ, suc, Bool, true, false, cond, leb, ltb, inl, inr, List, [], ◌∷◌, ◌++◌, length, map, filter, drop, Option, Some, refl, sym, ap, ◌∙◌, subst, arith}
+use Rattle.std.proofs.Common.{◌≡◌, ◌≤◌, ◌<◌, ℕ, suc, Bool, true, false, cond, leb, ltb, inl, inr, List, [], ◌∷◌, ◌++◌, length, map, filter, drop, Option, Some, refl, sym, ap, ◌∙◌, subst, arith, not, eqb, replicate, None, true≢false, ◌&&◌}
 use Rattle.std.specs.Option.{option_to_list}
 use Rattle.std.proofs.Math.Seq.{drop-append_seam}
-use Rattle.std.proofs.lemmas.Bool.{and_parts, cases_lt, lt-leb, le-leb, lt-ltb, le-ltb, ltb-true}
+use Rattle.std.proofs.lemmas.Bool.{and_parts, cases_lt, lt-leb, le-leb, lt-ltb, le-ltb, ltb-true, not-true, eqb-true}
 use Rattle.strat_base.specs.declared.descriptors.Extent.{Extent}
 use Rattle.strat_base.specs.declared.descriptors.LevelDesc.{LevelDesc}
 use Rattle.strat_crash.specs.Image.{Image}
@@ -28,10 +28,15 @@ use Rattle.strat_standing.specs.Next.{AreNewArrays, IsNextOf, IsPromotion, MayBe
 use Rattle.strat_standing.specs.Occupied.{IsSpaceOf, extents_of}
 use Rattle.strat_standing.specs.Standing.{ContentsStand, ReadsAs}
 use Rattle.strat_state.specs.Level.{Level}
-use Rattle.strat_state.specs.Sound.{IsSound}
-use Rattle.strat_state.specs.State.{changes_of, updates_of, versions_of}
+use Rattle.strat_state.specs.Sound.{IsSound, is_tree, is_tree_from}
+use Rattle.strat_state.specs.State.{changes_of, updates_of, versions_of, marks_of}
 use Rattle.strat_store.specs.Memory.{Memory, IsMemoryOf}
 use Rattle.strat_store.specs.Publishing.{IsComputed, IsWrittenBeside, contents_after, descs_to, descs_behind}
+use Rattle.strat_format.specs.Layout.{newest_format}
+use Rattle.strat_base.specs.Marks.{Marks, none_dropped}
+use Rattle.strat_base.specs.Tree.{Parents}
+use Rattle.strat_state.proofs.SoundLemmas.{sound_tree, sound_pruned}
+use Rattle.strat_promotion.proofs.LevelsLemmas.{tree_test}
 
 rising_behind : (n : ℕ) (ns : List ℕ) → is_rising (n ∷ ns) ≡ true → is_rising ns ≡ true
 rising_behind n [] rising = refl
@@ -101,11 +106,43 @@ behind_dropped f ds levels t read rising =
     sym (drop-append_seam (low (λ (l : Level). l.number) t levels) (levels_behind t levels)) ∙ ap (λ (n : ℕ). drop n (low (λ (l : Level). l.number) t levels ++ levels_behind t levels)) (sym many)
     ∙ ap (drop (length (descs_to t ds))) (sym two)
 
+-- marks none of which is set
+clear_marks : (marks : Marks) → none_dropped marks ≡ true → marks ≡ replicate (length marks) false
+clear_marks [] none = refl
+clear_marks (m ∷ marks) none =
+    let parts = and_parts (not m) (none_dropped marks) none in
+    λ i. not-true m parts.0 i ∷ clear_marks marks parts.1 i
+
+-- the versions of a tree are one more than the numbers of their parents
+numbered_all : (n : ℕ) (parents : Parents) → is_tree_from (suc n) parents ≡ true → length (parent_numbers parents) ≡ length parents
+numbered_all n [] tree = refl
+numbered_all n (None ∷ parents) tree = absurd (omega (arith, eqb-true (suc n) 0 (and_parts (eqb (suc n) 0) (is_tree_from (suc (suc n)) parents) tree).0))
+numbered_all n (Some p ∷ parents) tree = ap suc (numbered_all (suc n) parents (and_parts (ltb p (suc n)) (is_tree_from (suc (suc n)) parents) tree).1)
+
+rooted_all : (parents : Parents) → is_tree parents ≡ true → length parents ≡ suc (length (parent_numbers parents))
+rooted_all [] tree = absurd (cc)
+rooted_all (None ∷ parents) tree =
+    let rest = (and_parts (ltb 0 (length (None ∷ parents))) (is_tree_from 0 (None ∷ parents)) tree).1 in
+    ap suc (sym (numbered_all 0 parents (and_parts (eqb 0 0) (is_tree_from 1 parents) rest).1))
+rooted_all (Some p ∷ parents) tree =
+    let rest = (and_parts (ltb 0 (length (Some p ∷ parents))) (is_tree_from 0 (Some p ∷ parents)) tree).1 in
+    absurd (omega (arith, ltb-true p 0 (and_parts (ltb p 0) (is_tree_from 1 parents) rest).0))
+
+-- where none of them was dropped their marks are clear
+marks_clear : (x : Contents) (m : Memory) → IsMemoryOf (contents_head x) m → IsSound (contents_state x) → replicate (suc (length (parent_numbers m.parents))) false ≡ marks_of (contents_state x)
+marks_clear x m of sound =
+    let marks : Marks = marks_of (contents_state x) in
+    let versions : Parents = versions_of (contents_state x) in
+    let many : length marks ≡ suc (length (parent_numbers m.parents)) =
+    (sound_pruned (contents_state x) sound.formed).len ∙ rooted_all versions (tree_test versions (sound_tree (contents_state x) sound.formed))
+    ∙ ap (λ (ps : Parents). suc (length (parent_numbers ps))) (sym of.parents) in
+    sym (clear_marks marks of.undropped ∙ ap (λ (n : ℕ). replicate n false) many)
+
 -- the next manifest makes the next contents
-pub after_next : (old : Contents) (m : Memory) (target : ℕ) (made : Option LevelDesc) (levels : List Level) (first size : ℕ) (blocks : List ℕ) → IsMemoryOf (contents_head old) m → length old.journal ≤ old.sb.mem
+pub after_next : (old : Contents) (m : Memory) (target : ℕ) (made : Option LevelDesc) (levels : List Level) (first size : ℕ) (blocks : List ℕ) → IsMemoryOf (contents_head old) m → IsSound (contents_state old) → length old.journal ≤ old.sb.mem
     → is_rising (map (λ (d : LevelDesc). d.number) old.chained.manifest.levels) ≡ true
     → IsNextOf old (contents_after old m target made levels first size blocks) made (descs_to target old.chained.manifest.levels) (descs_behind target old.chained.manifest.levels)
-after_next old m target made levels first size blocks of few rising = record {
+after_next old m target made levels first size blocks of sound few rising = record {
   slot = refl;
   generation = refl;
   region = refl;
@@ -113,6 +150,9 @@ after_next old m target made levels first size blocks of few rising = record {
     mem = refl;
     changes_max = refl;
     versions_max = refl;
+    format = refl;
+    marks = marks_clear old m of sound ∙ ap marks_of (sym (sealed_whole old few));
+    compacted = refl;
     parents = ap parent_numbers (of.parents ∙ ap versions_of (sym (sealed_whole old few)));
     updates = of.updates ∙ ap updates_of (sym (sealed_whole old few));
     changes = of.changes ∙ ap changes_of (sym (sealed_whole old few));
@@ -190,5 +230,5 @@ module _ (v w u : DiskView) (s t r : SpaceView) (old new : Contents) (target : �
       }
 
 -- the levels of a lawful manifest stand in the order of their numbers
-pub numbers_rise : (m : Manifest) → is_lawful_manifest m ≡ true → is_rising (map (λ (d : LevelDesc). d.number) m.levels) ≡ true
-numbers_rise m lawful = pass_at (manifest_tests m) 9 lawful
+pub numbers_rise : (m : Manifest) → is_lawful_manifest newest_format m ≡ true → is_rising (map (λ (d : LevelDesc). d.number) m.levels) ≡ true
+numbers_rise m lawful = pass_at (manifest_tests newest_format m) 9 lawful

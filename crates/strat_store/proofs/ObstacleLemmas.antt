@@ -1,10 +1,11 @@
 -- Calls that give up without a fault of the device: memory ran out, or a bound was reached.
-use Rattle.std.proofs.Common.{◌≡◌, ℕ, Result, Err, IsErrAnd, sym, ap, ◌∙◌, subst, arith}
+use Rattle.std.proofs.Common.{◌≡◌, ℕ, Result, Err, IsErrAnd, refl, sym, ap, ◌∙◌, subst, arith}
 use Rattle.std.specs.Prelude.{IsErrOf}
 use Rattle.std.proofs.lemmas.Result.{err_from_is_err_and}
+use Rattle.strat_base.specs.declared.failures.Trouble.{Trouble}
 use Rattle.strat_base.specs.declared.failures.Trouble.TheVariants as trouble
 use Rattle.strat_crash.specs.Faults.{HasCause}
-use Rattle.strat_promote.specs.Obstacles.{told_as}
+use Rattle.strat_promote.specs.Obstacles.{as_obstacle, told_as}
 use Rattle.strat_promote.specs.declared.obstacle.Obstacle.{Obstacle}
 use Rattle.strat_promote.specs.declared.obstacle.Obstacle.TheVariants.{NoMemory, Device, Damaged, Unfit}
 
@@ -27,6 +28,15 @@ damaged_told NoMemory b is = absurd (cc)
 damaged_told Unfit b is = absurd (cc)
 damaged_told Device b is = absurd (cc)
 damaged_told (Damaged a) b is = let same : a ≡ b = cc in ap Damaged same
+
+-- where memory ran out it was so below
+short_as : {T U : Type 0} (t : Trouble) → ◌≡◌ {A = Result U Obstacle} (Err (as_obstacle t)) (Err NoMemory) → ◌≡◌ {A = Result T Trouble} (Err t) (Err trouble.NoMemory)
+short_as trouble.NoMemory is = refl
+short_as trouble.Device is = absurd (cc)
+short_as (trouble.Damaged b) is = absurd (cc)
+
+pub short_told : {T U : Type 0} (t : Trouble) (r : Result U Obstacle) → IsErrAnd r (λ e. e ≡ as_obstacle t) → IsErrOf r NoMemory → IsErrOf {T = T} (Err t) trouble.NoMemory
+short_told t r told is = let p = err_from_is_err_and r told in short_as t (ap (λ (e : Obstacle). Err e) (sym p.2) ∙ sym p.1 ∙ is)
 
 -- the exit of a call whose obstacle is handed on
 module _ {U : Type 0} (r : Result U Obstacle) (o : Obstacle) (told : IsErrAnd r (λ e. e ≡ o)) (short : told_as o ≡ trouble.NoMemory) where

@@ -13,9 +13,9 @@ use Rattle.strat_crash.proofs.ImageLemmas.{outside_same, outside_same_above}
 use Rattle.strat_crash.proofs.MomentLemmas.{now_since_start, settled_at, at_told}
 use Rattle.strat_format.specs.Arrays.{blocks_of}
 use Rattle.strat_format.specs.Chained.{Chained, manifest_at}
-use Rattle.strat_format.specs.Layout.{region_at, region_size, other_region, first_free}
+use Rattle.strat_format.specs.Layout.{region_at, region_size, other_region, first_free, newest_format}
 use Rattle.strat_format.specs.Manifest.{Manifest, manifest_bytes, is_lawful_manifest}
-use Rattle.strat_format.specs.SuperBlock.{Super, Slot, newest_in}
+use Rattle.strat_format.specs.SuperBlock.{Super, newest_in}
 use Rattle.strat_format.proofs.ChainLemmas.{chain_read}
 use Rattle.strat_gate.specs.Laying.{LaysOver}
 use Rattle.strat_promote.specs.Job.{blocks_listed}
@@ -37,7 +37,7 @@ kept_on v s t same on = record {
   content = on.content;
   exposed = on.exposed;
   newest = λ c left. on.newest c left ∙ (λ i. Ok (Some (sym same.slot i, sym same.sb i)));
-  chain = λ c left. (λ i. manifest_at c (same.sb i).manifest (same.sb i).length) ∙ on.chain c left ∙ (λ i. Ok (sym same.chained i));
+  chain = λ c left. (λ i. manifest_at (same.sb i).format c (same.sb i).manifest (same.sb i).length) ∙ on.chain c left ∙ (λ i. Ok (sym same.chained i));
 }
 
 pub told_some : (o : Option Image) (f : Image) → o ≡ Some f → IsSome o
@@ -57,7 +57,7 @@ still_on v w s on time each =
       content = told.0;
       exposed = told.1;
       newest = λ c left. let one = each c left in newest_local one.0 c one.2 ∙ on.newest one.0 one.1;
-      chain = λ c left. let one = each c left in manifest_local one.0 c s.sb.manifest s.sb.length s.chained (on.chain one.0 one.1) one.3;
+      chain = λ c left. let one = each c left in manifest_local s.sb.format one.0 c s.sb.manifest s.sb.length s.chained (on.chain one.0 one.1) one.3;
     }
 
 -- a disk that was only read
@@ -119,14 +119,14 @@ logged_on v w s whole torn time on =
 
 -- in the first gate of the other region, on a disk that was durable
 pub gate_on : (v w : DiskView) (s : Held) (f : Image) → belongs s.sb s.chained ≡ true → s.sb.region ≤ 1 → Exposes v f → IsDurable v → newest_in f ≡ Ok (Some (s.slot, s.sb))
-    → manifest_at f s.sb.manifest s.sb.length ≡ Ok s.chained → TearsOnly v w (region_at s.sb.mem (other_region s.sb.region)) 1 → Passes v w → IsOnDisk w s
+    → manifest_at s.sb.format f s.sb.manifest s.sb.length ≡ Ok s.chained → TearsOnly v w (region_at s.sb.mem (other_region s.sb.region)) 1 → Passes v w → IsOnDisk w s
 gate_on v w s f belonging few exposed durable newest chain torn time =
     let p = places s.sb.mem s.sb.region few in
     let here : IsOnDisk v s = record {
       content = f;
       exposed = exposed;
       newest = λ c left. ap newest_in (settled_at v f exposed durable c left) ∙ newest;
-      chain = λ c left. ap (λ (d : Image). manifest_at d s.sb.manifest s.sb.length) (settled_at v f exposed durable c left) ∙ chain;
+      chain = λ c left. ap (λ (d : Image). manifest_at s.sb.format d s.sb.manifest s.sb.length) (settled_at v f exposed durable c left) ∙ chain;
     } in
     torn_on v w s (region_at s.sb.mem (other_region s.sb.region)) 1 belonging p.gate_behind p.gate_within torn time here
 
@@ -142,7 +142,7 @@ module _ (v0 v1 v2 v3 : DiskView) (slot : ℕ) (sb : Super) (mem active : ℕ) (
         let over : LaysOver v1 f slot sb = record {
           content = there;
           same = λ d left. subst (λ (e : Image). SameIn 0 8192 f e) (sym (settled_at v1 f there durable d left)) (record { byte = λ i low high. refl });
-          newest = subst (λ (o : Option (ℕ × Slot)). IfSome o (λ s. (s.0 ≢ slot) × (s.1.sb.generation < sb.generation))) (sym chosen.found) (apart, less);
+          newest = subst (λ (o : Option (ℕ × Super)). IfSome o (λ s. (s.0 ≢ slot) × (s.1.generation < sb.generation))) (sym chosen.found) (apart, less);
         } in
         let last = shut.each c (now_since_start v2 v3 c passes left) in
         newest_local last.0 c (outside_same (region_at mem active) 1 0 8192 (places mem active one).behind_slots last.2) ∙ found f over last.0 last.1;
@@ -157,20 +157,20 @@ module _ (v0 v1 v2 v3 : DiskView) (slot : ℕ) (sb : Super) (mem active : ℕ) (
   }
 
 -- a manifest that was written is read
-pub written_at : (v w u : DiskView) (first size : ℕ) (chain : List Extent) (m : Manifest) → Passes v w → is_lawful_manifest m ≡ true
+pub written_at : (v w u : DiskView) (first size : ℕ) (chain : List Extent) (m : Manifest) → Passes v w → is_lawful_manifest newest_format m ≡ true
     → (IsSome w.content → (g : Image) → Exposes u g → (new : Contents) → IsWrittenTo first size chain m new → HasManifest g new)
     → WritesManifest v u first size (record { manifest = m; blocks = blocks_of chain })
 written_at v w u first size chain m time lawful stored some g told =
     let chained : Chained = record { manifest = m; blocks = blocks_of chain } in
     let new : Contents = record {
       slot = 0;
-      sb = record { generation = 0; manifest = first; length = size; region = 0; mem = 0; changes_max = 0; versions_max = 0 };
+      sb = record { format = newest_format; generation = 0; manifest = first; length = size; region = 0; mem = 0; changes_max = 0; versions_max = 0 };
       chained = chained;
       journal = [];
       levels = [];
     } in
-    let has = stored (time.exposed some) g told new (record { chained = refl; first_is = refl; length_is = refl }) in
-    ap (manifest_at g first) has.size ∙ chain_read g first has.others (manifest_bytes m) m (record { lawful = lawful; text = refl }) has.chain
+    let has = stored (time.exposed some) g told new (record { chained = refl; format = refl; first_is = refl; length_is = refl }) in
+    ap (manifest_at newest_format g first) has.size ∙ chain_read newest_format g first has.others (manifest_bytes newest_format m) m (record { lawful = lawful; text = refl }) has.chain
     ∙ (λ i. Ok (record { manifest = m; blocks = sym has.blocks i }))
 
 -- the same of a superblock and a manifest that are these
@@ -179,10 +179,10 @@ written_as v w sb is chained here sb_is chained_is written =
     subst (λ (k : Super). WritesManifest v w k.manifest k.length here) (sym sb_is) (subst (λ (ch : Chained). WritesManifest v w sb.manifest sb.length ch) (sym chained_is) written)
 
 -- a superblock that leads to a manifest written beside what a store holds takes its place
-pub published_on : (v w u : DiskView) (s : Held) (target : ℕ) (sb : Super) (chained : Chained) (levels : List (Option LevelDesc)) → IsConsistent s → WritesBeside v w s → WritesManifest v w sb.manifest sb.length chained
+pub published_on : (v w u : DiskView) (s : Held) (target : ℕ) (sb : Super) (chained : Chained) (levels : List (Option LevelDesc)) → IsConsistent s → sb.format ≡ newest_format → WritesBeside v w s → WritesManifest v w sb.manifest sb.length chained
     → LeavesContent w → LaysSuperblock w u s.log.mem (1 - s.slot) sb → Passes w u → s.sb.generation < sb.generation → sb.mem ≡ s.sb.mem → belongs sb chained ≡ true
     → IsOnDisk v s → IsOnDisk u (held_next s target sb chained levels)
-published_on v w u s target sb chained levels whole beside written leaves laid time greater mem belonging on =
+published_on v w u s target sb chained levels whole format beside written leaves laid time greater mem belonging on =
     let mid = beside_on v w s beside on in
     let told = some_told u.content (time.exposed (told_some w.content mid.content mid.exposed)) in
     let g : Image = mid.content in
@@ -193,7 +193,8 @@ published_on v w u s target sb chained levels whole beside written leaves laid t
       exposed = told.1;
       newest = λ c left. laid.newest g s.slot s.sb mid.exposed (mid.newest g (at_told w.content (Images w) g mid.exposed leaves)) (λ e. absurd (omega (arith, e, slot))) greater c left;
       chain = λ c left.
-          manifest_local g c sb.manifest sb.length chained (written (told_some v.content on.content on.exposed) g mid.exposed)
+          manifest_local sb.format g c sb.manifest sb.length chained
+          (ap (λ (f : ℕ). manifest_at f g sb.manifest sb.length) format ∙ written (told_some v.content on.content on.exposed) g mid.exposed)
           (λ b among.
           let behind = chain_behind (held_next s target sb chained levels) belonging b among in
           laid.behind g c mid.exposed left b (le-ltb b (first_free s.log.mem) (omega (arith, behind, mem, log_mem))));

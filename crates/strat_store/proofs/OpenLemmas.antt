@@ -1,8 +1,9 @@
 -- A disk on which a store was recovered, while the region that is not active is shut.
-use Rattle.std.proofs.Common.{◌≡◌, ◌≢◌, ◌<◌, ◌⊎◌, ℕ, Bool, true, false, inl, inr, List, [], ◌∷◌, length, Some, Result, Ok, Err, refl, sym, ap, ◌∙◌, subst, arith, true≢false}
-use Rattle.std.specs.Prelude.{IsTrue, IfErr, ◌↔◌}
+use Rattle.std.proofs.Common.{◌≡◌, ◌≢◌, ◌<◌, ◌≤◌, ◌⊎◌, ℕ, Bool, true, false, inl, inr, List, [], ◌∷◌, length, Some, Result, Ok, Err, refl, sym, ap, ◌∙◌, subst, arith, true≢false}
+use Rattle.std.specs.Prelude.{IsTrue, IfErr, IsErrOf, ◌↔◌}
 use Rattle.strat_base.specs.declared.descriptors.ArrayDesc.{ArrayDesc}
 use Rattle.strat_array.specs.Kept.{Blocks}
+use Rattle.strat_crash.specs.Faults.{HasCause, Rose}
 use Rattle.strat_crash.specs.Image.{Image, Outside}
 use Rattle.strat_crash.specs.Moments.{DiskView, Exposes, Images, Since, Passes, TearsOnly, IsDurable, KeepsImages, OnlyReads}
 use Rattle.strat_crash.specs.Trail.{Trail}
@@ -95,7 +96,7 @@ module _ (f : Image) (r : Recovered) (is : IsRecoveredFrom f r) (t : Table) (sho
 
   chained : opened_contents.chained ≡ chained_of r.published
   chained =
-      let e : Ok opened_contents.chained ≡ Ok (chained_of r.published) = sym parts.reads.lies.chain ∙ ap (λ (sb : Super). manifest_at f sb.manifest sb.length) opened_super ∙ is.chain in
+      let e : Ok opened_contents.chained ≡ Ok (chained_of r.published) = sym parts.reads.lies.chain ∙ ap (λ (sb : Super). manifest_at sb.format f sb.manifest sb.length) opened_super ∙ is.chain in
       cc
 
   pub opened_held : (cached : Blocks) → opened_contents ≡ contents_held (held_of r cached) opened_contents.levels
@@ -217,3 +218,10 @@ module _ (before synced read now : DiskView) (r : Recovered) (syncs : OnlyReads 
 pub looks_kept : {T : Type 0} (r : Result T AttachFault) (old new : DiskView) → OnlyReads old new → IfErr r (λ e. e ≢ Device → (new.content ≡ old.content) × KeepsImages old new)
 looks_kept (Ok x) old new looks = tt
 looks_kept (Err e) old new looks = λ _. (looks.same, looks.images)
+
+-- a call that fails as the device did has its cause, where a fault was counted
+pub failed_cause : {T : Type 0} (r : Result T AttachFault) (before now : ℕ) → IsErrOf r Device → before ≤ now → Rose before now → HasCause Device before now r
+failed_cause (Ok x) before now is later rose = absurd (cc)
+failed_cause (Err e) before now is later rose =
+    let same : e ≡ Device = cc in
+    record { later = later; ok = tt; device = λ failed. rose; other = λ no. absurd (no same) }

@@ -1,6 +1,6 @@
 -- Level 0, the next one and the cursors in a pool, as calls change it.
 use Rattle.std.proofs.Common.{◌≡◌, ◌≢◌, ◌≤◌, ◌<◌, ◌+◌, ◌*◌, ℕ, Bool, true, false, cond, eqb, inl, inr, List, [], ◌∷◌, Option, Some, None, Result, Ok, Err, length, refl, sym, ap, ◌∙◌, subst, arith}
-use Rattle.std.specs.List.{count_by}
+use Rattle.std.specs.List.{Contains, count_by}
 use Rattle.std.specs.Option.{option_map}
 use Rattle.std.specs.Result.{OnErr, OnOk}
 use Rattle.std.proofs.lemmas.Bool.{cases_eq, eq-eqb, ne_eqb}
@@ -302,3 +302,37 @@ started_follow (Ok x) old new parents before after pinned follow kept err = (fol
 started_follow (Err e) old new parents before after pinned follow kept err =
     subst (λ (x : CursorsView). SharesFollow old new before.opened x.opened × ArePinned new parents x.opened) (sym err.0)
     (same_follow old new err.1 parents before.opened pinned, same_pinned old new err.1 parents before.opened pinned)
+
+-- an empty list has no member
+none_in : {X : Type 0} (x : X) → Contains [] x → ⊥
+none_in x among = let within = among.1 in omega (arith, within)
+
+-- the first level 0 of a pool stands there alone, and no cursor beside it
+pub first_stands : (pool : List PoolEntry) (parents : Parents) (zero : Memtable) → MemtableStands pool zero → shares_at pool zero.list.arena ≡ 1 → SameBeside [] pool zero.list.arena
+    → StandInPool pool parents zero None []
+first_stands pool parents zero level share same = record {
+  level = level;
+  beside = tt;
+  pinned = record {
+    held = record { stand = λ c among. absurd (none_in c among); shares = λ n. omega arith };
+    each = λ c among. absurd (none_in c among);
+  };
+  shares = λ n. let held : shares_at pool n ≡ owns zero None n = own n in let none : shares_of [] n ≡ 0 = refl in omega (arith, held, none);
+}
+  where
+    own : (n : ℕ) → shares_at pool n ≡ owns zero None n
+    own n = elim (cases_eq n zero.list.arena) [
+      | inl is ↦ subst (λ m. shares_at pool m ≡ owns zero None m) (sym is) (omega (arith, share, once_same zero.list.arena, owns_alone zero zero.list.arena))
+      | inr apart ↦ omega (arith, ap (λ (e : PoolEntry). e.shares) (same n apart), once_other zero.list.arena n (λ e. apart (sym e)), owns_alone zero n)
+    ]
+
+-- where no cursor is open, the lists stand whatever the tree is
+pub unread_stands : (pool : List PoolEntry) (parents other : Parents) (zero : Memtable) (next : Option Memtable) (cursors : List OpenCursor) → opened_held pool cursors ≡ []
+    → StandInPool pool parents zero next cursors → StandInPool pool other zero next cursors
+unread_stands pool parents other zero next [] none stand = record {
+  level = stand.level;
+  beside = stand.beside;
+  pinned = record { held = stand.pinned.held; each = λ c among. absurd (none_in c among) };
+  shares = stand.shares;
+}
+unread_stands pool parents other zero next (c ∷ cs) none stand = absurd (cc)

@@ -20,7 +20,7 @@ use Rattle.strat_base.specs.declared.descriptors.Extent.{Extent}
 use Rattle.strat_base.specs.declared.descriptors.LevelDesc.{LevelDesc}
 use Rattle.strat_crash.proofs.BlockLemmas.{keeps_refl}
 use Rattle.strat_crash.specs.Image.{Image}
-use Rattle.strat_extent.specs.Blocks.{SpaceView, times_in}
+use Rattle.strat_extent.specs.Blocks.{SpaceView, times_in, used_count}
 use Rattle.strat_format.specs.Arrays.{blocks_of}
 use Rattle.strat_level.specs.Levels.{level_numbered, leads_if_any}
 use Rattle.strat_level.specs.Memtable.{ItemList, ListStands, entries_held}
@@ -46,6 +46,7 @@ use Rattle.strat_state.specs.State.{State, versions_of}
 use Rattle.strat_cursor.specs.Looking.{arrays_there}
 use Rattle.strat_store.specs.Memory.{Memory}
 use Rattle.strat_store.specs.Promoting.{MayPromote, HoldInMemory, IsPromotedTo}
+use Rattle.strat_state.proofs.SoundLemmas.{ordered}
 
 -- the arrays of the levels down to a number stand in front of the others
 pub to_front : (levels : List (Option LevelDesc)) (j : ℕ) → (rest : List ArrayDesc) × (arrays_there levels ≡ arrays_to levels j ++ rest)
@@ -138,7 +139,7 @@ module _ (m : Memory) (levels : List (Option LevelDesc)) (mem id versions : ℕ)
     the_job = job_of_state s levels (target_of p)
 
     pub its_job : IsItsJob f p (inputs_given list pool levels parents) the_job
-    its_job = begun_its_job f s (inputs_given list pool levels parents) p sound over
+    its_job = begun_its_job f s (inputs_given list pool levels parents) p (ordered s sound) over
 
     module _ (made : Option LevelDesc) (writers : List ArrayProgress) (owns : OwnsItsBlocks writers made) where
       arrays_of_plan : (is : IsMade f g the_job (target_of p) id made) → (o : Option LevelDesc) → made ≡ o → AreArraysOf is.plan id (arrays_made o)
@@ -154,7 +155,7 @@ module _ (m : Memory) (levels : List (Option LevelDesc)) (mem id versions : ℕ)
                 let within = slice_get_within level.arrays q a there in
                 let got =
                 made_arrays f g s (target_of p) id (levels_to (target_of p) s.levels) (levels_behind (target_of p) s.levels) the_job made is
-                (begun_job f s (inputs_given list pool levels parents) p sound over) sound level one q (omega (arith, within, one.len)) in
+                (begun_job f s (inputs_given list pool levels parents) p (ordered s sound) over) (ordered s sound) level one q (omega (arith, within, one.len)) in
                 let both : Some got.0 ≡ Some a = sym got.1 ∙ there in
                 let same : got.0 ≡ a = cc in
                 let here : AreMaximal a.extents × AreWithin a.extents = extents_at (λ (xs : List Extent). AreMaximal xs × AreWithin xs) level.arrays q a spelled there in
@@ -172,10 +173,10 @@ module _ (m : Memory) (levels : List (Option LevelDesc)) (mem id versions : ℕ)
           let inputs : Inputs = inputs_given list pool levels parents in
           let promotes =
           made_promotes f g s (target_of p) id (levels_to (target_of p) s.levels) (levels_behind (target_of p) s.levels) the_job made is
-          (begun_job f s inputs p sound over) (begun_takes f s inputs p sound over) in
+          (begun_job f s inputs p (ordered s sound) over) (begun_takes f s inputs p (ordered s sound) over) in
           record {
-            says = begun_leaves f s inputs p sound over f g p id made (record { task = refl }) (λ b of. keeps_refl b f) is;
-            paid = λ paid honest full. begun_paid f s inputs p sound over f g p id made (record { task = refl }) (λ b of. keeps_refl b f) is paid (omega (arith, some, mem_is)) honest (λ first. full);
+            says = begun_leaves f s inputs p (ordered s sound) over f g p id made (record { task = refl }) (λ b of. keeps_refl b f) is sound;
+            paid = λ paid honest full. begun_paid f s inputs p (ordered s sound) over f g p id made (record { task = refl }) (λ b of. keeps_refl b f) is paid (omega (arith, some, mem_is)) honest (λ first. full);
             fresh = arrays_new _ _ _ is.plan id (arrays_made made) promotes.split.split (arrays_of_plan is made refl);
             numbered = λ level e. (subst (λ (o : Option LevelDesc). IsPlanMade g the_job (target_of p) id is.groups is.plan o) e is.level).number;
           }
@@ -201,6 +202,15 @@ module _ (m : Memory) (levels : List (Option LevelDesc)) (mem id versions : ℕ)
             let here = ap (λ (xs : List Extent). times_in xs b) same in
             omega (arith, all, no, here);
       }
+
+  -- so many blocks became used
+  pub counts_its_blocks : (before after : SpaceView) (q : Promotion) (made : Option LevelDesc) → TakesMore before after (extents_taken p) (extents_taken q) → OwnsItsBlocks (writers_of q) made
+      → used_count after ≡ used_count before + length (blocks_of (extents_of (arrays_made made)))
+  counts_its_blocks before after q made takes owns =
+      let none = ap (λ (st : Stage). length (blocks_of (all_extents (stage_writers st)))) begun.stage in
+      let same : extents_taken q ≡ extents_of (arrays_made made) =
+      sym (joined (λ (w : ArrayProgress). w.extents) (writers_of q)) ∙ ap (λ (xs : List (List Extent)). flat_map (λ (es : List Extent). es) xs) (sym owns.owned) ∙ made_extents made in
+      omega (arith, takes.count, none, ap (λ (xs : List Extent). length (blocks_of xs)) same)
 
   pub reads_few : {T E : Type 0} (before now : ℕ) (q : Promotion) (r : Result T E) → ReadsItsBlocks (arrays_to levels (target_of p)) before now p q r
       → now ≤ before + 2 * length (blocks_listed (arrays_there levels))

@@ -33,7 +33,7 @@ use Rattle.strat_model.specs.Request.{Scan}
 use Rattle.strat_model.specs.Step.{step, page, refuses, replies_with, pairs_at}
 use Rattle.strat_model.specs.declared.replies.Refusal.TheVariants as why
 use Rattle.strat_model.specs.declared.replies.Reply.TheVariants as reply
-use Rattle.strat_recovery.proofs.RowLemmas.{pairs_over}
+use Rattle.strat_recovery.proofs.StateTableLemmas.{pairs_same}
 use Rattle.strat_recovery.specs.Asked.{on_disk}
 use Rattle.strat_recovery.specs.StateTable.{table_of}
 use Rattle.strat_standing.specs.Contents.{Contents}
@@ -42,7 +42,7 @@ use Rattle.strat_state.specs.Level.{Level}
 use Rattle.strat_state.specs.LookUp.{looked_up, first_live}
 use Rattle.strat_state.specs.Maps.{map_over, with_value, value_over}
 use Rattle.strat_state.specs.State.{State, versions_of, sources}
-use Rattle.strat_store.proofs.GettingLemmas.{blamed, none_damaged, whole_read, it, ordered, cached, known, asked_is, stays}
+use Rattle.strat_store.proofs.GettingLemmas.{blamed, none_damaged, whole_read, it, ordered, cached, known, asked_is, stays, living}
 use Rattle.strat_store.specs.Applying.{is_fault, IsLookedUp, IsDamagedIn}
 use Rattle.strat_store.specs.Held.{Held, IsConsistent, StandsWith, contents_held}
 use Rattle.strat_store.specs.Memory.{Memory}
@@ -190,7 +190,7 @@ module _ (v : DiskView) (s : Held) (levels : List Level) (whole : IsConsistent s
   table_asked n is =
       let here : n < length (versions_of state) = subst (λ (ps : Parents). n < length ps) whole.memory.parents (ltb-true n (length s.memory.parents) is) in
       record {
-        ordered = subst IsMap (sym (pairs_over (versions_of state) (sources state) n here)) (map_is (versions_of state) (sources state) n);
+        ordered = subst IsMap (sym (pairs_same state n here ∙ ap (λ (b : Bool). if b then map_over (versions_of state) (sources state) n else []) (living v s levels whole w n))) (map_is (versions_of state) (sources state) n);
         each = λ key. sym (asked_is v s levels whole w n key is);
       }
 

@@ -6,11 +6,12 @@ use Rattle.strat_format.proofs.ManifestLemmas.{pass_at}
 use Rattle.strat_recovery.specs.Head.{Head, head_updates, head_changes}
 use Rattle.strat_recovery.proofs.OpeningLemmas.{manifest_tests}
 use Rattle.strat_promotion.proofs.PaidLemmas.{updates_few}
+use Rattle.strat_format.specs.Layout.{newest_format}
 
 -- no more updates were accepted than changes
-pub fewer_updates : (h : Head) → is_lawful_manifest h.manifest ≡ true → head_updates h ≤ head_changes h
+pub fewer_updates : (h : Head) → is_lawful_manifest newest_format h.manifest ≡ true → head_updates h ≤ head_changes h
 fewer_updates h lawful = omega (
   arith,
-  leb-true h.manifest.updates h.manifest.changes (pass_at (manifest_tests h.manifest) 1 lawful),
+  leb-true h.manifest.updates h.manifest.changes (pass_at (manifest_tests newest_format h.manifest) 1 lawful),
   updates_few h.journal,
 )

@@ -21,20 +21,22 @@ use Rattle.strat_recovery.specs.Head.{Head}
 use Rattle.strat_recovery.specs.Opened.{parents_in}
 use Rattle.strat_recovery.specs.Opening.{belongs, recover_manifest, accepted_in, recover_journal, recover_head, recover_slot, recover}
 use Rattle.strat_state.specs.Sound.{is_accepted, are_accepted}
-use Rattle.strat_state.specs.State.{tree_after}
+use Rattle.strat_state.specs.State.{tree_after, marks_after}
 use Rattle.strat_store.specs.Memory.{Memory, memory_after, IsMemoryOf}
-use Rattle.strat_store.proofs.RedoLemmas.{accepted_by, memory_follows_all}
+use Rattle.strat_store.proofs.RedoLemmas.{accepted_by, any_marks, memory_follows_all}
 use Rattle.strat_format.specs.SuperBlock.{Super, newest_in}
 use Rattle.strat_format.proofs.ManifestLemmas.{pass_at}
 use Rattle.strat_recovery.proofs.OpeningLemmas.{manifest_tests, map_some}
 use Rattle.strat_recovery.proofs.PassedLemmas.{belonging_tests}
 use Rattle.strat_store.specs.Recovering.{chained_of, IsAdmitted}
 use Rattle.strat_store.specs.declared.admitting.Published.{Published}
+use Rattle.strat_base.specs.Marks.{Marks}
+use Rattle.strat_format.specs.Layout.{newest_format}
 
 -- what was admitted may be loaded
 module _ (sb : Super) (p : Published) (is : IsAdmitted sb p) where
   pub load_older : (parents : List ℕ) → parents ≡ p.manifest.parents → are_older 1 parents ≡ true
-  load_older parents same = ap (are_older 1) same ∙ pass_at (manifest_tests (chained_of p).manifest) 6 is.spelled
+  load_older parents same = ap (are_older 1) same ∙ pass_at (manifest_tests newest_format (chained_of p).manifest) 6 is.spelled
 
   pub load_room : (parents : List ℕ) → parents ≡ p.manifest.parents → 1 + length parents ≤ sb.versions_max
   load_room parents same = omega (
@@ -45,7 +47,7 @@ module _ (sb : Super) (p : Published) (is : IsAdmitted sb p) where
 
   pub load_counts : (p.manifest.updates ≤ p.manifest.changes) × (p.manifest.changes ≤ sb.changes_max)
   load_counts = (
-    leb-true p.manifest.updates p.manifest.changes (pass_at (manifest_tests (chained_of p).manifest) 1 is.spelled),
+    leb-true p.manifest.updates p.manifest.changes (pass_at (manifest_tests newest_format (chained_of p).manifest) 1 is.spelled),
     leb-true p.manifest.changes sb.changes_max (pass_at (belonging_tests sb (chained_of p)) 4 is.belonging),
   )
 
@@ -69,20 +71,20 @@ chain_low c before b (suc n) blocks low e = by_test (may_follow (b ∷ before) (
         (and_from (ltb b 4294967295) (list_all (λ x. ltb x 4294967295) parts.0) (lt-ltb b 4294967295 low)
         (later parts.0 (ltb-true (link_at c b) 4294967295 less.1) parts.1))
 
-pub manifest_low : (c : Image) (first n : ℕ) (y : Chained) → first < 4294967295 → manifest_at c first n ≡ Ok y → list_all (λ x. ltb x 4294967295) y.blocks ≡ true
-manifest_low c first n y low e =
-    let chain = and_then_ok (chain_from c [] first (chain_length n - 1)) (manifest_in_chain c first n) y e in
-    let made = map_some (λ m. record { manifest = m; blocks = chain.0 }) (manifest_filled n (chained_bytes c chain.0)) y (found_ok first (option_map (λ m. record { manifest = m; blocks = chain.0 }) (manifest_filled n (chained_bytes c chain.0))) y chain.2) in
+pub manifest_low : (format : ℕ) (c : Image) (first n : ℕ) (y : Chained) → first < 4294967295 → manifest_at format c first n ≡ Ok y → list_all (λ x. ltb x 4294967295) y.blocks ≡ true
+manifest_low format c first n y low e =
+    let chain = and_then_ok (chain_from c [] first (chain_length n - 1)) (manifest_in_chain format c first n) y e in
+    let made = map_some (λ m. record { manifest = m; blocks = chain.0 }) (manifest_filled format n (chained_bytes c chain.0)) y (found_ok first (option_map (λ m. record { manifest = m; blocks = chain.0 }) (manifest_filled format n (chained_bytes c chain.0))) y chain.2) in
     subst (λ (x : Chained). list_all (λ b. ltb b 4294967295) x.blocks ≡ true) made.2 (chain_low c [] first (chain_length n - 1) chain.0 low chain.1)
 
-pub manifest_damaged : (c : Image) (sb : Super) (y : Chained) → sb.manifest < 4294967295 → manifest_at c sb.manifest sb.length ≡ Ok y
+pub manifest_damaged : (c : Image) (sb : Super) (y : Chained) → sb.manifest < 4294967295 → manifest_at sb.format c sb.manifest sb.length ≡ Ok y
     → (list_all (λ x. ltb x 4294967295) y.blocks ≡ true → belongs sb y ≡ false) → recover_manifest c sb ≡ Err sb.manifest
 manifest_damaged c sb y low e not' =
     ap (λ (r : Read Chained). and_then r (λ y. passed_or sb.manifest (belongs sb y) y.manifest)) e
-    ∙ ap (λ (t : Bool). passed_or sb.manifest t y.manifest) (not' (manifest_low c sb.manifest sb.length y low e))
+    ∙ ap (λ (t : Bool). passed_or sb.manifest t y.manifest) (not' (manifest_low sb.format c sb.manifest sb.length y low e))
 
 -- a manifest that was read and admitted is what recovery finds
-pub manifest_recovered : (c : Image) (sb : Super) (y : Chained) → manifest_at c sb.manifest sb.length ≡ Ok y → belongs sb y ≡ true → recover_manifest c sb ≡ Ok y.manifest
+pub manifest_recovered : (c : Image) (sb : Super) (y : Chained) → manifest_at sb.format c sb.manifest sb.length ≡ Ok y → belongs sb y ≡ true → recover_manifest c sb ≡ Ok y.manifest
 manifest_recovered c sb y e own =
     ap (λ (r : Read Chained). and_then r (λ y. passed_or sb.manifest (belongs sb y) y.manifest)) e
     ∙ ap (λ (t : Bool). passed_or sb.manifest t y.manifest) own
@@ -97,43 +99,44 @@ damaged_block b block e = cc
 
 -- memory of a manifest accepts the changes that a store with it does
 module _ (sb : Super) (manifest : Manifest) (m : Memory) (of : IsMemoryOf (record { sb = sb; manifest = manifest; journal = [] }) m) where
-  pub memory_accepts : (logged : List Logged) → accepted_by m logged ≡ accepted_in sb.changes_max sb.versions_max (parents_in manifest) manifest.changes logged
+  pub memory_accepts : (logged : List Logged) → accepted_by m logged ≡ accepted_in sb.changes_max sb.versions_max (parents_in manifest) manifest.marks manifest.changes logged
   memory_accepts logged =
       let count : m.changes ≡ manifest.changes = omega (arith, of.changes) in
-      λ i. accepted_in (of.changes_max i) (of.versions_max i) (of.parents i) (count i) logged
+      (λ i. accepted_in (of.changes_max i) (of.versions_max i) (of.parents i) [] (count i) logged)
+      ∙ any_marks sb.changes_max sb.versions_max (parents_in manifest) [] manifest.marks manifest.changes logged refl of.undropped
 
   pub memory_room : (n : ℕ) → n ≤ sb.mem → n ≤ m.spare
   memory_room n few = omega (arith, of.room, few)
 
-  pub memory_redone : (now : Memory) (changes : List Change) → now ≡ fold memory_after m changes → IsMemoryOf (record { sb = sb; manifest = manifest; journal = changes }) now
-  memory_redone now changes is = subst (IsMemoryOf (record { sb = sb; manifest = manifest; journal = changes })) (sym is) (memory_follows_all sb manifest [] changes m of)
+  pub memory_redone : (now : Memory) (changes : List Change) → are_accepted m.changes_max m.versions_max m.parents [] m.changes changes ≡ true → now ≡ fold memory_after m changes → IsMemoryOf (record { sb = sb; manifest = manifest; journal = changes }) now
+  memory_redone now changes accepted is = subst (IsMemoryOf (record { sb = sb; manifest = manifest; journal = changes })) (sym is) (memory_follows_all sb manifest [] changes m [] of refl accepted)
 
 -- changes that are accepted as records are accepted each in its turn
-pub accepted_in_turn : (changes_max versions_max : ℕ) (parents : Parents) (n : ℕ) (logged : List Logged) (journal : List Change)
-    → accepted_in changes_max versions_max parents n logged ≡ Ok journal → are_accepted changes_max versions_max parents n journal ≡ true
-accepted_in_turn changes_max versions_max parents n [] journal e =
+pub accepted_in_turn : (changes_max versions_max : ℕ) (parents : Parents) (marks : Marks) (n : ℕ) (logged : List Logged) (journal : List Change)
+    → accepted_in changes_max versions_max parents marks n logged ≡ Ok journal → are_accepted changes_max versions_max parents marks n journal ≡ true
+accepted_in_turn changes_max versions_max parents marks n [] journal e =
     let none : [] ≡ journal = cc in
-    subst (λ (js : List Change). are_accepted changes_max versions_max parents n js ≡ true) none refl
-accepted_in_turn changes_max versions_max parents n (l ∷ logged) journal e =
-    by_test (is_accepted changes_max versions_max parents n l.change) refl (accepted_in_turn changes_max versions_max (tree_after parents l.change) (suc n) logged) e
+    subst (λ (js : List Change). are_accepted changes_max versions_max parents marks n js ≡ true) none refl
+accepted_in_turn changes_max versions_max parents marks n (l ∷ logged) journal e =
+    by_test (is_accepted changes_max versions_max parents marks n l.change) refl (accepted_in_turn changes_max versions_max (tree_after parents l.change) (marks_after marks l.change) (suc n) logged) e
   where
     later : Read (List Change)
-    later = accepted_in changes_max versions_max (tree_after parents l.change) (suc n) logged
+    later = accepted_in changes_max versions_max (tree_after parents l.change) (marks_after marks l.change) (suc n) logged
 
-    by_test : (b : Bool) → is_accepted changes_max versions_max parents n l.change ≡ b
-        → ((js : List Change) → later ≡ Ok js → are_accepted changes_max versions_max (tree_after parents l.change) (suc n) js ≡ true)
-        → cond b (put_first l.change later) (Err l.block) ≡ Ok journal → are_accepted changes_max versions_max parents n journal ≡ true
+    by_test : (b : Bool) → is_accepted changes_max versions_max parents marks n l.change ≡ b
+        → ((js : List Change) → later ≡ Ok js → are_accepted changes_max versions_max (tree_after parents l.change) (marks_after marks l.change) (suc n) js ≡ true)
+        → cond b (put_first l.change later) (Err l.block) ≡ Ok journal → are_accepted changes_max versions_max parents marks n journal ≡ true
     by_test false is rest e = absurd (cc)
     by_test true is rest e =
         let parts = put_first_ok l.change later journal e in
-        subst (λ (js : List Change). are_accepted changes_max versions_max parents n js ≡ true) parts.2
-        (and_from (is_accepted changes_max versions_max parents n l.change) (are_accepted changes_max versions_max (tree_after parents l.change) (suc n) parts.0) is (rest parts.0 parts.1))
+        subst (λ (js : List Change). are_accepted changes_max versions_max parents marks n js ≡ true) parts.2
+        (and_from (is_accepted changes_max versions_max parents marks n l.change) (are_accepted changes_max versions_max (tree_after parents l.change) (marks_after marks l.change) (suc n) parts.0) is (rest parts.0 parts.1))
 
 -- a journal that was read and accepted is what recovery finds, and so is one that is damaged
 pub journal_recovered : (c : Image) (sb : Super) (m : Manifest) (logged : List Logged) (r : Read (List Change)) → journal_in_two c sb.mem sb.region ≡ Ok logged
-    → accepted_in sb.changes_max sb.versions_max (parents_in m) m.changes logged ≡ r → recover_journal c sb m ≡ r
+    → accepted_in sb.changes_max sb.versions_max (parents_in m) m.marks m.changes logged ≡ r → recover_journal c sb m ≡ r
 journal_recovered c sb m logged r read accepted =
-    ap (λ (x : Read (List Logged)). and_then x (accepted_in sb.changes_max sb.versions_max (parents_in m) m.changes)) read ∙ accepted
+    ap (λ (x : Read (List Logged)). and_then x (accepted_in sb.changes_max sb.versions_max (parents_in m) m.marks m.changes)) read ∙ accepted
 
 module _ (c : Image) (sb : Super) where
   -- a head is found where its manifest and its journal are

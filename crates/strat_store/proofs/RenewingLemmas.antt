@@ -42,6 +42,7 @@ of_change : (P : Refusal → Type 0) (m : Memory) (c : Change) (q : Refusal) →
 of_change P m (change.Put v key value) q u f vl cl e = of_three P (is_known m.parents v) (has_child m.parents v) (eqb m.changes m.changes_max) why.UnknownVersion why.Frozen why.ChangeLimit q u f cl e
 of_change P m (change.Delete v key) q u f vl cl e = of_three P (is_known m.parents v) (has_child m.parents v) (eqb m.changes m.changes_max) why.UnknownVersion why.Frozen why.ChangeLimit q u f cl e
 of_change P m (change.Clone v) q u f vl cl e = of_three P (is_known m.parents v) (eqb (length m.parents) m.versions_max) (eqb m.changes m.changes_max) why.UnknownVersion why.VersionLimit why.ChangeLimit q u vl cl e
+of_change P m (change.DropVersion v) q u f vl cl e = let same : why.UnknownVersion ≡ q = cc in subst P same u
 
 -- a change that is refused tells of no fault
 refused_calm : (m : Memory) (c : Change) (q : Refusal) → refusal_of_change m c ≡ Some q → tells_fault q ≡ false

@@ -6,7 +6,7 @@ use Rattle.std.proofs.lemmas.Bool.{and_parts, eqb-true, le-ltb}
 use Rattle.std.proofs.lemmas.Option.{slice_get_within, get_or_from_slice_get}
 use Rattle.strat_array.specs.Kept.{Blocks}
 use Rattle.strat_base.proofs.ListFacts.{Among, all_at, among_flat, among_in_flat, among_split, among_right, range_among}
-use Rattle.strat_base.specs.Change.{Change, Put, Delete, Clone}
+use Rattle.strat_base.specs.Change.{Change, Put, Delete, Clone, DropVersion}
 use Rattle.strat_base.specs.Entries.{Entry, is_ascending, lead_entries}
 use Rattle.strat_base.specs.Tree.{Parents}
 use Rattle.strat_base.specs.declared.descriptors.ArrayDesc.{ArrayDesc}
@@ -21,7 +21,7 @@ use Rattle.strat_crash.specs.Trail.{Trail}
 use Rattle.strat_format.specs.Arrays.{all_some, blocks_of, block_on, entries_on}
 use Rattle.strat_format.specs.Block.{block_in}
 use Rattle.strat_format.specs.Chained.{Chained}
-use Rattle.strat_format.specs.Layout.{first_free, other_region}
+use Rattle.strat_format.specs.Layout.{first_free, other_region, newest_format}
 use Rattle.strat_format.specs.Manifest.{Manifest, is_lawful_manifest}
 use Rattle.strat_format.specs.SuperBlock.{Super}
 use Rattle.strat_plan.proofs.ListLemmas.{among_map}
@@ -64,6 +64,7 @@ consistent_ready s o n m is whole =
       changes_max = whole.memory.changes_max;
       versions_max = whole.memory.versions_max;
       parents = whole.memory.parents;
+      undropped = whole.memory.undropped;
       updates = whole.memory.updates;
       changes = whole.memory.changes;
       entries = whole.memory.entries;
@@ -76,6 +77,7 @@ consistent_ready s o n m is whole =
       below = whole.kept.below;
       within = whole.kept.within;
       once = whole.kept.once;
+      few = whole.kept.few;
     } in
     record {
       slot = whole.slot;
@@ -291,6 +293,7 @@ grown_from : (ps : List ℕ) (journal : List Change) → (qs : List ℕ) × (fol
 grown_from ps [] = (ps, refl)
 grown_from ps (Put v key value ∷ journal) = grown_from ps journal
 grown_from ps (Delete v key ∷ journal) = grown_from ps journal
+grown_from ps (DropVersion v ∷ journal) = grown_from ps journal
 grown_from ps (Clone v ∷ journal) =
     let more : None ∷ (map (λ p. Some p) ps ++ Some v ∷ []) ≡ None ∷ map (λ p. Some p) (ps ++ v ∷ []) = ap (λ (rest : Parents). None ∷ rest) (mapped ps v) in
     let rest = grown_from (ps ++ v ∷ []) journal in
@@ -311,7 +314,7 @@ versions_back h =
 
 -- what a store holds after a publication is consistent
 pub consistent_next : (s : Held) (target : ℕ) (sb : Super) (chained : Chained) (levels : List (Option LevelDesc)) → IsConsistent s → MayFollow s sb chained
-    → ArePublishedTo target s.sb s.chained.manifest s.memory sb chained.manifest → is_lawful_manifest chained.manifest ≡ true → belongs sb chained ≡ true
+    → ArePublishedTo target s.sb s.chained.manifest s.memory sb chained.manifest → is_lawful_manifest newest_format chained.manifest ≡ true → belongs sb chained ≡ true
     → ArePlaced chained.manifest.levels levels → StandApart target s chained → IsConsistent (held_next s target sb chained levels)
 consistent_next s target sb chained levels whole follows are spelled belonging placed apart =
     let h : Head = head_held s in
@@ -334,11 +337,12 @@ consistent_next s target sb chained levels whole follows are spelled belonging p
       };
       accepted = refl;
       memory =
-          let here = memory_emptied h new s.memory whole.memory refl follows.changes_max follows.versions_max versions updates changes in
+          let here = memory_emptied h new s.memory whole.memory refl follows.changes_max follows.versions_max versions updates changes follows.undropped in
           let all : IsMemoryOf new (renewed sb.mem (arrays_taken target s.chained.manifest) s.memory) = record {
             changes_max = here.changes_max;
             versions_max = here.versions_max;
             parents = here.parents;
+            undropped = here.undropped;
             updates = here.updates;
             changes = here.changes;
             entries = here.entries;

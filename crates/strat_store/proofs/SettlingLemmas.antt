@@ -160,8 +160,8 @@ computes_all v s x space old_chain others whole stands full chain_is own never =
 pub chain_numbered : (v : DiskView) (s : Held) (x : Contents) → IsConsistent s → StandsWith v s x → list_all (λ b. ltb b 4294967295) s.chained.blocks ≡ true
 chain_numbered v s x whole stands =
     let f : Image = stands.stands.content in
-    manifest_low f s.sb.manifest s.sb.length s.chained whole.lawful.manifest_most
-    (subst (λ (y : Contents). manifest_at f y.sb.manifest y.sb.length ≡ Ok y.chained) stands.held (stands.stands.reads f stands.stands.left).lies.chain)
+    manifest_low s.sb.format f s.sb.manifest s.sb.length s.chained whole.lawful.manifest_most
+    (subst (λ (y : Contents). manifest_at y.sb.format f y.sb.manifest y.sb.length ≡ Ok y.chained) stands.held (stands.stands.reads f stands.stands.left).lies.chain)
 
 -- and with those of its levels they are its own
 pub owns_blocks : (s : Held) (levels : List LevelDesc) → IsConsistent s → levels ≡ s.chained.manifest.levels → list_all (λ b. ltb b 4294967295) s.chained.blocks ≡ true

@@ -1,5 +1,5 @@
 -- A whole store may promote: what it holds is known, may be read, and is no more than any store has.
-use Rattle.std.proofs.Common.{◌≡◌, ◌<◌, ◌≤◌, ◌+◌, ◌*◌, ◌^◌, ℕ, zero, suc, Bool, true, not, eqb, ltb, leb, ◌&&◌, inl, inr, List, [], ◌∷◌, append-nil, length, length-append, map, Contains, flat_map, fold, filter_map, get_or, Option, None, Some, refl, sym, ap, ◌∙◌, subst, arith}
+use Rattle.std.proofs.Common.{◌≡◌, ◌<◌, ◌≤◌, ◌+◌, ◌*◌, ◌^◌, ℕ, zero, suc, Bool, true, not, eqb, ltb, leb, ◌&&◌, inl, inr, List, [], ◌∷◌, append-nil, length, length-append, map, Contains, flat_map, fold, filter_map, get_or, Option, None, Some, refl, sym, ap, ◌∙◌, subst, arith, set, false, ◌++◌}
 use Rattle.std.specs.List.{list_all, range_with_len, sum, sum_by}
 use Rattle.std.proofs.lemmas.Bool.Decides.{nat_tests}
 use Rattle.std.proofs.lemmas.List.{length-map}
@@ -7,7 +7,7 @@ use Rattle.std.proofs.lemmas.Bool.{and_parts, ltb-true, leb-true, lt-ltb}
 use Rattle.std.proofs.lemmas.List.Sums.{sum_by-cons, sum_by-append, sum-map}
 use Rattle.strat_array.specs.Within.{AreWithin}
 use Rattle.strat_base.proofs.ListFacts.{Among, all_at, all_from, among_split, among_in_flat}
-use Rattle.strat_base.specs.Change.{Change, Put, Delete, Clone}
+use Rattle.strat_base.specs.Change.{Change, Put, Delete, Clone, DropVersion}
 use Rattle.strat_base.specs.Entries.{Entry, is_tagged}
 use Rattle.strat_base.specs.Tree.{Parents, is_known, has_child, with_child}
 use Rattle.strat_base.specs.declared.descriptors.ArrayDesc.{ArrayDesc}
@@ -36,59 +36,65 @@ use Rattle.strat_state.proofs.LevelLemmas.{tagged_among}
 use Rattle.strat_state.proofs.UpdateLemmas.{all_among}
 use Rattle.strat_state.specs.Level.{is_distinct}
 use Rattle.strat_state.specs.Setting.{set_all}
-use Rattle.strat_state.specs.Sound.{is_accepted, are_accepted}
-use Rattle.strat_state.specs.State.{tree_after, update_of}
+use Rattle.strat_state.specs.Sound.{is_accepted, are_accepted, is_there, takes_updates}
+use Rattle.strat_state.specs.State.{tree_after, update_of, marks_after}
 use Rattle.strat_store.specs.Held.{Held, IsConsistent, StandsWith, contents_held}
 use Rattle.strat_store.specs.Publishing.{MayCompute}
 use Rattle.strat_cursor.specs.Looking.{arrays_there}
 use Rattle.strat_store.specs.Promoting.{MayPromote}
 use Rattle.strat_promotion.proofs.PaidLemmas.{updates_few}
 use Rattle.strat_store.proofs.MemoryLemmas.{left_few}
+use Rattle.strat_base.specs.Marks.{Marks}
+use Rattle.strat_state.proofs.MarkLemmas.{there_known, open_there, accepted_drop}
+use Rattle.strat_format.specs.Layout.{newest_format}
 
 -- an update that was accepted is at a version that is there
-accepted_known : (cm vm : ℕ) (parents : Parents) (n : ℕ) (journal : List Change) (e : Entry) → are_accepted cm vm parents n journal ≡ true → Among e (filter_map update_of journal)
+accepted_known : (cm vm : ℕ) (parents : Parents) (marks : Marks) (n : ℕ) (journal : List Change) (e : Entry) → are_accepted cm vm parents marks n journal ≡ true → Among e (filter_map update_of journal)
     → e.version < length (fold tree_after parents journal)
-accepted_known cm vm parents n [] e accepted among = absurd among
-accepted_known cm vm parents n (Put v key value ∷ journal) e accepted (inl here) =
-    let parts = and_parts (is_accepted cm vm parents n (Put v key value)) (are_accepted cm vm parents (suc n) journal) accepted in
-    let outer = and_parts (is_known parents v && not (has_child parents v)) (not (eqb n cm)) parts.0 in
-    let known = ltb-true v (length parents) (and_parts (is_known parents v) (not (has_child parents v)) outer.0).0 in
+accepted_known cm vm parents marks n [] e accepted among = absurd among
+accepted_known cm vm parents marks n (Put v key value ∷ journal) e accepted (inl here) =
+    let parts = and_parts (is_accepted cm vm parents marks n (Put v key value)) (are_accepted cm vm parents marks (suc n) journal) accepted in
+    let outer = and_parts (takes_updates parents marks v) (not (eqb n cm)) parts.0 in
+    let known = there_known parents marks v (open_there parents marks v outer.0) in
     let at : e.version ≡ v = ap (λ (d : Entry). d.version) here in
     omega (arith, at, known, length-grown parents journal)
-accepted_known cm vm parents n (Put v key value ∷ journal) e accepted (inr rest) =
-    accepted_known cm vm parents (suc n) journal e (and_parts (is_accepted cm vm parents n (Put v key value)) (are_accepted cm vm parents (suc n) journal) accepted).1 rest
-accepted_known cm vm parents n (Delete v key ∷ journal) e accepted (inl here) =
-    let parts = and_parts (is_accepted cm vm parents n (Delete v key)) (are_accepted cm vm parents (suc n) journal) accepted in
-    let outer = and_parts (is_known parents v && not (has_child parents v)) (not (eqb n cm)) parts.0 in
-    let known = ltb-true v (length parents) (and_parts (is_known parents v) (not (has_child parents v)) outer.0).0 in
+accepted_known cm vm parents marks n (Put v key value ∷ journal) e accepted (inr rest) =
+    accepted_known cm vm parents marks (suc n) journal e (and_parts (is_accepted cm vm parents marks n (Put v key value)) (are_accepted cm vm parents marks (suc n) journal) accepted).1 rest
+accepted_known cm vm parents marks n (Delete v key ∷ journal) e accepted (inl here) =
+    let parts = and_parts (is_accepted cm vm parents marks n (Delete v key)) (are_accepted cm vm parents marks (suc n) journal) accepted in
+    let outer = and_parts (takes_updates parents marks v) (not (eqb n cm)) parts.0 in
+    let known = there_known parents marks v (open_there parents marks v outer.0) in
     let at : e.version ≡ v = ap (λ (d : Entry). d.version) here in
     omega (arith, at, known, length-grown parents journal)
-accepted_known cm vm parents n (Delete v key ∷ journal) e accepted (inr rest) =
-    accepted_known cm vm parents (suc n) journal e (and_parts (is_accepted cm vm parents n (Delete v key)) (are_accepted cm vm parents (suc n) journal) accepted).1 rest
-accepted_known cm vm parents n (Clone v ∷ journal) e accepted among =
-    accepted_known cm vm (with_child parents v) (suc n) journal e (and_parts (is_accepted cm vm parents n (Clone v)) (are_accepted cm vm (with_child parents v) (suc n) journal) accepted).1 among
+accepted_known cm vm parents marks n (Delete v key ∷ journal) e accepted (inr rest) =
+    accepted_known cm vm parents marks (suc n) journal e (and_parts (is_accepted cm vm parents marks n (Delete v key)) (are_accepted cm vm parents marks (suc n) journal) accepted).1 rest
+accepted_known cm vm parents marks n (Clone v ∷ journal) e accepted among =
+    accepted_known cm vm (with_child parents v) (marks ++ false ∷ []) (suc n) journal e (and_parts (is_accepted cm vm parents marks n (Clone v)) (are_accepted cm vm (with_child parents v) (marks ++ false ∷ []) (suc n) journal) accepted).1 among
+accepted_known cm vm parents marks n (DropVersion v ∷ journal) e accepted among =
+    accepted_known cm vm parents (set marks v true) (suc n) journal e (and_parts (is_accepted cm vm parents marks n (DropVersion v)) (are_accepted cm vm parents (set marks v true) (suc n) journal) accepted).1 among
 
 -- so are the entries of level 0
-pub entries_known : (cm vm : ℕ) (parents : Parents) (n : ℕ) (journal : List Change) → are_accepted cm vm parents n journal ≡ true
+pub entries_known : (cm vm : ℕ) (parents : Parents) (marks : Marks) (n : ℕ) (journal : List Change) → are_accepted cm vm parents marks n journal ≡ true
     → list_all (λ (e : Entry). ltb e.version (length (fold tree_after parents journal))) (set_all (filter_map update_of journal)) ≡ true
-entries_known cm vm parents n journal accepted = all_from (λ (e : Entry). ltb e.version (length (fold tree_after parents journal))) (set_all (filter_map update_of journal)) (λ e among.
+entries_known cm vm parents marks n journal accepted = all_from (λ (e : Entry). ltb e.version (length (fold tree_after parents journal))) (set_all (filter_map update_of journal)) (λ e among.
     lt-ltb e.version (length (fold tree_after parents journal))
-    (accepted_known cm vm parents n journal e accepted (subst (Among e) (append-nil (filter_map update_of journal)) (all_among (filter_map update_of journal) e among))))
+    (accepted_known cm vm parents marks n journal e accepted (subst (Among e) (append-nil (filter_map update_of journal)) (all_among (filter_map update_of journal) e among))))
 
 -- changes that are accepted in turn stay within their limit
 below_limit : (n m : ℕ) → not (eqb n m) ≡ true → n ≤ m → suc n ≤ m
 below_limit n m differ le = grind (arith, nat_tests)
 
-counted_in : (cm vm : ℕ) (parents : Parents) (n : ℕ) (c : Change) → is_accepted cm vm parents n c ≡ true → not (eqb n cm) ≡ true
-counted_in cm vm parents n (Put v key value) is = (and_parts (is_known parents v && not (has_child parents v)) (not (eqb n cm)) is).1
-counted_in cm vm parents n (Delete v key) is = (and_parts (is_known parents v && not (has_child parents v)) (not (eqb n cm)) is).1
-counted_in cm vm parents n (Clone v) is = (and_parts (is_known parents v && not (eqb (length parents) vm)) (not (eqb n cm)) is).1
+counted_in : (cm vm : ℕ) (parents : Parents) (marks : Marks) (n : ℕ) (c : Change) → is_accepted cm vm parents marks n c ≡ true → not (eqb n cm) ≡ true
+counted_in cm vm parents marks n (Put v key value) is = (and_parts (takes_updates parents marks v) (not (eqb n cm)) is).1
+counted_in cm vm parents marks n (Delete v key) is = (and_parts (takes_updates parents marks v) (not (eqb n cm)) is).1
+counted_in cm vm parents marks n (Clone v) is = (and_parts (is_there parents marks v && not (eqb (length parents) vm)) (not (eqb n cm)) is).1
+counted_in cm vm parents marks n (DropVersion v) is = (and_parts (takes_updates parents marks v && not (eqb v 0)) (not (eqb n cm)) (accepted_drop cm vm parents marks n v is)).1
 
-pub accepted_few : (cm vm : ℕ) (parents : Parents) (n : ℕ) (journal : List Change) → are_accepted cm vm parents n journal ≡ true → n ≤ cm → n + length journal ≤ cm
-accepted_few cm vm parents n [] accepted le = omega (arith, le)
-accepted_few cm vm parents n (c ∷ journal) accepted le =
-    let parts = and_parts (is_accepted cm vm parents n c) (are_accepted cm vm (tree_after parents c) (suc n) journal) accepted in
-    let more = accepted_few cm vm (tree_after parents c) (suc n) journal parts.1 (below_limit n cm (counted_in cm vm parents n c parts.0) le) in
+pub accepted_few : (cm vm : ℕ) (parents : Parents) (marks : Marks) (n : ℕ) (journal : List Change) → are_accepted cm vm parents marks n journal ≡ true → n ≤ cm → n + length journal ≤ cm
+accepted_few cm vm parents marks n [] accepted le = omega (arith, le)
+accepted_few cm vm parents marks n (c ∷ journal) accepted le =
+    let parts = and_parts (is_accepted cm vm parents marks n c) (are_accepted cm vm (tree_after parents c) (marks_after marks c) (suc n) journal) accepted in
+    let more = accepted_few cm vm (tree_after parents c) (marks_after marks c) (suc n) journal parts.1 (below_limit n cm (counted_in cm vm parents marks n c parts.0) le) in
     omega (arith, more)
 
 -- the leads of the levels by their places are those of all arrays
@@ -177,7 +183,7 @@ arrays_counted versions next (d ∷ ds) lawful =
 pub arrays_few : (s : Held) → IsConsistent s → length (flat_map (λ (d : LevelDesc). d.arrays) s.chained.manifest.levels) < 2 ^ 64
 arrays_few s whole =
     let m : Manifest = s.chained.manifest in
-    let tests = manifest_tests m in
+    let tests = manifest_tests newest_format m in
     let all = arrays_counted (versions_in m) m.next_array m.levels (pass_at tests 8 whole.spelled) in
     omega (arith, all, leb-true (length m.levels) LEVELS (pass_at tests 7 whole.spelled))
 
@@ -185,9 +191,10 @@ arrays_few s whole =
 pub generation_left : (s : Held) → IsConsistent s → s.sb.generation + 1 < 2 ^ 64
 generation_left s whole =
     let m : Manifest = s.chained.manifest in
-    let few = and_parts (leb s.sb.generation (m.changes + 1) && leb m.next_array (16384 * m.changes + 1)) (leb m.written (33554432 * m.changes)) (pass_at (belonging_tests s.sb s.chained) 7 whole.belonging) in
+    let limited = and_parts (leb s.sb.generation (m.changes + 1) && leb m.next_array (16384 * m.changes + 1) && leb m.written (33554432 * m.changes)) (leb m.compacted (33554432 * m.changes)) (pass_at (belonging_tests s.sb s.chained) 7 whole.belonging) in
+    let few = and_parts (leb s.sb.generation (m.changes + 1) && leb m.next_array (16384 * m.changes + 1)) (leb m.written (33554432 * m.changes)) limited.0 in
     let generation = leb-true s.sb.generation (m.changes + 1) (and_parts (leb s.sb.generation (m.changes + 1)) (leb m.next_array (16384 * m.changes + 1)) few.0).0 in
-    omega (arith, generation, ltb-true m.changes (2 ^ 32) (pass_at (manifest_tests m) 0 whole.spelled))
+    omega (arith, generation, ltb-true m.changes (2 ^ 32) (pass_at (manifest_tests newest_format m) 0 whole.spelled))
 
 -- a store whose parts are those of a head may promote
 pub whole_promotes : (s : Held) → IsConsistent s → MayPromote s.memory s.levels s.chained.manifest.next_array
@@ -198,21 +205,22 @@ whole_promotes s whole =
     let versions : versions_in m ≤ length s.memory.parents =
     (let grown = length-grown (parents_in m) s.log.list in let same = ap (λ (ps : Parents). length ps) whole.memory.parents in let count = length-map m.parents (λ (p : ℕ). Some p) in omega (arith, grown, same, count)) in
     let at : (a : ArrayDesc) → Contains (arrays_there s.levels) a → Among a (descriptors m) = λ a of. contained_among (descriptors m) a (subst (λ (rs : List ArrayDesc). Contains rs a) listed of) in
-    let array = array_lawful (versions_in m) m.next_array m.levels (pass_at (manifest_tests m) 8 whole.spelled) (pass_at tests 2 whole.belonging) in
-    let few = and_parts (leb s.sb.generation (m.changes + 1) && leb m.next_array (16384 * m.changes + 1)) (leb m.written (33554432 * m.changes)) (pass_at tests 7 whole.belonging) in
+    let array = array_lawful (versions_in m) m.next_array m.levels (pass_at (manifest_tests newest_format m) 8 whole.spelled) (pass_at tests 2 whole.belonging) in
+    let limited = and_parts (leb s.sb.generation (m.changes + 1) && leb m.next_array (16384 * m.changes + 1) && leb m.written (33554432 * m.changes)) (leb m.compacted (33554432 * m.changes)) (pass_at tests 7 whole.belonging) in
+    let few = and_parts (leb s.sb.generation (m.changes + 1) && leb m.next_array (16384 * m.changes + 1)) (leb m.written (33554432 * m.changes)) limited.0 in
     let changes = leb-true m.changes s.sb.changes_max (pass_at tests 4 whole.belonging) in
     let next = leb-true m.next_array (16384 * m.changes + 1) (and_parts (leb s.sb.generation (m.changes + 1)) (leb m.next_array (16384 * m.changes + 1)) few.0).1 in
     let limit = whole.lawful.changes_most in
-    let updates = leb-true m.updates m.changes (pass_at (manifest_tests m) 1 whole.spelled) in
+    let updates = leb-true m.updates m.changes (pass_at (manifest_tests newest_format m) 1 whole.spelled) in
     let led = leb-true (sum_by (λ (a : ArrayDesc). a.leads) (descriptors m)) m.updates (pass_at tests 5 whole.belonging) in
-    let accepted = accepted_few s.sb.changes_max s.sb.versions_max (parents_in m) m.changes s.log.list whole.accepted changes in
+    let accepted = accepted_few s.sb.changes_max s.sb.versions_max (parents_in m) m.marks m.changes s.log.list whole.accepted changes in
     let entries = ap (λ (es : List Entry). length es) whole.memory.entries in
     let fewer = entries_few s.log.list in
     let sums = leads_summed s.levels (length s.memory.entries) whole.placed.count in
     let same = ap (λ (rs : List ArrayDesc). sum_by (λ (a : ArrayDesc). a.leads) rs) listed in
     record {
       low = (λ i. list_all (λ (e : Entry). ltb e.version (length (whole.memory.parents i))) (whole.memory.entries i))
-          ∙ entries_known s.sb.changes_max s.sb.versions_max (parents_in m) m.changes s.log.list whole.accepted;
+          ∙ entries_known s.sb.changes_max s.sb.versions_max (parents_in m) m.marks m.changes s.log.list whole.accepted;
       arrays = record {
         within = λ a of. within_numbers m.next_array a (array a (at a of)).0 (all_at is_filled a (descriptors m) (pass_at tests 6 whole.belonging) (at a of));
         low = λ a v of tagged. let lt = (array a (at a of)).1 v tagged in omega (arith, lt, versions);

@@ -16,7 +16,7 @@ use Rattle.strat_model.specs.declared.replies.Refusal.TheVariants as why
 use Rattle.strat_model.specs.declared.replies.Reply.{Reply}
 use Rattle.strat_model.specs.declared.replies.Reply.TheVariants as reply
 use Rattle.strat_model.specs.Answer.{Answer, refusal, accepts}
-use Rattle.strat_model.specs.Request.{Request, Put, Delete, Get, Clone, Scan, NextPairs}
+use Rattle.strat_model.specs.Request.{Request, Put, Delete, Get, Clone, Scan, NextPairs, DropVersion}
 use Rattle.strat_model.specs.Run.{EmptiesAtOnce, IsAfter, reaches_disk, is_change, takes_memory}
 use Rattle.strat_model.specs.Step.{step}
 use Rattle.strat_model.specs.Table.{Table, bare}
@@ -36,6 +36,7 @@ abbrev pub change_wanted : Request → Option Change
 change_wanted (Put version key value) = Some (change.Put version key value)
 change_wanted (Delete version key) = Some (change.Delete version key)
 change_wanted (Clone version) = Some (change.Clone version)
+change_wanted (DropVersion version) = Some (change.DropVersion version)
 change_wanted _ = None
 
 -- a refusal tells of a fault: the device failed, or a block is damaged

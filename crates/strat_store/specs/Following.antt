@@ -55,7 +55,7 @@ pub record IsOpenedAs (before now : DiskView) (s : Held) : Type 0 where
   pub closed : s.memory.cursors ≡ no_cursors
   pub found : (f : Image) → Exposes before f → recover f ≡ Ok (Some (head_held s))
   pub chain : (f : Image) → Exposes before f
-      → manifest_at f s.sb.manifest s.sb.length ≡ Ok s.chained
+      → manifest_at s.sb.format f s.sb.manifest s.sb.length ≡ Ok s.chained
   pub gate : (f : Image) → Exposes before f → ChangesGateAlone before now f s.slot s.sb
   pub on_disk : (f : Image) → Exposes before f → IsOnDisk now s
   pub stands : (f : Image) (t : Table) → Exposes before f → ShowsTable f t

@@ -1,7 +1,7 @@
 -- A disk that was just formatted.
 use Rattle.std.specs.Prelude.{◌≡◌, ◌≢◌, ◌⊎◌, ℕ, List, [], Some, None, Ok, ◌≤◌, ◌<◌, ◌+◌, ◌*◌}
 use Rattle.strat_crash.specs.Image.{Image}
-use Rattle.strat_format.specs.Layout.{region_at, first_free, open_flag, manifest_min}
+use Rattle.strat_format.specs.Layout.{region_at, first_free, open_flag, shortest_manifest, newest_format}
 use Rattle.strat_crash.specs.Moments.{DiskView, Exposes, Images, Since}
 use Rattle.strat_state.specs.State.{fresh_state}
 use Rattle.strat_format.specs.SuperBlock.{Super, newest_in}
@@ -16,9 +16,10 @@ use Rattle.strat_store.specs.Paying.{IsPaidIn}
 -- the superblock of a new store: the first generation, with the manifest in the first free block
 abbrev pub super_for : ℕ → ℕ → ℕ → Super
 super_for mem changes_max versions_max = record {
+  format = newest_format;
   generation = 1;
   manifest = first_free mem;
-  length = manifest_min;
+  length = shortest_manifest newest_format;
   region = 0;
   mem = mem;
   changes_max = changes_max;
@@ -33,7 +34,7 @@ head_for mem changes_max versions_max =
 -- the block of a new store's manifest: it is the last of its chain, and behind the manifest there
 -- are zeros
 abbrev pub new_block : List ℕ
-new_block = link_bytes 0 (manifest_bytes new_manifest)
+new_block = link_bytes 0 (manifest_bytes newest_format new_manifest)
 
 -- a crash leaves one image, the content
 pub record IsAtRest (v : DiskView) : Type 0 where

@@ -1,5 +1,5 @@
 -- An open store, and the disk that it stands on.
-use Rattle.std.specs.Prelude.{◌≡◌, ◌≤◌, ◌<◌, ◌==◌, ℕ, ◌+◌, Bool, List, [], ◌++◌, length, flat_map, Contains, Option, Some, Ok, IsTrue}
+use Rattle.std.specs.Prelude.{◌≡◌, ◌≤◌, ◌<◌, ◌==◌, ℕ, ◌+◌, ◌^◌, Bool, List, [], ◌++◌, length, flat_map, Contains, Option, Some, Ok, IsTrue}
 use Rattle.std.specs.List.{count_by, list_all}
 use Rattle.strat_array.specs.Kept.{Blocks}
 use Rattle.strat_base.specs.Change.{is_lawful}
@@ -7,10 +7,10 @@ use Rattle.strat_base.specs.declared.descriptors.ArrayDesc.{ArrayDesc}
 use Rattle.strat_base.specs.declared.descriptors.LevelDesc.{LevelDesc}
 use Rattle.strat_crash.specs.Image.{Image}
 use Rattle.strat_crash.specs.Moments.{DiskView, Exposes, Images}
-use Rattle.strat_extent.specs.Blocks.{times_in}
+use Rattle.strat_extent.specs.Blocks.{times_in, total_len}
 use Rattle.strat_format.specs.Arrays.{blocks_of}
 use Rattle.strat_format.specs.Chained.{Chained, manifest_at}
-use Rattle.strat_format.specs.Layout.{first_free}
+use Rattle.strat_format.specs.Layout.{first_free, newest_format}
 use Rattle.strat_format.specs.Manifest.{is_lawful_manifest}
 use Rattle.strat_format.specs.SuperBlock.{Super, IsLawful, newest_in}
 use Rattle.strat_journal.specs.Log.{Log}
@@ -85,8 +85,8 @@ blocks_named chained =
 
 -- what cursors name is there: each of their arrays is one of a level or is retired, and each retired one is
 -- named by one of them; no two of all these have one number, each has one below the next, retired ones
--- lie behind the journal and in front of the greatest block number, and none of their blocks stands twice among theirs and
--- those of the manifest
+-- lie behind the journal and in front of the greatest block number, none of their blocks stands twice among theirs and
+-- those of the manifest, and what one cursor names has no more blocks than a manifest's arrays
 pub record AreKept (sb : Super) (chained : Chained) (levels : List (Option LevelDesc)) (m : Memory)
     : Type 0 where
   pub named : (a : ArrayDesc) → Contains (arrays_named m.cursors.opened) a
@@ -99,16 +99,19 @@ pub record AreKept (sb : Super) (chained : Chained) (levels : List (Option Level
       → (first_free sb.mem ≤ b) × (b < 4294967295)
   pub once : (b : ℕ) → count_by (λ other. other == b) (blocks_named chained)
       + times_in (extents_of m.cursors.retired) b ≤ 1
+  pub few : (c : HeldCursor) → Contains m.cursors.opened c
+      → total_len (extents_of c.arrays) ≤ 2 ^ 25
 
 -- between two commands a store that is not spent holds what an opening may find
 pub record IsConsistent (s : Held) : Type 0 where
   pub slot : s.slot ≤ 1
   pub lawful : IsLawful s.sb
-  pub spelled : IsTrue (is_lawful_manifest s.chained.manifest)
+  pub spelled : IsTrue (is_lawful_manifest newest_format s.chained.manifest)
   pub belonging : IsTrue (belongs s.sb s.chained)
   pub log : IsLogBehind s.sb s.log
   pub accepted : IsTrue (are_accepted s.sb.changes_max s.sb.versions_max
-      (parents_in s.chained.manifest) s.chained.manifest.changes s.log.list)
+      (parents_in s.chained.manifest) s.chained.manifest.marks s.chained.manifest.changes
+      s.log.list)
   pub memory : IsMemoryOf (head_held s) s.memory
   pub placed : ArePlaced s.chained.manifest.levels s.levels
   pub kept : AreKept s.sb s.chained s.levels s.memory
@@ -127,7 +130,8 @@ pub record IsOnDisk (v : DiskView) (s : Held) : Type 0 where
   pub content : Image
   pub exposed : Exposes v content
   pub newest : (c : Image) → Images v c → newest_in c ≡ Ok (Some (s.slot, s.sb))
-  pub chain : (c : Image) → Images v c → manifest_at c s.sb.manifest s.sb.length ≡ Ok s.chained
+  pub chain : (c : Image) → Images v c
+      → manifest_at s.sb.format c s.sb.manifest s.sb.length ≡ Ok s.chained
 
 -- where a store with these contents stands in a run, but for its cursors: the table that they mean, and
 -- how many changes the journal holds

@@ -1,6 +1,6 @@
 -- What a store has in memory of its versions and of level 0, and what changes do to it.
-use Rattle.std.specs.Prelude.{◌≡◌, ◌≤◌, ℕ, ◌+◌, ◌-◌, ◌==◌, not, if◌then◌else◌, List, [], ◌∷◌, ◌++◌, length, filter_map, Option, Some, None}
-use Rattle.strat_base.specs.Change.{Change, Put, Delete, Clone}
+use Rattle.std.specs.Prelude.{◌≡◌, ◌≤◌, ℕ, ◌+◌, ◌-◌, ◌==◌, not, if◌then◌else◌, List, [], ◌∷◌, ◌++◌, length, filter_map, Option, Some, None, IsTrue}
+use Rattle.strat_base.specs.Change.{Change, Put, Delete, Clone, DropVersion}
 use Rattle.strat_base.specs.Entries.{Entry}
 use Rattle.strat_base.specs.Tree.{Parents, is_known, parent_of, depth, has_child, with_child}
 use Rattle.strat_base.specs.declared.descriptors.LevelDesc.{LevelDesc}
@@ -13,11 +13,12 @@ use Rattle.strat_model.specs.declared.replies.Refusal.{Refusal}
 use Rattle.strat_model.specs.declared.replies.Refusal.TheVariants as why
 use Rattle.strat_model.specs.declared.replies.Reply.{Reply}
 use Rattle.strat_model.specs.declared.replies.Reply.TheVariants as reply
-use Rattle.strat_recovery.specs.Head.{Head, head_versions, head_updates, head_changes}
+use Rattle.strat_recovery.specs.Head.{Head, head_versions, head_updates, head_changes, head_marks}
 use Rattle.strat_state.specs.Setting.{set_entry, set_all}
 use Rattle.strat_recovery.specs.StateTable.{table_of}
 use Rattle.strat_state.specs.State.{State, update_of}
 use Rattle.strat_cursor.specs.Looking.{arrays_asked}
+use Rattle.strat_base.specs.Marks.{none_dropped}
 
 -- the limits of a store, its versions, what it accepted, the entries of level 0 in their order, for how
 -- many more updates level 0 has room, for how many the next level 0 has, where one stands ready, and the
@@ -47,11 +48,12 @@ refusal_of_clone m v =
     if length m.parents == m.versions_max then Some why.VersionLimit else
     if m.changes == m.changes_max then Some why.ChangeLimit else None
 
--- why a change is refused, if it is
+-- why a change is refused, if it is; each drop is
 abbrev pub refusal_of_change : Memory → Change → Option Refusal
 refusal_of_change m (Put version key value) = refusal_of_update m version
 refusal_of_change m (Delete version key) = refusal_of_update m version
 refusal_of_change m (Clone version) = refusal_of_clone m version
+refusal_of_change m (DropVersion version) = Some why.UnknownVersion
 
 -- memory after an update that is accepted
 abbrev pub with_update : Memory → Entry → Memory
@@ -70,12 +72,14 @@ memory_after m (Delete version key) =
     with_update m (record { key = key; version = version; value = None })
 memory_after m (Clone version) =
     record m { parents = with_child m.parents version; changes = m.changes + 1 }
+memory_after m (DropVersion version) = m
 
 -- level 0 has room for what a change sets; a clone sets nothing
 abbrev pub HasRoomFor : Memory → Change → Type 0
 HasRoomFor m (Put version key value) = 1 ≤ m.spare
 HasRoomFor m (Delete version key) = 1 ≤ m.spare
 HasRoomFor m (Clone version) = Unit {0}
+HasRoomFor m (DropVersion version) = Unit {0}
 
 -- what is told of a change that is accepted
 abbrev pub reply_to : Memory → Change → Reply
@@ -147,6 +151,8 @@ pub record IsMemoryOf (h : Head) (m : Memory) : Type 0 where
   pub changes_max : m.changes_max ≡ h.sb.changes_max
   pub versions_max : m.versions_max ≡ h.sb.versions_max
   pub parents : m.parents ≡ head_versions h
+  -- memory knows of no version that was dropped
+  pub undropped : IsTrue (none_dropped (head_marks h))
   pub updates : m.updates ≡ head_updates h
   pub changes : m.changes ≡ head_changes h
   pub entries : m.entries ≡ set_all (filter_map update_of h.journal)

@@ -10,6 +10,7 @@ use Rattle.strat_level.specs.Memtable.{Memtable, entries_held, MemtableStands}
 use Rattle.strat_recovery.specs.TableOver.{are_known}
 use Rattle.strat_store.specs.Memory.{Memory}
 use Rattle.strat_store.specs.declared.memory.Memory.TheInside.{Inside}
+use Rattle.strat_base.specs.Marks.{none_dropped}
 
 -- the memory of these fields
 abbrev pub memory_held : Inside → Memory
@@ -46,10 +47,11 @@ pub record StandInPool (pool : List PoolEntry) (parents : Parents) (zero : Memta
       ≡ count_by (λ a. a == n) (own_arenas zero next) + shares_of cursors n
 
 -- the fields are those of a store's memory: level 0 and all that stands beside it is in the pool, its
--- entries are at versions of the tree, and what was accepted is within the limits
+-- entries are at versions of the tree, none of which was dropped, and what was accepted is within the limits
 pub record IsInMemory (a : Inside) : Type 0 where
   pub stand : StandInPool a.pool a.tree.parents a.zero a.next a.cursors.opened
   pub known : IsTrue (are_known a.tree.parents (entries_held a.pool a.zero.list))
   pub changes : a.changes ≤ a.changes_max
   pub updates : a.updates ≤ a.changes
   pub versions : a.tree.versions_max ≡ a.versions_max
+  pub undropped : IsTrue (none_dropped a.tree.marks)

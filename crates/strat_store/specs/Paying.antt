@@ -1,5 +1,5 @@
 -- What a store pays for its arrays: how many entries it stored and wrote, and how a publication counts these.
-use Rattle.std.specs.Prelude.{◌≡◌, ◌≤◌, ◌<◌, ◌⊎◌, ℕ, ◌+◌, ◌*◌, [], ◌∷◌, Contains, filter, sum_by, nat_le, Some}
+use Rattle.std.specs.Prelude.{◌≡◌, ◌≤◌, ◌<◌, ◌⊎◌, ℕ, ◌+◌, ◌*◌, [], ◌∷◌, Contains, filter, sum_by, nat_le, Some, false}
 use Rattle.strat_base.specs.declared.descriptors.ArrayDesc.{ArrayDesc}
 use Rattle.strat_crash.specs.Image.{Image}
 use Rattle.strat_crash.specs.Moments.{DiskView, Since}
@@ -42,8 +42,10 @@ manifest_with_array id entries written = record {
   changes = entries;
   updates = entries;
   written = written;
+  compacted = 0;
   next_array = id + 1;
   parents = [];
+  marks = false ∷ [];
   levels = record {
     number = 1;
     horizon = 1;

@@ -1,5 +1,5 @@
 -- A publication of a store, step by step.
-use Rattle.std.specs.Prelude.{◌≡◌, ◌≢◌, ◌≤◌, ◌<◌, ℕ, ◌+◌, ◌-◌, ◌^◌, ◌++◌, Bool, List, [], length, filter, sum_by, nat_le, nat_lt, Option, Some, Ok, IsSome, IsTrue}
+use Rattle.std.specs.Prelude.{◌≡◌, ◌≢◌, ◌≤◌, ◌<◌, ℕ, ◌+◌, ◌-◌, ◌^◌, ◌++◌, Bool, List, [], length, filter, sum_by, nat_le, nat_lt, Option, Some, Ok, IsSome, IsTrue, replicate, suc, false}
 use Rattle.std.specs.Option.{option_to_list}
 use Rattle.strat_base.specs.declared.descriptors.Extent.{Extent}
 use Rattle.strat_base.specs.declared.descriptors.LevelDesc.{LevelDesc}
@@ -10,7 +10,7 @@ use Rattle.strat_extent.specs.Blocks.{SpaceView, is_free}
 use Rattle.strat_format.specs.Arrays.{blocks_of}
 use Rattle.strat_format.specs.Manifest.{Manifest, is_lawful_manifest, manifest_bytes}
 use Rattle.strat_format.specs.Chained.{Chained, manifest_at}
-use Rattle.strat_format.specs.Layout.{first_free, other_region}
+use Rattle.strat_format.specs.Layout.{first_free, other_region, newest_format}
 use Rattle.strat_format.specs.SuperBlock.{Super, newest_in}
 use Rattle.strat_journal.specs.Log.{Log}
 use Rattle.strat_recovery.specs.Head.{parent_numbers}
@@ -62,31 +62,34 @@ pub record LaysSuperblock (old new : DiskView) (mem slot : ℕ) (sb : Super) : T
 -- a manifest was written where a superblock leads: a content that is exposed has it there, where one was exposed before
 abbrev pub WritesManifest : DiskView → DiskView → ℕ → ℕ → Chained → Type 0
 WritesManifest old new first size chained = IsSome old.content → (g : Image) → Exposes new g
-    → manifest_at g first size ≡ Ok chained
+    → manifest_at newest_format g first size ≡ Ok chained
 
 -- contents name the manifest and the chain that was written for them: its first block, its length in bytes, its extents
 pub record IsWrittenTo (first size : ℕ) (chain : List Extent) (m : Manifest) (new : Contents)
     : Type 0 where
   pub chained : new.chained ≡ record { manifest = m; blocks = blocks_of chain }
+  pub format : new.sb.format ≡ newest_format
   pub first_is : new.sb.manifest ≡ first
   pub length_is : new.sb.length ≡ size
 
--- the manifest after a promotion: all changes are behind it, and the level that was made stands before those that are deeper
--- than its number
+-- the manifest after a promotion: all changes are behind it, no version is dropped, and the level that was made stands before
+-- those that are deeper than its number
 abbrev pub manifest_after : Manifest → Memory → ℕ → Option LevelDesc → Manifest
 manifest_after old m target made = record {
   changes = m.changes;
   updates = m.updates;
   written = old.written + sum_by (λ a. a.entries) (arrays_made made);
+  compacted = old.compacted;
   next_array = old.next_array + length (arrays_made made);
   parents = parent_numbers m.parents;
+  marks = replicate (suc (length (parent_numbers m.parents))) false;
   levels = option_to_list made ++ filter (λ level. nat_lt target level.number) old.levels;
 }
 
 -- a manifest may be written: it has a spelling, which fits into a chain, and its counts are far from the end of their type
 pub record MayBeWritten (m : Manifest) : Type 0 where
-  pub lawful : IsTrue (is_lawful_manifest m)
-  pub short : length (manifest_bytes m) ≤ 4290772992
+  pub lawful : IsTrue (is_lawful_manifest newest_format m)
+  pub short : length (manifest_bytes newest_format m) ≤ 4290772992
   pub written : m.written < 2 ^ 62
   pub next_array : m.next_array < 2 ^ 62
 
@@ -103,6 +106,7 @@ abbrev pub contents_after : Contents → Memory → ℕ → Option LevelDesc →
 contents_after old m target made levels first size blocks = record {
   slot = 1 - old.slot;
   sb = record old.sb {
+    format = newest_format;
     generation = old.sb.generation + 1;
     manifest = first;
     length = size;
@@ -147,7 +151,7 @@ pub record MayCompute (v : DiskView) (s : SpaceView) (m : Memory) (levels : List
   pub space : IsSpaceOf s x others
   pub memory : IsMemoryOf (contents_head x) m
   pub placed : ArePlaced x.chained.manifest.levels levels
-  pub lawful : IsTrue (is_lawful_manifest x.chained.manifest)
+  pub lawful : IsTrue (is_lawful_manifest newest_format x.chained.manifest)
   pub log_is : IsLogOf x log
   pub chain : List Extent
   pub chain_is : blocks_of chain ≡ x.chained.blocks

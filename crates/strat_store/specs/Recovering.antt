@@ -22,6 +22,7 @@ use Rattle.strat_store.specs.Applying.{is_fault}
 use Rattle.strat_store.specs.Held.{Held, ArePlaced}
 use Rattle.strat_store.specs.declared.admitting.Published.{Published}
 use Rattle.strat_store.specs.declared.recovering.Recovered.{Recovered}
+use Rattle.strat_format.specs.Layout.{newest_format}
 
 -- a level may come into memory: it has a place among 22, a horizon, tags that rise, and leads that can be counted
 pub record FitsInMemory (level : LevelDesc) : Type 0 where
@@ -56,7 +57,7 @@ chained_of p = record { manifest = manifest_of p.manifest; blocks = blocks_of p.
 
 -- what the last publication left is of a store with this superblock, and lies in memory as it should
 pub record IsAdmitted (sb : Super) (p : Published) : Type 0 where
-  pub spelled : IsTrue (is_lawful_manifest (chained_of p).manifest)
+  pub spelled : IsTrue (is_lawful_manifest newest_format (chained_of p).manifest)
   pub belonging : IsTrue (belongs sb (chained_of p))
   pub placed : ArePlaced (chained_of p).manifest.levels p.levels
 
@@ -88,7 +89,7 @@ held_of r cached = record {
 -- this store is what recovery finds in an image, and its journal knows whether the other region is to be shut
 pub record IsRecoveredFrom (f : Image) (r : Recovered) : Type 0 where
   pub newest : newest_in f ≡ Ok (Some (r.slot, super_of r.sb))
-  pub chain : manifest_at f r.sb.manifest r.sb.length ≡ Ok (chained_of r.published)
+  pub chain : manifest_at newest_format f r.sb.manifest r.sb.length ≡ Ok (chained_of r.published)
   pub head : recover f ≡ Ok (Some (head_recovered r))
   pub stale : IsTrue r.journal.stale ↔ IsStale f r.sb.mem r.sb.region (length r.journal.list)
 

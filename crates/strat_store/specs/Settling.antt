@@ -11,7 +11,7 @@ use Rattle.strat_cursor.specs.Held.{HeldCursors}
 use Rattle.strat_extent.specs.Blocks.{times_in}
 use Rattle.strat_format.specs.Arrays.{blocks_of}
 use Rattle.strat_format.specs.Chained.{Chained}
-use Rattle.strat_format.specs.Layout.{other_region}
+use Rattle.strat_format.specs.Layout.{other_region, newest_format}
 use Rattle.strat_format.specs.Manifest.{Manifest}
 use Rattle.strat_format.specs.SuperBlock.{Super, IsLawful}
 use Rattle.strat_journal.specs.Log.{region_begun}
@@ -34,10 +34,12 @@ use Rattle.strat_store.specs.Held.{Held, IsOnDisk, StandsWith, arrays_held, bloc
 use Rattle.strat_store.specs.Memory.{Memory, renewed}
 use Rattle.strat_store.specs.Paying.{ArePaidSince, KeepsCount}
 use Rattle.strat_store.specs.Publishing.{IsComputed, descs_to, manifest_after}
+use Rattle.strat_base.specs.Marks.{none_dropped}
 
 -- the superblock after one, whose manifest begins in this block and is of so many bytes
 abbrev pub super_after : Super → ℕ → ℕ → Super
 super_after sb first size = record sb {
+  format = newest_format;
   generation = sb.generation + 1;
   manifest = first;
   length = size;
@@ -83,6 +85,7 @@ pub record MayFollow (s : Held) (sb : Super) (chained : Chained) : Type 0 where
   pub changes : chained.manifest.changes ≡ s.memory.changes
   pub updates : chained.manifest.updates ≡ s.memory.updates
   pub parents : chained.manifest.parents ≡ parent_numbers s.memory.parents
+  pub undropped : IsTrue (none_dropped chained.manifest.marks)
 
 -- a disk changed in blocks alone that are free beside what a store holds, whatever its levels say, and that no array has
 -- which is kept for a cursor

@@ -13,6 +13,7 @@ ghost use Rattle.strat_store.specs.Belonging.{UsesJust};
 ghost use Rattle.strat_recovery.specs.Opening.{has_own_versions};
 ghost use Rattle.strat_store.specs.Held.{ArePlaced};
 ghost use Rattle.strat_store.specs.Recovering.{FitsInMemory, MayBePlaced, counts_belong, chained_of, IsAdmitted};
+ghost use Rattle.strat_format.specs.Layout.{newest_format};
 
 use crate::belonging::{
     all_filled, has_few_leads, has_few_publications, has_low_tags, own_blocks, own_ids,
@@ -117,7 +118,7 @@ fn own_space(
         IsTrue (list_all has_own_versions manifest.now.levels) → IsTrue (belongs (super_of sb.now)
         (record { manifest = manifest_of manifest.now; blocks = blocks_of chain.now })))) }
     ensures none { IfOk result (λ own. IfNone own (
-        IsTrue (is_lawful_manifest (manifest_of manifest.now))
+        IsTrue (is_lawful_manifest newest_format (manifest_of manifest.now))
         → IsTrue (list_all (λ b. nat_lt b 4294967295) (blocks_of chain.now))
         → belongs (super_of sb.now)
         (record { manifest = manifest_of manifest.now; blocks = blocks_of chain.now }) ≡ false)) }
@@ -141,7 +142,7 @@ pub(crate) fn admit(
     chain: Extents,
 ) -> Result<Option<Published>, NoMemory>
     requires fits { sb.now.mem ≤ 4096 }
-    requires kept { IsTrue (is_lawful_manifest (manifest_of manifest)) }
+    requires kept { IsTrue (is_lawful_manifest newest_format (manifest_of manifest)) }
     ensures ok { IfOk result (λ own. IfSome own (λ p. chained_of p
         ≡ record { manifest = manifest_of manifest; blocks = blocks_of chain })) }
     ensures kept { IfOk result (λ own. IfSome own (λ p. IsAdmitted (super_of sb.now) p)) }

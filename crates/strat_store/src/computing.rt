@@ -16,6 +16,7 @@ ghost use Rattle.strat_journal.specs.Log.{Log};
 ghost use Rattle.strat_manifest.specs.ManifestView.{manifest_of};
 ghost use Rattle.strat_promote.specs.Job.{IsBadInput, blocks_listed};
 ghost use Rattle.strat_promote.specs.Promotions.{entries_if_any};
+ghost use Rattle.strat_promote.specs.Spaces.{HasAmpleRoom, HasFewFree};
 ghost use Rattle.strat_promote.specs.declared.obstacle.Obstacle.TheVariants as obstacle;
 ghost use Rattle.strat_promote.specs.declared.obstacle.Obstacle.TheVariants.{Device, Damaged};
 ghost use Rattle.strat_recovery.specs.Head.{parent_numbers};
@@ -26,6 +27,7 @@ ghost use Rattle.strat_cursor.specs.Looking.{arrays_there};
 ghost use Rattle.strat_store.specs.Applying.{IsOkOrShort};
 ghost use Rattle.strat_store.specs.Promoting.{MayPromote};
 ghost use Rattle.strat_store.specs.Publishing.{IsWrittenTo, MayBeWritten, MayCompute, IsComputedBy, WritesManifest, manifest_after};
+ghost use Rattle.strat_format.specs.Layout.{newest_format};
 
 use crate::memory::Memory;
 use crate::promoting::{Made, promote};
@@ -206,10 +208,10 @@ pub(crate) fn next_manifest(
 
 /// Refuses a manifest that has no spelling, or one that is too long for a chain: no store has such a manifest.
 fn check_writable(m: &Manifest) -> Result<(), Unfit>
-    ensures ok { OnOk result (IsTrue (is_lawful_manifest (manifest_of m.now))
-        × (length (manifest_bytes (manifest_of m.now)) ≤ 4290772992)) }
-    ensures cause { OnErr result (IsTrue (is_lawful_manifest (manifest_of m.now))
-        → length (manifest_bytes (manifest_of m.now)) ≤ 4290772992 → ⊥) }
+    ensures ok { OnOk result (IsTrue (is_lawful_manifest newest_format (manifest_of m.now))
+        × (length (manifest_bytes newest_format (manifest_of m.now)) ≤ 4290772992)) }
+    ensures cause { OnErr result (IsTrue (is_lawful_manifest newest_format (manifest_of m.now))
+        → length (manifest_bytes newest_format (manifest_of m.now)) ≤ 4290772992 → ⊥) }
 {
     if !is_writable(m) {
         return Err(Unfit);
@@ -237,10 +239,11 @@ fn write_after<D: Disk>(
         ≡ manifest_after (manifest_of old.now) memory.now made.now.target made.now.level) }
     ensures room { IfOk result (λ r. IsMarked space.old r.3 space.new) }
     ensures fits { IfOk result (λ r. (space.old.first ≤ r.1) × (r.1 < 4294967295)
-        × (29 ≤ r.2) × IsTrue (is_lawful_manifest (manifest_of r.0))) }
+        × (29 ≤ r.2) × IsTrue (is_lawful_manifest newest_format (manifest_of r.0))) }
     ensures err { OnErr result (SameBlocks space.old space.new) }
     ensures none { IsErrOf result obstacle.Unfit → MayBeWritten (manifest_after
-        (manifest_of old.now) memory.now made.now.target made.now.level) → ⊥ }
+        (manifest_of old.now) memory.now made.now.target made.now.level)
+        → HasFewFree space.old (2 ^ 20) }
     ensures images { TearsBlocks (is_free space.old) (D.view disk.old) (D.view disk.new) }
     ensures cause { HasCause Device (D.faults disk.old) (D.faults disk.new) result }
     ensures damaged { (b : ℕ) → IsErrOf result (Damaged b) → ⊥ }
@@ -291,8 +294,9 @@ pub(crate) fn compute_next<D: Disk>(
         UsesMore space.old (r.chain ++ extents_of (arrays_made r.made.level)) space.new) }
     ensures fits { IfOk result (λ r. (1 ≤ r.made.target) × (r.made.target ≤ 22)
         × (space.old.first ≤ r.first) × (r.first < 4294967295) × (29 ≤ r.length)
-        × IsTrue (is_lawful_manifest (manifest_of r.manifest))) }
-    ensures err { IsErrOf result obstacle.Unfit → (x : Contents) (log : Log) (others : List Extent)
+        × IsTrue (is_lawful_manifest newest_format (manifest_of r.manifest))) }
+    ensures err { IsErrOf result obstacle.Unfit → HasAmpleRoom space.old
+        → (x : Contents) (log : Log) (others : List Extent)
         → MayCompute (D.view disk.old) space.old memory.now levels.now log x others
         → x.chained.manifest ≡ manifest_of old.now → x.sb.mem ≡ mem → ⊥ }
     ensures images { TearsBlocks (is_free space.old) (D.view disk.old) (D.view disk.new) }

@@ -1,7 +1,7 @@
 //! Laws of look-ups through the levels of a store. Each is the contract of a function that does nothing.
 
 ghost use Rattle.std.specs.Option.{option_or};
-ghost use Rattle.std.specs.Prelude.{◌≡◌, ◌<◌, ℕ, List, [], length, true, Contains, Option, Some, option_and_then};
+ghost use Rattle.std.specs.Prelude.{◌≡◌, ◌<◌, ℕ, List, [], length, true, Contains, Option, Some, option_and_then, IsTrue};
 ghost use Rattle.strat_base.specs.Entries.{Entry};
 ghost use Rattle.strat_base.specs.Tree.{Parents, is_known};
 ghost use Rattle.strat_base.specs.declared.descriptors.LevelDesc.{LevelDesc};
@@ -17,7 +17,7 @@ ghost use Rattle.strat_recovery.specs.StateTable.{table_of};
 ghost use Rattle.strat_state.specs.LookUp.{looked_up};
 ghost use Rattle.strat_state.specs.Reading.{level_zero, live_of};
 ghost use Rattle.strat_state.specs.Sound.{IsSound};
-ghost use Rattle.strat_state.specs.State.{State, versions_of};
+ghost use Rattle.strat_state.specs.State.{State, versions_of, is_living};
 ghost use Rattle.strat_cursor.specs.Cursors.{MayGoOn, pairs_left};
 ghost use Rattle.strat_cursor.specs.Held.{HeldCursor, IsMapHeld};
 ghost use Rattle.strat_cursor.specs.Looking.{AreInOrder};
@@ -28,7 +28,7 @@ ghost use Rattle.strat_store.specs.Ranging.{AreReadAs, IsMapAsked, TellsFrom};
 /// up in the levels that an image has. Its arrays are in order in that image.
 pub fn a_store_answers_from_its_levels()
     ensures ok { (c : Image) (h : Head) (s : State) (v : ℕ) (key : List ℕ) → state_of c h ≡ Some s
-        → IsSound s → v < length (versions_of s)
+        → IsSound s → v < length (versions_of s) → IsTrue (is_living s v)
         → option_and_then (λ e. e.value)
         (option_or (live_of (versions_of s) (level_zero s) v key)
         (looked_up (on_disk c) (versions_of s) [] h.manifest.levels v key))

@@ -25,6 +25,7 @@ ghost use Rattle.strat_model.specs.Pairs.{Pairs};
 ghost use Rattle.strat_recovery.specs.TableOver.{are_known};
 ghost use Rattle.strat_state.specs.Reading.{live_of};
 ghost use Rattle.strat_store.specs.Memory.{refusal_of_update, refusal_of_clone, refusal_of_change, with_update, memory_after, HasRoomFor, reply_to, info_told, stat_told, emptied, fresh_memory, KeepsRows, cursor_from, with_cursor};
+ghost use Rattle.strat_base.specs.Marks.{is_dropped};
 
 use std::alloc::Global;
 use std::marker::Model;
@@ -70,7 +71,10 @@ fn grow(tree: &mut Tree, parents: &[u32])
     requires fits { IsTrue (are_older 1 parents.now) }
     requires room { 1 + length parents.now ≤ tree.old.versions_max }
     requires none { tree.old.parents ≡ None ∷ [] }
-    ensures ok { tree.new ≡ record tree.old { parents = None ∷ map (λ p. Some p) parents.now } }
+    requires kept { (v : ℕ) → is_dropped tree.old.marks v ≡ false }
+    ensures ok { (tree.new.parents ≡ None ∷ map (λ p. Some p) parents.now)
+        × (tree.new.versions_max ≡ tree.old.versions_max) }
+    ensures kept { (v : ℕ) → is_dropped tree.new.marks v ≡ false }
 {
     for p in parents {
         tree.add_child(*p);
@@ -78,7 +82,7 @@ fn grow(tree: &mut Tree, parents: &[u32])
 }
 
 impl Memory {
-    /// Memory of a new store. It takes 1.3 KB for each of `mem` updates and 70 bytes for each version
+    /// Memory of a new store. It takes 1.3 KB for each of `mem` updates and 75 bytes for each version
     /// that there may be; the only error is want of memory. Of the other calls `prepare`, `open_cursor` and
     /// `reserve_retired` alone take any.
     pub fn new(
@@ -110,6 +114,7 @@ impl Memory {
 
     /// Takes the versions and the counts of a manifest into new memory, where `parents` are those of
     /// the versions from 1 on. O(versions log versions_max).
+    #[tactic(auto, using(strat_base::proofs::MarkLemmas::living_at))]
     pub fn load(&mut self, parents: &[u32], updates: u32, changes: u32)
         requires fits { IsTrue (are_older 1 parents.now) }
         requires room { 1 + length parents.now ≤ self.old.versions_max }
@@ -162,7 +167,7 @@ impl Memory {
         }
     }
 
-    /// Why a change is refused, if it is. O(1).
+    /// Why a change is refused, if it is. A drop is, since no build takes one yet. O(1).
     pub fn refusal(&self, change: &Change<'_>) -> Option<Refusal>
         ensures ok { result ≡ refusal_of_change self.now (change_of change.now) }
     {
@@ -170,6 +175,7 @@ impl Memory {
             Change::Put { version, .. } => self.update_refusal(version),
             Change::Delete { version, .. } => self.update_refusal(version),
             Change::Clone { version } => self.clone_refusal(version),
+            Change::DropVersion { .. } => Some(Refusal::UnknownVersion),
         }
     }
 
@@ -236,6 +242,8 @@ impl Memory {
             Change::Clone { version } => Reply::Made {
                 version: self.add_child(version),
             },
+            // A drop is refused.
+            Change::DropVersion { .. } => Reply::Done,
         }
     }
 
@@ -342,7 +350,10 @@ impl Memory {
     /// The arrays that no level names any more but a cursor does. O(1).
     pub fn retired(&self) -> &[ArrayDesc]
         ensures ok { result.now ≡ self.now.cursors.retired }
+        ensures len { length self.now.cursors.opened ≤ 64 }
     {
+        // Cursors say with their count that they are few.
+        let _ = self.cursors.len();
         self.cursors.retired()
     }
 

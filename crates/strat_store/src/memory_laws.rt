@@ -11,7 +11,7 @@ ghost use Rattle.strat_model.specs.Step.{step, refuses};
 ghost use Rattle.strat_model.specs.Table.{Cursor};
 ghost use Rattle.strat_model.specs.declared.replies.Refusal.{Refusal};
 ghost use Rattle.strat_model.specs.declared.replies.Refusal.TheVariants as why;
-ghost use Rattle.strat_recovery.specs.Head.{Head, head_versions, head_updates, head_changes};
+ghost use Rattle.strat_recovery.specs.Head.{Head, head_versions, head_updates, head_changes, head_marks};
 ghost use Rattle.strat_recovery.specs.Opened.{parents_in};
 ghost use Rattle.strat_recovery.specs.Opening.{state_of};
 ghost use Rattle.strat_recovery.specs.StateTable.{request_for};
@@ -19,6 +19,7 @@ ghost use Rattle.strat_state.specs.Reading.{live_of, level_zero};
 ghost use Rattle.strat_state.specs.Sound.{is_accepted, accepts_change, IsSound};
 ghost use Rattle.strat_state.specs.State.{State};
 ghost use Rattle.strat_store.specs.Memory.{Memory, refusal_of_change, memory_after, HasRoomFor, reply_to, info_told, stat_told, emptied, fresh_memory, table_with, IsMemoryOf};
+ghost use Rattle.strat_base.specs.Marks.{Marks, none_dropped};
 
 /// Memory refuses a change just where the table does, and for the same reason; of any other it tells
 /// what the table answers, wherever the change then goes and whatever cursors there are.
@@ -36,10 +37,10 @@ pub fn memory_answers_changes_as_the_table()
         → IsTrue (accepts_change s change) }
 {}
 
-/// Memory refuses just the changes that its limits, versions and counts do not accept.
+/// Memory refuses just the changes that its limits, versions and counts do not accept, where no version was dropped.
 pub fn memory_refuses_what_is_not_accepted()
-    ensures ok { (m : Memory) (change : Change)
-        → is_accepted m.changes_max m.versions_max m.parents m.changes change
+    ensures ok { (m : Memory) (marks : Marks) (change : Change) → IsTrue (none_dropped marks)
+        → is_accepted m.changes_max m.versions_max m.parents marks m.changes change
         ≡ not (is_some (refusal_of_change m change)) }
 {}
 
@@ -69,10 +70,11 @@ pub fn memory_finds_what_level_zero_says()
         → live_of m.parents m.entries v key ≡ live_of m.parents (level_zero s) v key }
 {}
 
-/// Memory after a change is that of the head with the change in its journal, and has room for what the
+/// Memory after a change that it does not refuse is that of the head with the change in its journal, and has room for what the
 /// change sets as long as the journal has room for it. Level 0 has no more entries than the journal changes.
 pub fn memory_follows_the_journal()
     ensures ok { (h : Head) (m : Memory) (change : Change) → IsMemoryOf h m
+        → refusal_of_change m change ≡ None
         → IsMemoryOf (record h { journal = h.journal ++ change ∷ [] }) (memory_after m change) }
     ensures room { (h : Head) (m : Memory) (change : Change) → IsMemoryOf h m
         → length h.journal < h.sb.mem → HasRoomFor m change }
@@ -86,13 +88,15 @@ pub fn emptied_memory_follows_a_publication()
     ensures ok { (h new : Head) (m : Memory) → IsMemoryOf h m → new.journal ≡ []
         → new.sb.changes_max ≡ h.sb.changes_max → new.sb.versions_max ≡ h.sb.versions_max
         → head_versions new ≡ head_versions h → head_updates new ≡ head_updates h
-        → head_changes new ≡ head_changes h → IsMemoryOf new (emptied new.sb.mem m) }
+        → head_changes new ≡ head_changes h → IsTrue (none_dropped (head_marks new))
+        → IsMemoryOf new (emptied new.sb.mem m) }
 {}
 
 /// New memory that took the versions and the counts of a manifest is that of the manifest's head with
 /// no change in its journal.
 pub fn loaded_memory_is_that_of_a_manifest()
-    ensures ok { (h : Head) → h.journal ≡ [] → IsMemoryOf h
+    ensures ok { (h : Head) → h.journal ≡ [] → IsTrue (none_dropped h.manifest.marks)
+        → IsMemoryOf h
         (record (fresh_memory h.sb.mem h.sb.changes_max h.sb.versions_max) {
           parents = parents_in h.manifest;
           updates = h.manifest.updates;

@@ -6,9 +6,11 @@ ghost use Rattle.strat_crash.specs.Blocks.{TearsBlocks};
 ghost use Rattle.strat_crash.specs.Faults.{HasCause};
 ghost use Rattle.strat_crash.specs.Image.{Image};
 ghost use Rattle.strat_crash.specs.Moments.{Exposes};
-ghost use Rattle.strat_extent.specs.Blocks.{is_free};
+ghost use Rattle.strat_extent.specs.Blocks.{is_free, used_count};
+ghost use Rattle.strat_format.specs.Arrays.{blocks_of};
 ghost use Rattle.strat_promote.specs.Job.{IsBadInput, blocks_listed};
 ghost use Rattle.strat_promote.specs.Promotions.{entries_if_any};
+ghost use Rattle.strat_promote.specs.Spaces.{HasAmpleRoom};
 ghost use Rattle.strat_promote.specs.declared.obstacle.Obstacle.TheVariants.{Damaged, Device, Unfit};
 ghost use Rattle.strat_standing.specs.Next.{arrays_made};
 ghost use Rattle.strat_standing.specs.Occupied.{UsesMore, extents_of};
@@ -40,8 +42,8 @@ pub(crate) struct Made {
 
 /// Promotes level 0 and the levels down to the first that has room for all their leads. Each block of their arrays is read
 /// twice at most, and nothing is written but free blocks. After an error the blocks that were taken are free again.
-/// `Damaged` names a block of an array that holds no entries, or none that come after those before it. `NoMemory` also stands
-/// for a disk on which no block is free. `Unfit`: there are more leads than any store has that stands on its disk.
+/// `Damaged` names a block of an array that holds no entries, or none that come after those before it. `Unfit`: there are more
+/// leads than any store has that stands on its disk, or fewer free blocks.
 pub(crate) fn promote<D: Disk>(
     alloc: Global,
     memory: &Memory,
@@ -59,13 +61,16 @@ pub(crate) fn promote<D: Disk>(
         → AreUsed space.old (blocks_listed (arrays_there levels.now))
         → IsPromotedTo g s next_array made.target made.level) }
     ensures fits { IfOk result (λ made. (1 ≤ made.target) × (made.target ≤ 22))
-        × (IsErrOf result Unfit → (f : Image) (s : State) → Exposes (D.view disk.old) f
-        → IsSound s → s.mem ≡ mem → HoldInMemory f s memory.now levels.now
+        × (IsErrOf result Unfit → HasAmpleRoom space.old → (f : Image) (s : State)
+        → Exposes (D.view disk.old) f → IsSound s → s.mem ≡ mem
+        → HoldInMemory f s memory.now levels.now
         → AreUsed space.old (blocks_listed (arrays_there levels.now)) → ⊥) }
     ensures len { IfOk result (λ made.
         made.entries ≡ min (entries_if_any made.level) (2 ^ 64 - 1)) }
     ensures room { IfOk result (λ made.
         UsesMore space.old (extents_of (arrays_made made.level)) space.new) }
+    ensures used { IfOk result (λ made. used_count space.new ≡ used_count space.old
+        + length (blocks_of (extents_of (arrays_made made.level)))) }
     ensures err { OnErr result (UsesMore space.old [] space.new) }
     ensures images { TearsBlocks (is_free space.old) (D.view disk.old) (D.view disk.new) }
     ensures cause { HasCause Device (D.faults disk.old) (D.faults disk.new) result }

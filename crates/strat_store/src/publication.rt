@@ -15,6 +15,7 @@ ghost use Rattle.strat_format.specs.SuperBlock.{IsLawful};
 ghost use Rattle.strat_gate.specs.SuperView.{super_of};
 ghost use Rattle.strat_manifest.specs.ManifestView.{manifest_of};
 ghost use Rattle.strat_promote.specs.Job.{blocks_listed};
+ghost use Rattle.strat_promote.specs.Spaces.{HasAmpleRoom};
 ghost use Rattle.strat_promote.specs.declared.obstacle.Obstacle.TheVariants as obstacle;
 ghost use Rattle.strat_promote.specs.declared.obstacle.Obstacle.TheVariants.{Device, Damaged};
 ghost use Rattle.strat_recovery.specs.StateTable.{table_of};
@@ -33,6 +34,7 @@ ghost use Rattle.strat_store.specs.Paying.{ArePaidSince, CountsWritten};
 ghost use Rattle.strat_store.specs.Publishing.{IsComputed, LaysSuperblock, WritesManifest, descs_to, is_in_front, manifest_after};
 ghost use Rattle.strat_store.specs.Recovering.{chained_of, held_of, IsAdmitted};
 ghost use Rattle.strat_store.specs.Settling.{super_after, held_next, ArePublishedAfter, ArePublishedTo, KeepsCursors, KeepsPublished, MayBeAdmitted, MayFollow, StandApart, WritesBeside, IsReadied};
+ghost use Rattle.strat_format.specs.Layout.{newest_format};
 
 use crate::admitting::{Published, admit};
 use crate::belonging::{mark_arrays, own_blocks};
@@ -79,6 +81,8 @@ fn used_space(alloc: Global, held: &Recovered) -> Result<Space, Obstacle>
     ensures ok { IfOk result (λ space. (cached : Blocks) (levels : List Level)
         → IsSpaceOf space (contents_held (held_of held.now cached) levels)
         (extents_of held.now.memory.cursors.retired)) }
+    ensures room { IfOk result (λ space. length (chained_of held.now.published).blocks ≤ 2 ^ 21
+        → HasAmpleRoom space) }
     ensures err { IsErrOf result obstacle.Unfit → IsTrue (list_all (λ b. nat_lt b 4294967295)
         (chained_of held.now.published).blocks) → ⊥ }
     ensures cause { IsOkOrShort result }
@@ -90,6 +94,8 @@ fn used_space(alloc: Global, held: &Recovered) -> Result<Space, Obstacle>
     if !mark_arrays(&mut space, held.memory.retired())? {
         return Err(Obstacle::Unfit);
     }
+    // A space says with the count of its free blocks that no more are used than were marked.
+    let _ = space.free();
     Ok(space)
 }
 
@@ -119,7 +125,7 @@ fn compute_beside<D: Disk>(
         (record { manifest = manifest_of r.manifest; blocks = blocks_of r.chain })) }
     ensures fits { IfOk result (λ r. (places.first_free held.now.sb.mem ≤ r.first)
         × (r.first < 4294967295) × (29 ≤ r.length)
-        × IsTrue (is_lawful_manifest (manifest_of r.manifest))) }
+        × IsTrue (is_lawful_manifest newest_format (manifest_of r.manifest))) }
     ensures err { IsErrOf result obstacle.Unfit → (x : Contents) (cached : Blocks)
         → StandsWith (D.view disk.old) (held_of held.now cached) x → ⊥ }
     ensures images { (cached : Blocks)
@@ -179,7 +185,7 @@ fn has_new_numbers(made: &Made, next_array: u64) -> bool
 /// refuse them, or arrays have numbers that are not new, or no generation is left.
 fn admit_next(alloc: Global, held: &Recovered, computed: Computed) -> Result<Next, Obstacle>
     requires kept { IsLawful (super_of held.now.sb)
-        × IsTrue (is_lawful_manifest (manifest_of computed.manifest)) }
+        × IsTrue (is_lawful_manifest newest_format (manifest_of computed.manifest)) }
     requires fits { (places.first_free held.now.sb.mem ≤ computed.first)
         × (computed.first < 4294967295) × (29 ≤ computed.length) }
     ensures ok { IfOk result (λ next.
@@ -214,6 +220,7 @@ fn admit_next(alloc: Global, held: &Recovered, computed: Computed) -> Result<Nex
 
 /// Writes the next contents of a store but for their superblock beside what it holds, and tests what their manifest
 /// says. Errors are those of `compute_beside`, and want of memory; `Unfit` never comes where the store stands.
+#[tactic(auto, using(strat_format::proofs::MarkLemmas::none_marked))]
 fn prepare_next<D: Disk>(alloc: Global, held: &Recovered, disk: &mut D) -> Result<Next, Obstacle>
     requires kept { (cached : Blocks) → IsConsistent (held_of held.now cached) }
     requires len { length held.now.journal.list ≡ held.now.sb.mem }

@@ -1,15 +1,14 @@
 //! A publication: the next contents of a store take the place of those that stand on its disk.
 
-ghost use Rattle.std.specs.Prelude.{IsTrue, ◌≡◌, ◌≤◌, ◌<◌, ℕ, List, [], ◌∷◌, ◌++◌, Option, length, IsSome, IfOk, OnOk, OnErr, IsErrOf};
+ghost use Rattle.std.specs.Prelude.{IsTrue, ◌≡◌, ◌≤◌, ◌<◌, ◌+◌, ◌-◌, ◌^◌, ℕ, List, [], ◌∷◌, ◌++◌, Option, length, IsSome, IfOk, OnOk, OnErr, IsErrOf};
 ghost use Rattle.strat_base.specs.declared.descriptors.Extent.{Extent as TheExtent};
 ghost use Rattle.strat_base.specs.declared.descriptors.LevelDesc.{LevelDesc as TheLevel};
-ghost use Rattle.strat_base.specs.declared.failures.Trouble.TheVariants.{NoMemory, Device, Damaged};
 ghost use Rattle.strat_crash.specs.Blocks.{TearsBlocks};
 ghost use Rattle.strat_crash.specs.Faults.{CountsFaults, HasCause};
 ghost use Rattle.strat_crash.specs.Image.{Image};
 ghost use Rattle.strat_crash.specs.Moments.{Exposes, Passes, OnlyReads, IsDurable};
 ghost use Rattle.strat_crash.specs.Trail.{Trail};
-ghost use Rattle.strat_extent.specs.Blocks.{is_free};
+ghost use Rattle.strat_extent.specs.Blocks.{is_free, used_count};
 ghost use Rattle.strat_extent.specs.Change.{IsMarked, SameBlocks, AreLowest};
 ghost use Rattle.strat_format.specs.Arrays.{blocks_of};
 ghost use Rattle.strat_format.specs.Manifest.{is_lawful_manifest, manifest_bytes};
@@ -17,6 +16,9 @@ ghost use Rattle.strat_format.specs.SuperBlock.{IsLawful};
 ghost use Rattle.strat_gate.specs.SuperView.{super_of};
 ghost use Rattle.strat_journal.specs.Log.{region_begun};
 ghost use Rattle.strat_manifest.specs.ManifestView.{manifest_of};
+ghost use Rattle.strat_promote.specs.Spaces.{HasFewFree};
+ghost use Rattle.strat_promote.specs.declared.obstacle.Obstacle.TheVariants as obstacle;
+ghost use Rattle.strat_promote.specs.declared.obstacle.Obstacle.TheVariants.{NoMemory, Device, Damaged};
 ghost use Rattle.strat_recovery.specs.StateTable.{table_of};
 ghost use Rattle.strat_standing.specs.Appending.{IsLogOf};
 ghost use Rattle.strat_standing.specs.Contents.{Contents, contents_state};
@@ -26,29 +28,42 @@ ghost use Rattle.strat_standing.specs.Standing.{ShowsTable, ContentsStand};
 ghost use Rattle.strat_state.specs.State.{IsPaid};
 ghost use Rattle.strat_store.specs.Paying.{ArePaidSince};
 ghost use Rattle.strat_store.specs.Publishing.{IsComputed, IsWrittenTo, LaysSuperblock, is_in_front};
+ghost use Rattle.strat_format.specs.Layout.{newest_format};
 
 use std::alloc::Global;
-use strat_base::{Extents, Failed, Trouble};
+use strat_base::{Extents, Failed};
 use strat_disk::Disk;
 use strat_extent::Space;
 use strat_gate::{SuperBlock, lay};
 use strat_journal::Journal;
 use strat_manifest::{Manifest, write};
+use strat_promote::obstacle::{Obstacle, Unfit};
 
 /// Most blocks of a manifest's chain.
 const CHAIN_MOST: u32 = 1 << 20;
 
+/// Refuses a space with fewer free blocks than a manifest's chain may take: no store comes so far.
+fn check_room(space: &Space) -> Result<(), Unfit>
+    ensures ok { OnOk result (used_count space.now + 1048576 ≤ 4294967295 - space.now.first) }
+    ensures cause { OnErr result (HasFewFree space.now (2 ^ 20)) }
+{
+    if space.free() < CHAIN_MOST {
+        return Err(Unfit);
+    }
+    Ok(())
+}
+
 /// Writes the next manifest into the lowest free blocks, and gives its first block, its length in bytes and its blocks: one
 /// write a block, and no sync. It takes all memory before the first write. After an error the blocks that were taken are
-/// free again. `NoMemory` also stands for a disk with too few free blocks.
+/// free again. `Unfit`: too few blocks are free.
 pub(crate) fn write_next<D: Disk>(
     alloc: Global,
     disk: &mut D,
     space: &mut Space,
     m: &Manifest,
-) -> Result<(u32, u32, Extents), Trouble>
-    requires kept { IsTrue (is_lawful_manifest (manifest_of m.now)) }
-    requires fits { (length (manifest_bytes (manifest_of m.now)) ≤ 4290772992)
+) -> Result<(u32, u32, Extents), Obstacle>
+    requires fits { IsTrue (is_lawful_manifest newest_format (manifest_of m.now))
+        × (length (manifest_bytes newest_format (manifest_of m.now)) ≤ 4290772992)
         × (1 ≤ space.old.first) }
     ensures ok { IfOk result (λ r. IsSome (D.view disk.old).content → (g : Image)
         → Exposes (D.view disk.new) g → (new : Contents)
@@ -65,15 +80,15 @@ pub(crate) fn write_next<D: Disk>(
         × (29 ≤ r.1)) }
     ensures images { TearsBlocks (is_free space.old) (D.view disk.old) (D.view disk.new) }
     ensures err { OnErr result (SameBlocks space.old space.new) }
+    ensures none { IsErrOf result obstacle.Unfit → HasFewFree space.old (2 ^ 20) }
     ensures same { IsErrOf result NoMemory → disk.new ≡ disk.old }
     ensures cause { HasCause Device (D.faults disk.old) (D.faults disk.new) result }
     ensures damaged { (b : ℕ) → IsErrOf result (Damaged b) → ⊥ }
     ensures reads { D.reads disk.new ≡ D.reads disk.old }
 {
-    if space.free() < CHAIN_MOST {
-        return Err(Trouble::NoMemory);
-    }
-    write(alloc, disk, space, m)
+    check_room(space)?;
+    let written = write(alloc, disk, space, m)?;
+    Ok(written)
 }
 
 /// Makes what was written beside the contents of a disk durable, before anything leads to it: one sync.

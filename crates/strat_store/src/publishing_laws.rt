@@ -8,15 +8,17 @@ ghost use Rattle.strat_format.specs.Arrays.{blocks_of};
 ghost use Rattle.strat_format.specs.Manifest.{is_lawful_manifest};
 ghost use Rattle.strat_journal.specs.Log.{Log};
 ghost use Rattle.strat_standing.specs.Appending.{IsLogOf};
-ghost use Rattle.strat_standing.specs.Contents.{Contents, contents_head};
+ghost use Rattle.strat_standing.specs.Contents.{Contents, contents_head, contents_state};
 ghost use Rattle.strat_standing.specs.Next.{IsNextOf};
 ghost use Rattle.strat_standing.specs.Occupied.{IsSpaceOf};
 ghost use Rattle.strat_state.specs.Level.{Level};
+ghost use Rattle.strat_state.specs.Sound.{IsSound};
 ghost use Rattle.strat_store.specs.Held.{Held, IsConsistent, StandsWith};
 ghost use Rattle.strat_store.specs.Promoting.{MayPromote};
 ghost use Rattle.strat_store.specs.Memory.{Memory, IsMemoryOf};
 ghost use Rattle.strat_store.specs.Paying.{CountsWritten, manifest_with_array};
 ghost use Rattle.strat_store.specs.Publishing.{IsComputed, IsWrittenBeside, MayCompute, contents_after, descs_to, descs_behind};
+ghost use Rattle.strat_format.specs.Layout.{newest_format};
 
 use strat_crash::laws::Viewed;
 
@@ -41,7 +43,8 @@ pub fn a_store_that_stands_may_compute<D: Viewed>()
 pub fn the_next_manifest_makes_the_next_contents()
     ensures ok { (old : Contents) (m : Memory) (target : ℕ) (made : Option LevelDesc)
         (levels : List Level) (first size : ℕ) (blocks : List ℕ) → IsMemoryOf (contents_head old) m
-        → length old.journal ≤ old.sb.mem → IsTrue (is_lawful_manifest old.chained.manifest)
+        → IsSound (contents_state old) → length old.journal ≤ old.sb.mem
+        → IsTrue (is_lawful_manifest newest_format old.chained.manifest)
         → IsNextOf old (contents_after old m target made levels first size blocks) made
         (descs_to target old.chained.manifest.levels)
         (descs_behind target old.chained.manifest.levels) }
@@ -53,7 +56,7 @@ pub fn what_was_written_beside_is_computed<D: Viewed>()
     ensures ok { (v w u : D) (s t r : SpaceView) (old new : Contents) (target : ℕ)
         (made : Option LevelDesc) (besides others : List Extent) (log : Log)
         → IsWrittenBeside (D.view v) (D.view w) (D.view u) s t r old new target made besides others
-        → IsTrue (is_lawful_manifest old.chained.manifest) → IsLogOf old log
+        → IsTrue (is_lawful_manifest newest_format old.chained.manifest) → IsLogOf old log
         → IsComputed (D.view u) new.slot new.sb log old new }
 {}
 

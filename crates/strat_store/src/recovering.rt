@@ -11,7 +11,7 @@ ghost use Rattle.strat_crash.specs.Moments.{Exposes, Since, Passes, TearsOnly, I
 ghost use Rattle.strat_cursor.specs.Held.{no_cursors};
 ghost use Rattle.strat_format.specs.Chain.{chain_length};
 ghost use Rattle.strat_format.specs.Chained.{manifest_at};
-ghost use Rattle.strat_format.specs.Layout.{region_blocks, region_at, other_region};
+ghost use Rattle.strat_format.specs.Layout.{region_blocks, region_at, other_region, newest_format};
 ghost use Rattle.strat_format.specs.SuperBlock.{IsLawful, newest_in};
 ghost use Rattle.strat_gate.specs.SuperView.{super_of};
 ghost use Rattle.strat_journal.specs.Log.{IsStale};
@@ -56,7 +56,7 @@ fn read_published<D: Disk>(
 ) -> Result<Published, Trouble>
     requires fits { IsLawful (super_of sb.now) }
     ensures found { IfOk result (λ p. (f : Image) → Exposes (D.view disk.old) f
-        → manifest_at f sb.now.manifest sb.now.length ≡ Ok (chained_of p)) }
+        → manifest_at newest_format f sb.now.manifest sb.now.length ≡ Ok (chained_of p)) }
     ensures kept { IfOk result (λ p. IsAdmitted (super_of sb.now) p) }
     ensures damaged { (block : ℕ) → IsErrOf result (Damaged block) → (f : Image)
         → Exposes (D.view disk.old) f → recover_manifest f (super_of sb.now) ≡ Err block }
@@ -117,14 +117,14 @@ fn redo(memory: &mut Memory, logged: &Logged) -> Result<(), Trouble>
 fn replay(memory: &mut Memory, logged: &[Logged]) -> Result<(), Trouble>
     requires room { length logged.now ≤ memory.old.spare }
     ensures found { OnOk result (accepted_in memory.old.changes_max memory.old.versions_max
-        memory.old.parents memory.old.changes (map logged_of logged.now)
+        memory.old.parents [] memory.old.changes (map logged_of logged.now)
         ≡ Ok (map (λ l. l.change) logged.now)) }
     ensures ok { OnOk result
         (memory.new ≡ fold memory_after memory.old (map (λ l. l.change) logged.now)) }
     ensures fits { OnOk result (IsTrue (list_all is_lawful (map (λ l. l.change) logged.now))) }
     ensures damaged { IfErr result (λ e. (b : ℕ) × (e ≡ Damaged b)
         × (accepted_in memory.old.changes_max memory.old.versions_max
-        memory.old.parents memory.old.changes (map logged_of logged.now) ≡ Err b)) }
+        memory.old.parents [] memory.old.changes (map logged_of logged.now) ≡ Err b)) }
 {
     for record in logged {
         redo(memory, record)?;
@@ -145,7 +145,8 @@ fn recover_memory(
     requires kept { IsAdmitted (super_of sb.now) published.now }
     requires room { length logged.now ≤ sb.now.mem }
     ensures found { OnOk result (accepted_in sb.now.changes_max sb.now.versions_max
-        (parents_in (chained_of published.now).manifest) published.now.manifest.changes
+        (parents_in (chained_of published.now).manifest) (chained_of published.now).manifest.marks
+        published.now.manifest.changes
         (map logged_of logged.now) ≡ Ok (map (λ l. l.change) logged.now)) }
     ensures ok { IfOk result (λ m. IsMemoryOf (record {
       sb = super_of sb.now;
@@ -156,7 +157,8 @@ fn recover_memory(
     ensures fits { OnOk result (IsTrue (list_all is_lawful (map (λ l. l.change) logged.now))) }
     ensures damaged { (block : ℕ) → IsErrOf result (Damaged block)
         → accepted_in sb.now.changes_max sb.now.versions_max
-        (parents_in (chained_of published.now).manifest) published.now.manifest.changes
+        (parents_in (chained_of published.now).manifest) (chained_of published.now).manifest.marks
+        published.now.manifest.changes
         (map logged_of logged.now) ≡ Err block }
     ensures err { IsErrOf result Device → ⊥ }
 {
@@ -182,7 +184,8 @@ fn read_journal<D: Disk>(
         × (IsTrue r.0.stale ↔ IsStale f sb.now.mem sb.now.region (length r.0.list))) }
     ensures kept { IfOk result (λ r. IsLogBehind (super_of sb.now) r.0) }
     ensures fits { IfOk result (λ r. IsTrue (are_accepted sb.now.changes_max sb.now.versions_max
-        (parents_in (chained_of published.now).manifest) published.now.manifest.changes r.0.list)) }
+        (parents_in (chained_of published.now).manifest) (chained_of published.now).manifest.marks
+        published.now.manifest.changes r.0.list)) }
     ensures ok { IfOk result (λ r. IsMemoryOf (record {
       sb = super_of sb.now;
       manifest = (chained_of published.now).manifest;

@@ -1,12 +1,13 @@
 //! What a command leaves of superblock and manifest, and of which trouble it may tell: each fact of these records, used once. Each is
 //! the contract of a function that does nothing.
 
-ghost use Rattle.std.specs.Prelude.{◌≡◌, ◌≢◌, ◌≤◌, ◌⊎◌, ◌+◌, ◌-◌, ℕ, Bool, List, true, false, length, Contains, None};
+ghost use Rattle.std.specs.Prelude.{◌≡◌, ◌≢◌, ◌≤◌, ◌⊎◌, ◌+◌, ◌-◌, ℕ, suc, Bool, List, true, false, length, replicate, Contains, None};
 ghost use Rattle.strat_base.specs.declared.descriptors.ArrayDesc.{ArrayDesc};
 ghost use Rattle.strat_crash.specs.Blocks.{AgreeOn};
 ghost use Rattle.strat_crash.specs.Image.{Image};
 ghost use Rattle.strat_crash.specs.Moments.{Exposes, Since};
 ghost use Rattle.strat_cursor.specs.Cursors.{retired_all};
+ghost use Rattle.strat_format.specs.Layout.{newest_format};
 ghost use Rattle.strat_format.specs.Arrays.{block_on};
 ghost use Rattle.strat_format.specs.Manifest.{Manifest};
 ghost use Rattle.strat_format.specs.SuperBlock.{Super};
@@ -28,7 +29,7 @@ ghost use Rattle.strat_store.specs.Settling.{ArePublishedTo, HasPublished, Leave
 use strat_crash::laws::Viewed;
 
 /// A change that was carried out at a full journal left the other slot, with the next generation and the other region, and a
-/// manifest of all that memory counts.
+/// manifest of all that memory counts, in the newest format and with no version dropped.
 pub fn a_full_journal_is_published<D: Viewed>()
     ensures ok { (d e : D) (old new : Held) (told : Reply)
         → LeavesPublished (D.view d) (D.view e) old true told new
@@ -39,6 +40,12 @@ pub fn a_full_journal_is_published<D: Viewed>()
         × (new.chained.manifest.changes ≡ old.memory.changes)
         × (new.chained.manifest.updates ≡ old.memory.updates)
         × (new.chained.manifest.parents ≡ parent_numbers old.memory.parents) }
+    ensures same { (d e : D) (old new : Held) (told : Reply)
+        → LeavesPublished (D.view d) (D.view e) old true told new
+        → old.log.mem ≤ length old.log.list → (new.sb.format ≡ newest_format)
+        × (new.chained.manifest.compacted ≡ old.chained.manifest.compacted)
+        × (new.chained.manifest.marks
+        ≡ replicate (suc (length (parent_numbers old.memory.parents))) false) }
     ensures room { (old new : Held) → HasPublished old new
         → old.log.mem ≤ length old.log.list }
     ensures fits { (target : ℕ) (sb next_sb : Super) (m next : Manifest) (memory : Memory)

@@ -8,13 +8,13 @@ ghost use Rattle.strat_base.specs.Entries.{Entry};
 ghost use Rattle.strat_base.specs.declared.descriptors.ArrayDesc.{ArrayDesc};
 ghost use Rattle.strat_crash.specs.Moments.{OnlyReads};
 ghost use Rattle.strat_format.specs.Arrays.{blocks_of};
-ghost use Rattle.strat_model.specs.Request.{Clone, Delete, Put, Stat};
+ghost use Rattle.strat_model.specs.Request.{Clone, Delete, DropVersion, Put, Stat};
 ghost use Rattle.strat_model.specs.declared.replies.Refusal.TheVariants as why;
 ghost use Rattle.strat_model.specs.declared.replies.Reply.{Reply};
 ghost use Rattle.strat_model.specs.declared.replies.Reply.TheVariants as reply;
 ghost use Rattle.strat_store.specs.Applying.{IsUntouched, may_write};
 ghost use Rattle.strat_store.specs.Held.{Held, arrays_held};
-ghost use Rattle.strat_store.specs.Memory.{refusal_of_change};
+ghost use Rattle.strat_store.specs.Memory.{Memory, memory_after, refusal_of_change};
 
 use strat_crash::laws::Viewed;
 
@@ -40,6 +40,16 @@ pub fn a_refused_change_leaves_store_and_disk<D: Viewed>()
         → IsUntouched (D.view d) (D.view e) (Delete v key) old told new
         → (told ≡ reply.Refused why.Frozen) × (new.memory ≡ old.memory) × (new.log ≡ old.log)
         × (new.chained ≡ old.chained) × OnlyReads (D.view d) (D.view e) }
+{}
+
+/// A drop of a version is refused as one of a version that is unknown, and leaves store and disk as they were.
+pub fn a_drop_leaves_store_and_disk<D: Viewed>()
+    ensures err { (d e : D) (old new : Held) (v : ℕ) (told : Reply)
+        → IsUntouched (D.view d) (D.view e) (DropVersion v) old told new
+        → (told ≡ reply.Refused why.UnknownVersion) × (new.memory ≡ old.memory)
+        × (new.log ≡ old.log) × (new.chained ≡ old.chained)
+        × OnlyReads (D.view d) (D.view e) }
+    ensures same { (m : Memory) (v : ℕ) → memory_after m (change.DropVersion v) ≡ m }
 {}
 
 /// A change that memory takes is told that it is done, of want of memory, or of a fault.

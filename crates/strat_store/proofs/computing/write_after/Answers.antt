@@ -1,7 +1,6 @@
 use Rattle.std.proofs.Common.{refl, sym, subst, arith}
 use Rattle.strat_array.proofs.SearchLemmas.{err_of}
 use Rattle.strat_manifest.specs.ManifestView.{manifest_of}
-use Rattle.strat_promote.proofs.ObstacleLemmas.{block_handed, cause_handed, fit_handed}
 use Rattle.strat_store.proofs.ComputedLemmas.{entries_counted}
 use Rattle.strat_store.proofs.ObstacleLemmas.{short_block, short_cause}
 use Rattle.strat_store.specs.Publishing.{MayBeWritten}
@@ -13,7 +12,7 @@ returns-in_err-m-clause-none g c = λ unfit may.
     let written = may.written in
     let next = may.next_array in
     let same = entries_counted c.args.made.now.level in
-    omega (arith, much, written, next, same)
+    absurd (omega (arith, much, written, next, same))
 
 pub returns-in_err-m-clause-cause : goal.returns-in_err-m-clause-cause
 returns-in_err-m-clause-cause g c = short_cause c.from_residual.result _ c.from_residual.ensures.1 c.in_err-m.ensures.cause _ _ refl
@@ -24,13 +23,10 @@ returns-in_err-m-clause-damaged g c = λ b bad. short_block c.from_residual.resu
 pub returns-in_err-check_writable-clause-none : goal.returns-in_err-check_writable-clause-none
 returns-in_err-check_writable-clause-none g c = λ _ may.
     let here : MayBeWritten (manifest_of c.in_ok-m.m) = subst MayBeWritten (sym c.in_ok-m.ensures.ok) may in
-    c.in_err-check_writable.ensures.cause here.lawful here.short
+    absurd (c.in_err-check_writable.ensures.cause here.lawful here.short)
 
 pub returns-in_err-first-clause-none : goal.returns-in_err-first-clause-none
-returns-in_err-first-clause-none g c = λ unfit _. fit_handed _ c.from_residual-in_err-first.result c.from_residual-in_err-first.ensures.1 unfit
-
-pub returns-in_err-first-clause-cause : goal.returns-in_err-first-clause-cause
-returns-in_err-first-clause-cause g c = cause_handed _ c.from_residual-in_err-first.result c.from_residual-in_err-first.ensures.1 _ _ c.in_err-first.ensures.cause
+returns-in_err-first-clause-none g c = λ unfit _. c.in_err-first.ensures.none (err_of c.from_residual-in_err-first.result _ _ c.from_residual-in_err-first.ensures.1 unfit)
 
 pub returns-in_err-first-clause-damaged : goal.returns-in_err-first-clause-damaged
-returns-in_err-first-clause-damaged g c = λ b bad. c.in_err-first.ensures.damaged b (block_handed _ c.from_residual-in_err-first.result c.from_residual-in_err-first.ensures.1 b bad)
+returns-in_err-first-clause-damaged g c = λ b bad. c.in_err-first.ensures.damaged b (err_of c.from_residual-in_err-first.result _ _ c.from_residual-in_err-first.ensures.1 bad)

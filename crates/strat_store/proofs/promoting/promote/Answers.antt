@@ -1,11 +1,13 @@
-use Rattle.std.proofs.Common.{ℕ, Option, sym, subst, arith}
+use Rattle.std.proofs.Common.{◌≡◌, ◌+◌, ℕ, length, Option, sym, subst, arith}
 use Rattle.strat_base.specs.declared.descriptors.LevelDesc.{LevelDesc}
+use Rattle.strat_extent.specs.Blocks.{used_count}
+use Rattle.strat_format.specs.Arrays.{blocks_of}
 use Rattle.strat_promote.specs.Promotions.{target_of}
 use Rattle.strat_standing.specs.Next.{arrays_made}
 use Rattle.strat_standing.specs.Occupied.{UsesMore, extents_of}
 use Rattle.strat_store.specs.Promoting.{IsPromotedTo}
 use Rattle.strat_crash.specs.Moments.{Exposes}
-use Rattle.strat_store.proofs.PromotingLemmas.{fed, its_job, promoted_to, takes_its_blocks, reads_few, blamed, block_there, err_handed}
+use Rattle.strat_store.proofs.PromotingLemmas.{counts_its_blocks, fed, its_job, promoted_to, takes_its_blocks, reads_few, blamed, block_there, err_handed}
 use Rattle.strat_promote.proofs.ObstacleLemmas.{none_kept, short_fit}
 use Rattle.strat_promote.proofs.PushingLemmas.{still_told}
 use Rattle.strat_promote.proofs.StateInputsLemmas.{begun_nothing}
@@ -38,6 +40,12 @@ returns-in-Ok-Done-clause-room g c =
     (takes_its_blocks c.args.memory.now c.args.levels.now c.args.mem c.args.next_array _ c.parts.result.0.now.list c.parts.result.1.now c.parts.result.2.now.parents _
     c.parts.ensures.ok c.parts.ensures.found.0 c.parts.ensures.found.1 c.count-versions.ensures.ok c.in_ok-promotion.ensures.ok _ _ c.slice.new.self _ c.slice.ensures.room (rw c.in-Ok-Done.field-0-is at c.in-Ok-Done.ensures.kept).1)
 
+pub returns-in-Ok-Done-clause-used : goal.returns-in-Ok-Done-clause-used
+returns-in-Ok-Done-clause-used g c =
+    subst (λ (made : Option LevelDesc). used_count c.slice.new.space ≡ used_count c.args.space.now + length (blocks_of (extents_of (arrays_made made)))) (sym c.finish-target.ensures.found)
+    (counts_its_blocks c.args.memory.now c.args.levels.now c.args.mem c.args.next_array _ c.parts.result.0.now.list c.parts.result.1.now c.parts.result.2.now.parents _
+    c.parts.ensures.ok c.parts.ensures.found.0 c.parts.ensures.found.1 c.count-versions.ensures.ok c.in_ok-promotion.ensures.ok _ _ c.slice.new.self _ c.slice.ensures.room (rw c.in-Ok-Done.field-0-is at c.in-Ok-Done.ensures.kept).1)
+
 pub returns-in-Ok-Done-clause-reads : goal.returns-in-Ok-Done-clause-reads
 returns-in-Ok-Done-clause-reads g c =
     reads_few c.args.memory.now c.args.levels.now c.args.mem c.args.next_array _ c.parts.result.0.now.list c.parts.result.1.now c.parts.result.2.now.parents _
@@ -65,18 +73,18 @@ returns-in_err-promotion-clause-fits g c = (none_kept c.from_residual.result _ _
 pub returns-in-Err-clause-fits : goal.returns-in-Err-clause-fits
 returns-in-Err-clause-fits g c = (
   tt,
-  λ unfit f s exposed sound mem_is holds used.
+  λ unfit room f s exposed sound mem_is holds used.
       let job =
       its_job c.args.memory.now c.args.levels.now c.args.mem c.args.next_array _ c.parts.result.0.now.list c.parts.result.1.now c.parts.result.2.now.parents _
       c.parts.ensures.ok c.parts.ensures.found.0 c.parts.ensures.found.1 c.count-versions.ensures.ok c.in_ok-promotion.ensures.ok f f s mem_is holds c.requires.kept sound in
-      c.in-Err.ensures.fits (err_handed _ _ unfit) f _ exposed job (λ b of. used b (block_there c.args.levels.now _ b of))
+      c.in-Err.ensures.fits (err_handed _ _ unfit) room f _ exposed job (λ b of. used b (block_there c.args.levels.now _ b of))
       (begun_nothing c.parts.result.0.now.list c.args.levels.now c.args.mem _ c.args.next_array _ c.in_ok-promotion.ensures.ok f _),
 )
 
 pub returns-in-Ok-More-clause-fits : goal.returns-in-Ok-More-clause-fits
 returns-in-Ok-More-clause-fits g c = (
   tt,
-  λ unfit f s exposed sound mem_is holds used.
+  λ unfit room f s exposed sound mem_is holds used.
       let job =
       its_job c.args.memory.now c.args.levels.now c.args.mem c.args.next_array _ c.parts.result.0.now.list c.parts.result.1.now c.parts.result.2.now.parents _
       c.parts.ensures.ok c.parts.ensures.found.0 c.parts.ensures.found.1 c.count-versions.ensures.ok c.in_ok-promotion.ensures.ok f f s mem_is holds c.requires.kept sound in

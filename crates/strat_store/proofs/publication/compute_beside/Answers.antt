@@ -5,6 +5,7 @@ use Rattle.strat_standing.specs.Occupied.{extents_of}
 use Rattle.strat_store.specs.Recovering.{held_of, empty_cache}
 use Rattle.strat_store.proofs.KeptLemmas.{stand_apart}
 use Rattle.strat_store.proofs.ObstacleLemmas.{short_block, short_cause}
+use Rattle.strat_store.proofs.RoomLemmas.{chain_short}
 use Rattle.strat_store.proofs.SettledLemmas.{none_damaged}
 use Rattle.strat_store.proofs.SettlingLemmas.{chain_numbered, computes_all, unwritten, used_held, written_free, blames_held, readied}
 use Rattle.strat_store.proofs.WholeLemmas.{whole_promotes}
@@ -51,7 +52,8 @@ returns-clause-room g c =
 pub returns-clause-err : goal.returns-clause-err
 returns-clause-err g c = λ unfit x cached stands.
     computes_all (g.D.Disk.view c.args.disk.now) (held_of c.args.held.now cached) x c.in_ok-space.space c.args.held.now.published.chain (extents_of c.args.held.now.memory.cursors.retired)
-    (c.requires.kept cached) stands c.requires.len refl (c.in_ok-space.ensures.ok cached) (c.compute_next.ensures.err unfit)
+    (c.requires.kept cached) stands c.requires.len refl (c.in_ok-space.ensures.ok cached)
+    (c.compute_next.ensures.err unfit (c.in_ok-space.ensures.room (chain_short (g.D.Disk.view c.args.disk.now) (held_of c.args.held.now cached) x (c.requires.kept cached) stands)))
 
 pub returns-clause-fits : goal.returns-clause-fits
 returns-clause-fits g c = if_ok_then c.compute_next.result c.compute_next.ensures.fits (λ r fits.

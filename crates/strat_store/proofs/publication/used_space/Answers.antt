@@ -4,6 +4,7 @@ use Rattle.strat_standing.specs.Occupied.{UsesMore, extents_of}
 use Rattle.strat_store.specs.Held.{contents_held}
 use Rattle.strat_store.specs.Recovering.{held_of, empty_cache}
 use Rattle.strat_extent.specs.Change.{CanMark}
+use Rattle.strat_store.proofs.RoomLemmas.{ample_room}
 use Rattle.strat_store.proofs.SettlingLemmas.{keeps_own, owns_blocks, space_held}
 use Rattle.strat_store.proofs.publication.used_space.Goals as goal
 
@@ -27,3 +28,12 @@ returns-then-not-branch-clause-err c = λ _ low.
     let own = ((rw c.in-Some.is at c.in_ok-space.ensures.ok) (contents_held s []) refl refl (sym c.as_slice-levels.ensures.ok)).0 in
     (rw c.if-not-branch.true at c.in_ok-mark_arrays.ensures.ok)
     (subst (λ (rs : List ArrayDesc). CanMark c.in-Some.space (extents_of rs)) (sym c.retired.ensures.ok) (keeps_own s c.in-Some.space (c.requires.kept (empty_cache 0)) own))
+
+pub returns-clause-room : goal.returns-clause-room
+returns-clause-room c = λ short.
+    let s = held_of c.args.held.now (empty_cache 0) in
+    let own =
+    (space_held c.in-Some.space c.mark_arrays.new.space (contents_held s []) c.args.held.now.memory.cursors.retired
+    ((rw c.in-Some.is at c.in_ok-space.ensures.ok) (contents_held s []) refl refl (sym c.as_slice-levels.ensures.ok)).0
+    (subst (λ (rs : List ArrayDesc). UsesMore c.in-Some.space (extents_of rs) c.mark_arrays.new.space) c.retired.ensures.ok (rw c.if-not-branch.false at c.in_ok-mark_arrays.ensures.ok))) in
+    ample_room s c.mark_arrays.new.space c.free.result c.args.held.now.published.chain (c.requires.kept (empty_cache 0)) refl own c.retired.ensures.len short c.free.ensures.ok c.free.ensures.len

@@ -1,8 +1,11 @@
-use Rattle.std.proofs.Common.{inl, ◌∙◌}
+use Rattle.std.proofs.Common.{◌≡◌, ◌≤◌, ℕ, inl, Err, ap, ◌∙◌, subst}
+use Rattle.std.proofs.lemmas.Result.{err_from_is_err_and}
+use Rattle.strat_crash.specs.Faults.{Rose}
 use Rattle.strat_crash.specs.Moments.{OnlyReads}
 use Rattle.strat_crash.proofs.MomentLemmas.{reads_trans}
 use Rattle.strat_store.specs.Recovering.{empty_cache}
-use Rattle.strat_store.proofs.OpenLemmas.{looks_kept, opened_as, leaves_follows}
+use Rattle.strat_store.specs.declared.opening.AttachFault.{AttachFault}
+use Rattle.strat_store.proofs.OpenLemmas.{failed_cause, looks_kept, opened_as, leaves_follows}
 use Rattle.strat_store.proofs.recovering.open.Given.{Over}
 use Rattle.strat_store.proofs.recovering.open.Goals as goal
 use Rattle.strat_store.proofs.recovering.open.Goals.{After-recover_store}
@@ -38,3 +41,13 @@ returns-clause-ok g c = λ cap.
     opened_as _ (g.D.Disk.view c.sync_first.new.disk) (g.D.Disk.view c.recover_store.new.disk) _ c.in_ok-recovered.recovered
     (synced g (goal.at.returns-clause-ok g c).After-recover_store) c.in_ok-sync_first.ensures.ok (g.met.D.Disk.leaves_content c.sync_first.new.disk) c.recover_store.ensures.same c.shut_other.ensures.time
     (λ f exposed. c.in_ok-recovered.ensures.found f (c.sync_first.ensures.same ∙ exposed)) c.shut_other.ensures.trail c.shut_other.ensures.images c.in_ok-shut_other.ensures.kept c.in_ok-recovered.ensures.end c.in_ok-recovered.ensures.kept cap
+
+pub returns-in_err-shut_other-clause-cause : goal.returns-in_err-shut_other-clause-cause
+returns-in_err-shut_other-clause-cause g c =
+    let p = err_from_is_err_and c.from_residual-in_err-shut_other.result c.from_residual-in_err-shut_other.ensures.1 in
+    let before : ℕ = g.D.Disk.faults c.args.disk.now in
+    let now : ℕ = g.D.Disk.faults c.shut_other.new.disk in
+    let calm : g.D.Disk.faults c.recover_store.new.disk ≡ before = c.in_ok-recovered.ensures.cause.ok ∙ c.in_ok-sync_first.ensures.cause.ok in
+    failed_cause c.from_residual-in_err-shut_other.result before now (p.1 ∙ ap (λ (e : AttachFault). Err e) p.2)
+    (subst (λ (n : ℕ). n ≤ now) calm c.shut_other.ensures.cause.later)
+    (subst (λ (n : ℕ). Rose n now) calm c.in_err-shut_other.ensures.cause.err)

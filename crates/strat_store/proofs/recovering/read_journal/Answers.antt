@@ -32,5 +32,5 @@ returns-clause-kept g c =
 pub returns-clause-fits : goal.returns-clause-fits
 returns-clause-fits g c =
     let accepted = rw c.deref.ensures.value at c.in_ok-memory.ensures.found in
-    accepted_in_turn c.args.sb.now.changes_max c.args.sb.now.versions_max (parents_in (chained_of c.args.published.now).manifest) c.args.published.now.manifest.changes (map logged_of c.in_ok-journal.logged.items)
+    accepted_in_turn c.args.sb.now.changes_max c.args.sb.now.versions_max (parents_in (chained_of c.args.published.now).manifest) (chained_of c.args.published.now).manifest.marks c.args.published.now.manifest.changes (map logged_of c.in_ok-journal.logged.items)
     c.in_ok-journal.journal.list (accepted ∙ ap (λ (js : List Change). Ok js) (sym c.in_ok-journal.ensures.ok.list_is))

@@ -1,11 +1,11 @@
-use Rattle.std.proofs.Common.{◌≡◌, ℕ, map, Result, Err, ap, sym, ◌∙◌}
+use Rattle.std.proofs.Common.{◌≡◌, ℕ, map, Result, Err, ap, sym, ◌∙◌, []}
 use Rattle.std.proofs.lemmas.Result.{err_from_is_err_and}
 use Rattle.strat_base.specs.declared.failures.Trouble.{Trouble}
 use Rattle.strat_base.specs.declared.failures.Trouble.TheVariants.{Damaged}
 use Rattle.strat_journal.specs.Records.{logged_of}
 use Rattle.strat_gate.specs.SuperView.{super_of}
 use Rattle.strat_store.specs.Recovering.{chained_of}
-use Rattle.strat_store.proofs.RecoverLemmas.{damaged_block, memory_accepts, memory_redone, same_err_in}
+use Rattle.strat_store.proofs.RecoverLemmas.{accepted_in_turn, damaged_block, memory_accepts, memory_redone, same_err_in}
 use Rattle.strat_store.specs.Memory.{Memory}
 use Rattle.strat_store.proofs.KeepingLemmas.{cursors_redone}
 use Rattle.strat_store.proofs.recovering.recover_memory.Goals as goal
@@ -13,7 +13,15 @@ use Rattle.strat_store.proofs.recovering.recover_memory.Goals as goal
 pub returns-clause-ok : goal.returns-clause-ok
 returns-clause-ok c =
     memory_redone (super_of c.args.sb.now) (chained_of c.args.published.now).manifest c.in_ok-memory.memory c.in_ok-memory.ensures.ok c.replay.new.memory
-    (map (λ l. l.change) c.args.logged.now) c.in_ok-replay.ensures.ok
+    (map (λ l. l.change) c.args.logged.now)
+    (accepted_in_turn c.in_ok-memory.memory.changes_max c.in_ok-memory.memory.versions_max c.in_ok-memory.memory.parents [] c.in_ok-memory.memory.changes
+    (map logged_of c.args.logged.now) (map (λ l. l.change) c.args.logged.now) c.in_ok-replay.ensures.found)
+    c.in_ok-replay.ensures.ok
+
+pub returns-clause-found : goal.returns-clause-found
+returns-clause-found c =
+    sym (memory_accepts (super_of c.args.sb.now) (chained_of c.args.published.now).manifest c.in_ok-memory.memory c.in_ok-memory.ensures.ok (map logged_of c.args.logged.now))
+    ∙ c.in_ok-replay.ensures.found
 
 pub returns-clause-end : goal.returns-clause-end
 returns-clause-end c =

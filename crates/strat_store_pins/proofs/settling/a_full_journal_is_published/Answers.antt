@@ -10,6 +10,12 @@ returns-clause-ok g c = λ d e old new told leaves full.
     let m = has.after.are.manifest_is in
     (has.slot, ap (λ (x : Super). x.generation) sb, ap (λ (x : Super). x.region) sb, ap (λ (x : Super). x.mem) sb, ap (λ (x : Super). x.changes_max) sb, ap (λ (x : Super). x.versions_max) sb, ap (λ (x : Manifest). x.changes) m, ap (λ (x : Manifest). x.updates) m, ap (λ (x : Manifest). x.parents) m)
 
+pub returns-clause-same : goal.returns-clause-same
+returns-clause-same g c = λ d e old new told leaves full.
+    let has = leaves.next refl full in
+    let m = has.after.are.manifest_is in
+    (ap (λ (x : Super). x.format) has.after.are.sb_is, ap (λ (x : Manifest). x.compacted) m, ap (λ (x : Manifest). x.marks) m)
+
 pub returns-clause-room : goal.returns-clause-room
 returns-clause-room g c = λ old new has. has.full
 

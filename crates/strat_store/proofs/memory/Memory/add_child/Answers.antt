@@ -7,16 +7,20 @@ use Rattle.strat_level.specs.Memtable.{entries_held}
 use Rattle.strat_tree.specs.TreeView.{TreeView}
 use Rattle.strat_store.specs.Memory.{Memory, refusal_of_clone}
 use Rattle.strat_store.specs.MemoryFields.{memory_held, StandInPool}
-use Rattle.strat_store.proofs.MemoryLemmas.{known_grown, clone_taken}
+use Rattle.strat_store.proofs.MemoryLemmas.{known_grown, clone_taken, clear_from}
 use Rattle.strat_store.proofs.PageLemmas.{held_known}
 use Rattle.strat_store.proofs.PoolLemmas.{grown_stands}
 use Rattle.strat_store.proofs.memory.Memory.add_child.Goals as goal
 use Rattle.strat_store.proofs.memory.Memory.add_child.Goals.{After-add_child}
+use Rattle.strat_base.proofs.MarkLemmas.{living_at}
 
 within : (c : After-add_child) → c.args.version < length c.self.inside.tree.parents
 within c =
     let taken = clone_taken (memory_held c.self.inside) c.args.version (subst (λ (m : Memory). refusal_of_clone m c.args.version ≡ None) (sym c.self.view_is) c.requires.none) in
     ltb-true c.args.version (length c.self.inside.tree.parents) taken.0
+
+pub add_child-requires-clause-kept : goal.add_child-requires-clause-kept
+add_child-requires-clause-kept c = living_at c.self.inside.tree.marks c.self.invariant.undropped c.args.version
 
 pub invariant_of-self : goal.invariant_of-self
 invariant_of-self c =
@@ -30,6 +34,7 @@ invariant_of-self c =
       changes = omega (arith, c.self.invariant.changes, apart);
       updates = omega (arith, c.self.invariant.updates);
       versions = ap (λ (t : TreeView). t.versions_max) c.add_child.ensures.ok ∙ c.self.invariant.versions;
+      undropped = clear_from c.add_child.new.self.marks (λ v. c.add_child.ensures.same v ∙ living_at c.self.inside.tree.marks c.self.invariant.undropped v);
     }
 
 pub returns-clause-kept : goal.returns-clause-kept

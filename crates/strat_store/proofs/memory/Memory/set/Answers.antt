@@ -20,6 +20,7 @@ invariant_of-self c =
       changes = omega (arith, c.self.invariant.changes, apart);
       updates = omega (arith, c.self.invariant.updates);
       versions = c.self.invariant.versions;
+      undropped = c.self.invariant.undropped;
     }
 
 pub returns-clause-ok : goal.returns-clause-ok
