@@ -38,6 +38,7 @@ CLAUSES = {
     "time": "what holds of the moments that passed",
     "reads": "how often the disk is read",
     "len": "how long a result is",
+    "used": "how many blocks are in use afterwards",
     "end": "where a result or a position ends",
 }
 CLAUSES_MOST = 12  # of one function
@@ -70,7 +71,6 @@ OWNERS = {
 # Definitions that keep such a name in a file of specs/ of another crate, each with the reason.
 EXCEPTIONS = {
     ("Level", "Level.antt"): "read together nowhere",
-    ("Slot", "SuperBlock.antt"): "read together nowhere",
     ("Part", "Plan.antt"): "the part that contracts see",
     ("Plan", "Plan.antt"): "the plan that contracts see",
 }
