@@ -62,6 +62,25 @@ fn goes_on<D: Disk>(
 
 /// Whether a store has the table after a prefix of the commands, with all that were acknowledged and at most one more,
 /// and, where it is to, goes on from there.
+fn keeps_prefix<D: Disk>(
+    alloc: Global,
+    store: &mut Store,
+    disk: &mut D,
+    plan: Plan,
+    done: u32,
+    going: bool,
+) -> Option<bool> {
+    let mut beside = fresh_beside(alloc).ok()?;
+    let has = changes_of(store, disk, &mut beside.told)?;
+    Some(
+        done <= has
+            && has <= done.saturating_add(1)
+            && has_same(store, disk, &mut beside, plan, has)
+            && (!going || goes_on(store, disk, &mut beside, plan, has)),
+    )
+}
+
+/// The same of the store that a disk opens as.
 fn has_prefix<D: Disk>(
     alloc: Global,
     disk: &mut D,
@@ -70,14 +89,7 @@ fn has_prefix<D: Disk>(
     going: bool,
 ) -> Option<bool> {
     let mut store = Store::attach(alloc, disk).ok()?;
-    let mut beside = fresh_beside(alloc).ok()?;
-    let has = changes_of(&mut store, disk, &mut beside.told)?;
-    Some(
-        done <= has
-            && has <= done.saturating_add(1)
-            && has_same(&mut store, disk, &mut beside, plan, has)
-            && (!going || goes_on(&mut store, disk, &mut beside, plan, has)),
-    )
+    keeps_prefix(alloc, &mut store, disk, plan, done, going)
 }
 
 /// A disk that crashed, after an opening that was stopped after so many calls and crashed as well.
