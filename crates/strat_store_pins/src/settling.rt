@@ -1,16 +1,17 @@
 //! What a command leaves of superblock and manifest, and of which trouble it may tell: each fact of these records, used once. Each is
 //! the contract of a function that does nothing.
 
-ghost use Rattle.std.specs.Prelude.{◌≡◌, ◌≢◌, ◌≤◌, ◌⊎◌, ◌+◌, ◌-◌, ℕ, suc, Bool, List, true, false, length, replicate, Contains, None};
+ghost use Rattle.std.specs.Prelude.{◌≡◌, ◌≢◌, ◌≤◌, ◌⊎◌, ◌+◌, ◌-◌, ℕ, suc, Bool, List, true, false, length, replicate, Contains, Some, None, Ok};
 ghost use Rattle.strat_base.specs.declared.descriptors.ArrayDesc.{ArrayDesc};
 ghost use Rattle.strat_crash.specs.Blocks.{AgreeOn};
 ghost use Rattle.strat_crash.specs.Image.{Image};
-ghost use Rattle.strat_crash.specs.Moments.{Exposes, Since};
+ghost use Rattle.strat_crash.specs.Moments.{Exposes, Images, Since};
 ghost use Rattle.strat_cursor.specs.Cursors.{retired_all};
+ghost use Rattle.strat_format.specs.Chained.{manifest_at};
 ghost use Rattle.strat_format.specs.Layout.{newest_format};
 ghost use Rattle.strat_format.specs.Arrays.{block_on};
 ghost use Rattle.strat_format.specs.Manifest.{Manifest};
-ghost use Rattle.strat_format.specs.SuperBlock.{Super};
+ghost use Rattle.strat_format.specs.SuperBlock.{Super, newest_in};
 ghost use Rattle.strat_model.specs.Request.{Delete, Get, Stat};
 ghost use Rattle.strat_model.specs.declared.replies.Refusal.TheVariants as why;
 ghost use Rattle.strat_model.specs.declared.replies.Reply.{Reply};
@@ -88,6 +89,17 @@ pub fn what_is_held_stays_on_the_disk<D: Viewed>()
     ensures len { (d e : D) (old new : Held) (carried : Bool) (told : Reply) (x : Contents)
         → LeavesPublished (D.view d) (D.view e) old carried told new
         → StandsWith (D.view d) old x → KeepsCount old.chained.manifest new.chained.manifest }
+{}
+
+/// What a store has on the disk is in each crash state: its superblock is the newest, and its manifest is where that leads.
+pub fn what_is_on_the_disk_is_in_each_crash_state<D: Viewed>()
+    ensures newest { (d : D) (s : Held) (c : Image) → IsOnDisk (D.view d) s
+        → Images (D.view d) c → newest_in c ≡ Ok (Some (s.slot, s.sb)) }
+    ensures chain { (d : D) (s : Held) (c : Image) → IsOnDisk (D.view d) s
+        → Images (D.view d) c
+        → manifest_at s.sb.format c s.sb.manifest s.sb.length ≡ Ok s.chained }
+    ensures exposed { (d : D) (s : Held) → (on : IsOnDisk (D.view d) s)
+        → Exposes (D.view d) on.content }
 {}
 
 /// An array that was numbered before is one of the manifest before: here it has other entries, and the number that is written fits.
