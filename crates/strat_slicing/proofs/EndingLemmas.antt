@@ -49,7 +49,7 @@ module _ (v0 mid lay v1 v2 : DiskView) (x y : Contents) (sealed : List Entry) (l
       (free_beside o.space x (extents_taken o.promotion ++ others) s.open_over.space_is) p.tears
 
   filled : (length y.journal + x.sb.mem ≡ length x.journal) × (length y.journal + 2 ≤ y.sb.mem)
-  filled = fill_after x y s.stands.sound p.prepared.next
+  filled = fill_after x y s.stands.sound s.open_over.going.begun.full p.prepared.next
 
   -- so the region that is active then has room for the change
   pub end_takes : Takes (contents_state y) change

@@ -100,12 +100,12 @@ last_promotes g x new made taken target lies l levels_are behind =
       says = subst (λ (ls : List Level). SaysTheSame (contents_state x) (grown_by (promoted (sealed_state x) ls new.chained.manifest.written new.chained.manifest.next_array) (later_part x))) (sym levels_are) (l.says written next);
     }
 
--- after a publication the journal is shorter by a region, and the region that is active then has room
-pub fill_after : (x y : Contents) → IsSound (contents_state x) → Succeeds x y → (length y.journal + x.sb.mem ≡ length x.journal) × (length y.journal + 2 ≤ y.sb.mem)
-fill_after x y sound next =
+-- after a publication of a full region the journal is shorter by it, and the region that is active then has room
+pub fill_after : (x y : Contents) → IsSound (contents_state x) → x.sb.mem ≤ length x.journal → Succeeds x y → (length y.journal + x.sb.mem ≡ length x.journal) × (length y.journal + 2 ≤ y.sb.mem)
+fill_after x y sound full next =
     let fits = leb-true (length x.journal) (journal_max x.sb.mem) sound.formed.fits in
     let long = ap length next.journal ∙ length-drop x.sb.mem x.journal in
-    (omega (arith, long, next.full), omega (arith, long, next.full, fits, next.says.mem, next.lawful.mem_least))
+    (omega (arith, long, full), omega (arith, long, full, fits, next.says.mem, next.lawful.mem_least))
 
 -- where the journal just fills its region, all of it is promoted
 pub promotes_whole : (g : Image) (x : Contents) (target : ℕ) (made : Option LevelDesc) → length x.journal ≤ x.sb.mem → IsLastMade g x target made

@@ -39,6 +39,7 @@ use Rattle.strat_standing.proofs.ComputedLemmas.{promotion_next, computed_prepar
 use Rattle.strat_standing.proofs.ListLemmas.{among_contained}
 use Rattle.strat_standing.proofs.LocalLemmas.{levels_local, level_blocks}
 use Rattle.strat_standing.proofs.PartLemmas.{arrays_new}
+use Rattle.strat_standing.proofs.PlaceLemmas.{newest_fits}
 use Rattle.strat_standing.proofs.PromotedLemmas.{sealed_ordered}
 use Rattle.strat_standing.specs.Contents.{Contents, contents_state, sealed_state}
 use Rattle.strat_standing.specs.Next.{AreNewArrays, AreArraysOf, IsNextOf, HasManifest, arrays_made}
@@ -157,5 +158,5 @@ last_prepared v w x y to made taken kept s others stands m full next levels_are 
     let g : Image = stands.content in
     let reads : ReadsAs g x = stands.reads g stands.left in
     let promotion = last_promotes g x y made taken to reads.lies m.says levels_are behind in
-    let both = promotion_next g g x y made taken kept reads full stands.sound next m.fresh promotion in
+    let both = promotion_next g g x y made taken kept reads (omega (arith, full, (newest_fits g x.slot x.sb reads.newest).mem_least)) stands.sound next m.fresh promotion in
     computed_prepared v w x y made taken kept s others stands g both.0 both.1 space has only durable leaves

@@ -1,7 +1,7 @@
 -- The manifest of next contents belongs to their superblock.
-use Rattle.std.proofs.Common.{◌≡◌, ◌<◌, ◌+◌, ◌*◌, ℕ, true, leb, ltb, ◌&&◌, List, ◌++◌, length, map, Option, sym, ap, ◌∙◌, arith}
+use Rattle.std.proofs.Common.{◌≡◌, ◌<◌, ◌*◌, ℕ, true, leb, ltb, ◌&&◌, List, ◌++◌, length, map, Option, sym, ap, ◌∙◌, arith}
 use Rattle.std.specs.List.{list_all, flat_map, range_with_len}
-use Rattle.std.proofs.lemmas.Bool.{and_parts, and_from, leb-true, ltb-true, le-leb}
+use Rattle.std.proofs.lemmas.Bool.{and_from, ltb-true, le-leb}
 use Rattle.std.proofs.lemmas.Grind.{flat_map-append}
 use Rattle.std.proofs.lemmas.List.{map-append}
 use Rattle.strat_base.specs.declared.descriptors.ArrayDesc.{ArrayDesc}
@@ -12,7 +12,7 @@ use Rattle.strat_format.specs.Manifest.{Manifest, is_lawful_array, versions_in}
 use Rattle.strat_format.proofs.ManifestLemmas.{pass_at}
 use Rattle.strat_plan.proofs.ListLemmas.{map_among, distinct_append, distinct_range}
 use Rattle.strat_recovery.specs.Head.{descriptors}
-use Rattle.strat_recovery.specs.Opening.{array_blocks, has_own_blocks, has_own_ids, has_own_versions, is_filled, has_few_publications, belongs}
+use Rattle.strat_recovery.specs.Opening.{array_blocks, has_own_blocks, has_own_ids, has_own_versions, is_filled, belongs}
 use Rattle.strat_recovery.proofs.OpeningLemmas.{level_tests}
 use Rattle.strat_recovery.proofs.PassedLemmas.{array_tests, belonging_tests}
 use Rattle.strat_state.specs.Level.{is_distinct, IsStratified}
@@ -38,16 +38,16 @@ module _ (f g : Image) (old new : Contents) (made : Option LevelDesc) (taken kep
 
   pub own_versions : list_all has_own_versions now.levels ≡ true
   own_versions = all_from has_own_versions now.levels (λ d among.
-      let l = next.level_at f g old new made taken kept m d among in
+      let l = next.level_at f g old new made taken kept m.follows d among in
       let tags = tags_kept g d.arrays l.level.arrays l.arrays in
-      let strat = each_of (IsStratified (versions_of (next.state f g old new made taken kept m))) new.levels l.level m.is_sound.stratified l.among in
+      let strat = each_of (IsStratified (versions_of (next.state f g old new made taken kept m.follows))) new.levels l.level m.follows.is_sound.stratified l.among in
       sym (λ i. is_distinct (tags i) && list_all (λ v. ltb v (l.aged i)) (tags i)) ∙ strat.disjoint)
 
   -- the numbers of arrays
   kept_distinct : is_distinct (ids behind) ≡ true
   kept_distinct =
-      let all = pass_at (belonging_tests old.sb old.chained) 1 m.reads.lies.belonging in
-      let split : descriptors was ≡ flat_map (λ l. l.arrays) taken ++ behind = ap (flat_map (λ (l : LevelDesc). l.arrays)) m.next.levels_were ∙ flat_map-append (λ (l : LevelDesc). l.arrays) taken kept in
+      let all = pass_at (belonging_tests old.sb old.chained) 1 m.follows.reads.lies.belonging in
+      let split : descriptors was ≡ flat_map (λ l. l.arrays) taken ++ behind = ap (flat_map (λ (l : LevelDesc). l.arrays)) m.follows.next.levels_were ∙ flat_map-append (λ (l : LevelDesc). l.arrays) taken kept in
       let parts : ids (descriptors was) ≡ ids (flat_map (λ l. l.arrays) taken) ++ ids behind = ap ids split ∙ map-append (λ (a : ArrayDesc). a.id) (flat_map (λ (l : LevelDesc). l.arrays) taken) behind in
       distinct_behind (ids (flat_map (λ l. l.arrays) taken)) (ids behind) (ap is_distinct (sym parts) ∙ all)
 
@@ -55,7 +55,7 @@ module _ (f g : Image) (old new : Contents) (made : Option LevelDesc) (taken kep
   kept_below v among =
       let at = map_among (λ (a : ArrayDesc). a.id) behind v among in
       let found = among_flat (λ (l : LevelDesc). l.arrays) kept at.0 at.1 in
-      let lawful = next.lawful_was f g old new made taken kept m found.0 (next.kept_was f g old new made taken kept m found.0 found.1) in
+      let lawful = next.lawful_was f g old new made taken kept m.follows found.0 (next.kept_was f g old new made taken kept m.follows found.0 found.1) in
       let array = all_at (is_lawful_array was.next_array) at.0 found.0.arrays (pass_at (level_tests (versions_in was) was.next_array found.0) 5 lawful) found.2 in
       omega (arith, at.2, ltb-true at.0.id was.next_array (pass_at (array_tests was.next_array at.0) 1 array))
 
@@ -63,8 +63,8 @@ module _ (f g : Image) (old new : Contents) (made : Option LevelDesc) (taken kep
   own_ids =
       let n : ℕ = length (arrays_made made) in
       let all : ids (descriptors now) ≡ range_with_len was.next_array n ++ ids behind =
-      ap ids (next.arrays_are f g old new made taken kept m) ∙ map-append (λ (a : ArrayDesc). a.id) (arrays_made made) behind
-      ∙ ap (λ (l : List ℕ). l ++ ids behind) m.fresh.numbered in
+      ap ids (next.arrays_are f g old new made taken kept m.follows) ∙ map-append (λ (a : ArrayDesc). a.id) (arrays_made made) behind
+      ∙ ap (λ (l : List ℕ). l ++ ids behind) m.follows.fresh.numbered in
       ap is_distinct all
       ∙ distinct_append (range_with_len was.next_array n) (ids behind) (distinct_range was.next_array n) kept_distinct (λ v a b.
       let low = range_among was.next_array n v a in
@@ -74,28 +74,15 @@ module _ (f g : Image) (old new : Contents) (made : Option LevelDesc) (taken kep
   filled : list_all is_filled (descriptors now) ≡ true
   filled = all_from is_filled (descriptors now) (λ a among.
       let found = among_flat (λ (l : LevelDesc). l.arrays) now.levels a among in
-      let x = next.array_at f g old new made taken kept m found.0 a found.1 found.2 in
+      let x = next.array_at f g old new made taken kept m.follows found.0 a found.1 found.2 in
       and_from (leb a.entries (2 * a.leads)) (leb (array_blocks a) a.entries) (le-leb a.entries (2 * a.leads) x.led) (le-leb (array_blocks a) a.entries (omega (arith, x.few, blocks_counted a.extents))))
-
-  pub few_publications : has_few_publications new.sb now ≡ true
-  few_publications =
-      let limited = and_parts (leb old.sb.generation (was.changes + 1) && leb was.next_array (16384 * was.changes + 1) && leb was.written (33554432 * was.changes)) (leb was.compacted (33554432 * was.changes)) (pass_at (belonging_tests old.sb old.chained) 7 m.reads.lies.belonging) in
-      let before = and_parts (leb old.sb.generation (was.changes + 1) && leb was.next_array (16384 * was.changes + 1)) (leb was.written (33554432 * was.changes)) limited.0 in
-      let generation = leb-true old.sb.generation (was.changes + 1) (and_parts (leb old.sb.generation (was.changes + 1)) (leb was.next_array (16384 * was.changes + 1)) before.0).0 in
-      and_from (leb new.sb.generation (now.changes + 1) && leb now.next_array (16384 * now.changes + 1) && leb now.written (33554432 * now.changes)) (leb now.compacted (33554432 * now.changes))
-      (and_from (leb new.sb.generation (now.changes + 1) && leb now.next_array (16384 * now.changes + 1)) (leb now.written (33554432 * now.changes))
-      (and_from (leb new.sb.generation (now.changes + 1)) (leb now.next_array (16384 * now.changes + 1))
-      (le-leb new.sb.generation (now.changes + 1) (omega (arith, m.next.generation, generation, next.changes_more f g old new made taken kept m)))
-      (le-leb now.next_array (16384 * now.changes + 1) (next.next_most f g old new made taken kept m)))
-      (le-leb now.written (33554432 * now.changes) (next.written_most f g old new made taken kept m)))
-      (le-leb now.compacted (33554432 * now.changes) (next.compacted_most f g old new made taken kept m))
 
   -- the next manifest belongs to its superblock where its blocks are its own
   pub next_belongs : has_own_blocks new.sb new.chained.blocks now ≡ true → belongs new.sb new.chained ≡ true
   next_belongs own =
       next.pass_more _ _ own (next.pass_more _ _ own_ids (next.pass_more _ _ own_versions
-      (next.pass_more _ _ (le-leb (versions_in now) new.sb.versions_max (next.versions_most f g old new made taken kept m))
-      (next.pass_more _ _ (le-leb now.changes new.sb.changes_max (next.changes_most f g old new made taken kept m))
-      (next.pass_more _ _ (le-leb _ now.updates (next.leads_within f g old new made taken kept m))
-      (next.pass_more _ _ filled (next.pass_more _ _ few_publications
-      (next.pass_more _ _ (next.undropped f g old new made taken kept m) next.pass_none))))))))
+      (next.pass_more _ _ (le-leb (versions_in now) new.sb.versions_max (next.versions_most f g old new made taken kept m.follows))
+      (next.pass_more _ _ (le-leb now.changes new.sb.changes_max (next.changes_most f g old new made taken kept m.follows))
+      (next.pass_more _ _ (le-leb _ now.updates (next.leads_within f g old new made taken kept m.follows))
+      (next.pass_more _ _ filled (next.pass_more _ _ m.few
+      (next.pass_more _ _ (next.undropped f g old new made taken kept m.follows) next.pass_none))))))))

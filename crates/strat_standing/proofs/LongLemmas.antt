@@ -1,5 +1,5 @@
 -- How many bytes the next manifest has, and that its superblock is lawful.
-use Rattle.std.proofs.Common.{◌≡◌, ◌≤◌, ◌<◌, ◌+◌, ◌*◌, ◌^◌, ℕ, inl, inr, true, false, eqb, leb, ltb, ◌&&◌, List, [], ◌∷◌, ◌++◌, length, Option, refl, sym, subst, arith, length-append, Bool, cond, if◌then◌else◌, ap, Some}
+use Rattle.std.proofs.Common.{◌≡◌, ◌≤◌, ◌<◌, ◌+◌, ◌*◌, ◌^◌, ℕ, inl, inr, true, false, eqb, leb, ltb, List, [], ◌∷◌, ◌++◌, length, Option, refl, sym, subst, arith, length-append, Bool, cond, if◌then◌else◌, ap, Some}
 use Rattle.std.specs.List.{list_all, flat_map, sum_by, IsDistinct}
 use Rattle.std.proofs.lemmas.Bool.{and_parts, eqb-true, leb-true, ltb-true, false_from_ne_true}
 use Rattle.std.proofs.lemmas.List.Sums.{sum_by-cons, sum_by-append}
@@ -173,21 +173,21 @@ module _ (f g : Image) (old new : Contents) (made : Option LevelDesc) (taken kep
       let tags : List ℕ = flat_map (λ a. a.versions) d.arrays in
       let own = and_parts (is_distinct tags) (list_all (λ v. ltb v d.horizon) tags) (all_at has_own_versions d now.levels (belong.own_versions f g old new made taken kept m) among) in
       let few = distinct_few tags d.horizon own.0 (λ v there. ltb-true v d.horizon (all_at (λ w. ltb w d.horizon) v tags own.1 there)) in
-      omega (arith, few, next.horizon_most f g old new made taken kept m d among, next.versions_bound f g old new made taken kept m)
+      omega (arith, few, next.horizon_most f g old new made taken kept m.follows d among, next.versions_bound f g old new made taken kept m.follows)
 
   small : (a : ArrayDesc) → Among a (descriptors now) → IsSmall a
   small a among =
       let found = among_flat (λ (l : LevelDesc). l.arrays) now.levels a among in
-      let level = next.lawful_at f g old new made taken kept m found.0 found.1 in
+      let level = next.lawful_at f g old new made taken kept m.follows found.0 found.1 in
       let array = all_at (is_lawful_array now.next_array) a found.0.arrays (pass_at (level_tests (versions_in now) now.next_array found.0) 5 level) found.2 in
-      let x = next.array_at f g old new made taken kept m found.0 a found.1 found.2 in
+      let x = next.array_at f g old new made taken kept m.follows found.0 a found.1 found.2 in
       let short = next.extents_few a.extents (pass_at (array_tests now.next_array a) 7 array) in
       record { some = leb-true 1 a.entries (pass_at (array_tests now.next_array a) 2 array); few = omega (arith, short, x.few) }
 
   marks_few : length now.marks ≤ 16384
   marks_few =
-      let pruned = pruned_from_test (parents_in now) now.marks m.is_sound.formed.pruned in
-      omega (arith, pruned.len, length-map now.parents (λ p. Some p), next.versions_bound f g old new made taken kept m)
+      let pruned = pruned_from_test (parents_in now) now.marks m.follows.is_sound.formed.pruned in
+      omega (arith, pruned.len, length-map now.parents (λ p. Some p), next.versions_bound f g old new made taken kept m.follows)
 
   pub bytes_few : length (manifest_bytes new.sb.format now) < 2 ^ 31
   bytes_few =
@@ -200,14 +200,14 @@ module _ (f g : Image) (old new : Contents) (made : Option LevelDesc) (taken kep
         marks_long now.marks,
         marks_few,
         levels_long now.levels tags_few small,
-        next.entries_all f g old new made taken kept m,
-        next.versions_bound f g old new made taken kept m,
-        leb-true (length now.levels) LEVELS (pass_at (manifest_tests new.sb.format now) 7 (next.next_lawful f g old new made taken kept m)),
+        next.entries_all f g old new made taken kept m.follows,
+        next.versions_bound f g old new made taken kept m.follows,
+        leb-true (length now.levels) LEVELS (pass_at (manifest_tests new.sb.format now) 7 (next.next_lawful f g old new made taken kept m.follows m.few)),
       )
 
   -- each publication writes the newest format
   shortest : shortest_manifest new.sb.format ≡ 29
-  shortest = ap shortest_manifest m.next.promoted.format
+  shortest = ap shortest_manifest m.follows.next.promoted.format
 
   pub bytes_some : shortest_manifest new.sb.format ≤ length (manifest_bytes new.sb.format now)
   bytes_some = omega (arith, manifest_long new.sb.format now, shortest)
@@ -216,23 +216,21 @@ module _ (f g : Image) (old new : Contents) (made : Option LevelDesc) (taken kep
       (own : has_own_blocks new.sb new.chained.blocks now ≡ true) (below : new.sb.manifest < 4294967295) where
     super_lawful : IsLawful new.sb
     super_lawful =
-        let limits = (next.passed f g old new made taken kept m).limits in
-        let promoted = m.next.promoted in
-        let limited = and_parts (leb new.sb.generation (now.changes + 1) && leb now.next_array (16384 * now.changes + 1) && leb now.written (33554432 * now.changes)) (leb now.compacted (33554432 * now.changes)) (belong.few_publications f g old new made taken kept m) in
-        let few = and_parts (leb new.sb.generation (now.changes + 1) && leb now.next_array (16384 * now.changes + 1)) (leb now.written (33554432 * now.changes)) limited.0 in
-        let generation = leb-true new.sb.generation (now.changes + 1) (and_parts (leb new.sb.generation (now.changes + 1)) (leb now.next_array (16384 * now.changes + 1)) few.0).0 in
+        let limits = (next.passed f g old new made taken kept m.follows).limits in
+        let promoted = m.follows.next.promoted in
+        let generation = (next.few_parts new.sb now m.few).0 in
         let behind = and_parts (is_distinct (named_blocks new)) (list_all (λ b. leb (first_free new.sb.mem) b) (named_blocks new)) own in
         let named : Among new.sb.manifest (named_blocks new) = among_left new.chained.blocks _ new.sb.manifest (subst (Among new.sb.manifest) (sym blocks_are) (inl refl)) in
         record {
           format_least = omega (arith, promoted.format);
           format_most = omega (arith, promoted.format);
-          generation_least = omega (arith, m.next.generation);
-          generation_fits = omega (arith, generation, next.changes_bound f g old new made taken kept m);
+          generation_least = omega (arith, m.follows.next.generation);
+          generation_fits = omega (arith, generation, next.changes_bound f g old new made taken kept m.follows);
           manifest_least = leb-true (first_free new.sb.mem) new.sb.manifest (all_at (λ b. leb (first_free new.sb.mem) b) new.sb.manifest (named_blocks new) behind.1 named);
           manifest_most = below;
           length_least = omega (arith, length_is, bytes_some);
           length_fits = omega (arith, length_is, bytes_few);
-          region_most = omega (arith, m.next.region);
+          region_most = omega (arith, m.follows.next.region);
           mem_least = omega (arith, promoted.mem, limits.mem_least);
           mem_most = omega (arith, promoted.mem, limits.mem_most);
           changes_least = omega (arith, promoted.changes_max, limits.changes_least);
@@ -244,11 +242,10 @@ module _ (f g : Image) (old new : Contents) (made : Option LevelDesc) (taken kep
     pub next_succeeds : SaysTheSame (contents_state old) (contents_state new) → Succeeds old new
     next_succeeds says = record {
       lawful = super_lawful;
-      slot = m.next.slot;
-      later = omega (arith, m.next.generation);
-      region = m.next.region;
-      full = m.full;
-      journal = m.next.promoted.journal;
-      sound = m.is_sound;
+      slot = m.follows.next.slot;
+      later = omega (arith, m.follows.next.generation);
+      region = m.follows.next.region;
+      journal = m.follows.next.promoted.journal;
+      sound = m.follows.is_sound;
       says = says;
     }

@@ -3,7 +3,7 @@ use Rattle.std.proofs.Common.{◌≡◌, ◌≤◌, ◌<◌, ◌+◌, ◌-◌, �
 use Rattle.std.specs.List.{list_all, flat_map, sum_by, fold, range_with_len}
 use Rattle.std.specs.Option.{option_to_list}
 use Rattle.std.proofs.lemmas.Bool.{and_parts, and_from, leb-true, ltb-true, le-leb, lt-ltb, eqb-true, eq-eqb}
-use Rattle.std.proofs.lemmas.List.{length-map, length-take-le, take-append-drop}
+use Rattle.std.proofs.lemmas.List.{length-append, length-map, length-drop, take-append-drop}
 use Rattle.std.proofs.lemmas.List.Sums.{fold-append, sum_by-cons, sum_by-append}
 use Rattle.strat_base.specs.declared.descriptors.ArrayDesc.{ArrayDesc}
 use Rattle.strat_base.specs.declared.descriptors.LevelDesc.{LevelDesc}
@@ -15,6 +15,7 @@ use Rattle.strat_crash.specs.Image.{Image}
 use Rattle.strat_format.specs.Arrays.{all_some, blocks_of}
 use Rattle.strat_format.specs.Chain.{chain_length}
 use Rattle.strat_format.specs.Chained.{chain_from, manifest_in_chain}
+use Rattle.strat_format.specs.SuperBlock.{Super}
 use Rattle.strat_format.specs.Manifest.{Manifest, versions_in, is_rising, is_lawful_extent, all_pass, is_lawful_array, first_version, is_lawful_level, is_lawful_manifest, manifest_bytes, SpellsManifest, has_fields}
 use Rattle.strat_format.proofs.DamageLemmas.{and_then_ok}
 use Rattle.strat_format.proofs.ManifestLemmas.{pass_at}
@@ -22,9 +23,10 @@ use Rattle.strat_plan.proofs.ListLemmas.{map_among, among_map}
 use Rattle.strat_promotion.proofs.PaidLemmas.{updates_few}
 use Rattle.strat_recovery.specs.Head.{descriptors}
 use Rattle.strat_recovery.specs.Opened.{array_on, level_on, parents_in}
+use Rattle.strat_recovery.specs.Opening.{has_few_publications}
 use Rattle.strat_recovery.specs.Passed.{PassesOpening}
 use Rattle.strat_recovery.proofs.OpeningLemmas.{map_some, length-all_some, older_tree, manifest_tests, level_tests, lawful_read}
-use Rattle.strat_recovery.proofs.PassedLemmas.{kept_in_order, array_tests, read_passes}
+use Rattle.strat_recovery.proofs.PassedLemmas.{kept_in_order, array_tests, belonging_tests, read_passes}
 use Rattle.strat_state.specs.Level.{TaggedArray, Level, level_leads, tagged_versions, IsStratified}
 use Rattle.strat_state.specs.Sound.{is_tree_from, is_numbered_from, has_old_horizon, shallower, IsWellFormed}
 use Rattle.strat_state.specs.State.{State, versions_of, tree_after}
@@ -32,7 +34,7 @@ use Rattle.strat_state.proofs.AppendedLemmas.{length-grown}
 use Rattle.strat_state.proofs.LevelLemmas.{tagged_below}
 use Rattle.strat_state.proofs.SoundLemmas.{sound_tree, ordered as in_order}
 use Rattle.strat_standing.specs.Contents.{Contents, contents_state, sealed_state, sealed_part, later_part}
-use Rattle.strat_standing.specs.Next.{arrays_made, IsNewArray, MayBeNext}
+use Rattle.strat_standing.specs.Next.{arrays_made, IsNewArray, IsSoundNext}
 use Rattle.strat_standing.proofs.DescribedLemmas.{blocks_counted, StandsAsLevel, StandsAsArray, level_there, array_there, leads_counted}
 use Rattle.strat_standing.proofs.PartsLemmas.{reads_state}
 use Rattle.strat_standing.proofs.PromotedLemmas.{promoted_state, sealed_ordered}
@@ -162,7 +164,29 @@ first_among : (vs : List ℕ) → 1 ≤ length vs → Among (get_or vs 0 0) vs
 first_among [] some = absurd (omega (arith, some))
 first_among (v ∷ vs) some = inl refl
 
-module _ (f g : Image) (old new : Contents) (made : Option LevelDesc) (taken kept : List LevelDesc) (m : MayBeNext f g old new made taken kept) where
+-- the four counts of publications, apart and together
+pub few_parts : (sb : Super) (m : Manifest) → has_few_publications sb m ≡ true
+    → (sb.generation ≤ m.changes + 1) × (m.next_array ≤ 16384 * m.changes + 1) × (m.written ≤ 33554432 * m.changes) × (m.compacted ≤ 33554432 * m.changes)
+few_parts sb m few =
+    let three = and_parts (leb sb.generation (m.changes + 1) && leb m.next_array (16384 * m.changes + 1) && leb m.written (33554432 * m.changes)) (leb m.compacted (33554432 * m.changes)) few in
+    let two = and_parts (leb sb.generation (m.changes + 1) && leb m.next_array (16384 * m.changes + 1)) (leb m.written (33554432 * m.changes)) three.0 in
+    let one = and_parts (leb sb.generation (m.changes + 1)) (leb m.next_array (16384 * m.changes + 1)) two.0 in (
+      leb-true sb.generation (m.changes + 1) one.0,
+      leb-true m.next_array (16384 * m.changes + 1) one.1,
+      leb-true m.written (33554432 * m.changes) two.1,
+      leb-true m.compacted (33554432 * m.changes) three.1,
+    )
+
+pub few_from : (sb : Super) (m : Manifest) → sb.generation ≤ m.changes + 1 → m.next_array ≤ 16384 * m.changes + 1 → m.written ≤ 33554432 * m.changes → m.compacted ≤ 33554432 * m.changes
+    → has_few_publications sb m ≡ true
+few_from sb m generation next written compacted =
+    and_from (leb sb.generation (m.changes + 1) && leb m.next_array (16384 * m.changes + 1) && leb m.written (33554432 * m.changes)) (leb m.compacted (33554432 * m.changes))
+    (and_from (leb sb.generation (m.changes + 1) && leb m.next_array (16384 * m.changes + 1)) (leb m.written (33554432 * m.changes))
+    (and_from (leb sb.generation (m.changes + 1)) (leb m.next_array (16384 * m.changes + 1)) (le-leb sb.generation (m.changes + 1) generation) (le-leb m.next_array (16384 * m.changes + 1) next))
+    (le-leb m.written (33554432 * m.changes) written))
+    (le-leb m.compacted (33554432 * m.changes) compacted)
+
+module _ (f g : Image) (old new : Contents) (made : Option LevelDesc) (taken kept : List LevelDesc) (m : IsSoundNext f g old new made taken kept) where
   abbrev pub was : Manifest
   was = old.chained.manifest
 
@@ -181,9 +205,15 @@ module _ (f g : Image) (old new : Contents) (made : Option LevelDesc) (taken kep
       lawful_read old.sb.format f old.sb.manifest old.sb.length blocks.0 old.chained blocks.2
 
   -- the counts
-  -- what was sealed fills a region, and the versions of then are there still
-  sealed_length : length (sealed_part old) ≡ old.sb.mem
-  sealed_length = length-take-le old.sb.mem old.journal m.full
+  pub was_few : has_few_publications old.sb was ≡ true
+  was_few = pass_at (belonging_tests old.sb old.chained) 7 m.reads.lies.belonging
+
+  -- what was sealed and what came behind it is the journal, and the versions of then are there still
+  sealed_length : length (sealed_part old) + length (later_part old) ≡ length old.journal
+  sealed_length = sym (length-append (sealed_part old) (later_part old)) ∙ ap length (take-append-drop old.sb.mem old.journal)
+
+  later_length : length (later_part old) ≡ length old.journal - old.sb.mem
+  later_length = length-drop old.sb.mem old.journal
 
   sealed_versions : length (versions_of (sealed_state old)) ≤ length (versions_of (contents_state old))
   sealed_versions =
@@ -201,14 +231,22 @@ module _ (f g : Image) (old new : Contents) (made : Option LevelDesc) (taken kep
   pub versions_more : versions_in was ≤ versions_in now
   versions_more = omega (arith, versions_same, length-grown (parents_in was) (sealed_part old), length-map was.parents (λ p. Some p))
 
-  pub changes_more : was.changes + 1 ≤ now.changes
-  changes_more = omega (arith, m.next.promoted.changes, sealed_length, passed.limits.mem_least)
+  -- as many changes as the journal had, but for those that came behind a full region
+  pub changes_same : now.changes + length (later_part old) ≡ was.changes + length old.journal
+  changes_same = omega (arith, m.next.promoted.changes, sealed_length)
+
+  pub changes_more : was.changes ≤ now.changes
+  changes_more = omega (arith, m.next.promoted.changes)
+
+  -- a change or two in the journal are behind the next contents, whatever came behind a full region
+  pub changes_grown : (n : ℕ) → n ≤ 2 → n ≤ length old.journal → was.changes + n ≤ now.changes
+  changes_grown n few some = omega (arith, changes_same, later_length, few, some, passed.limits.mem_least)
 
   pub changes_most : now.changes ≤ new.sb.changes_max
-  changes_most = omega (arith, m.next.promoted.changes, m.next.promoted.changes_max, sealed_length, m.full, passed.few_changes)
+  changes_most = omega (arith, changes_same, m.next.promoted.changes_max, passed.few_changes)
 
   pub changes_bound : now.changes ≤ 16777216
-  changes_bound = omega (arith, m.next.promoted.changes, sealed_length, m.full, passed.few_changes, passed.limits.changes_most)
+  changes_bound = omega (arith, changes_same, passed.few_changes, passed.limits.changes_most)
 
   pub versions_bound : versions_in now ≤ 16384
   versions_bound = omega (arith, versions_same, sealed_versions, passed.few_versions, passed.limits.versions_most)
@@ -360,15 +398,14 @@ module _ (f g : Image) (old new : Contents) (made : Option LevelDesc) (taken kep
         | inr none ↦ absurd none
       ]
 
-  -- the bounds of numbers in eight bytes
-  pub next_most : now.next_array ≤ 16384 * now.changes + 1
-  next_most = omega (arith, m.next.next_array, made_few, passed.next_most, changes_more)
-
-  pub written_most : now.written ≤ 33554432 * now.changes
-  written_most = omega (arith, m.next.written, entries_made, passed.written_most, changes_more)
-
-  pub compacted_most : now.compacted ≤ 33554432 * now.changes
-  compacted_most = omega (arith, m.next.promoted.compacted, passed.compacted_most, changes_more)
+  -- one publication more has few enough arrays and entries if the journal had a change
+  pub counted : 1 ≤ length old.journal → has_few_publications new.sb now ≡ true
+  counted some =
+      let grown = changes_grown 1 (omega arith) some in
+      few_from new.sb now (omega (arith, m.next.generation, (few_parts old.sb was was_few).0, grown))
+      (omega (arith, m.next.next_array, made_few, passed.next_most, grown))
+      (omega (arith, m.next.written, entries_made, passed.written_most, grown))
+      (omega (arith, m.next.promoted.compacted, passed.compacted_most, grown))
 
   -- no version was dropped, and nothing compacted, by a build that writes format 1
   sealed_formed : IsWellFormed (sealed_state old)
@@ -385,24 +422,27 @@ module _ (f g : Image) (old new : Contents) (made : Option LevelDesc) (taken kep
       ap (λ (format : ℕ). has_fields format now) m.next.promoted.format
       ∙ and_from (eqb now.compacted 0) (none_dropped now.marks) (eq-eqb now.compacted 0 (m.next.promoted.compacted ∙ none)) undropped
 
-  pub next_lawful : is_lawful_manifest new.sb.format now ≡ true
-  next_lawful =
-      let numbered = m.is_sound.formed.numbered in
-      let tree = and_parts (ltb 0 (length (parents_in now))) (is_tree_from 0 (parents_in now)) m.is_sound.formed.tree in
-      let long = length-all_some (level_on g) now.levels new.levels m.arrays in
-      let numbers : map (λ (l : Level). l.number) new.levels ≡ map (λ (d : LevelDesc). d.number) now.levels =
-      kept_in_order (level_on g) (λ d. d.number) (λ l. l.number) (λ d l on. ap (λ (x : Level). x.number) (sym (map_some (λ arrays. record { number = d.number; horizon = d.horizon; arrays = arrays }) (all_some (array_on g) d.arrays) l on).2)) now.levels new.levels m.arrays in
-      pass_more _ _ (lt-ltb now.changes (2 ^ 32) (omega (arith, changes_bound))) (pass_more _ _ (le-leb now.updates now.changes updates_within)
-      (pass_more _ _ (lt-ltb now.written (2 ^ 64) (omega (arith, written_most, changes_bound)))
-      (pass_more _ _ (le-leb 1 now.next_array (omega (arith, m.next.next_array, passed.next_least)))
-      (pass_more _ _ (lt-ltb now.next_array (2 ^ 64) (omega (arith, next_most, changes_bound)))
-      (pass_more _ _ (le-leb (versions_in now) 16384 versions_bound)
-      (pass_more _ _ (older_tree 1 now.parents ∙ (and_parts true (is_tree_from 1 (map (λ p. Some p) now.parents)) tree.1).1)
-      (pass_more _ _ (le-leb (length now.levels) LEVELS (omega (arith, long, numbered_few 1 new.levels (omega arith) numbered)))
-      (pass_more _ _ (all_from (is_lawful_level (versions_in now) now.next_array) now.levels lawful_at)
-      (pass_more _ _ (ap is_rising (sym numbers) ∙ numbered_rising 1 new.levels numbered)
-      (pass_more _ _ in_format (pass_more _ _ (lt-ltb now.compacted (2 ^ 64) (omega (arith, compacted_most, changes_bound)))
-      (pass_more _ _ m.is_sound.formed.pruned pass_none))))))))))))
+  -- there are few publications for the changes
+  module _ (few : has_few_publications new.sb now ≡ true) where
+    pub next_lawful : is_lawful_manifest new.sb.format now ≡ true
+    next_lawful =
+        let counts = few_parts new.sb now few in
+        let numbered = m.is_sound.formed.numbered in
+        let tree = and_parts (ltb 0 (length (parents_in now))) (is_tree_from 0 (parents_in now)) m.is_sound.formed.tree in
+        let long = length-all_some (level_on g) now.levels new.levels m.arrays in
+        let numbers : map (λ (l : Level). l.number) new.levels ≡ map (λ (d : LevelDesc). d.number) now.levels =
+        kept_in_order (level_on g) (λ d. d.number) (λ l. l.number) (λ d l on. ap (λ (x : Level). x.number) (sym (map_some (λ arrays. record { number = d.number; horizon = d.horizon; arrays = arrays }) (all_some (array_on g) d.arrays) l on).2)) now.levels new.levels m.arrays in
+        pass_more _ _ (lt-ltb now.changes (2 ^ 32) (omega (arith, changes_bound))) (pass_more _ _ (le-leb now.updates now.changes updates_within)
+        (pass_more _ _ (lt-ltb now.written (2 ^ 64) (omega (arith, counts.2, changes_bound)))
+        (pass_more _ _ (le-leb 1 now.next_array (omega (arith, m.next.next_array, passed.next_least)))
+        (pass_more _ _ (lt-ltb now.next_array (2 ^ 64) (omega (arith, counts.1, changes_bound)))
+        (pass_more _ _ (le-leb (versions_in now) 16384 versions_bound)
+        (pass_more _ _ (older_tree 1 now.parents ∙ (and_parts true (is_tree_from 1 (map (λ p. Some p) now.parents)) tree.1).1)
+        (pass_more _ _ (le-leb (length now.levels) LEVELS (omega (arith, long, numbered_few 1 new.levels (omega arith) numbered)))
+        (pass_more _ _ (all_from (is_lawful_level (versions_in now) now.next_array) now.levels lawful_at)
+        (pass_more _ _ (ap is_rising (sym numbers) ∙ numbered_rising 1 new.levels numbered)
+        (pass_more _ _ in_format (pass_more _ _ (lt-ltb now.compacted (2 ^ 64) (omega (arith, counts.3, changes_bound)))
+        (pass_more _ _ m.is_sound.formed.pruned pass_none))))))))))))
 
-  pub next_spelled : SpellsManifest new.sb.format (manifest_bytes new.sb.format now) now
-  next_spelled = record { lawful = next_lawful; text = refl }
+    pub next_spelled : SpellsManifest new.sb.format (manifest_bytes new.sb.format now) now
+    next_spelled = record { lawful = next_lawful; text = refl }

@@ -1,7 +1,7 @@
 -- A publication, phase by phase: the next contents are prepared, their superblock is laid, the old region is shut.
-use Rattle.std.proofs.Common.{◌≡◌, ◌≢◌, ◌≤◌, ◌<◌, ◌*◌, ℕ, Bool, true, inl, inr, ◌⊎◌, List, [], ◌∷◌, ◌++◌, length, drop, Option, Some, IfSome, Ok, sym, ap, ◌∙◌, subst, arith}
-use Rattle.std.proofs.lemmas.Bool.{leb-true}
-use Rattle.std.proofs.lemmas.List.{length-map, map-append, length-drop, drop_at}
+use Rattle.std.proofs.Common.{◌≡◌, ◌≢◌, ◌≤◌, ◌<◌, ◌+◌, ◌*◌, ℕ, Bool, true, false, inl, inr, ◌⊎◌, List, [], ◌∷◌, ◌++◌, length, drop, Option, Some, IfSome, Ok, sym, ap, ◌∙◌, subst, arith}
+use Rattle.std.proofs.lemmas.Bool.{cases_lt, eqb-true, false_from_ne_true, leb-true}
+use Rattle.std.proofs.lemmas.List.{length-map, map-append, length-drop, drop_all, drop_at}
 use Rattle.strat_base.specs.Change.{Change}
 use Rattle.strat_crash.specs.Blocks.{TearsBlocks}
 use Rattle.strat_crash.specs.Image.{Image}
@@ -9,9 +9,10 @@ use Rattle.strat_crash.specs.Moments.{DiskView, Exposes, Images, Since, Passes, 
 use Rattle.strat_crash.specs.Trail.{Trail}
 use Rattle.strat_crash.proofs.MomentLemmas.{now_since_start, each_then, settled_at}
 use Rattle.strat_crash.proofs.TrailLemmas.{trail_of_one}
-use Rattle.strat_format.specs.Layout.{region_at, other_region, first_free}
+use Rattle.strat_format.specs.Layout.{region_at, region_size, other_region, first_free, is_open}
 use Rattle.strat_format.specs.Records.{Logged, region_records, records_behind}
 use Rattle.strat_format.specs.SuperBlock.{newest_in, Super}
+use Rattle.strat_format.proofs.RegionLemmas.{records_closed}
 use Rattle.strat_format.proofs.TwoRegionsLemmas.{join_short}
 use Rattle.strat_gate.specs.Laying.{LaysOver}
 use Rattle.strat_recovery.specs.Opened.{parents_in}
@@ -78,22 +79,35 @@ module _ (v1 : DiskView) (x y : Contents) (p : IsPrepared v1 x y) where
   pub old_gate : region_at y.sb.mem (other_region y.sb.region) ≡ region_at x.sb.mem x.sb.region
   old_gate = (λ i. region_at (same_mem i) (other_region (p.next.region i))) ∙ ap (region_at x.sb.mem) (twice_other x.sb.region region_few)
 
+  -- the other region has the journal of the next contents: what came behind a full one, or nothing
+  behind : (c : Image) → IsLogged c x → 0 < x.sb.mem → (length x.journal < x.sb.mem → c (region_at x.sb.mem (other_region x.sb.region)) ≢ 0xa7)
+      → (later : List Logged) × (length later < x.sb.mem) × (region_records c x.sb.mem (other_region x.sb.region) ≡ Ok later) × (changes_logged later ≡ y.journal)
+  behind c l some shut = elim (cases_lt (length x.journal) x.sb.mem) [
+    | inl short ↦
+        let at : ℕ = region_at x.sb.mem (other_region x.sb.region) in
+        let closed : is_open (c at) ≡ false = false_from_ne_true (is_open (c at)) (λ up. shut short (eqb-true (c at) 0xa7 up)) in
+        ([], some, records_closed c (at + region_size x.sb.mem) x.sb.mem at closed, sym (p.next.journal ∙ drop_all x.sb.mem x.journal (omega (arith, short))))
+    | inr full ↦
+        let long : x.sb.mem ≤ length l.logged = omega (arith, full, length-logged c x l) in
+        let turned = journal_turned c x.sb.mem x.sb.region l.logged some region_few l.read long in
+        let mapped : changes_logged l.logged ≡ x.journal = accepted_changes x.sb.changes_max x.sb.versions_max (parents_in x.chained.manifest) x.chained.manifest.marks x.chained.manifest.changes l.logged x.journal l.accepted in
+        let both : changes_logged turned.1 ++ changes_logged turned.0 ≡ x.journal = sym (map-append (λ (l : Logged). l.change) turned.1 turned.0) ∙ ap changes_logged turned.3 ∙ mapped in
+        let front : length (changes_logged turned.1) ≡ x.sb.mem = length-map turned.1 (λ (l : Logged). l.change) ∙ turned.2 in
+        (turned.0, turned.4, turned.5, sym (drop_at (changes_logged turned.1) (changes_logged turned.0) x.sb.mem front) ∙ ap (λ (j : List Change). drop x.sb.mem j) both ∙ sym p.next.journal)
+  ]
+
   -- an image that differs in the slots alone reads as the next contents where it has their superblock
   new_reads : (d c : Image) → Images v1 d → BehindSlots d c → newest_in c ≡ Ok (Some (y.slot, y.sb)) → ReadsAs c y
   new_reads d c was same newest =
-      let active : region_at y.sb.mem y.sb.region ≡ region_at x.sb.mem (other_region x.sb.region) = λ i. region_at (same_mem i) (p.next.region i) in
       let r = p.stands.reads d was in
       let old_logged = logged_behind_slots d c x same region_few r.logged in
       let fits = newest_fits d x.slot x.sb r.newest in
-      let long : x.sb.mem ≤ length old_logged.logged = omega (arith, p.next.full, length-logged c x old_logged) in
-      let turned = journal_turned c x.sb.mem x.sb.region old_logged.logged (omega (arith, fits.mem_least)) region_few old_logged.read long in
-      let here : region_records c y.sb.mem y.sb.region ≡ Ok turned.0 = (λ i. region_records c (same_mem i) (p.next.region i)) ∙ turned.5 in
-      let few : length turned.0 < y.sb.mem = omega (arith, turned.4, same_mem) in
-      let mapped : changes_logged old_logged.logged ≡ x.journal = accepted_changes x.sb.changes_max x.sb.versions_max (parents_in x.chained.manifest) x.chained.manifest.marks x.chained.manifest.changes old_logged.logged x.journal old_logged.accepted in
-      let both : changes_logged turned.1 ++ changes_logged turned.0 ≡ x.journal = sym (map-append (λ (l : Logged). l.change) turned.1 turned.0) ∙ ap changes_logged turned.3 ∙ mapped in
-      let long_front : length (changes_logged turned.1) ≡ x.sb.mem = length-map turned.1 (λ (l : Logged). l.change) ∙ turned.2 in
-      let changes_are : changes_logged turned.0 ≡ y.journal =
-      sym (drop_at (changes_logged turned.1) (changes_logged turned.0) x.sb.mem long_front) ∙ ap (λ (j : List Change). drop x.sb.mem j) both ∙ sym p.next.journal in
+      let far = (places x.sb.mem x.sb.region region_few).gate_behind in
+      let at : ℕ = region_at x.sb.mem (other_region x.sb.region) in
+      let turned = behind c old_logged (omega (arith, fits.mem_least)) (λ short up. p.stands.shut d was (omega (arith, short)) (sym (same at (omega (arith, far))) ∙ up)) in
+      let here : region_records c y.sb.mem y.sb.region ≡ Ok turned.0 = (λ i. region_records c (same_mem i) (p.next.region i)) ∙ turned.2 in
+      let few : length turned.0 < y.sb.mem = omega (arith, turned.1, same_mem) in
+      let changes_are : changes_logged turned.0 ≡ y.journal = turned.3 in
       let accepted : are_accepted y.sb.changes_max y.sb.versions_max (parents_in y.chained.manifest) y.chained.manifest.marks y.chained.manifest.changes (changes_logged turned.0) ≡ true =
       ap (are_accepted y.sb.changes_max y.sb.versions_max (parents_in y.chained.manifest) y.chained.manifest.marks y.chained.manifest.changes) changes_are ∙ p.next.sound.formed.accepted in
       record {

@@ -1,5 +1,5 @@
 -- The disk before a publication that is written out.
-use Rattle.std.proofs.Common.{◌≡◌, ◌≤◌, ◌^◌, ◌≢◌, ◌<◌, ℕ, zero, suc, false, inl, inr, [], ◌∷◌, Some, refl, sym, ap, ◌∙◌, subst, arith, true≢false}
+use Rattle.std.proofs.Common.{◌≡◌, ◌≤◌, ◌^◌, ◌≢◌, ◌<◌, ℕ, zero, suc, false, inl, inr, [], ◌∷◌, Some, None, refl, sym, ap, ◌∙◌, subst, arith, true≢false}
 use Rattle.std.proofs.lemmas.Bool.Decides.{nat_tests}
 use Rattle.strat_base.specs.Change.{Put, Clone}
 use Rattle.strat_base.specs.EntryBytes.{entry_in}
@@ -25,9 +25,9 @@ use Rattle.strat_recovery.specs.Opening.{reads_as}
 use Rattle.strat_state.proofs.BreachLemmas.{sound_from_none}
 use Rattle.strat_standing.specs.Contents.{contents_state}
 use Rattle.strat_standing.specs.Standing.{LiesIn, ReadsAs, ShowsTable, AreFree, ContentsStand}
-use Rattle.strat_standing.specs.Next.{MayBeNext, HasManifest, IsPromotion}
+use Rattle.strat_standing.specs.Next.{IsSoundNext, MayBeNext, HasManifest, IsPromotion}
 use Rattle.strat_standing.specs.Publication.{Succeeds, IsPrepared}
-use Rattle.strat_standing.specs.Worked.{resting, new_contents, chain_logged, chain_next, chain_made, prepared_disk, at_generation, free_but, miscounted}
+use Rattle.strat_standing.specs.Worked.{resting, new_contents, chain_logged, chain_next, chain_again, chain_made, prepared_disk, published_disk, at_generation, free_but, miscounted}
 use Rattle.strat_standing.proofs.ListLemmas.{contained_among}
 
 formatted_reads : ReadsAs formatted new_contents
@@ -53,6 +53,14 @@ prepared_reads = record {
 next_lies : LiesIn prepared_disk chain_next
 unfolding number be window over slot_of slot_in zeros change_in all_pass read_number read_items read_extent read_array read_level read_mark read_only read_manifest manifest_in manifest_bytes chain_from records block_in block_bytes entry_in entries_in link_bytes entries_on
 next_lies = record { chain = refl; belonging = refl; arrays = refl }
+
+published_reads : ReadsAs published_disk chain_next
+unfolding number be window over slot_of slot_in zeros change_in all_pass read_number read_items read_extent read_array read_level read_mark read_only read_manifest manifest_in manifest_bytes chain_from records block_in block_bytes entry_in entries_in link_bytes entries_on
+published_reads = record {
+  newest = refl;
+  lies = record { chain = refl; belonging = refl; arrays = refl };
+  logged = record { logged = []; read = refl; accepted = refl };
+}
 
 formatted_shut : formatted 16384 ≢ 0xa7
 unfolding over
@@ -119,10 +127,46 @@ next_succeeds generation later most = record {
   slot = refl;
   later = later;
   region = refl;
-  full = omega arith;
   journal = refl;
   sound = next_sound;
   says = next_says;
+}
+
+-- without a change between: the same state again, in the other slot and with the other region
+pub again_succeeds : Succeeds chain_next chain_again
+again_succeeds = record {
+  lawful = record {
+    format_least = omega arith;
+    format_most = omega arith;
+    generation_least = omega arith;
+    generation_fits = omega arith;
+    manifest_least = omega arith;
+    manifest_most = omega arith;
+    length_least = omega arith;
+    length_fits = omega arith;
+    region_most = omega arith;
+    mem_least = omega arith;
+    mem_most = omega arith;
+    changes_least = omega arith;
+    changes_most = omega arith;
+    versions_least = omega arith;
+    versions_most = omega arith;
+  };
+  slot = refl;
+  later = omega arith;
+  region = refl;
+  journal = refl;
+  sound = next_sound;
+  says = record {
+    mem = refl;
+    changes_max = refl;
+    versions_max = refl;
+    versions = refl;
+    marks = refl;
+    maps = λ v lt. refl;
+    updates = refl;
+    changes = refl;
+  };
 }
 
 pub new_stands : ContentsStand (resting formatted) new_contents
@@ -177,11 +221,9 @@ free_after = record {
   ];
 }
 
--- the next contents, as they are computed
-pub next_computed : MayBeNext prepared_disk prepared_disk chain_logged chain_next chain_made [] []
-next_computed = record {
+next_follows : IsSoundNext prepared_disk prepared_disk chain_logged chain_next chain_made [] []
+next_follows = record {
   reads = prepared_reads;
-  full = omega arith;
   next = record {
     slot = refl;
     generation = refl;
@@ -200,6 +242,33 @@ next_computed = record {
     ordered = refl;
     each = (record { tagged = omega arith; rising = refl; counted = omega arith; lawful = refl; apart = refl }, tt);
   };
+}
+
+-- the next contents, as they are computed
+pub next_computed : MayBeNext prepared_disk prepared_disk chain_logged chain_next chain_made [] []
+next_computed = record { follows = next_follows; few = refl }
+
+-- and those without a change between
+pub again_computed : MayBeNext published_disk published_disk chain_next chain_again None [] chain_next.chained.manifest.levels
+again_computed = record {
+  follows = record {
+    reads = published_reads;
+    next = record {
+      slot = refl;
+      generation = refl;
+      region = refl;
+      promoted = record { mem = refl; changes_max = refl; versions_max = refl; format = refl; parents = refl; marks = refl; compacted = refl; updates = refl; changes = refl; journal = refl };
+      written = refl;
+      next_array = refl;
+      levels_were = refl;
+      levels_are = refl;
+    };
+    arrays = published_reads.lies.arrays;
+    was_sound = next_sound;
+    is_sound = next_sound;
+    fresh = record { numbered = refl; ordered = refl; each = tt };
+  };
+  few = refl;
 }
 
 pub next_promoted : IsPromotion prepared_disk chain_logged chain_next chain_made []

@@ -13,6 +13,7 @@ use Rattle.strat_plan.specs.Plan.{Plan, part_at, members}
 use Rattle.strat_promotion.specs.Promoted.{SaysTheSame, promoted}
 use Rattle.strat_promotion.specs.Sealed.{grown_by}
 use Rattle.strat_recovery.specs.Opened.{level_on}
+use Rattle.strat_recovery.specs.Opening.{has_few_publications}
 use Rattle.strat_state.specs.Level.{Level}
 use Rattle.strat_state.specs.Sound.{IsSound}
 use Rattle.strat_state.specs.State.{State}
@@ -67,17 +68,22 @@ pub record IsNextOf (old new : Contents) (made : Option LevelDesc) (taken kept :
   pub levels_were : old.chained.manifest.levels ≡ taken ++ kept
   pub levels_are : new.chained.manifest.levels ≡ option_to_list made ++ kept
 
--- they may follow: an image reads as the old contents, whose active region is full, another image has the levels of
--- the next ones, both are sound, and the arrays that were made are numbered from the old next number on
-pub record MayBeNext (f g : Image) (old new : Contents) (made : Option LevelDesc)
+-- they follow soundly: an image reads as the old contents, another image has the levels of the next ones, both are
+-- sound, and the arrays that were made are numbered from the old next number on
+pub record IsSoundNext (f g : Image) (old new : Contents) (made : Option LevelDesc)
     (taken kept : List LevelDesc) : Type 0 where
   pub reads : ReadsAs f old
-  pub full : old.sb.mem ≤ length old.journal
   pub next : IsNextOf old new made taken kept
   pub arrays : all_some (level_on g) new.chained.manifest.levels ≡ Some new.levels
   pub was_sound : IsSound (contents_state old)
   pub is_sound : IsSound (contents_state new)
   pub fresh : AreNewArrays old.chained.manifest.next_array (arrays_made made)
+
+-- they may be the next: they follow so, and there are few enough publications, arrays and entries for the changes
+pub record MayBeNext (f g : Image) (old new : Contents) (made : Option LevelDesc)
+    (taken kept : List LevelDesc) : Type 0 where
+  pub follows : IsSoundNext f g old new made taken kept
+  pub few : IsTrue (has_few_publications new.sb new.chained.manifest)
 
 -- the manifest of contents stands in an image: in a chain that begins where their superblock says, and of so many bytes
 pub record HasManifest (c : Image) (x : Contents) : Type 0 where

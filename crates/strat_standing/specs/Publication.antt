@@ -1,5 +1,5 @@
 -- A publication: contents take the place of others that mean the same table.
-use Rattle.std.specs.Prelude.{◌≡◌, ◌≤◌, ◌<◌, ℕ, ◌-◌, ◌*◌, length, Some, Ok}
+use Rattle.std.specs.Prelude.{◌≡◌, ◌<◌, ℕ, ◌-◌, ◌*◌, Some, Ok}
 use Rattle.strat_crash.specs.Image.{Image}
 use Rattle.strat_crash.specs.Moments.{DiskView, Images, Since, Passes, TearsOnly, IsDurable}
 use Rattle.strat_format.specs.Layout.{other_region, newest_format}
@@ -13,13 +13,13 @@ use Rattle.strat_standing.specs.Contents.{Contents, contents_state, sealed_state
 use Rattle.strat_standing.specs.Standing.{LiesIn, ContentsStand}
 
 -- contents may take the place of others: a lawful superblock of a greater generation for the other slot,
--- the journal that is in the other region once the active one is full, and a sound state that says the same
+-- the journal that came behind a full region, and a sound state that says the same. The region need not be full, nor
+-- have a change at all: then nothing came behind it
 pub record Succeeds (old new : Contents) : Type 0 where
   pub lawful : IsLawful new.sb
   pub slot : new.slot ≡ 1 - old.slot
   pub later : old.sb.generation < new.sb.generation
   pub region : new.sb.region ≡ other_region old.sb.region
-  pub full : old.sb.mem ≤ length old.journal
   pub journal : new.journal ≡ later_part old
   pub sound : IsSound (contents_state new)
   pub says : SaysTheSame (contents_state old) (contents_state new)

@@ -12,6 +12,7 @@ use Rattle.strat_crash.specs.Moments.{DiskView}
 use Rattle.strat_extent.specs.Blocks.{SpaceView}
 use Rattle.strat_format.specs.Manifest.{manifest_bytes, new_manifest}
 use Rattle.strat_format.specs.Records.{records_bytes}
+use Rattle.strat_format.specs.SuperBlock.{fields, spelled}
 use Rattle.strat_recovery.specs.Disks.{formatted, new_super, chain_manifest, chain_super, array_block, published_by}
 use Rattle.strat_state.specs.Worked.{chain}
 use Rattle.strat_standing.specs.Contents.{Contents}
@@ -44,6 +45,13 @@ chain_next = record {
   chained = record { manifest = chain_manifest; blocks = 8 ∷ [] };
   journal = [];
   levels = chain.levels;
+}
+
+-- and the same once more, behind a publication that found no change
+abbrev pub chain_again : Contents
+chain_again = record chain_next {
+  slot = 0;
+  sb = record chain_super { generation = 3; region = 0 };
 }
 
 -- contents with a superblock of another generation
@@ -83,6 +91,10 @@ abbrev pub prepared_disk : Image
 prepared_disk =
     patch (patch (patch formatted 8192 (records_bytes chain_logged.journal)) 28672 array_block)
     32768 (be 4 0 ++ manifest_bytes 1 chain_manifest)
+
+-- the same once the superblock of chain_next is laid
+abbrev pub published_disk : Image
+published_disk = patch prepared_disk 4096 (0xa7 ∷ spelled (fields chain_super))
 
 -- blocks behind the journal are free, but for these two
 abbrev pub free_but : ℕ → ℕ → ℕ → Bool

@@ -17,7 +17,7 @@ ghost use Rattle.strat_plan.specs.Plan.{Plan, IsSplit};
 ghost use Rattle.strat_promotion.specs.Promoted.{SaysTheSame};
 ghost use Rattle.strat_recovery.specs.Opening.{belongs, has_own_blocks};
 ghost use Rattle.strat_standing.specs.Contents.{Contents, contents_state};
-ghost use Rattle.strat_standing.specs.Next.{IsNextOf, MayBeNext, AreNewArrays, AreArraysOf, HasManifest, IsPromotion, arrays_made};
+ghost use Rattle.strat_standing.specs.Next.{IsNextOf, IsSoundNext, MayBeNext, AreNewArrays, AreArraysOf, HasManifest, IsPromotion, arrays_made};
 ghost use Rattle.strat_standing.specs.Occupied.{IsSpaceOf};
 ghost use Rattle.strat_standing.specs.Publication.{Succeeds, IsPrepared};
 ghost use Rattle.strat_standing.specs.Standing.{LiesIn, ReadsAs, LeavesContent, ContentsStand};
@@ -57,15 +57,27 @@ pub fn the_next_manifest_belongs()
         → IsTrue (belongs new.sb new.chained) }
 {}
 
-/// What a promotion leaves may be the next contents, and says the same.
-pub fn promoted_contents_may_be_next()
+/// What a promotion leaves follows soundly, and says the same.
+pub fn promoted_contents_follow()
     ensures ok { (f g : Image) (old new : Contents) (made : Option LevelDesc)
-        (taken kept : List LevelDesc) → ReadsAs f old → old.sb.mem ≤ length old.journal
+        (taken kept : List LevelDesc) → ReadsAs f old
         → IsSound (contents_state old) → IsNextOf old new made taken kept
         → AreNewArrays old.chained.manifest.next_array (arrays_made made)
         → IsPromotion g old new made taken
-        → MayBeNext f g old new made taken kept
+        → IsSoundNext f g old new made taken kept
         × SaysTheSame (contents_state old) (contents_state new) }
+{}
+
+/// Contents that follow soundly may be the next if the journal has a change. Of two publications in a row the second needs
+/// none, if two changes are in front of both.
+pub fn contents_that_follow_a_change_may_be_next()
+    ensures ok { (f g : Image) (old new : Contents) (made : Option LevelDesc)
+        (taken kept : List LevelDesc) → IsSoundNext f g old new made taken kept
+        → 1 ≤ length old.journal → MayBeNext f g old new made taken kept }
+    ensures twice { (f g c d : Image) (old mid new : Contents) (made more : Option LevelDesc)
+        (taken kept from rest : List LevelDesc) → IsSoundNext f g old mid made taken kept
+        → IsSoundNext c d mid new more from rest
+        → 2 ≤ length old.journal → MayBeNext c d mid new more from rest }
 {}
 
 /// Contents that may be the next may take the place of the others where an image has their manifest, their blocks are just

@@ -10,7 +10,7 @@ ghost use Rattle.strat_standing.specs.Next.{IsNextOf, MayBeNext, AreNewArrays, H
 ghost use Rattle.strat_standing.specs.Occupied.{IsSpaceOf, UsesMore};
 ghost use Rattle.strat_standing.specs.Publication.{Succeeds, IsPrepared, IsPromotedFrom};
 ghost use Rattle.strat_standing.specs.Standing.{ShowsTable, AreFree, ContentsStand};
-ghost use Rattle.strat_standing.specs.Worked.{resting, new_contents, chain_logged, chain_next, chain_made, made_with, with_versions, with_extents, used_to, blocks_from, prepared_disk, at_generation, free_but, miscounted};
+ghost use Rattle.strat_standing.specs.Worked.{resting, new_contents, chain_logged, chain_next, chain_again, chain_made, made_with, with_versions, with_extents, used_to, blocks_from, prepared_disk, published_disk, at_generation, free_but, miscounted};
 
 /// A new store stands on a disk that was just formatted, with its journal.
 pub fn new_contents_stand()
@@ -19,18 +19,23 @@ pub fn new_contents_stand()
 {}
 
 /// A disk whose journal is full, and that has the array and the manifest of the same state without a
-/// journal, is prepared for them: so no premise of a publication is empty. A generation may be left out.
+/// journal, is prepared for them: so no premise of a publication is empty. A generation may be left out. A journal
+/// without a change may be published too.
 pub fn a_disk_is_prepared()
     ensures prepared { IsPrepared (resting prepared_disk) chain_logged chain_next }
     ensures promoted { IsPromotedFrom chain_logged chain_next }
     ensures generation { Succeeds chain_logged (at_generation 3 chain_next) }
+    ensures again { Succeeds chain_next chain_again }
 {}
 
-/// The contents that are to take their place may be the next ones, with the level that was made and none taken. They
+/// The contents that are to take their place may be the next ones, with the level that was made and none taken; and so
+/// may the same contents once more, where the journal has no change, with no level made and all of them kept. They
 /// may not where a generation is left out, where the array has another number, where its versions do not ascend, where
 /// an extent begins where the one before it ends, or where it has no block.
 pub fn the_next_contents_are_computed()
     ensures ok { MayBeNext prepared_disk prepared_disk chain_logged chain_next chain_made [] [] }
+    ensures again { MayBeNext published_disk published_disk chain_next chain_again None []
+        chain_next.chained.manifest.levels }
     ensures promoted { IsPromotion prepared_disk chain_logged chain_next chain_made [] }
     ensures written { HasManifest prepared_disk chain_next }
     ensures generation { ¬ IsNextOf chain_logged (at_generation 3 chain_next) chain_made [] [] }

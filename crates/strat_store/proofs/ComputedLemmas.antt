@@ -28,7 +28,7 @@ use Rattle.strat_recovery.specs.Opened.{level_on}
 use Rattle.strat_standing.proofs.FreeLemmas.{free_stands}
 use Rattle.strat_standing.proofs.ListLemmas.{contained_among}
 use Rattle.strat_standing.proofs.LongLemmas.{bytes_few}
-use Rattle.strat_standing.proofs.NextLemmas.{array_at, arrays_are, changes_bound, entries_made, next_lawful, next_most, written_most}
+use Rattle.strat_standing.proofs.NextLemmas.{array_at, arrays_are, changes_bound, entries_made, few_parts, next_lawful}
 use Rattle.strat_standing.proofs.OccupiedLemmas.{free_beside, named_used, taken_beside}
 use Rattle.strat_standing.proofs.PromotedLemmas.{promoted_state, promoted_whole}
 use Rattle.strat_standing.specs.Contents.{Contents, contents_state, named_blocks}
@@ -136,15 +136,14 @@ module _ (v : DiskView) (s : SpaceView) (m : Memory) (levels : List (Option Leve
         let behind = descs_behind target x.chained.manifest.levels in
         let y : Contents = new 0 0 [] in
         let n = follows 0 0 [] in
-        let bound = changes_bound c c x y made to behind n in
-        let written = written_most c c x y made to behind n in
-        let numbers = next_most c c x y made to behind n in
+        let bound = changes_bound c c x y made to behind n.follows in
+        let counts = few_parts y.sb y.chained.manifest n.few in
         let short = bytes_few c c x y made to behind n in
         let here : MayBeWritten y.chained.manifest = record {
-          lawful = next_lawful c c x y made to behind n;
+          lawful = next_lawful c c x y made to behind n.follows n.few;
           short = omega (arith, short);
-          written = omega (arith, written, bound);
-          next_array = omega (arith, numbers, bound);
+          written = omega (arith, counts.2, bound);
+          next_array = omega (arith, counts.1, bound);
         } in
         subst (λ (k : Manifest). MayBeWritten (manifest_after k m target made)) old_is here
 
@@ -158,10 +157,10 @@ module _ (v : DiskView) (s : SpaceView) (m : Memory) (levels : List (Option Leve
         let n = follows 0 0 [] in
         let few = blocks_filled (arrays_made made) (λ a among.
         let there : Among a (descriptors y.chained.manifest) =
-        subst (λ (rs : List ArrayDesc). Among a rs) (sym (arrays_are c c x y made to behind n)) (among_left (arrays_made made) (flat_map (λ (l : LevelDesc). l.arrays) behind) a among) in
+        subst (λ (rs : List ArrayDesc). Among a rs) (sym (arrays_are c c x y made to behind n.follows)) (among_left (arrays_made made) (flat_map (λ (l : LevelDesc). l.arrays) behind) a among) in
         let found = among_flat (λ (l : LevelDesc). l.arrays) y.chained.manifest.levels a there in
-        (array_at c c x y made to behind n found.0 a found.1 found.2).few) in
-        omega (arith, few, entries_made c c x y made to behind n)
+        (array_at c c x y made to behind n.follows found.0 a found.1 found.2).few) in
+        omega (arith, few, entries_made c c x y made to behind n.follows)
 
     -- and where it was, they are computed
     module _ (u : DiskView) (t r : SpaceView) (first size : ℕ) (chain : List Extent) (taken : UsesMore s (extents_of (arrays_made made)) t) (writing : TearsBlocks (is_free t) w u) (marked : IsMarked t chain r)

@@ -19,6 +19,7 @@ use Rattle.strat_recovery.specs.Opened.{array_on, level_on}
 use Rattle.strat_standing.proofs.ComputedLemmas.{promotion_next}
 use Rattle.strat_standing.proofs.FreeLemmas.{free_stands}
 use Rattle.strat_standing.proofs.LocalLemmas.{levels_local}
+use Rattle.strat_standing.proofs.PlaceLemmas.{newest_fits}
 use Rattle.strat_standing.proofs.PromotedLemmas.{none_later, promoted_whole, sealed_whole}
 use Rattle.strat_standing.proofs.OccupiedLemmas.{array_blocks_used, taken_beside, free_beside}
 use Rattle.strat_standing.specs.Appending.{IsLogOf}
@@ -187,7 +188,7 @@ module _ (c : Image) (old new : Contents) (target : ℕ) (made : Option LevelDes
   pub next_here : MayBeNext c c old new made (descs_to target old.chained.manifest.levels) (descs_behind target old.chained.manifest.levels) × SaysTheSame (contents_state old) (contents_state new)
   next_here =
       promotion_next c c old new made (descs_to target old.chained.manifest.levels) (descs_behind target old.chained.manifest.levels)
-      reads (omega (arith, full)) sound next numbered promotion_here
+      reads (omega (arith, full, (newest_fits c old.slot old.sb reads.newest).mem_least)) sound next numbered promotion_here
 
 -- what was written beside contents is computed
 module _ (v w u : DiskView) (s t r : SpaceView) (old new : Contents) (target : ℕ) (made : Option LevelDesc) (besides others : List Extent) (b : IsWrittenBeside v w u s t r old new target made besides others)

@@ -88,7 +88,7 @@ stored_since v start tables n trail c since s reads =
 pub counts_next : (w : DiskView) (s : Held) (x : Contents) → IsConsistent s → x ≡ contents_held s x.levels → (sb : Super) (chained : Chained) → IsReadied w s x sb chained → CountsWritten s.chained.manifest chained.manifest
 counts_next w s x whole held sb chained ready =
     let c = ready.computed in
-    let next = c.next.next in
+    let next = c.next.follows.next in
     let n : ℕ = s.chained.manifest.next_array in
     let arrays : LevelDesc → List ArrayDesc = λ l. l.arrays in
     let is_new : ArrayDesc → Bool = λ a. leb n a.id in
@@ -105,7 +105,7 @@ counts_next w s x whole held sb chained ready =
     lt-leb n a.id ((whole_read s whole).few a (subst (λ (rs : List ArrayDesc). Contains rs a) (sym (listed_arrays s whole.placed)) (among_contained (descriptors s.chained.manifest) a there))) in
     let high : (a : ArrayDesc) → Among a made → is_new a ≡ true = λ a of.
     let there : Among a.id (map (λ (d : ArrayDesc). d.id) made) = among_map (λ (d : ArrayDesc). d.id) made a of in
-    let from = (range_among x.chained.manifest.next_array (length made) a.id (subst (Among a.id) c.next.fresh.numbered there)).0 in
+    let from = (range_among x.chained.manifest.next_array (length made) a.id (subst (Among a.id) c.next.follows.fresh.numbered there)).0 in
     le-leb n a.id (omega (arith, from, ap (λ (m : Manifest). m.next_array) same)) in
     let chosen : filter is_new (descriptors chained.manifest) ≡ made =
     ap (filter is_new) listed ∙ filter-append is_new made rest ∙ (λ i. filter_each is_new made high i ++ filter_none is_new rest low i) ∙ append-nil made in

@@ -235,14 +235,14 @@ module _ (w : DiskView) (s : Held) (x : Contents) (held : x ≡ contents_held s 
   pub next_arrays : (a : ArrayDesc) → Among a (descriptors chained.manifest) → (s.chained.manifest.next_array ≤ a.id) ⊎ Among a (descriptors s.chained.manifest)
   next_arrays a among =
       let c = ready.computed in
-      let next = c.next.next in
+      let next = c.next.follows.next in
       let arrays : LevelDesc → List ArrayDesc = λ l. l.arrays in
       let at = among_flat arrays (option_to_list c.made ++ c.kept) a (subst (λ (ls : List LevelDesc). Among a (flat_map arrays ls)) next.levels_are among) in
       elim (among_split (option_to_list c.made) c.kept at.0 at.1) [
         | inl made ↦
             let ids : List ℕ = map (λ (d : ArrayDesc). d.id) (arrays_made c.made) in
             let there : Among a.id ids = among_map (λ (d : ArrayDesc). d.id) (arrays_made c.made) a (made_among c.made at.0 a made at.2) in
-            let low = (range_among x.chained.manifest.next_array (length (arrays_made c.made)) a.id (subst (Among a.id) c.next.fresh.numbered there)).0 in
+            let low = (range_among x.chained.manifest.next_array (length (arrays_made c.made)) a.id (subst (Among a.id) c.next.follows.fresh.numbered there)).0 in
             let same : x.chained.manifest.next_array ≡ s.chained.manifest.next_array = ap (λ (y : Contents). y.chained.manifest.next_array) held in
             inl (omega (arith, low, same))
         | inr kept ↦
@@ -253,7 +253,7 @@ module _ (w : DiskView) (s : Held) (x : Contents) (held : x ≡ contents_held s 
 
   next_later : s.chained.manifest.next_array ≤ chained.manifest.next_array
   next_later =
-      let more = ready.computed.next.next.next_array in
+      let more = ready.computed.next.follows.next.next_array in
       let same : x.chained.manifest.next_array ≡ s.chained.manifest.next_array = ap (λ (y : Contents). y.chained.manifest.next_array) held in
       omega (arith, more, same)
 

@@ -1,10 +1,11 @@
 use Rattle.std.proofs.Common.{◌≡◌, ℕ, List, get_or, ap, arith, sym, true≢false}
-use Rattle.strat_standing.proofs.WorkedLemmas.{next_computed, next_promoted, next_written}
+use Rattle.strat_standing.proofs.WorkedLemmas.{next_computed, again_computed, next_promoted, next_written}
 use Rattle.strat_standing.proofs.worked.the_next_contents_are_computed.Goals as goal
 
 pub returns : goal.returns
 returns c = record {
   ok = next_computed;
+  again = again_computed;
   promoted = next_promoted;
   written = next_written;
   generation = λ n. let bad : 3 ≡ 2 = n.generation in omega (arith, bad);
