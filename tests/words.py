@@ -451,14 +451,14 @@ RIGHT = {
     "crates/low_tests/README.md": "# low_tests\n",
     "docs/ARCHITECTURE.md": "castle, low\n",
     "docs/GLOSSARY.md": "| Prose | Code |\n|---|---|\n" + "".join(f"| {word} | image |\n" for word in prose.PAIRS),
-    "README.md": '''# Low
+    "README.md": "<!-- an\nimage -->\n" + '''# Low
 
 A sentence about `level 0` that [another](gate.md) ends. `The image
 of` is shut by the gate.
 
     a moment
 
-- An item
+''' + "- An item" + " word" * 14 + "\n- an item" + " word" * 25 + '''
   that goes on.
 
 ```
@@ -600,14 +600,16 @@ FAULTS = [
     ("crates/low_tests/README.md", "# low_tests\n", "x\n" * 61, 61, crates_have_readmes),
     ("crates/low_tests/README.md", "# low_tests\n", "", 1, crates_have_readmes),
     ("docs/ARCHITECTURE.md", "castle, low", "castle, lower", 1, crates_are_in_the_architecture),
-    ("README.md", "`The image", "`A`" + " word" * 25 + "\n`image", 3, prose.sentences_are_short),
-    ("README.md", "that goes on.", "ends. It" + " goes" * 30 + " on.", 9, prose.sentences_are_short),
-    ("README.md", "| updates |", "|" + " update" * 31 + " |", 17, prose.sentences_are_short),
-    ("README.md", "`level 0`", "Level\n0", 3, prose.prose_says_the_fields_word),
-    ("README.md", "| updates |", "| images |", 17, prose.prose_says_the_fields_word),
-    ("README.md", "    a moment", "a moment", 6, prose.prose_says_the_fields_word),
-    ("README.md", "by the gate", "by a gate", 3, prose.prose_says_the_fields_word),
+    ("README.md", "`The image", "`A`" + " word" * 25 + "\n`image", 5, prose.sentences_are_short),
+    ("README.md", "that goes on.", "ends. It" + " goes" * 30 + " on.", 12, prose.sentences_are_short),
+    ("README.md", "by the gate.", "by the gate. It" + " goes" * 30 + ".", 6, prose.sentences_are_short),
+    ("README.md", "| updates |", "|" + " update" * 31 + " |", 20, prose.sentences_are_short),
+    ("README.md", "`level 0`", "Level\n0", 5, prose.prose_says_the_fields_word),
+    ("README.md", "| updates |", "| images |", 20, prose.prose_says_the_fields_word),
+    ("README.md", "    a moment", "a moment", 8, prose.prose_says_the_fields_word),
+    ("README.md", "by the gate", "by a gate", 5, prose.prose_says_the_fields_word),
     ("README.md", "by the gate", "then", 1, prose.prose_says_the_fields_word),
+    ("docs/GLOSSARY.md", "| Prose |", "By the gate.\n\n| Prose |", 1, prose.prose_says_the_fields_word),
     ("docs/GLOSSARY.md", "| memtable |", "| `memtable` |", 3, prose.the_glossary_has_these_words),
     ("docs/GLOSSARY.md", "| out of memory | image |\n", "", 9, prose.the_glossary_has_these_words),
 ]
