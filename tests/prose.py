@@ -158,7 +158,7 @@ def measure(top):
     for name in DOCUMENTS:
         text = (top / name).read_text(encoding="utf-8")
         counts = sorted(n for n in (length(it) for _, it in sentences(text)) if n >= 4)
-        said = " ".join(" ".join(it.text.split()) for it in passages(text) if not it.ties)
+        said = " | ".join(" ".join(it.text.split()) for it in passages(text) if not it.ties)
         pairs = []
         for word, code in PAIRS.items():
             ours, theirs = (len(re.findall(rf"\b(?:{form})\b", said, re.I)) for form in (word + "s?", code))
