@@ -1,5 +1,5 @@
 #!/usr/bin/env python3
-"""Holds the repository to its words: names of clauses and definitions, widths, and what the documents name.
+"""Holds the repository to its words: names of clauses and definitions, widths, what the documents name, and prose.
 
 It reads files alone, and takes the crates as crates.txt and crates/ have them. Each fault is a line
 `FILE:LINE: what`; the last line counts the rules that passed and failed.
@@ -7,6 +7,8 @@ It reads files alone, and takes the crates as crates.txt and crates/ have them. 
   tests/words.py          every rule
   tests/words.py --all    also prints the comment lines that are wide; these fail nothing
   tests/words.py --self   tries each rule on a made-up tree with one fault
+
+The rules of prose are in tests/prose.py, which measures the documents if it is run alone.
 """
 
 import collections
@@ -16,6 +18,8 @@ import pathlib
 import re
 import sys
 import tempfile
+
+import prose
 
 TOP = pathlib.Path(__file__).resolve().parent.parent
 
@@ -158,10 +162,12 @@ def is_import(line):
 class Tree:
     """The files that the rules read, each once."""
 
-    def __init__(self, top, owners=None, exceptions=None):
+    def __init__(self, top, owners=None, exceptions=None, documents=None, phrases=None):
         self.top = pathlib.Path(top)
         self.owners = OWNERS if owners is None else owners
         self.exceptions = EXCEPTIONS if exceptions is None else exceptions
+        self.documents = prose.DOCUMENTS if documents is None else documents
+        self.phrases = prose.EXCEPTIONS if phrases is None else phrases
         listed = re.findall(r"^([\w]+)[^\n:#]*:", self.text("crates.txt"), re.M)
         self.crates = [name for name in listed if (self.top / "crates" / name).is_dir()]
 
@@ -414,6 +420,7 @@ RULES = [
     refusals_are_documented,
     crates_have_readmes,
     crates_are_in_the_architecture,
+    *prose.RULES,
 ]
 
 
@@ -443,6 +450,25 @@ RIGHT = {
     "crates/castle/README.md": README,
     "crates/low_tests/README.md": "# low_tests\n",
     "docs/ARCHITECTURE.md": "castle, low\n",
+    "docs/GLOSSARY.md": "| Prose | Code |\n|---|---|\n" + "".join(f"| {word} | image |\n" for word in prose.PAIRS),
+    "README.md": "<!-- an\nimage -->\n" + '''# Low
+
+A sentence about `level 0` that [another](gate.md) ends. `The image
+of` is shut by the gate.
+
+    a moment
+
+''' + "- An item" + " word" * 14 + "\n- an item" + " word" * 25 + '''
+  that goes on.
+
+```
+an image
+```
+
+| Word | Code | Meaning |
+|---|---|---|
+| memtable | level 0 | updates |
+''',
     "crates/low/src/lib.rt": '''//! Numbers. ensures bad { not a clause }
 ghost use Rattle.std.specs.Prelude.{◌≡◌, ◌≤◌};
 
@@ -574,6 +600,18 @@ FAULTS = [
     ("crates/low_tests/README.md", "# low_tests\n", "x\n" * 61, 61, crates_have_readmes),
     ("crates/low_tests/README.md", "# low_tests\n", "", 1, crates_have_readmes),
     ("docs/ARCHITECTURE.md", "castle, low", "castle, lower", 1, crates_are_in_the_architecture),
+    ("README.md", "`The image", "`A`" + " word" * 25 + "\n`image", 5, prose.sentences_are_short),
+    ("README.md", "that goes on.", "ends. It" + " goes" * 30 + " on.", 12, prose.sentences_are_short),
+    ("README.md", "by the gate.", "by the gate. It" + " goes" * 30 + ".", 6, prose.sentences_are_short),
+    ("README.md", "| updates |", "|" + " update" * 31 + " |", 20, prose.sentences_are_short),
+    ("README.md", "`level 0`", "Level\n0", 5, prose.prose_says_the_fields_word),
+    ("README.md", "| updates |", "| images |", 20, prose.prose_says_the_fields_word),
+    ("README.md", "    a moment", "a moment", 8, prose.prose_says_the_fields_word),
+    ("README.md", "by the gate", "by a gate", 5, prose.prose_says_the_fields_word),
+    ("README.md", "by the gate", "then", 1, prose.prose_says_the_fields_word),
+    ("docs/GLOSSARY.md", "| Prose |", "By the gate.\n\n| Prose |", 1, prose.prose_says_the_fields_word),
+    ("docs/GLOSSARY.md", "| memtable |", "| `memtable` |", 3, prose.the_glossary_has_these_words),
+    ("docs/GLOSSARY.md", "| out of memory | image |\n", "", 9, prose.the_glossary_has_these_words),
 ]
 
 
@@ -582,7 +620,8 @@ def made(folder, files):
         path = pathlib.Path(folder) / name
         path.parent.mkdir(parents=True, exist_ok=True)
         path.write_text(text, encoding="utf-8")
-    return Tree(folder, {"View": "strat_cursor", "Plan": "strat_split"}, {("View", "Half.antt"): "of the test"})
+    return Tree(folder, {"View": "strat_cursor", "Plan": "strat_split"}, {("View", "Half.antt"): "of the test"},
+                ("README.md", "docs/GLOSSARY.md"), {("README.md", "the gate"): "of the test"})
 
 
 def self_test():
