@@ -12,7 +12,7 @@ WORDS_MOST = 30  # of one sentence; a name in backticks is one word
 
 # The documents that are held to these rules.
 DOCUMENTS = (
-    "README.md", "CONTRIBUTING.md",
+    "README.md", "CHANGES.md", "CONTRIBUTING.md",
     *(f"docs/{name}.md" for name in (
         "ARCHITECTURE", "DEFINITIONS", "FORMATS", "GLOSSARY", "NUMBERS", "PROVED", "PROVING")),
     *(f"crates/{name}/README.md" for name in (
@@ -35,6 +35,7 @@ PAIRS = {
 # Where a document means something else by the code's word: the phrase, with the reason.
 EXCEPTIONS = {
     ("README.md", "the gate"): "what judges a change, `./test`",
+    ("CHANGES.md", "the gate"): "what judges a change, `./test`",
     ("CONTRIBUTING.md", "the gate"): "what judges a change, `./test`",
     ("docs/PROVING.md", "the gate"): "what judges a change, `./test`",
 }
