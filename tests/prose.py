@@ -14,7 +14,7 @@ WORDS_MOST = 30  # of one sentence; a name in backticks is one word
 DOCUMENTS = (
     "README.md", "CHANGES.md", "CONTRIBUTING.md",
     *(f"docs/{name}.md" for name in (
-        "ARCHITECTURE", "DEFINITIONS", "ERRORS", "FORMATS", "GLOSSARY", "HOW-TO-LOSE-DATA", "NUMBERS", "PROTOCOL",
+        "ARCHITECTURE", "CLIENT", "DEFINITIONS", "ERRORS", "FORMATS", "GLOSSARY", "HOW-TO-LOSE-DATA", "NUMBERS", "PROTOCOL",
         "PROVED", "PROVING", "QUICKSTART")),
     "clients/python/README.md",
     *(f"crates/{name}/README.md" for name in (
