@@ -14,8 +14,8 @@ WORDS_MOST = 30  # of one sentence; a name in backticks is one word
 DOCUMENTS = (
     "README.md", "CHANGES.md", "CONTRIBUTING.md",
     *(f"docs/{name}.md" for name in (
-        "ARCHITECTURE", "CLIENT", "DEFINITIONS", "ERRORS", "FORMATS", "GLOSSARY", "HOW-TO-LOSE-DATA", "NUMBERS", "PROTOCOL",
-        "PROVED", "PROVING", "QUICKSTART")),
+        "ARCHITECTURE", "CLIENT", "DECISIONS", "DEFINITIONS", "ERRORS", "FORMATS", "GLOSSARY", "HOW-TO-LOSE-DATA", "NUMBERS",
+        "PROTOCOL", "PROVED", "PROVING", "QUICKSTART")),
     "clients/python/README.md",
     *(f"crates/{name}/README.md" for name in (
         "castle", "strat_cursor", "strat_promote", "strat_recovery", "strat_report", "strat_serve", "strat_slicing",
