@@ -76,6 +76,7 @@ def passages(text):
     found, head, fenced, within, listed = [], None, False, False, False
     hidden = re.sub(r"<!--.*?-->", lambda it: "\n" * it[0].count("\n"), text, flags=re.S)
     for number, line in enumerate(hidden.split("\n"), 1):
+        item = ITEM.match(line)
         if FENCE.match(line):
             fenced, within, head = not fenced, False, None
         elif fenced or not line.strip():
@@ -89,11 +90,11 @@ def passages(text):
         elif line.startswith("#"):
             found.append(Passage(number, line.lstrip("# "), False))
             within = listed = False
-        elif within and not ITEM.match(line):
+        elif within and not item:
             found[-1] = found[-1]._replace(text=f"{found[-1].text}\n{line.strip()}")
-        elif ITEM.match(line) or listed or not line.startswith("    "):
-            listed = ITEM.match(line) is not None or (listed and line.startswith(" "))
-            found.append(Passage(number, ITEM.sub("", line, count=1), False))
+        elif item or listed or not line.startswith("    "):
+            listed = item is not None or (listed and line.startswith(" "))
+            found.append(Passage(number, line[item.end() if item else 0:], False))
             within = True
     return [it._replace(text=without_code(it.text)) for it in found]
 
