@@ -19,8 +19,10 @@ DOCUMENTS = (
     "clients/python/README.md",
     *(f"crates/{name}/README.md" for name in (
         "castle", "strat_arena", "strat_arena_tests", "strat_array", "strat_array_tests", "strat_base",
-        "strat_base_tests", "strat_block", "strat_block_tests", "strat_checking", "strat_cursor", "strat_promote",
-        "strat_recovery", "strat_report", "strat_serve", "strat_slicing", "strat_standing", "strat_store")),
+        "strat_base_tests", "strat_block", "strat_block_tests", "strat_checking", "strat_crash", "strat_cursor",
+        "strat_disk", "strat_disk_tests", "strat_extent", "strat_extent_tests", "strat_format", "strat_frame",
+        "strat_frame_tests", "strat_gate", "strat_promote", "strat_recovery", "strat_report", "strat_serve",
+        "strat_slicing", "strat_standing", "strat_store")),
 )
 
 # For each word that prose says (the first table of docs/GLOSSARY.md) the forms of the code's word.
