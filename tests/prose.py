@@ -21,8 +21,10 @@ DOCUMENTS = (
         "castle", "strat_arena", "strat_arena_tests", "strat_array", "strat_array_tests", "strat_base",
         "strat_base_tests", "strat_block", "strat_block_tests", "strat_checking", "strat_crash", "strat_cursor",
         "strat_disk", "strat_disk_tests", "strat_extent", "strat_extent_tests", "strat_format", "strat_frame",
-        "strat_frame_tests", "strat_gate", "strat_promote", "strat_recovery", "strat_report", "strat_serve",
-        "strat_slicing", "strat_standing", "strat_store")),
+        "strat_frame_tests", "strat_gate", "strat_io", "strat_journal", "strat_journal_tests", "strat_level",
+        "strat_level_tests", "strat_live", "strat_manifest", "strat_manifest_tests", "strat_merge", "strat_merge_tests",
+        "strat_model", "strat_model_tests", "strat_plan", "strat_promote", "strat_recovery", "strat_report",
+        "strat_serve", "strat_slicing", "strat_standing", "strat_store")),
 )
 
 # For each word that prose says (the first table of docs/GLOSSARY.md) the forms of the code's word.
