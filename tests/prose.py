@@ -23,10 +23,10 @@ DOCUMENTS = (
         "strat_disk", "strat_disk_tests", "strat_extent", "strat_extent_tests", "strat_format", "strat_frame",
         "strat_frame_tests", "strat_gate", "strat_io", "strat_journal", "strat_journal_tests", "strat_level",
         "strat_level_tests", "strat_live", "strat_manifest", "strat_manifest_tests", "strat_merge", "strat_merge_tests",
-        "strat_model", "strat_model_tests", "strat_plan", "strat_promote", "strat_promote_tests", "strat_promotion",
-        "strat_recovery", "strat_report", "strat_report_tests", "strat_serve", "strat_serve_tests", "strat_slicing",
-        "strat_split", "strat_split_tests", "strat_standing", "strat_state", "strat_store", "strat_tree",
-        "strat_tree_tests")),
+        "strat_model", "strat_model_tests", "strat_pins", "strat_plan", "strat_promote", "strat_promote_tests",
+        "strat_promotion", "strat_recovery", "strat_report", "strat_report_tests", "strat_serve", "strat_serve_tests",
+        "strat_slicing", "strat_split", "strat_split_tests", "strat_standing", "strat_state", "strat_store",
+        "strat_store_pins", "strat_tree", "strat_tree_tests")),
 )
 
 # For each word that prose says (the first table of docs/GLOSSARY.md) the forms of the code's word.
