@@ -10,24 +10,12 @@ import re
 
 WORDS_MOST = 30  # of one sentence; a name in backticks is one word
 
-# The documents that are held to these rules.
-DOCUMENTS = (
-    "README.md", "CHANGES.md", "CONTRIBUTING.md",
-    *(f"docs/{name}.md" for name in (
-        "ARCHITECTURE", "CLIENT", "DECISIONS", "DEFINITIONS", "ERRORS", "FORMATS", "GLOSSARY", "HOW-TO-LOSE-DATA", "NUMBERS",
-        "PROTOCOL", "PROVED", "PROVING", "QUICKSTART")),
-    "clients/python/README.md",
-    *(f"crates/{name}/README.md" for name in (
-        "castle", "strat_arena", "strat_arena_tests", "strat_array", "strat_array_tests", "strat_base",
-        "strat_base_tests", "strat_block", "strat_block_tests", "strat_checking", "strat_crash", "strat_cursor",
-        "strat_disk", "strat_disk_tests", "strat_extent", "strat_extent_tests", "strat_format", "strat_frame",
-        "strat_frame_tests", "strat_gate", "strat_io", "strat_journal", "strat_journal_tests", "strat_level",
-        "strat_level_tests", "strat_live", "strat_manifest", "strat_manifest_tests", "strat_merge", "strat_merge_tests",
-        "strat_model", "strat_model_tests", "strat_pins", "strat_plan", "strat_promote", "strat_promote_tests",
-        "strat_promotion", "strat_recovery", "strat_report", "strat_report_tests", "strat_serve", "strat_serve_tests",
-        "strat_slicing", "strat_split", "strat_split_tests", "strat_standing", "strat_state", "strat_store",
-        "strat_store_pins", "strat_tree", "strat_tree_tests")),
-)
+TOP = pathlib.Path(__file__).resolve().parent.parent
+
+# The documents that are held to these rules: all that there are.
+DOCUMENTS = [str(path.relative_to(TOP))
+             for pattern in ("*.md", "docs/*.md", "crates/*/README.md", "clients/*/README.md")
+             for path in sorted(TOP.glob(pattern))]
 
 # For each word that prose says (the first table of docs/GLOSSARY.md) the forms of the code's word.
 PAIRS = {
@@ -180,4 +168,4 @@ def measure(top):
 
 
 if __name__ == "__main__":
-    measure(pathlib.Path(__file__).resolve().parent.parent)
+    measure(TOP)
