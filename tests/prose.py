@@ -10,15 +10,12 @@ import re
 
 WORDS_MOST = 30  # of one sentence; a name in backticks is one word
 
-# The documents that are held to these rules.
-DOCUMENTS = (
-    "README.md", "CONTRIBUTING.md",
-    *(f"docs/{name}.md" for name in (
-        "ARCHITECTURE", "DEFINITIONS", "FORMATS", "GLOSSARY", "NUMBERS", "PROVED", "PROVING")),
-    *(f"crates/{name}/README.md" for name in (
-        "castle", "strat_cursor", "strat_promote", "strat_recovery", "strat_report", "strat_serve", "strat_slicing",
-        "strat_standing", "strat_store")),
-)
+TOP = pathlib.Path(__file__).resolve().parent.parent
+
+# The documents that are held to these rules: all that there are.
+DOCUMENTS = [str(path.relative_to(TOP))
+             for pattern in ("*.md", "docs/*.md", "crates/*/README.md", "clients/*/README.md")
+             for path in sorted(TOP.glob(pattern))]
 
 # For each word that prose says (the first table of docs/GLOSSARY.md) the forms of the code's word.
 PAIRS = {
@@ -35,6 +32,7 @@ PAIRS = {
 # Where a document means something else by the code's word: the phrase, with the reason.
 EXCEPTIONS = {
     ("README.md", "the gate"): "what judges a change, `./test`",
+    ("CHANGES.md", "the gate"): "what judges a change, `./test`",
     ("CONTRIBUTING.md", "the gate"): "what judges a change, `./test`",
     ("docs/PROVING.md", "the gate"): "what judges a change, `./test`",
 }
@@ -72,6 +70,7 @@ def passages(text):
     found, head, fenced, within, listed = [], None, False, False, False
     hidden = re.sub(r"<!--.*?-->", lambda it: "\n" * it[0].count("\n"), text, flags=re.S)
     for number, line in enumerate(hidden.split("\n"), 1):
+        item = ITEM.match(line)
         if FENCE.match(line):
             fenced, within, head = not fenced, False, None
         elif fenced or not line.strip():
@@ -85,11 +84,11 @@ def passages(text):
         elif line.startswith("#"):
             found.append(Passage(number, line.lstrip("# "), False))
             within = listed = False
-        elif within and not ITEM.match(line):
+        elif within and not item:
             found[-1] = found[-1]._replace(text=f"{found[-1].text}\n{line.strip()}")
-        elif ITEM.match(line) or listed or not line.startswith("    "):
-            listed = ITEM.match(line) is not None or (listed and line.startswith(" "))
-            found.append(Passage(number, ITEM.sub("", line, count=1), False))
+        elif item or listed or not line.startswith("    "):
+            listed = item is not None or (listed and line.startswith(" "))
+            found.append(Passage(number, line[item.end() if item else 0:], False))
             within = True
     return [it._replace(text=without_code(it.text)) for it in found]
 
@@ -169,4 +168,4 @@ def measure(top):
 
 
 if __name__ == "__main__":
-    measure(pathlib.Path(__file__).resolve().parent.parent)
+    measure(TOP)

@@ -468,7 +468,8 @@ an image
 | Word | Code | Meaning |
 |---|---|---|
 | memtable | level 0 | updates |
-''',
+
+It is 1 or 2. It''' + " goes" * 28 + " on.\n",
     "crates/low/src/lib.rt": '''//! Numbers. ensures bad { not a clause }
 ghost use Rattle.std.specs.Prelude.{◌≡◌, ◌≤◌};
 

@@ -17,7 +17,7 @@ class PrivateCopy:
     def __init__(self, path: str, file: str) -> None:
         """Copies the file at this path; errors call it `file`.
 
-        Nothing may serve it meanwhile, since the copy would be of no one moment: it is looked at under a shared flock, and
+        Nothing may serve it meanwhile, since the copy would mix different times: it is looked at under a shared flock, and
         a `StoreLocked` tells that there is another one.
         """
         try:
@@ -51,5 +51,5 @@ def _lock(number: int, file: str) -> None:
     try:
         fcntl.flock(number, fcntl.LOCK_SH | fcntl.LOCK_NB)
     except BlockingIOError:
-        raise StoreLocked("the store is open, and a copy of it would be of no one moment",
+        raise StoreLocked("the store is open, and a copy of it would mix what stood there at different times",
                           "Close it there first, or copy it then.", file=file) from None

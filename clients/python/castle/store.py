@@ -57,7 +57,7 @@ class Store:
 
         Where the file may be read and not written, or with `read_only`, a private copy of it is opened, in the folder for
         temporary files and as long as the store is open. It needs no lock, but `StoreLocked` tells of a program that
-        serves the file: a copy taken meanwhile would be of no one moment. It shows the store as it was at this call.
+        serves the file: a copy taken meanwhile would mix different times. It shows the store as it was at this call.
         """
         self.path, self._real = _located(path)
         _check_file(self._real, self.path)

@@ -428,7 +428,7 @@ class ReadOnlyTest(StoreCase):
             self.assertFalse(other.read_only)
             other.put(1, "b", "4")
             self.assertIsNone(store.get(1, "b"))
-            with self.assertRaisesRegex(errors.StoreLocked, "a copy of it would be of no one moment"):
+            with self.assertRaisesRegex(errors.StoreLocked, "a copy of it would mix what stood there at different times"):
                 Store(self.path, read_only=True)
             other.put(1, "a", "5")
         self.assertEqual(store.get(1, "a"), b"2")

@@ -362,7 +362,7 @@ impl Store {
     /// gate where it reads open while the active region has room (a run that was killed in a publication leaves it so): one
     /// write and one sync more. Until the first sync succeeds a crash leaves only what it might have left before. Linear in the
     /// manifest and the journal, but for O(log) at each array and each version. It takes the memory of all changes that do not
-    /// meet a full journal: 3.9 KB for each of `mem` and 70 bytes for each of `versions_max`, while it recovers 2.6 KB more for each
+    /// meet a full journal: 3.9 KB for each of `mem` and 75 bytes for each of `versions_max`, while it recovers 2.6 KB more for each
     /// of `mem`; and the levels' descriptors twice, once with an index of versions. Up to 1 MiB of blocks is cached later. After an
     /// error other than `Device` the disk is as it was; after that one too, or its last step failed, which shuts the gate.
     pub fn attach<D: Disk>(alloc: Global, disk: &mut D) -> Result<Store, AttachFault>
