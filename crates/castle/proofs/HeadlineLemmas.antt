@@ -16,7 +16,7 @@ use Rattle.strat_model.specs.Table.{Table, bare}
 use Rattle.strat_recovery.specs.Head.{Head}
 use Rattle.strat_recovery.specs.Opening.{recover}
 use Rattle.strat_standing.specs.Standing.{ShowsTable}
-use Rattle.strat_store.specs.Following.{FollowsFrom, LeavesOpening}
+use Rattle.strat_open.specs.Following.{FollowsFrom, LeavesOpening}
 use Rattle.strat_serve.specs.Session.{Took, GaveUp, Served, RunOutcome, RefusesFor, EndHasCause, EndsFor}
 use Rattle.strat_serve.specs.Tables.{AnswersAsTable, AnswersNothing, AnswersUntil, EndsAtTables, GoesThroughTables, KeepsSpace, begins_at}
 use Rattle.strat_serve.specs.World.{Streams, beside}

@@ -18,7 +18,7 @@ use Rattle.strat_recovery.specs.Texts.{text, damaged_line}
 use Rattle.strat_report.specs.Reporting.{AppendsFront, WritesReport, levels_text}
 use Rattle.strat_standing.specs.Standing.{ShowsTable}
 use Rattle.strat_state.specs.State.{State, fresh_state, stored, updates_of}
-use Rattle.strat_store.specs.Format.{IsBlank, IsNewStore, IsNoneOrNew}
+use Rattle.strat_open.specs.Format.{IsBlank, IsNewStore, IsNoneOrNew}
 use Rattle.strat_serve.specs.Session.{SendsPrefix, EndHasCause}
 use Rattle.strat_serve.specs.World.{Streams, beside}
 use Rattle.strat_serve.proofs.TableLemmas.{at_some, thrifty_of}

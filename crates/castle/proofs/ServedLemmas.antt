@@ -16,9 +16,9 @@ use Rattle.strat_model.specs.Table.{Table, fresh, bare}
 use Rattle.strat_recovery.specs.Head.{Head}
 use Rattle.strat_standing.specs.Standing.{ShowsTable}
 use Rattle.strat_state.specs.State.{State, fresh_state}
-use Rattle.strat_store.proofs.PayingLemmas.{stored_since}
-use Rattle.strat_store.specs.Following.{FollowsFrom, IsUnchanged, LeavesOpening}
-use Rattle.strat_store.specs.Format.{IsBlank, IsNewDisk, IsNewStore, IsNoneOrNew, head_for}
+use Rattle.strat_memory.proofs.PayingLemmas.{stored_since}
+use Rattle.strat_open.specs.Following.{FollowsFrom, IsUnchanged, LeavesOpening}
+use Rattle.strat_open.specs.Format.{IsBlank, IsNewDisk, IsNewStore, IsNoneOrNew, head_for}
 use Rattle.strat_serve.specs.Generated.{workload_bytes, workload_bodies}
 use Rattle.strat_serve.specs.Session.{Took, IsAtEnd, Session, EndsFor, FollowsRun, GaveUp, Served, RunOutcome, RefusesFor, EndHasCause}
 use Rattle.strat_serve.specs.World.{World, world}

@@ -20,7 +20,7 @@ use Rattle.strat_recovery.specs.Head.{Head}
 use Rattle.strat_recovery.specs.Opening.{recover, recover_slot, recover_head}
 use Rattle.strat_report.specs.Reporting.{summary_text, levels_text, WritesReport, RecoversAs, IsSilent, AppendsFront, ReportHasCause}
 use Rattle.strat_standing.specs.Standing.{ShowsTable}
-use Rattle.strat_store.proofs.PayingLemmas.{paid_then, stored_since}
+use Rattle.strat_memory.proofs.PayingLemmas.{paid_then, stored_since}
 use Rattle.strat_serve.specs.Session.{EndHasCause}
 use Rattle.strat_serve.specs.World.{World, world}
 use Rattle.castle.specs.Working.{EndsOnExposed, FollowsNew, CarriesOutWorkload, LeavesWorkload, SendsSummary, summary_of}

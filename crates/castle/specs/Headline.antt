@@ -7,8 +7,8 @@ use Rattle.strat_format.specs.SuperBlock.{newest_in}
 use Rattle.strat_model.specs.Run.{Transcript, bodies_of, tables_of}
 use Rattle.strat_model.specs.Table.{fresh}
 use Rattle.strat_standing.specs.Standing.{ShowsTable}
-use Rattle.strat_store.specs.Format.{IsBlank}
-use Rattle.strat_store.specs.Paying.{IsPaidIn}
+use Rattle.strat_open.specs.Format.{IsBlank}
+use Rattle.strat_memory.specs.Paying.{IsPaidIn}
 use Rattle.strat_serve.specs.Tables.{IsThrifty}
 
 -- a run ended for want of memory or as the device failed, no body was answered, and a crash at any moment of it leaves

@@ -13,7 +13,7 @@ use Rattle.strat_recovery.specs.Head.{Head}
 use Rattle.strat_recovery.specs.Opening.{recover}
 use Rattle.strat_standing.specs.Standing.{ShowsTable}
 use Rattle.strat_recovery.specs.Texts as texts
-use Rattle.strat_store.specs.Format.{IsNewDisk, IsBlank, IsNoneOrNew, KeepsOthers}
+use Rattle.strat_open.specs.Format.{IsNewDisk, IsBlank, IsNoneOrNew, KeepsOthers}
 use Rattle.strat_serve.specs.Session.{SendsPrefix, RunOutcome, RefusesFor, EndHasCause, ExposesDamage}
 use Rattle.strat_serve.specs.World.{World, IsCalm}
 use Rattle.strat_crash.specs.Faults.{Rose}

@@ -12,8 +12,8 @@ use Rattle.strat_recovery.specs.Head.{Head}
 use Rattle.strat_recovery.specs.Texts as texts
 use Rattle.strat_report.specs.Reporting.{RecoversAs, AppendsFront}
 use Rattle.strat_standing.specs.Standing.{ShowsTable}
-use Rattle.strat_store.specs.Format.{IsBlank, IsNewStore, IsNoneOrNew}
-use Rattle.strat_store.specs.Paying.{ArePaidSince, StoreTwoSince}
+use Rattle.strat_open.specs.Format.{IsBlank, IsNewStore, IsNoneOrNew}
+use Rattle.strat_memory.specs.Paying.{ArePaidSince, StoreTwoSince}
 use Rattle.strat_serve.specs.Generated.{workload_bodies}
 
 -- the ends of a run of a workload; its frames are whole, short and few, so that none of them ends it

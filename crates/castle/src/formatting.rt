@@ -4,7 +4,7 @@ ghost use Rattle.std.specs.Prelude.{◌≡◌, ◌≢◌, ℕ, List, Option, IfO
 ghost use Rattle.strat_format.specs.SuperBlock.{AreLimits};
 ghost use Rattle.strat_crash.specs.Image.{Image};
 ghost use Rattle.strat_crash.specs.Moments.{Exposes, Since, Passes};
-ghost use Rattle.strat_store.specs.Format.{IsNewDisk, IsBlank, IsNoneOrNew, KeepsOthers};
+ghost use Rattle.strat_open.specs.Format.{IsNewDisk, IsBlank, IsNoneOrNew, KeepsOthers};
 ghost use Rattle.strat_serve.specs.Session.{EndHasCause};
 ghost use Rattle.strat_serve.specs.World.{world};
 ghost use Rattle.castle.specs.Outcomes.{SendsLine, Formats, format_text};

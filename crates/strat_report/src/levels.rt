@@ -8,7 +8,7 @@ use crate::totals::{entries_in, entries_of, leads_of};
 use crate::versions::add_versions;
 use std::alloc::AllocError;
 use strat_base::{ArrayDesc, LevelDesc};
-use strat_store::Reading;
+use strat_open::Reading;
 
 /// Adds the line of the store: its generation, its limits, and how far they are reached.
 fn add_store(out: &mut String, store: &Reading) -> Result<(), AllocError>

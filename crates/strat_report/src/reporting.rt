@@ -8,7 +8,7 @@ ghost use Rattle.strat_model.specs.declared.ended.Ended.TheVariants as ended;
 ghost use Rattle.strat_recovery.specs.Opening.{recover};
 ghost use Rattle.strat_recovery.specs.Texts.{text, report, summary, damaged_line};
 ghost use Rattle.strat_report.specs.Reporting.{levels_text, summary_text, GivesUp, IsSilent, IsSaid, WritesReport, IsComplete, ReportHasCause};
-ghost use Rattle.strat_store.specs.Causes.{ended_for};
+ghost use Rattle.strat_open.specs.Causes.{ended_for};
 
 use crate::levels::add_report;
 use crate::summary::add_summary;
@@ -17,7 +17,7 @@ use strat_base::Failed;
 use strat_disk::Disk;
 use strat_io::{Sink, put_all};
 use strat_model::Ended;
-use strat_store::{AttachFault, Reading, read_store};
+use strat_open::{AttachFault, Reading, read_store};
 
 /// How a report ends whose opening gave up so.
 fn ended_for(fault: AttachFault) -> Ended

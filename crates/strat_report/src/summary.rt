@@ -7,7 +7,7 @@ ghost use Rattle.strat_report.specs.Lines.{workload_line, counts_line, arrays_li
 use crate::density::{add_density, least_in};
 use crate::totals::{arrays_in, entries_in};
 use std::alloc::AllocError;
-use strat_store::Reading;
+use strat_open::Reading;
 
 /// Adds the line of the workload's arguments.
 fn add_workload(out: &mut String, seed: u64, count: u32) -> Result<(), AllocError>

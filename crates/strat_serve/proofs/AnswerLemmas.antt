@@ -29,7 +29,7 @@ use Rattle.strat_standing.specs.Standing.{ShowsTable}
 use Rattle.strat_standing.proofs.FreeLemmas.{shows_contents}
 use Rattle.strat_store.specs.Applying.{is_fault, ran_short, FollowsStep, FailsAsTold}
 use Rattle.strat_store.specs.Cursoring.{IsAnsweredAt, IsShortAt, IsBrokenAt, IsAppliedAt}
-use Rattle.strat_store.specs.Held.{Held, IsConsistent, StandsAt, StandsWith, position_at}
+use Rattle.strat_memory.specs.Held.{Held, IsConsistent, StandsAt, StandsWith, position_at}
 use Rattle.strat_serve.proofs.BareLemmas.{step_bare}
 use Rattle.strat_serve.specs.Session.{IsAnswered, IsToldBy, ContinuesWith, StopsWith, FailsAsMet, fault_told}
 

@@ -5,7 +5,7 @@ use Rattle.strat_crash.specs.Moments.{DiskView}
 use Rattle.strat_model.specs.Run.{Exchange, bodies_of}
 use Rattle.strat_model.specs.Table.{Table}
 use Rattle.strat_model.proofs.BatchLemmas.{over_nothing}
-use Rattle.strat_store.specs.Following.{FollowsFrom}
+use Rattle.strat_open.specs.Following.{FollowsFrom}
 use Rattle.strat_serve.specs.Session.{FollowsContinued, FollowsRun, SendsAllBut, Session}
 
 -- where few replies are missing no more are

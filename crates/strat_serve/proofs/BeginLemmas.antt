@@ -15,8 +15,8 @@ use Rattle.strat_standing.proofs.FreeLemmas.{one_table}
 use Rattle.strat_standing.proofs.ListLemmas.{contained_among}
 use Rattle.strat_standing.proofs.PartsLemmas.{reads_head, state_parts}
 use Rattle.strat_state.specs.State.{State}
-use Rattle.strat_store.specs.Following.{IsOpenedAs}
-use Rattle.strat_store.specs.Held.{Held, StandsAt, StandsWith, head_held, position_at, table_at}
+use Rattle.strat_open.specs.Following.{IsOpenedAs}
+use Rattle.strat_memory.specs.Held.{Held, StandsAt, StandsWith, head_held, position_at, table_at}
 use Rattle.strat_serve.specs.Session.{Begins}
 
 -- a run that is served from an image begins at the table that it shows

@@ -33,14 +33,15 @@ use Rattle.strat_recovery.specs.Opening.{recover}
 use Rattle.strat_recovery.specs.StateTable.{table_of}
 use Rattle.strat_standing.specs.Contents.{Contents, contents_state}
 use Rattle.strat_standing.specs.Standing.{ShowsTable}
-use Rattle.strat_store.specs.Applying.{IsDamagedIn}
-use Rattle.strat_store.specs.Following.{ChangesGateAlone, FollowsFrom, IsOpenedAs}
-use Rattle.strat_store.specs.Held.{Held, IsConsistent, IsOnDisk, StandsAt, StandsWith, arrays_held, head_held, position_at}
-use Rattle.strat_store.specs.Settling.{carries_out}
+use Rattle.strat_publish.specs.Outcomes.{IsDamagedIn}
+use Rattle.strat_open.specs.Following.{ChangesGateAlone, FollowsFrom, IsOpenedAs}
+use Rattle.strat_memory.specs.Held.{Held, IsConsistent, IsOnDisk, StandsAt, StandsWith, arrays_held, head_held, position_at}
+use Rattle.strat_publish.specs.Settling.{carries_out}
 use Rattle.strat_state.specs.State.{IsPaid}
-use Rattle.strat_store.specs.Paying.{IsPaidIn, ArePaidSince}
-use Rattle.strat_store.proofs.OnDiskLemmas.{kept_on, read_on}
-use Rattle.strat_store.proofs.PayingLemmas.{paid_now, paid_reads, paid_then, stored_since}
+use Rattle.strat_memory.specs.Paying.{IsPaidIn, ArePaidSince}
+use Rattle.strat_publish.proofs.LaidLemmas.{kept_on}
+use Rattle.strat_memory.proofs.OnDiskLemmas.{read_on}
+use Rattle.strat_memory.proofs.PayingLemmas.{paid_now, paid_reads, paid_then, stored_since}
 use Rattle.strat_serve.specs.Session.{Took, IsAtEnd, Begins, RespondsTo, AreAnsweredBy, AreCalm, WritesNothing, IsAnswered, ContinuesWith, StopsWith, FailsAsMet, WaitsForNone, WasPublished, fault_told}
 use Rattle.strat_serve.specs.World.{World}
 use Rattle.strat_serve.proofs.AnswerLemmas.{told_damaged}

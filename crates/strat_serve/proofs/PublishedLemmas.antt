@@ -9,7 +9,7 @@ use Rattle.strat_crash.proofs.MomentLemmas.{at_told}
 use Rattle.strat_cursor.specs.Held.{HeldCursors, no_cursors}
 use Rattle.strat_cursor.specs.Looking.{arrays_there}
 use Rattle.strat_standing.proofs.ListLemmas.{contained_among}
-use Rattle.strat_store.specs.Held.{Held, IsConsistent, IsOnDisk, arrays_held}
+use Rattle.strat_memory.specs.Held.{Held, IsConsistent, IsOnDisk, arrays_held}
 use Rattle.strat_serve.specs.Session.{WasPublished}
 
 -- an array of the levels of a store whose manifest is on the disk

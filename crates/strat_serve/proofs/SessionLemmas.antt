@@ -22,9 +22,9 @@ use Rattle.strat_model.specs.Run.{Response, response_bytes, AnswersFault, Exchan
 use Rattle.strat_recovery.specs.StateTable.{table_of}
 use Rattle.strat_standing.specs.Contents.{contents_state}
 use Rattle.strat_standing.specs.Standing.{ShowsTable}
-use Rattle.strat_store.specs.Following.{FollowsFrom}
-use Rattle.strat_store.specs.Held.{Held, IsConsistent, IsOnDisk, head_held, position_at}
-use Rattle.strat_store.proofs.PayingLemmas.{paid_now}
+use Rattle.strat_open.specs.Following.{FollowsFrom}
+use Rattle.strat_memory.specs.Held.{Held, IsConsistent, IsOnDisk, head_held, position_at}
+use Rattle.strat_memory.proofs.PayingLemmas.{paid_now}
 use Rattle.strat_serve.specs.Session.{Took, IsAtEnd, SendsPrefix, too_long_bytes, AreAnsweredBy, AreCalm, ContinuesWith, StopsWith, fault_told, broken_by, Session, IsSession, AnswersAll, all_responses, output, last_output, Sends, EndsFor, FollowsRun, Served, WaitsForNone}
 use Rattle.strat_serve.specs.World.{World}
 use Rattle.strat_serve.proofs.ProgressLemmas.{Progress, RunSoFar, Answered, few_all, few_held, follows_more, text_more, ahead_more, ahead_within, answered_more, step_responds, step_damaged, step_paid, step_reads, gate_still, calm_front, calm_parts, answers}

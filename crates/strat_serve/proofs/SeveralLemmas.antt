@@ -9,8 +9,8 @@ use Rattle.strat_model.specs.Run.{Transcript, tables_of}
 use Rattle.strat_model.specs.Table.{Table}
 use Rattle.strat_standing.specs.Several.{EachShows, ShowOneOfSince, ShowsOneOf}
 use Rattle.strat_standing.specs.Standing.{LeavesContent, ShowsTable}
-use Rattle.strat_store.specs.Following.{FollowsFrom, IsOpenedAs, LeavesOpening}
-use Rattle.strat_store.specs.Held.{Held}
+use Rattle.strat_open.specs.Following.{FollowsFrom, IsOpenedAs, LeavesOpening}
+use Rattle.strat_memory.specs.Held.{Held}
 use Rattle.strat_serve.specs.Tables.{GoesThroughTables}
 
 only : (c : Image) (t : Table) (i : ℕ) → At (t ∷ []) i (ShowsTable c) → ShowsTable c t

@@ -22,8 +22,8 @@ use Rattle.strat_model.specs.Table.{Table}
 use Rattle.strat_standing.specs.Standing.{ShowsTable}
 use Rattle.strat_state.specs.Level.{Level, IsStratified, is_dense}
 use Rattle.strat_state.specs.State.{State, stored, updates_of, versions_of}
-use Rattle.strat_store.specs.Following.{FollowsFrom}
-use Rattle.strat_store.specs.Paying.{IsPaidIn}
+use Rattle.strat_open.specs.Following.{FollowsFrom}
+use Rattle.strat_memory.specs.Paying.{IsPaidIn}
 use Rattle.strat_serve.specs.Session.{AreAnsweredBy, Begins, RespondsTo, Session, SendsAllButLast, AnswersAll, WaitsForNone, Served, FollowsRun, all_responses, listed_response, last_output, output, too_long_bytes, EndsWithFault, EndsFor, fault_told}
 use Rattle.strat_serve.specs.Tables.{AnswersAllTaken, AnswersUntilFault, AnswersUntilCut, RefusesNext, AnswersUntil, AnswersAsTable, GoesThroughTables, IsThrifty, KeepsSpace, begins_at}
 use Rattle.strat_serve.proofs.StreamLemmas.{partial_short}

@@ -32,12 +32,13 @@ use Rattle.strat_recovery.specs.Opening.{recover}
 use Rattle.strat_recovery.specs.StateTable.{table_of}
 use Rattle.strat_standing.specs.Contents.{Contents, contents_state}
 use Rattle.strat_standing.specs.Standing.{ShowsTable}
-use Rattle.strat_store.specs.Applying.{IsDamagedIn, IsUntouched, TellsTroubleOf, is_fault, may_write}
+use Rattle.strat_publish.specs.Outcomes.{IsDamagedIn}
+use Rattle.strat_store.specs.Applying.{IsUntouched, TellsTroubleOf, is_fault, may_write}
 use Rattle.strat_store.specs.Cursoring.{LeavesCursors}
-use Rattle.strat_store.specs.Following.{ChangesGateAlone, FollowsFrom, IsOpenedAs, IsUnchanged, LeavesOpening}
-use Rattle.strat_store.specs.Held.{Held, IsConsistent, IsOnDisk, StandsAt, arrays_held, position_at}
+use Rattle.strat_open.specs.Following.{ChangesGateAlone, FollowsFrom, IsOpenedAs, IsUnchanged, LeavesOpening}
+use Rattle.strat_memory.specs.Held.{Held, IsConsistent, IsOnDisk, StandsAt, arrays_held, position_at}
 use Rattle.strat_store.specs.Ranging.{HasPairsFor, TellsFrom}
-use Rattle.strat_store.specs.Settling.{LeavesPublished, carries_out}
+use Rattle.strat_publish.specs.Settling.{LeavesPublished, carries_out}
 use Rattle.strat_serve.specs.World.{World}
 
 -- these bytes were taken from the front of a source

@@ -18,7 +18,7 @@ use Rattle.strat_standing.specs.Standing.{ShowsTable}
 use Rattle.strat_state.specs.Level.{is_dense}
 use Rattle.strat_state.specs.Sound.{IsSound}
 use Rattle.strat_state.specs.State.{State, stored, updates_of, versions_of}
-use Rattle.strat_store.specs.Paying.{IsPaidIn}
+use Rattle.strat_memory.specs.Paying.{IsPaidIn}
 use Rattle.strat_serve.specs.Session.{Took, IsAtEnd, WaitsForNone, too_long_bytes}
 use Rattle.strat_serve.specs.World.{Streams}
 

@@ -10,8 +10,8 @@ ghost use Rattle.strat_frame.specs.Faults.{refusal_for};
 ghost use Rattle.strat_io.specs.Streams.{Appends};
 ghost use Rattle.strat_promote.specs.Job.{blocks_listed};
 ghost use Rattle.strat_serve.specs.Session.{IsAnswered, FailsAsMet, fault_told, SendsPrefix, too_long_bytes};
-ghost use Rattle.strat_store.specs.Applying.{IsDamagedIn};
-ghost use Rattle.strat_store.specs.Held.{IsConsistent, arrays_held};
+ghost use Rattle.strat_publish.specs.Outcomes.{IsDamagedIn};
+ghost use Rattle.strat_memory.specs.Held.{IsConsistent, arrays_held};
 
 use std::alloc::Global;
 use strat_base::{Failed, Fault, NoMemory, PairBuf};

@@ -4,8 +4,8 @@ ghost use Rattle.std.specs.Prelude.{◌≡◌, ◌≢◌, ◌<◌, ◌≤◌, �
 ghost use Rattle.strat_crash.specs.Faults.{CountsFaults};
 ghost use Rattle.strat_crash.specs.Moments.{Passes};
 ghost use Rattle.strat_io.specs.Streams.{Appends};
-ghost use Rattle.strat_store.specs.Causes.{ended_for};
-ghost use Rattle.strat_store.specs.Held.{IsConsistent};
+ghost use Rattle.strat_open.specs.Causes.{ended_for};
+ghost use Rattle.strat_memory.specs.Held.{IsConsistent};
 ghost use Rattle.strat_serve.specs.Session.{Took, IsAtEnd, SendsPrefix, RunOutcome, RefusesFor, IsEarlyEnd, EndHasCause, HasOpened, Served, broken_by};
 ghost use Rattle.strat_serve.specs.World.{world};
 

@@ -28,9 +28,9 @@ use Rattle.strat_standing.specs.Contents.{Contents, contents_state}
 use Rattle.strat_store.proofs.CursoringLemmas.{agree_of, cursor_names}
 use Rattle.strat_store.specs.Applying.{IsAppliedTo, is_fault}
 use Rattle.strat_store.specs.Cursoring.{IsAppliedAt, LeavesCursors}
-use Rattle.strat_store.specs.Held.{Held, IsConsistent, StandsAt, StandsWith, arrays_held, position_at, position_with}
-use Rattle.strat_store.specs.Memory.{KeepsRows}
-use Rattle.strat_store.specs.Settling.{HasPublished, KeepsPublished, LeavesPublished, arrays_taken}
+use Rattle.strat_memory.specs.Held.{Held, IsConsistent, StandsAt, StandsWith, arrays_held, position_at, position_with}
+use Rattle.strat_memory.specs.Memory.{KeepsRows}
+use Rattle.strat_publish.specs.Settling.{HasPublished, KeepsPublished, LeavesPublished, arrays_taken}
 use Rattle.strat_store.proofs.LeavingLemmas.{wanted_of}
 
 -- a table with other cursors

@@ -44,16 +44,16 @@ use Rattle.strat_standing.proofs.FreeLemmas.{shows_contents}
 use Rattle.strat_standing.proofs.PartsLemmas.{reads_head, reads_state}
 use Rattle.strat_standing.specs.Contents.{Contents, contents_head, contents_state}
 use Rattle.strat_standing.specs.Standing.{LeavesContent, ShowsTable}
-use Rattle.strat_store.proofs.MemoryLawLemmas.{version_told, store_told_with, version_unknown}
+use Rattle.strat_memory.proofs.MemoryLawLemmas.{version_told, store_told_with, version_unknown}
 use Rattle.strat_store.proofs.AppliedLemmas.{next_later}
 use Rattle.strat_store.proofs.CursoringLemmas.{looks_wider, stands_now, stands_still, still_going}
 use Rattle.strat_store.specs.Applying.{IsLookedUp, IsUntouched, FailsAsTold, FollowsStep, TellsTroubleOf, change_wanted, refusal_of_look, is_fault, ran_short, table_left}
 use Rattle.strat_store.specs.Cursoring.{IsAppliedAt, is_of_cursor}
 use Rattle.strat_store.specs.Getting.{MayTellOfKey}
 use Rattle.strat_store.specs.Ranging.{HasPairs, HasPairsFor, MayTellOfRange, ReadsForLook, TellsFrom, TellsOfVersion}
-use Rattle.strat_store.specs.Held.{Held, arrays_held, position_at, table_at, IsConsistent, StandsAt, StandsWith}
-use Rattle.strat_store.specs.Memory.{Memory, info_told, stat_told, IsMemoryOf}
-use Rattle.strat_store.specs.Settling.{LeavesPublished}
+use Rattle.strat_memory.specs.Held.{Held, arrays_held, position_at, table_at, IsConsistent, StandsAt, StandsWith}
+use Rattle.strat_memory.specs.Memory.{Memory, info_told, stat_told, IsMemoryOf}
+use Rattle.strat_publish.specs.Settling.{LeavesPublished}
 
 -- the request of a change that is wanted
 pub wanted_for : (r : Request) (c : Change) → change_wanted r ≡ Some c → request_for c ≡ r

@@ -18,9 +18,9 @@ use Rattle.strat_promote.specs.Leads.{comes_after, last_of, misfit_after}
 use Rattle.strat_promote.proofs.LeadLemmas.{misfit_back, misfit_none, misfit_step, no_misfit}
 use Rattle.strat_recovery.specs.Bad.{IsBad, begins_after, misplaced, unread}
 use Rattle.strat_standing.proofs.ListLemmas.{among_contained, contained_among}
-use Rattle.strat_store.specs.Applying.{IsDamagedIn}
-use Rattle.strat_store.specs.Held.{arrays_held}
-use Rattle.strat_store.specs.Memory.{Memory}
+use Rattle.strat_publish.specs.Outcomes.{IsDamagedIn}
+use Rattle.strat_memory.specs.Held.{arrays_held}
+use Rattle.strat_memory.specs.Memory.{Memory}
 
 -- no blocks have no entries, and one has its own
 nothing_read : (f : Image) → entries_on f [] ≡ Some []

@@ -46,14 +46,16 @@ use Rattle.strat_state.specs.Level.{Level}
 use Rattle.strat_state.specs.Sound.{is_accepted, are_accepted, accepts_change, Takes}
 use Rattle.strat_state.specs.State.{tree_after, marks_after}
 use Rattle.strat_store.specs.Applying.{IsAppliedTo, FollowsStep, is_fault, ran_short, table_left}
-use Rattle.strat_store.specs.Held.{AreKept, head_held, contents_held, IsConsistent, StandsWith, position_with}
+use Rattle.strat_memory.specs.Held.{AreKept, head_held, contents_held, IsConsistent, StandsWith, position_with}
 use Rattle.strat_cursor.specs.Looking.{AreCachedFrom}
-use Rattle.strat_store.specs.Memory.{KeepsRows, Memory, refusal_of_change, memory_after, reply_to, IsMemoryOf}
-use Rattle.strat_store.specs.Publishing.{is_in_front}
-use Rattle.strat_store.specs.Recovering.{chained_of, held_of, held_after}
-use Rattle.strat_store.specs.declared.recovering.Recovered.{Recovered}
-use Rattle.strat_store.proofs.KeptLemmas.{named_behind}
-use Rattle.strat_store.proofs.MemoryLawLemmas.{accepted_same, change_answered, change_taken, memory_follows}
+use Rattle.strat_memory.specs.Memory.{KeepsRows, Memory, refusal_of_change, memory_after, reply_to, IsMemoryOf}
+use Rattle.strat_publish.specs.Publishing.{is_in_front}
+use Rattle.strat_memory.specs.Admitting.{chained_of}
+use Rattle.strat_memory.specs.RecoveredFields.{held_of}
+use Rattle.strat_store.specs.Applying.{held_after}
+use Rattle.strat_memory.specs.declared.recovered.Recovered.{Recovered}
+use Rattle.strat_publish.proofs.KeptLemmas.{named_behind}
+use Rattle.strat_memory.proofs.MemoryLawLemmas.{accepted_same, change_answered, change_taken, memory_follows}
 use Rattle.strat_base.specs.Marks.{Marks}
 
 -- a command that asks for a change reaches the disk, and is one

@@ -45,12 +45,14 @@ use Rattle.strat_standing.proofs.ListLemmas.{among_contained, contained_among}
 use Rattle.strat_standing.specs.Contents.{Contents, contents_state}
 use Rattle.strat_standing.specs.Standing.{ContentsStand, LeavesContent}
 use Rattle.strat_state.specs.Level.{Level}
-use Rattle.strat_store.proofs.GettingLemmas.{blamed, cached, known, none_damaged, ordered, whole_read}
+use Rattle.strat_store.proofs.GettingLemmas.{blamed, cached, known, none_damaged, ordered}
+use Rattle.strat_publish.proofs.WholeLemmas.{whole_read}
 use Rattle.strat_store.proofs.RangingLemmas.{map_seen, page_told, table_asked}
-use Rattle.strat_store.specs.Applying.{FailsAsTold, IsDamagedIn, is_fault}
+use Rattle.strat_store.specs.Applying.{FailsAsTold, is_fault}
+use Rattle.strat_publish.specs.Outcomes.{IsDamagedIn}
 use Rattle.strat_store.specs.Cursoring.{IsAppliedAt, cursors_after, reply_of_close, reply_of_next, reply_of_start}
-use Rattle.strat_store.specs.Held.{Held, IsConsistent, StandsAt, StandsWith, arrays_held, contents_held, position_at, table_at}
-use Rattle.strat_store.specs.Memory.{Memory, cursor_from, with_cursor}
+use Rattle.strat_memory.specs.Held.{Held, IsConsistent, StandsAt, StandsWith, arrays_held, contents_held, position_at, table_at}
+use Rattle.strat_memory.specs.Memory.{Memory, cursor_from, with_cursor}
 use Rattle.strat_store.specs.Ranging.{HasPairs, TellsOfCursor, TellsOfOpening, TellsOfVersion}
 use Rattle.strat_cursor.proofs.ThroughLemmas.{id_names}
 

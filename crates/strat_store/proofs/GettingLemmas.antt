@@ -1,5 +1,5 @@
 -- What a store says of a key: level 0 and its levels answer as its table.
-use Rattle.std.proofs.Common.{◌≡◌, ◌<◌, ℕ, Bool, true, false, eqb, ltb, inl, inr, List, [], ◌∷◌, ◌++◌, length, if◌then◌else◌, Contains, flat_map, Option, Some, None, Result, Ok, Err, IfOk, OnErr, IsErrOf, refl, sym, ap, ◌∙◌, subst, true≢false}
+use Rattle.std.proofs.Common.{◌≡◌, ◌<◌, ℕ, Bool, true, false, eqb, inl, inr, List, [], ◌∷◌, ◌++◌, length, if◌then◌else◌, Contains, flat_map, Option, Some, None, Result, Ok, Err, IfOk, OnErr, IsErrOf, refl, sym, ap, ◌∙◌, subst, true≢false}
 use Rattle.std.proofs.lemmas.Bool.{ltb-true, eqb-true}
 use Rattle.std.proofs.lemmas.List.Elements.{Contains-append_left}
 use Rattle.std.specs.Option.{option_and_then, option_map, option_or}
@@ -27,7 +27,6 @@ use Rattle.strat_promote.specs.Job.{blocks_listed}
 use Rattle.strat_recovery.proofs.AskedLemmas.{asked_same}
 use Rattle.strat_recovery.proofs.HeadLemmas.{state_with}
 use Rattle.strat_recovery.proofs.OpeningLemmas.{map_some, next_some}
-use Rattle.strat_recovery.proofs.RowLemmas.{length-rows}
 use Rattle.strat_recovery.specs.Asked.{on_disk, asked}
 use Rattle.strat_recovery.specs.Head.{descriptors}
 use Rattle.strat_recovery.specs.Opening.{state_of}
@@ -38,20 +37,19 @@ use Rattle.strat_standing.specs.Contents.{Contents, contents_state}
 use Rattle.strat_standing.specs.Standing.{LeavesContent, ContentsStand}
 use Rattle.strat_state.specs.Level.{Level}
 use Rattle.strat_state.specs.LookUp.{looked_up}
-use Rattle.strat_state.specs.Maps.{map_over}
 use Rattle.strat_state.specs.Reading.{level_zero}
-use Rattle.strat_state.specs.State.{State, versions_of, sources, is_living}
-use Rattle.strat_store.proofs.LookLawLemmas.{in_order}
-use Rattle.strat_store.proofs.MemoryLawLemmas.{key_unknown, key_found, known_of, living_of}
-use Rattle.strat_store.proofs.KeepingLemmas.{own_numbers, low_numbers}
-use Rattle.strat_store.proofs.WholeLemmas.{whole_promotes}
-use Rattle.strat_store.specs.Applying.{is_fault, IsLookedUp, IsDamagedIn}
+use Rattle.strat_state.specs.State.{State, versions_of, is_living}
+use Rattle.strat_publish.proofs.LookLawLemmas.{in_order}
+use Rattle.strat_memory.proofs.MemoryLawLemmas.{key_unknown, key_found, known_of, living_of}
+use Rattle.strat_store.specs.Applying.{is_fault, IsLookedUp}
+use Rattle.strat_publish.specs.Outcomes.{IsDamagedIn}
 use Rattle.strat_store.specs.Getting.{reply_of_get}
-use Rattle.strat_store.specs.Held.{Held, IsConsistent, StandsWith, arrays_held, contents_held, head_held}
-use Rattle.strat_cursor.specs.Looking.{levels_there, arrays_asked, arrays_there, MayBeFound, AreInOrder, AreCachedFrom, LooksThrough, NamesNoBlock, HaveOwnIds}
-use Rattle.strat_store.specs.Memory.{Memory}
+use Rattle.strat_memory.specs.Held.{Held, IsConsistent, StandsWith, arrays_held, contents_held, head_held}
+use Rattle.strat_cursor.specs.Looking.{levels_there, arrays_asked, arrays_there, AreInOrder, AreCachedFrom, LooksThrough, NamesNoBlock, HaveOwnIds}
+use Rattle.strat_memory.specs.Memory.{Memory}
 use Rattle.strat_cursor.proofs.HoldingLemmas.{asked_cached, asked_ordered}
 use Rattle.strat_cursor.proofs.ThroughLemmas.{still_cached}
+use Rattle.strat_publish.proofs.WholeLemmas.{whole_read}
 
 -- what is told of what was found is the answer
 answer_of : (e : Option Entry) (key : List ℕ) (out : TheirPairs) (told : Seen) → TellsFound e key [] out told → as_told (reply_of_get (Ok told)) out ≡ found key (option_and_then (λ x. x.value) e)
@@ -138,20 +136,6 @@ none_damaged content f arrays b exposed ordered is =
     let read = block_read f (blocks_of is.array.extents) entries.0 b entries.1 (subst (λ (n : ℕ). Among n (blocks_of is.array.extents)) here at.1) in
     let none : None ≡ Some read.0 = sym (is.none.1 f exposed) ∙ read.1 in
     absurd (cc)
-
--- the arrays of a whole store may be read, have numbers of their own, and these are below the next one
-pub record MayBeRead (arrays : List ArrayDesc) (next : ℕ) : Type 0 where
-  pub within : MayBeFound arrays
-  pub own : HaveOwnIds arrays
-  pub few : (a : ArrayDesc) → Contains arrays a → a.id < next
-
-pub whole_read : (s : Held) → IsConsistent s → MayBeRead (arrays_there s.levels) s.chained.manifest.next_array
-whole_read s whole =
-    record {
-      within = record { each = (whole_promotes s whole).arrays.within };
-      own = own_numbers s.sb s.chained s.levels whole.placed whole.spelled whole.belonging;
-      few = low_numbers s.sb s.chained s.levels whole.placed whole.spelled whole.belonging;
-    }
 
 -- a whole store stands with the contents that it holds
 module _ (v : DiskView) (s : Held) (levels : List Level) (whole : IsConsistent s) (w : StandsWith v s (contents_held s levels)) where

@@ -1,32 +1,22 @@
 -- What open cursors hold on to stays there, as a store goes on.
-use Rattle.std.proofs.Common.{◌≡◌, ◌≤◌, ◌<◌, ◌^◌, ℕ, Bool, true, false, not, cond, eqb, leb, inl, inr, List, [], ◌∷◌, ◌++◌, filter, Contains, flat_map, Option, refl, sym, ap, subst, ◌∙◌, append-nil, arith}
-use Rattle.std.specs.List.{list_all}
-use Rattle.std.specs.Prelude.{fold, if◌then◌else◌}
-use Rattle.std.proofs.lemmas.Bool.{and_parts, ltb-true}
+use Rattle.std.proofs.Common.{◌≡◌, ◌≤◌, ◌^◌, ℕ, Bool, true, false, not, cond, eqb, inl, inr, List, [], ◌∷◌, ◌++◌, filter, Contains, Option, refl, sym, ap, subst, ◌∙◌, append-nil, arith}
+use Rattle.std.specs.Prelude.{if◌then◌else◌}
 use Rattle.std.proofs.lemmas.List.Concat.{flat_map-append}
 use Rattle.std.proofs.lemmas.List.Elements.{Contains-append_left}
 use Rattle.strat_base.proofs.ListFacts.{Among, among_left, among_right, among_split, filter_among}
 use Rattle.strat_array.specs.Kept.{Blocks}
-use Rattle.strat_base.specs.Change.{Change, Put, Delete, Clone, DropVersion}
 use Rattle.strat_base.specs.declared.descriptors.ArrayDesc.{ArrayDesc}
 use Rattle.strat_base.specs.declared.descriptors.LevelDesc.{LevelDesc}
 use Rattle.strat_cursor.proofs.HoldingLemmas.{names_moved, names_without}
 use Rattle.strat_cursor.proofs.PinLemmas.{asked_there}
 use Rattle.strat_cursor.proofs.RetiredLemmas.{closed_from, closed_ids, closed_keeps_named}
-use Rattle.strat_cursor.specs.Cursors.{are_named, arrays_named, closed_at, is_array_named, moved_at, moved_on, without_cursor}
-use Rattle.strat_cursor.specs.Held.{HeldCursor, HeldCursors, no_cursors}
-use Rattle.strat_cursor.specs.Looking.{HaveOwnIds, arrays_there, arrays_asked, levels_there}
+use Rattle.strat_cursor.specs.Cursors.{arrays_named, closed_at, is_array_named, moved_at, moved_on, without_cursor}
+use Rattle.strat_cursor.specs.Held.{HeldCursor, HeldCursors}
+use Rattle.strat_cursor.specs.Looking.{arrays_there, arrays_asked, levels_there}
 use Rattle.strat_extent.proofs.CountLemmas.{times_append}
 use Rattle.strat_extent.specs.Blocks.{times_in, total_len}
-use Rattle.strat_format.proofs.ManifestLemmas.{pass_at}
-use Rattle.strat_format.specs.Layout.{first_free, newest_format}
 use Rattle.strat_format.specs.Chained.{Chained}
-use Rattle.strat_format.specs.Manifest.{is_lawful_manifest, versions_in}
 use Rattle.strat_format.specs.SuperBlock.{Super}
-use Rattle.strat_recovery.proofs.OpeningLemmas.{manifest_tests}
-use Rattle.strat_recovery.proofs.PassedLemmas.{array_tests, belonging_tests}
-use Rattle.strat_recovery.specs.Head.{descriptors}
-use Rattle.strat_recovery.specs.Opening.{belongs}
 use Rattle.strat_gate.specs.SuperView.{super_of}
 use Rattle.strat_model.specs.Answer.{Answer, accepts}
 use Rattle.strat_model.specs.Pairs.{Pairs}
@@ -36,16 +26,14 @@ use Rattle.strat_model.specs.declared.replies.Reply.TheVariants as reply
 use Rattle.strat_plan.proofs.ListLemmas.{map_among}
 use Rattle.strat_standing.proofs.ListLemmas.{among_contained, contained_among}
 use Rattle.strat_standing.specs.Occupied.{extents_of}
-use Rattle.strat_state.specs.Level.{is_distinct}
-use Rattle.strat_store.proofs.OwnLemmas.{once_counted}
-use Rattle.strat_store.proofs.RoomLemmas.{asked_total, there_total}
-use Rattle.strat_store.proofs.NeededLemmas.{needed_still, needed_those}
-use Rattle.strat_store.proofs.WholeLemmas.{array_lawful}
+use Rattle.strat_publish.proofs.RoomLemmas.{asked_total, there_total}
+use Rattle.strat_publish.proofs.NeededLemmas.{needed_still, needed_those}
 use Rattle.strat_store.specs.Cursoring.{cursors_after, paged_at}
-use Rattle.strat_store.specs.Held.{AreKept, ArePlaced, IsConsistent, arrays_held, blocks_named}
-use Rattle.strat_store.specs.Memory.{Memory, memory_after, cursor_from, with_cursor}
-use Rattle.strat_store.specs.Recovering.{chained_of, held_of}
-use Rattle.strat_store.specs.declared.recovering.Recovered.{Recovered}
+use Rattle.strat_memory.specs.Held.{AreKept, IsConsistent, arrays_held}
+use Rattle.strat_memory.specs.Memory.{Memory, cursor_from, with_cursor}
+use Rattle.strat_memory.specs.Admitting.{chained_of}
+use Rattle.strat_memory.specs.RecoveredFields.{held_of}
+use Rattle.strat_memory.specs.declared.recovered.Recovered.{Recovered}
 
 -- some of the arrays have no more blocks than all
 times_filtered : (p : ArrayDesc → Bool) (arrays : List ArrayDesc) (b : ℕ) → times_in (extents_of (filter p arrays)) b ≤ times_in (extents_of arrays) b
@@ -56,40 +44,6 @@ times_filtered p (a ∷ arrays) b = by (p a) (times_filtered p arrays b)
         → times_in (extents_of (cond t (a ∷ filter p arrays) (filter p arrays))) b ≤ times_in (extents_of (a ∷ arrays)) b
     by true rest = omega (arith, rest, times_append a.extents (extents_of (filter p arrays)) b, times_append a.extents (extents_of arrays) b)
     by false rest = omega (arith, rest, times_append a.extents (extents_of arrays) b)
-
--- the arrays of a manifest that belongs have numbers of their own, below the next one
-module _ (sb : Super) (chained : Chained) (levels : List (Option LevelDesc)) (placed : ArePlaced chained.manifest.levels levels)
-    (spelled : is_lawful_manifest newest_format chained.manifest ≡ true) (belonging : belongs sb chained ≡ true) where
-  listed : arrays_there levels ≡ descriptors chained.manifest
-  listed = ap (flat_map (λ (l : LevelDesc). l.arrays)) placed.listed_are
-
-  pub own_numbers : HaveOwnIds (arrays_there levels)
-  own_numbers = subst HaveOwnIds (sym listed) (pass_at (belonging_tests sb chained) 1 belonging)
-
-  pub low_numbers : (a : ArrayDesc) → Contains (arrays_there levels) a → a.id < chained.manifest.next_array
-  low_numbers a of =
-      let lawful = array_lawful (versions_in chained.manifest) chained.manifest.next_array chained.manifest.levels (pass_at (manifest_tests newest_format chained.manifest) 8 spelled) (pass_at (belonging_tests sb chained) 2 belonging) in
-      ltb-true a.id chained.manifest.next_array (pass_at (array_tests chained.manifest.next_array a) 1
-      (lawful a (contained_among (descriptors chained.manifest) a (subst (λ (rs : List ArrayDesc). Contains rs a) listed of))).0)
-
-  -- without cursors all that is named is there
-  pub kept_without : (m : Memory) → m.cursors ≡ no_cursors → AreKept sb chained levels m
-  kept_without m none =
-      let all : arrays_held m levels ≡ arrays_there levels = ap (λ (c : HeldCursors). arrays_there levels ++ c.retired) none ∙ append-nil (arrays_there levels) in
-      record {
-        named = λ a of. absurd (contained_among [] a (subst (λ (c : HeldCursors). Contains (arrays_named c.opened) a) none of));
-        needed = ap (λ (c : HeldCursors). are_named c.opened c.retired) none;
-        ids = subst HaveOwnIds (sym all) own_numbers;
-        below = λ a of. low_numbers a (subst (λ (rs : List ArrayDesc). Contains rs a) all of);
-        within = λ b some.
-            let few : times_in (extents_of m.cursors.retired) b ≡ 0 = ap (λ (c : HeldCursors). times_in (extents_of c.retired) b) none in
-            absurd (omega (arith, some, few));
-        once = λ b.
-            let few : times_in (extents_of m.cursors.retired) b ≡ 0 = ap (λ (c : HeldCursors). times_in (extents_of c.retired) b) none in
-            let own = and_parts (is_distinct (blocks_named chained)) (list_all (λ k. leb (first_free sb.mem) k) (blocks_named chained)) (pass_at (belonging_tests sb chained) 0 belonging) in
-            omega (arith, once_counted (blocks_named chained) b own.0, few);
-        few = λ c of. absurd (contained_among [] c (subst (λ (h : HeldCursors). Contains h.opened c) none of));
-      }
 
 -- what commands about cursors leave of that
 module _ (sb : Super) (chained : Chained) (levels : List (Option LevelDesc)) (m : Memory) (kept : AreKept sb chained levels m) where
@@ -177,14 +131,6 @@ module _ (sb : Super) (chained : Chained) (levels : List (Option LevelDesc)) (m 
                 among_contained (arrays_held m levels) a
                 (among_right (arrays_there levels) m.cursors.retired a (contained_among m.cursors.retired a (closed_from m.cursors n a (among_contained left a one))))
           ]
-
--- changes leave the cursors
-pub cursors_redone : (changes : List Change) (m : Memory) → (fold memory_after m changes).cursors ≡ m.cursors
-cursors_redone [] m = refl
-cursors_redone (Put version key value ∷ changes) m = cursors_redone changes (memory_after m (Put version key value))
-cursors_redone (Delete version key ∷ changes) m = cursors_redone changes (memory_after m (Delete version key))
-cursors_redone (Clone version ∷ changes) m = cursors_redone changes (memory_after m (Clone version))
-cursors_redone (DropVersion version ∷ changes) m = cursors_redone changes (memory_after m (DropVersion version))
 
 -- so a store stays consistent
 consistent_with : (r : Recovered) (m : Memory) (cached : Blocks) (c : HeldCursors) → IsConsistent (held_of r cached) → m ≡ record r.memory { cursors = c }

@@ -35,17 +35,20 @@ use Rattle.strat_recovery.specs.StateTable.{request_for}
 use Rattle.strat_standing.specs.Contents.{Contents, contents_state}
 use Rattle.strat_state.specs.State.{IsPaid}
 use Rattle.strat_store.specs.Cursoring.{LeavesCursors}
-use Rattle.strat_store.specs.Held.{Held, ArePlaced, IsConsistent, IsOnDisk, StandsWith, arrays_held}
-use Rattle.strat_store.specs.Memory.{KeepsRows, Memory, prepared, refusal_of_change, reply_to}
-use Rattle.strat_store.specs.Paying.{ArePaidSince, CountsWritten}
-use Rattle.strat_store.specs.Recovering.{held_of, held_after}
-use Rattle.strat_store.specs.Publishing.{is_in_front}
-use Rattle.strat_store.specs.Settling.{ArePublishedAfter, KeepsCursors, KeepsPublished, HasPublished, LeavesPublished, arrays_taken, carries_out}
-use Rattle.strat_store.specs.declared.recovering.Recovered.{Recovered}
-use Rattle.strat_store.proofs.KeptLemmas.{behind_kept, left_held}
-use Rattle.strat_store.proofs.OnDiskLemmas.{kept_on, read_on, logged_on, some_told, told_some}
-use Rattle.strat_store.proofs.PayingLemmas.{paid_reads}
-use Rattle.strat_store.proofs.SettledLemmas.{agree_once}
+use Rattle.strat_memory.specs.Held.{Held, ArePlaced, IsConsistent, IsOnDisk, StandsWith, arrays_held}
+use Rattle.strat_memory.specs.Memory.{KeepsRows, Memory, prepared, refusal_of_change, reply_to}
+use Rattle.strat_memory.specs.Paying.{ArePaidSince}
+use Rattle.strat_publish.specs.Counting.{CountsWritten}
+use Rattle.strat_memory.specs.RecoveredFields.{held_of}
+use Rattle.strat_store.specs.Applying.{held_after}
+use Rattle.strat_publish.specs.Publishing.{is_in_front}
+use Rattle.strat_publish.specs.Settling.{ArePublishedAfter, KeepsCursors, KeepsPublished, HasPublished, LeavesPublished, arrays_taken, carries_out}
+use Rattle.strat_memory.specs.declared.recovered.Recovered.{Recovered}
+use Rattle.strat_publish.proofs.KeptLemmas.{behind_kept, left_held}
+use Rattle.strat_publish.proofs.LaidLemmas.{kept_on}
+use Rattle.strat_memory.proofs.OnDiskLemmas.{read_on, logged_on, some_told, told_some}
+use Rattle.strat_memory.proofs.PayingLemmas.{paid_reads}
+use Rattle.strat_publish.proofs.SettledLemmas.{agree_once}
 
 -- a change that was logged
 pub logged_leaves : (v w : DiskView) (s t : Held) → IsConsistent s → KeepsPublished s t → TearsOnly v w (region_at s.log.mem s.log.active) (region_size s.log.mem) → Passes v w

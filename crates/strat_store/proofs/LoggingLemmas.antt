@@ -22,9 +22,9 @@ use Rattle.strat_standing.proofs.AppendLemmas.{stands_journal, either_reads, eit
 use Rattle.strat_standing.proofs.PlaceLemmas.{places}
 use Rattle.strat_state.specs.Sound.{IsSound, Takes}
 use Rattle.strat_state.specs.State.{IsPaid}
-use Rattle.strat_store.proofs.PayingLemmas.{paid_as, paid_appended}
-use Rattle.strat_store.specs.Paying.{ArePaidSince}
-use Rattle.strat_store.specs.Publishing.{is_in_front}
+use Rattle.strat_memory.proofs.PayingLemmas.{paid_as, paid_appended}
+use Rattle.strat_memory.specs.Paying.{ArePaidSince}
+use Rattle.strat_publish.specs.Publishing.{is_in_front}
 
 -- the record of a change behind the journal leaves alone the blocks behind the regions
 record_behind : (log : Log) (change : Change) (f : Image) → is_lawful change ≡ true → list_all is_lawful log.list ≡ true → length log.list < log.mem → log.active ≤ 1

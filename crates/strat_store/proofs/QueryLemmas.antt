@@ -16,9 +16,9 @@ use Rattle.strat_model.specs.declared.replies.Reply.{Reply}
 use Rattle.strat_model.specs.declared.replies.Reply.TheVariants as reply
 use Rattle.strat_store.specs.Applying.{change_wanted}
 use Rattle.strat_store.specs.Cursoring.{LeavesCursors, cursors_after, paged_at}
-use Rattle.strat_store.specs.Memory.{Memory, cursor_from, with_cursor}
-use Rattle.strat_store.specs.Recovering.{held_of}
-use Rattle.strat_store.specs.declared.recovering.Recovered.{Recovered}
+use Rattle.strat_memory.specs.Memory.{Memory, cursor_from, with_cursor}
+use Rattle.strat_memory.specs.RecoveredFields.{held_of}
+use Rattle.strat_memory.specs.declared.recovered.Recovered.{Recovered}
 
 -- no array is kept that was not
 kept_by : (m : Memory) (levels : List (Option LevelDesc)) (request : Request) (answer : Answer) (a : ArrayDesc) → Contains (cursors_after m levels request answer).retired a → Contains m.cursors.retired a

@@ -42,10 +42,12 @@ use Rattle.strat_state.specs.Level.{Level}
 use Rattle.strat_state.specs.LookUp.{looked_up, first_live}
 use Rattle.strat_state.specs.Maps.{map_over, with_value, value_over}
 use Rattle.strat_state.specs.State.{State, versions_of, sources}
-use Rattle.strat_store.proofs.GettingLemmas.{blamed, none_damaged, whole_read, it, ordered, cached, known, asked_is, stays, living}
-use Rattle.strat_store.specs.Applying.{is_fault, IsLookedUp, IsDamagedIn}
-use Rattle.strat_store.specs.Held.{Held, IsConsistent, StandsWith, contents_held}
-use Rattle.strat_store.specs.Memory.{Memory}
+use Rattle.strat_store.proofs.GettingLemmas.{blamed, none_damaged, it, ordered, cached, known, asked_is, stays, living}
+use Rattle.strat_publish.proofs.WholeLemmas.{whole_read}
+use Rattle.strat_store.specs.Applying.{is_fault, IsLookedUp}
+use Rattle.strat_publish.specs.Outcomes.{IsDamagedIn}
+use Rattle.strat_memory.specs.Held.{Held, IsConsistent, StandsWith, contents_held}
+use Rattle.strat_memory.specs.Memory.{Memory}
 use Rattle.strat_store.specs.Ranging.{reply_of_scan, HasPairs, IsMapAsked}
 
 -- what is made of what is picked is picked of what is made

@@ -23,13 +23,15 @@ use Rattle.strat_recovery.specs.StateTable.{table_of, request_for}
 use Rattle.strat_standing.specs.Contents.{Contents, contents_state}
 use Rattle.strat_standing.specs.Standing.{ShowsTable}
 use Rattle.strat_standing.proofs.FreeLemmas.{shows_contents}
-use Rattle.strat_store.specs.Applying.{IsAppliedTo, IsPublishedAs, FollowsStep, tells_fault, table_left, refusal_of_trouble}
-use Rattle.strat_store.specs.Held.{head_held, IsConsistent, StandsWith, position_with}
-use Rattle.strat_store.specs.Memory.{Memory, refusal_of_change}
-use Rattle.strat_store.specs.Recovering.{held_of, held_after}
-use Rattle.strat_store.specs.declared.recovering.Recovered.{Recovered}
+use Rattle.strat_store.specs.Applying.{IsAppliedTo, FollowsStep, tells_fault, table_left, refusal_of_trouble}
+use Rattle.strat_publish.specs.Outcomes.{IsPublishedAs}
+use Rattle.strat_memory.specs.Held.{head_held, IsConsistent, StandsWith, position_with}
+use Rattle.strat_memory.specs.Memory.{Memory, refusal_of_change}
+use Rattle.strat_memory.specs.RecoveredFields.{held_of}
+use Rattle.strat_store.specs.Applying.{held_after}
+use Rattle.strat_memory.specs.declared.recovered.Recovered.{Recovered}
 use Rattle.strat_store.proofs.ChangingLemmas.{changes_it, state_held, acceptable, breaks}
-use Rattle.strat_store.proofs.MemoryLawLemmas.{change_refused}
+use Rattle.strat_memory.proofs.MemoryLawLemmas.{change_refused}
 
 -- one of three refusals, of which each has this
 of_three : (P : Refusal → Type 0) (k f l : Bool) (a b c r : Refusal) → P a → P b → P c → (if not k then Some a else if f then Some b else if l then Some c else None) ≡ Some r → P r

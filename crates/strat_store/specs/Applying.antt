@@ -1,5 +1,5 @@
 -- How a store answers a command.
-use Rattle.std.specs.Prelude.{◌≡◌, ◌≢◌, ◌≤◌, ◌⊎◌, ℕ, ◌||◌, if◌then◌else◌, Bool, true, false, List, [], ◌∷◌, length, Contains, Option, Some, None, Result, IfErr, IsErrAnd}
+use Rattle.std.specs.Prelude.{◌≡◌, ◌≢◌, ◌≤◌, ◌⊎◌, ℕ, ◌||◌, if◌then◌else◌, Bool, true, false, [], ◌∷◌, length, Option, Some, None}
 use Rattle.strat_crash.specs.Faults.{Rose}
 use Rattle.strat_crash.specs.Image.{Image}
 use Rattle.strat_crash.specs.Moments.{DiskView, Exposes, OnlyReads}
@@ -7,7 +7,6 @@ use Rattle.strat_crash.specs.Trail.{Trail}
 use Rattle.strat_base.specs.Change.{Change}
 use Rattle.strat_base.specs.Change as change
 use Rattle.strat_base.specs.Tree.{is_known}
-use Rattle.strat_base.specs.declared.descriptors.LevelDesc.{LevelDesc}
 use Rattle.strat_base.specs.declared.failures.Trouble.{Trouble}
 use Rattle.strat_base.specs.declared.failures.Trouble.TheVariants as trouble
 use Rattle.strat_format.specs.Arrays.{block_on}
@@ -20,16 +19,16 @@ use Rattle.strat_model.specs.Request.{Request, Put, Delete, Get, Clone, Scan, Ne
 use Rattle.strat_model.specs.Run.{EmptiesAtOnce, IsAfter, reaches_disk, is_change, takes_memory}
 use Rattle.strat_model.specs.Step.{step}
 use Rattle.strat_model.specs.Table.{Table, bare}
-use Rattle.strat_promote.specs.Job.{IsBadInput, blocks_listed}
-use Rattle.strat_promote.specs.Obstacles.{told_as}
-use Rattle.strat_promote.specs.declared.obstacle.Obstacle.{Obstacle}
 use Rattle.strat_recovery.specs.StateTable.{table_of}
 use Rattle.strat_standing.specs.Contents.{Contents, contents_state}
 use Rattle.strat_standing.specs.Standing.{ShowsTable}
-use Rattle.strat_store.specs.Held.{Held, StandsWith, arrays_held, position_with}
+use Rattle.strat_memory.specs.Held.{Held, StandsWith, arrays_held, position_with}
 use Rattle.strat_cursor.specs.Cursors.{is_opened}
-use Rattle.strat_cursor.specs.Looking.{LooksThrough, arrays_there}
-use Rattle.strat_store.specs.Memory.{Memory, prepared, refusal_of_change}
+use Rattle.strat_cursor.specs.Looking.{LooksThrough}
+use Rattle.strat_memory.specs.Memory.{Memory, prepared, refusal_of_change}
+use Rattle.strat_array.specs.Kept.{Blocks}
+use Rattle.strat_memory.specs.declared.recovered.Recovered.{Recovered}
+use Rattle.strat_memory.specs.RecoveredFields.{held_of}
 
 -- the change that a command asks for, if it asks for one
 abbrev pub change_wanted : Request → Option Change
@@ -146,14 +145,6 @@ pub record TellsTroubleOf (before : DiskView) (old : Held) (request : Request) (
   pub short : told ≡ reply.Refused why.NoMemory → (takes_memory request ≡ true)
       × (is_change request ≡ true → old.log.mem ≤ length old.log.list)
 
--- a block is one of these levels' arrays, or of one that is kept for a cursor, and where a content is exposed it is bad:
--- it holds no entries, or in a level none that come after those before it
-pub record IsDamagedIn (content : Option Image) (m : Memory) (levels : List (Option LevelDesc))
-    (b : ℕ) : Type 0 where
-  pub listed : Contains (blocks_listed (arrays_held m levels)) b
-  pub bad : (f : Image) → content ≡ Some f
-      → (block_on f b ≡ None) ⊎ IsBadInput f (arrays_there levels) b
-
 -- a look-up was answered as the table says, and the store stands as it did; or the device failed
 abbrev pub IsLookedUp : DiskView → Held → Contents → Request → Answer → Type 0
 IsLookedUp now new x request answer =
@@ -187,22 +178,12 @@ pub record IsUntouched (before now : DiskView) (request : Request) (old : Held) 
   pub cached : (c : Change) → change_wanted request ≡ Some c → new.cached ≡ old.cached
   pub calm : (is_change request ≡ true → may_write told ≡ false) → OnlyReads before now
 
--- contents took the place of others on the disk that a store stands on: they mean the same table
-pub record IsPublishedAs (now : DiskView) (x : Contents) (new : Held) : Type 0 where
-  pub after : Contents
-  pub stands : StandsWith now new after
-  pub table : table_of (contents_state after) ≡ table_of (contents_state x)
-
--- a call gave up that is told as want of memory: memory ran out, or a bound was reached
-abbrev pub RanShort : {T : Type 0} → Result T Obstacle → Type 0
-RanShort result = IsErrAnd result (λ e. told_as e ≡ trouble.NoMemory)
-
--- a call succeeded, or gave up so
-abbrev pub IsOkOrShort : {T : Type 0} → Result T Obstacle → Type 0
-IsOkOrShort result = IfErr result (λ e. told_as e ≡ trouble.NoMemory)
-
 -- why a command is refused that met a trouble
 abbrev pub refusal_of_trouble : Trouble → Refusal
 refusal_of_trouble trouble.NoMemory = why.NoMemory
 refusal_of_trouble trouble.Device = why.DeviceFault
 refusal_of_trouble (trouble.Damaged block) = why.Damaged block
+
+-- a store after a reply, which may have left it unfit for use
+abbrev pub held_after : Recovered → Blocks → Reply → Held
+held_after r cached told = record (held_of r cached) { spent = is_fault told }

@@ -21,9 +21,9 @@ use Rattle.strat_model.specs.declared.replies.Reply.{Reply}
 use Rattle.strat_model.specs.declared.replies.Reply.TheVariants as reply
 use Rattle.strat_standing.specs.Contents.{Contents}
 use Rattle.strat_store.specs.Applying.{change_wanted}
-use Rattle.strat_store.specs.Held.{Held, StandsAt, arrays_held, position_at, table_at}
-use Rattle.strat_store.specs.Memory.{Memory, cursor_from, with_cursor}
-use Rattle.strat_store.specs.Settling.{HasPublished, KeepsCursors}
+use Rattle.strat_memory.specs.Held.{Held, StandsAt, arrays_held, position_at, table_at}
+use Rattle.strat_memory.specs.Memory.{Memory, cursor_from, with_cursor}
+use Rattle.strat_publish.specs.Settling.{HasPublished, KeepsCursors}
 
 -- what is told of an opening of a cursor, of a page, and of a closing
 abbrev pub reply_of_start : Result ℕ CursorFault → Reply

@@ -23,8 +23,8 @@ use Rattle.strat_model.specs.declared.replies.Reply.TheVariants as reply
 use Rattle.strat_recovery.specs.Asked.{asked}
 use Rattle.strat_store.specs.Applying.{change_wanted}
 use Rattle.strat_store.specs.Getting.{MayTellOfKey}
-use Rattle.strat_store.specs.Held.{Held}
-use Rattle.strat_store.specs.Memory.{Memory, info_told, stat_told}
+use Rattle.strat_memory.specs.Held.{Held}
+use Rattle.strat_memory.specs.Memory.{Memory, info_told, stat_told}
 
 -- what is told of a range after a scan, or after the fault that ended it
 abbrev pub reply_of_scan : Result Bool Fault → Reply

@@ -1,9 +1,10 @@
 -- The fields of an open store.
 use Rattle.std.specs.Prelude.{◌≡◌, false}
 use Rattle.strat_array.specs.Kept.{Blocks}
-use Rattle.strat_store.specs.Held.{Held, IsConsistent}
+use Rattle.strat_memory.specs.Held.{Held, IsConsistent}
 use Rattle.strat_cursor.specs.Looking.{AreOfOldArrays}
-use Rattle.strat_store.specs.Recovering.{chained_of, held_of}
+use Rattle.strat_memory.specs.Admitting.{chained_of}
+use Rattle.strat_memory.specs.RecoveredFields.{held_of}
 use Rattle.strat_store.specs.declared.store.Store.TheInside.{Inside}
 
 -- the store of these fields

@@ -22,23 +22,25 @@ ghost use Rattle.strat_standing.specs.Contents.{Contents, contents_state};
 ghost use Rattle.strat_standing.specs.Standing.{ShowsTable, ContentsStand};
 ghost use Rattle.strat_state.specs.Sound.{Takes};
 ghost use Rattle.strat_state.specs.State.{IsPaid};
-ghost use Rattle.strat_store.specs.Applying.{IsAppliedTo, FollowsStep, FailsAsTold, HoldsTheSame, IsDamagedIn, is_fault, may_write, refusal_of_trouble};
+ghost use Rattle.strat_store.specs.Applying.{IsAppliedTo, FollowsStep, FailsAsTold, HoldsTheSame, is_fault, may_write, refusal_of_trouble};
+ghost use Rattle.strat_publish.specs.Outcomes.{IsDamagedIn};
 ghost use Rattle.strat_store.specs.Cursoring.{LeavesCursors};
-ghost use Rattle.strat_store.specs.Held.{IsConsistent, IsOnDisk, StandsWith};
-ghost use Rattle.strat_store.specs.Memory.{KeepsRows, refusal_of_change};
-ghost use Rattle.strat_store.specs.Paying.{ArePaidSince};
-ghost use Rattle.strat_store.specs.Publishing.{is_in_front};
-ghost use Rattle.strat_store.specs.Recovering.{held_of, held_after};
-ghost use Rattle.strat_store.specs.Settling.{KeepsPublished, LeavesPublished};
+ghost use Rattle.strat_memory.specs.Held.{IsConsistent, IsOnDisk, StandsWith};
+ghost use Rattle.strat_memory.specs.Memory.{KeepsRows, refusal_of_change};
+ghost use Rattle.strat_memory.specs.Paying.{ArePaidSince};
+ghost use Rattle.strat_publish.specs.Publishing.{is_in_front};
+ghost use Rattle.strat_memory.specs.RecoveredFields.{held_of};
+ghost use Rattle.strat_store.specs.Applying.{held_after};
+ghost use Rattle.strat_publish.specs.Settling.{KeepsPublished, LeavesPublished};
 
-use crate::publication::publish;
-use crate::recovering::Recovered;
 use std::alloc::Global;
 use strat_base::{Change, Failed};
 use strat_disk::Disk;
 use strat_journal::Journal;
+use strat_memory::recovered::Recovered;
 use strat_model::{Refusal, Reply};
 use strat_promote::obstacle::Obstacle;
+use strat_publish::publish;
 
 /// Makes a change durable at the end of the journal, which has room for it: two writes and two syncs. It writes in the
 /// active region alone.

@@ -13,17 +13,19 @@ ghost use Rattle.strat_model.specs.Table.{Cursor};
 ghost use Rattle.strat_model.specs.declared.replies.Refusal.TheVariants as why;
 ghost use Rattle.strat_model.specs.declared.replies.Reply.TheVariants as reply;
 ghost use Rattle.strat_standing.specs.Contents.{Contents};
-ghost use Rattle.strat_store.specs.Applying.{FailsAsTold, IsDamagedIn, is_fault};
+ghost use Rattle.strat_store.specs.Applying.{FailsAsTold, is_fault};
+ghost use Rattle.strat_publish.specs.Outcomes.{IsDamagedIn};
 ghost use Rattle.strat_store.specs.Cursoring.{IsAppliedAt, cursors_after, reply_of_close, reply_of_next, reply_of_start};
-ghost use Rattle.strat_store.specs.Held.{IsConsistent, StandsAt};
+ghost use Rattle.strat_memory.specs.Held.{IsConsistent, StandsAt};
 ghost use Rattle.strat_store.specs.Ranging.{HasPairsFor, TellsFrom};
-ghost use Rattle.strat_store.specs.Recovering.{held_of, held_after};
+ghost use Rattle.strat_memory.specs.RecoveredFields.{held_of};
+ghost use Rattle.strat_store.specs.Applying.{held_after};
 
-use crate::recovering::Recovered;
 use strat_array::Cache;
 use strat_base::{PairBuf, Version};
 use strat_cursor::{CursorFault, Desks, NextFault};
 use strat_disk::Disk;
+use strat_memory::recovered::Recovered;
 use strat_model::{Refusal, Reply};
 
 /// What is told of an opening.

@@ -5,9 +5,9 @@ ghost use Rattle.strat_base.specs.declared.descriptors.LevelDesc.{LevelDesc};
 ghost use Rattle.strat_crash.specs.Image.{Image};
 ghost use Rattle.strat_cursor.specs.Looking.{arrays_there};
 ghost use Rattle.strat_recovery.specs.Bad.{IsBad};
-ghost use Rattle.strat_store.specs.Applying.{IsDamagedIn};
-ghost use Rattle.strat_store.specs.Held.{arrays_held};
-ghost use Rattle.strat_store.specs.Memory.{Memory};
+ghost use Rattle.strat_publish.specs.Outcomes.{IsDamagedIn};
+ghost use Rattle.strat_memory.specs.Held.{arrays_held};
+ghost use Rattle.strat_memory.specs.Memory.{Memory};
 
 /// A block that a store calls damaged is bad in the content that is exposed, of however many versions: the arrays that are
 /// named are those that the store holds, and those that are merged are of its levels.

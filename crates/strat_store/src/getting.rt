@@ -18,17 +18,18 @@ ghost use Rattle.strat_model.specs.declared.replies.Reply.TheVariants as reply;
 ghost use Rattle.strat_recovery.specs.Asked.{on_disk, asked};
 ghost use Rattle.strat_standing.specs.Contents.{Contents};
 ghost use Rattle.strat_state.specs.LookUp.{looked_up};
-ghost use Rattle.strat_store.specs.Applying.{is_fault, IsLookedUp, FailsAsTold, IsDamagedIn};
+ghost use Rattle.strat_store.specs.Applying.{is_fault, IsLookedUp, FailsAsTold};
+ghost use Rattle.strat_publish.specs.Outcomes.{IsDamagedIn};
 ghost use Rattle.strat_store.specs.Getting.{reply_of_get, MayTellOfKey};
-ghost use Rattle.strat_store.specs.Held.{IsConsistent, StandsWith};
+ghost use Rattle.strat_memory.specs.Held.{IsConsistent, StandsWith};
 ghost use Rattle.strat_cursor.specs.Looking.{levels_there, arrays_there, MayBeFound, AreInOrder, AreCachedFrom, LooksThrough, NamesNoBlock, HaveOwnIds, ReadsArrays, arrays_asked};
-ghost use Rattle.strat_store.specs.Recovering.{held_of};
+ghost use Rattle.strat_memory.specs.RecoveredFields.{held_of};
 
 use crate::looking::look_up;
-use crate::recovering::Recovered;
 use strat_array::{Cache, Scratch, Seen};
 use strat_base::{Fault, PairBuf, Version};
 use strat_disk::Disk;
+use strat_memory::recovered::Recovered;
 use strat_model::{Refusal, Reply};
 
 /// What is told of a key after a look-up, or after the fault that ended it.

@@ -21,7 +21,7 @@ ghost use Rattle.strat_state.specs.State.{State, versions_of, is_living};
 ghost use Rattle.strat_cursor.specs.Cursors.{MayGoOn, pairs_left};
 ghost use Rattle.strat_cursor.specs.Held.{HeldCursor, IsMapHeld};
 ghost use Rattle.strat_cursor.specs.Looking.{AreInOrder};
-ghost use Rattle.strat_store.specs.Held.{Held};
+ghost use Rattle.strat_memory.specs.Held.{Held};
 ghost use Rattle.strat_store.specs.Ranging.{AreReadAs, IsMapAsked, TellsFrom};
 
 /// A store whose state is sound answers as its table does: with what level 0 says of a key, or else with what is looked

@@ -14,16 +14,17 @@ ghost use Rattle.strat_model.specs.Step.{page};
 ghost use Rattle.strat_model.specs.declared.replies.Refusal.TheVariants as why;
 ghost use Rattle.strat_model.specs.declared.replies.Reply.TheVariants as reply;
 ghost use Rattle.strat_standing.specs.Contents.{Contents};
-ghost use Rattle.strat_store.specs.Applying.{is_fault, IsLookedUp, FailsAsTold, IsDamagedIn};
-ghost use Rattle.strat_store.specs.Held.{IsConsistent, StandsWith};
+ghost use Rattle.strat_store.specs.Applying.{is_fault, IsLookedUp, FailsAsTold};
+ghost use Rattle.strat_publish.specs.Outcomes.{IsDamagedIn};
+ghost use Rattle.strat_memory.specs.Held.{IsConsistent, StandsWith};
 ghost use Rattle.strat_store.specs.Ranging.{reply_of_scan, HasPairsFor, IsMapAsked, MayTellOfRange};
-ghost use Rattle.strat_store.specs.Recovering.{held_of};
+ghost use Rattle.strat_memory.specs.RecoveredFields.{held_of};
 
-use crate::recovering::Recovered;
 use strat_array::Cache;
 use strat_base::{Fault, PairBuf, Version};
 use strat_cursor::{Desks, Picked, View, scan};
 use strat_disk::Disk;
+use strat_memory::recovered::Recovered;
 use strat_model::{Refusal, Reply};
 
 /// What is told of a range after a scan, or after the fault that ended it.

@@ -18,32 +18,34 @@ ghost use Rattle.strat_model.specs.declared.replies.Refusal.TheVariants as why;
 ghost use Rattle.strat_model.specs.declared.replies.Reply.TheVariants as reply;
 ghost use Rattle.strat_recovery.specs.Opening.{recover};
 ghost use Rattle.strat_standing.specs.Contents.{Contents};
-ghost use Rattle.strat_store.specs.Applying.{FollowsStep, FailsAsTold, IsDamagedIn, IsUntouched, TellsTroubleOf, change_wanted, is_fault};
+ghost use Rattle.strat_store.specs.Applying.{FollowsStep, FailsAsTold, IsUntouched, TellsTroubleOf, change_wanted, is_fault};
+ghost use Rattle.strat_publish.specs.Outcomes.{IsDamagedIn};
 ghost use Rattle.strat_store.specs.Cursoring.{IsAppliedAt, LeavesCursors, cursors_after, is_of_cursor};
-ghost use Rattle.strat_store.specs.Following.{IsOpenedAs, IsUnchanged, LeavesOpening};
-ghost use Rattle.strat_store.specs.Held.{IsConsistent, StandsAt, StandsWith, arrays_held};
-ghost use Rattle.strat_store.specs.Memory.{info_told};
+ghost use Rattle.strat_open.specs.Following.{IsOpenedAs, IsUnchanged, LeavesOpening};
+ghost use Rattle.strat_memory.specs.Held.{IsConsistent, StandsAt, StandsWith, arrays_held};
+ghost use Rattle.strat_memory.specs.Memory.{info_told};
 ghost use Rattle.strat_cursor.specs.Looking.{AreOfOldArrays, LooksThrough, ReadsArrays, arrays_there};
-ghost use Rattle.strat_store.specs.Paying.{StoreTwoSince};
+ghost use Rattle.strat_memory.specs.Paying.{StoreTwoSince};
 ghost use Rattle.strat_store.specs.Ranging.{HasPairsFor, ReadsForLook, TellsFrom, arrays_wanted};
-ghost use Rattle.strat_store.specs.Recovering.{held_of, held_after, empty_cache};
-ghost use Rattle.strat_store.specs.Settling.{LeavesPublished, carries_out};
-ghost use Rattle.strat_store.specs.declared.opening.AttachFault.TheVariants as fault;
+ghost use Rattle.strat_memory.specs.RecoveredFields.{held_of, empty_cache};
+ghost use Rattle.strat_store.specs.Applying.{held_after};
+ghost use Rattle.strat_publish.specs.Settling.{LeavesPublished, carries_out};
+ghost use Rattle.strat_open.specs.declared.opening.AttachFault.TheVariants as fault;
 
 use crate::changing::change;
 use crate::cursoring::{close_cursor, next_pairs, open_cursor};
 use crate::getting::get;
-use crate::memory::Memory;
-use crate::opening::AttachFault;
 use crate::ranging::scan_range;
-use crate::recovering::{Recovered, open};
 use std::alloc::Global;
 use std::marker::Model;
 use strat_array::{Cache, Scratch};
 use strat_base::{Change, NoMemory, PairBuf, Version};
 use strat_cursor::Desks;
 use strat_disk::Disk;
+use strat_memory::memory::Memory;
+use strat_memory::recovered::Recovered;
 use strat_model::{Command, Refusal, Reply};
+use strat_open::{AttachFault, open};
 
 /// Most blocks of arrays that are cached: 1 MiB.
 const CACHED_MAX: usize = 256;
@@ -62,7 +64,7 @@ pub struct Store {
 }
 
 impl Model for Store {
-    ghost use Rattle.strat_store.specs.Held.{Held};
+    ghost use Rattle.strat_memory.specs.Held.{Held};
     ghost use Rattle.strat_store.specs.StoreFields.{store_held, IsWholeStore};
 
     ghost Value = { Held };

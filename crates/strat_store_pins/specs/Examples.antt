@@ -7,8 +7,8 @@ use Rattle.strat_cursor.specs.Held.{HeldCursor, HeldCursors}
 use Rattle.strat_crash.specs.Image.{Image, patch}
 use Rattle.strat_format.specs.Manifest.{new_manifest}
 use Rattle.strat_recovery.specs.Disks.{array_block, new_super}
-use Rattle.strat_store.specs.Held.{Held}
-use Rattle.strat_store.specs.Memory.{Memory, fresh_memory}
+use Rattle.strat_memory.specs.Held.{Held}
+use Rattle.strat_memory.specs.Memory.{Memory, fresh_memory}
 
 -- an array of a number, for version 0
 abbrev pub array : ℕ → ArrayDesc

@@ -8,9 +8,9 @@ ghost use Rattle.strat_model.specs.declared.replies.Refusal.TheVariants as why;
 ghost use Rattle.strat_model.specs.declared.replies.Reply.TheVariants as reply;
 ghost use Rattle.strat_store.specs.Applying.{TellsTroubleOf};
 ghost use Rattle.strat_store.specs.Cursoring.{LeavesCursors};
-ghost use Rattle.strat_store.specs.Held.{Held, arrays_held};
-ghost use Rattle.strat_store.specs.Paying.{CountsWritten, KeepsCount, manifest_with_array};
-ghost use Rattle.strat_store.specs.Settling.{HasPublished, KeepsCursors};
+ghost use Rattle.strat_memory.specs.Held.{Held, arrays_held};
+ghost use Rattle.strat_publish.specs.Counting.{CountsWritten, KeepsCount, manifest_with_array};
+ghost use Rattle.strat_publish.specs.Settling.{HasPublished, KeepsCursors};
 ghost use Rattle.strat_store_pins.specs.Examples.{cursors, memory};
 
 use strat_crash::laws::Viewed;

@@ -7,8 +7,8 @@ ghost use Rattle.strat_model.specs.Request.{Get, OpenCursor, NextPairs, CloseCur
 ghost use Rattle.strat_model.specs.declared.replies.Refusal.TheVariants as why;
 ghost use Rattle.strat_model.specs.declared.replies.Reply.TheVariants as reply;
 ghost use Rattle.strat_store.specs.Cursoring.{cursors_after};
-ghost use Rattle.strat_store.specs.Held.{arrays_held};
-ghost use Rattle.strat_store.specs.Memory.{cursor_from, emptied, memory_after, renewed, stat_told};
+ghost use Rattle.strat_memory.specs.Held.{arrays_held};
+ghost use Rattle.strat_memory.specs.Memory.{cursor_from, emptied, memory_after, renewed, stat_told};
 ghost use Rattle.strat_store_pins.specs.Examples.{array, cursor, cursors, entry, level, memory};
 
 /// An opening that is not refused adds a cursor behind the others, with the next number, over its range.

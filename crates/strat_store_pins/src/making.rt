@@ -5,7 +5,7 @@ ghost use Rattle.std.specs.Prelude.{◌≡◌, ◌≢◌, ◌==◌, ◌||◌, if
 ghost use Rattle.strat_crash.specs.Image.{Image};
 ghost use Rattle.strat_format.specs.Layout.{open_flag, region_at};
 ghost use Rattle.strat_standing.specs.Worked.{resting};
-ghost use Rattle.strat_store.specs.Format.{IsBlank, IsFormatted, IsNewStore};
+ghost use Rattle.strat_open.specs.Format.{IsBlank, IsFormatted, IsNewStore};
 
 /// A disk is blank where neither slot begins with an open gate, whatever else it has: here open gates everywhere else.
 pub fn a_disk_with_both_slots_shut_is_blank()

@@ -18,7 +18,7 @@ ghost use Rattle.strat_standing.specs.Standing.{ShowsTable};
 ghost use Rattle.strat_state.specs.Sound.{IsSound};
 ghost use Rattle.strat_state.specs.State.{State, stored, updates_of};
 ghost use Rattle.strat_store.specs.Applying.{may_write};
-ghost use Rattle.strat_store.specs.Paying.{IsPaidIn};
+ghost use Rattle.strat_memory.specs.Paying.{IsPaidIn};
 
 use strat_crash::laws::Viewed;
 

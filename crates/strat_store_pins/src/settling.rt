@@ -22,10 +22,11 @@ ghost use Rattle.strat_standing.specs.Contents.{Contents, contents_state};
 ghost use Rattle.strat_standing.specs.Next.{arrays_made};
 ghost use Rattle.strat_state.specs.State.{IsPaid};
 ghost use Rattle.strat_store.specs.Applying.{TellsTroubleOf};
-ghost use Rattle.strat_store.specs.Held.{Held, IsOnDisk, StandsWith, arrays_held};
-ghost use Rattle.strat_store.specs.Memory.{Memory};
-ghost use Rattle.strat_store.specs.Paying.{CountsWritten, IsPaidIn, KeepsCount, manifest_with_array};
-ghost use Rattle.strat_store.specs.Settling.{ArePublishedTo, HasPublished, LeavesPublished, arrays_taken};
+ghost use Rattle.strat_memory.specs.Held.{Held, IsOnDisk, StandsWith, arrays_held};
+ghost use Rattle.strat_memory.specs.Memory.{Memory};
+ghost use Rattle.strat_publish.specs.Counting.{CountsWritten, KeepsCount, manifest_with_array};
+ghost use Rattle.strat_memory.specs.Paying.{IsPaidIn};
+ghost use Rattle.strat_publish.specs.Settling.{ArePublishedTo, HasPublished, LeavesPublished, arrays_taken};
 
 use strat_crash::laws::Viewed;
 

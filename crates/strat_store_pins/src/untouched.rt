@@ -13,8 +13,8 @@ ghost use Rattle.strat_model.specs.declared.replies.Refusal.TheVariants as why;
 ghost use Rattle.strat_model.specs.declared.replies.Reply.{Reply};
 ghost use Rattle.strat_model.specs.declared.replies.Reply.TheVariants as reply;
 ghost use Rattle.strat_store.specs.Applying.{IsUntouched, may_write};
-ghost use Rattle.strat_store.specs.Held.{Held, arrays_held};
-ghost use Rattle.strat_store.specs.Memory.{Memory, memory_after, refusal_of_change};
+ghost use Rattle.strat_memory.specs.Held.{Held, arrays_held};
+ghost use Rattle.strat_memory.specs.Memory.{Memory, memory_after, refusal_of_change};
 
 use strat_crash::laws::Viewed;
 

@@ -1,10 +1,10 @@
 use Rattle.std.proofs.Common.{◌∙◌}
 use Rattle.strat_crash.proofs.MomentLemmas.{leaves_refl}
 use Rattle.castle.specs.Outcomes.{format_text}
-use Rattle.strat_store.proofs.FormatLemmas.{none_yet}
+use Rattle.strat_open.proofs.FormatLemmas.{none_yet}
 use Rattle.strat_serve.proofs.SendLemmas.{sends_prefix}
-use Rattle.strat_store.proofs.OtherLemmas.{keep_refl}
-use Rattle.strat_store.proofs.ShutLemmas.{blank_leaves}
+use Rattle.strat_open.proofs.OtherLemmas.{keep_refl}
+use Rattle.strat_open.proofs.ShutLemmas.{blank_leaves}
 use Rattle.castle.proofs.formatting.make_store.Goals as goal
 
 pub returns-clause-ok : goal.returns-clause-ok

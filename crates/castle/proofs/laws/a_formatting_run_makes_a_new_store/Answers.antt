@@ -1,7 +1,7 @@
 use Rattle.std.proofs.Common.{◌≡◌, ℕ, ◌⊎◌, refl, sym, subst, arith}
 use Rattle.strat_crash.specs.Image.{Image}
 use Rattle.strat_model.specs.declared.ended.Ended.TheVariants as ended
-use Rattle.strat_store.specs.Format.{IsNewStore}
+use Rattle.strat_open.specs.Format.{IsNewStore}
 use Rattle.castle.specs.Outcomes.{format_text}
 use Rattle.castle.proofs.HeadlineLemmas.{other_by}
 use Rattle.castle.proofs.OutcomeLemmas.{causes, format_ends_by, format_left, format_sent, none_or_shown}

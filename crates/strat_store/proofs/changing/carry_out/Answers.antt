@@ -1,12 +1,12 @@
 use Rattle.std.proofs.Common.{refl, ap, ◌∙◌, subst, arith, ℕ}
 use Rattle.strat_crash.specs.Blocks.{KeepsTaken}
-use Rattle.strat_store.specs.Recovering.{held_of, empty_cache}
+use Rattle.strat_memory.specs.RecoveredFields.{held_of, empty_cache}
 use Rattle.strat_store.proofs.ChangingLemmas.{cursors_stay, log_of, kept_more, breaks, takes, step_trail, told_trail, carries, finds_none}
 use Rattle.strat_store.proofs.LeavingLemmas.{logged_leaves, taken_calm, taken_well}
-use Rattle.strat_store.proofs.MemoryLawLemmas.{room_for}
-use Rattle.strat_store.specs.Held.{head_held}
-use Rattle.strat_store.specs.Memory.{Memory}
-use Rattle.strat_store.specs.Publishing.{is_in_front}
+use Rattle.strat_memory.proofs.MemoryLawLemmas.{room_for}
+use Rattle.strat_memory.specs.Held.{head_held}
+use Rattle.strat_memory.specs.Memory.{Memory}
+use Rattle.strat_publish.specs.Publishing.{is_in_front}
 use Rattle.strat_store.proofs.changing.carry_out.Goals as goal
 
 pub log_change-requires-clause-none : goal.log_change-requires-clause-none

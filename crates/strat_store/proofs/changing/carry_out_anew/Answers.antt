@@ -6,11 +6,12 @@ use Rattle.strat_model.specs.declared.replies.Reply.TheVariants as reply
 use Rattle.strat_promote.specs.Obstacles.{told_as}
 use Rattle.strat_promote.specs.declared.obstacle.Obstacle.{Obstacle}
 use Rattle.strat_promote.specs.declared.obstacle.Obstacle.TheVariants.{Device}
-use Rattle.strat_store.proofs.ObstacleLemmas.{damaged_told}
-use Rattle.strat_store.specs.Recovering.{empty_cache, held_after, held_of}
+use Rattle.strat_publish.proofs.ObstacleLemmas.{damaged_told}
+use Rattle.strat_memory.specs.RecoveredFields.{empty_cache, held_of}
+use Rattle.strat_store.specs.Applying.{held_after}
 use Rattle.strat_store.proofs.ChangingLemmas.{rows_stay}
 use Rattle.strat_store.proofs.LeavingLemmas.{both_keep, cursors_left, cursors_published, gives_up, has_published, holds_the_same, opened_after, renews, rows_renewed, troubled}
-use Rattle.strat_store.proofs.PayingLemmas.{paid_now, paid_then}
+use Rattle.strat_memory.proofs.PayingLemmas.{paid_now, paid_then}
 use Rattle.strat_store.proofs.RenewingLemmas.{calm_short, short_of, told_up, renewed, renewed_trail, trail_so_far}
 use Rattle.strat_store.proofs.changing.carry_out_anew.Goals as goal
 

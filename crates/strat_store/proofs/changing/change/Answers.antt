@@ -3,7 +3,8 @@ use Rattle.strat_model.specs.Answer.{accepts}
 use Rattle.strat_model.specs.declared.replies.Refusal.TheVariants as why
 use Rattle.strat_crash.proofs.MomentLemmas.{reads_refl}
 use Rattle.strat_model.specs.declared.replies.Reply.TheVariants as reply
-use Rattle.strat_store.specs.Recovering.{held_after, held_of, empty_cache}
+use Rattle.strat_store.specs.Applying.{held_after}
+use Rattle.strat_memory.specs.RecoveredFields.{held_of, empty_cache}
 use Rattle.strat_store.proofs.LeavingLemmas.{cursors_left, cursors_same, front_keeps, left_alone, leaves_room}
 use Rattle.strat_store.proofs.RenewingLemmas.{refused_not_short, refused_trail, refused_well}
 use Rattle.strat_store.proofs.changing.change.Goals as goal

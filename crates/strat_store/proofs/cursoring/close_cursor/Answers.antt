@@ -4,7 +4,7 @@ use Rattle.strat_model.specs.Request.{CloseCursor}
 use Rattle.strat_model.specs.declared.replies.Reply.{Reply}
 use Rattle.strat_store.specs.Applying.{is_fault}
 use Rattle.strat_store.specs.Cursoring.{cursors_after, reply_of_close}
-use Rattle.strat_store.specs.Memory.{Memory}
+use Rattle.strat_memory.specs.Memory.{Memory}
 use Rattle.strat_store.proofs.CursoringLemmas.{close_calm, close_found, close_leaves, close_short, close_told}
 use Rattle.strat_store.proofs.KeepingLemmas.{consistent_after}
 use Rattle.strat_store.proofs.cursoring.close_cursor.Goals as goal

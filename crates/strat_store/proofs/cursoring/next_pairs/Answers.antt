@@ -4,9 +4,10 @@ use Rattle.strat_model.specs.Request.{NextPairs}
 use Rattle.strat_model.specs.declared.replies.Reply.{Reply}
 use Rattle.strat_store.specs.Applying.{FailsAsTold, is_fault}
 use Rattle.strat_store.specs.Cursoring.{IsAppliedAt, cursors_after, reply_of_next}
-use Rattle.strat_store.specs.Memory.{Memory}
+use Rattle.strat_memory.specs.Memory.{Memory}
 use Rattle.strat_store.specs.Ranging.{HasPairs, TellsOfCursor}
-use Rattle.strat_store.specs.Recovering.{held_of, held_after}
+use Rattle.strat_memory.specs.RecoveredFields.{held_of}
+use Rattle.strat_store.specs.Applying.{held_after}
 use Rattle.strat_store.proofs.CursoringLemmas.{cursor_told, nothing_told, page_applied, page_blames, page_fails, page_found, page_leaves, page_short, pairs_paged}
 use Rattle.strat_store.proofs.KeepingLemmas.{consistent_after}
 use Rattle.strat_store.proofs.cursoring.next_pairs.Goals as goal

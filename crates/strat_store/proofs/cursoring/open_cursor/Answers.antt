@@ -5,11 +5,11 @@ use Rattle.strat_model.specs.Request.{OpenCursor}
 use Rattle.strat_model.specs.declared.replies.Reply.{Reply}
 use Rattle.strat_store.specs.Applying.{is_fault}
 use Rattle.strat_store.specs.Cursoring.{cursors_after, reply_of_start}
-use Rattle.strat_store.specs.Memory.{Memory}
+use Rattle.strat_memory.specs.Memory.{Memory}
 use Rattle.strat_store.specs.Ranging.{TellsOfOpening}
-use Rattle.strat_store.specs.Recovering.{empty_cache, held_of}
+use Rattle.strat_memory.specs.RecoveredFields.{empty_cache, held_of}
 use Rattle.strat_store.proofs.CursoringLemmas.{known_told, numbers, opening_told, start_calm, start_found, start_leaves, unknown_told}
-use Rattle.strat_store.proofs.GettingLemmas.{whole_read}
+use Rattle.strat_publish.proofs.WholeLemmas.{whole_read}
 use Rattle.strat_store.proofs.KeepingLemmas.{consistent_after}
 use Rattle.strat_store.proofs.cursoring.open_cursor.Goals as goal
 

@@ -8,8 +8,8 @@ use Rattle.strat_model.specs.declared.replies.Reply.{Reply}
 use Rattle.strat_recovery.specs.TableOver.{are_known}
 use Rattle.strat_store.specs.Applying.{is_fault, IsLookedUp}
 use Rattle.strat_store.specs.Ranging.{HasPairs}
-use Rattle.strat_store.specs.Recovering.{held_of}
-use Rattle.strat_store.proofs.GettingLemmas.{whole_read}
+use Rattle.strat_memory.specs.RecoveredFields.{held_of}
+use Rattle.strat_publish.proofs.WholeLemmas.{whole_read}
 use Rattle.strat_store.proofs.RangingLemmas.{few_arrays, finds_range, range_told, damaged_range, none_in_range, unknown_range, known_range, pairs_scanned}
 use Rattle.strat_store.proofs.ranging.scan_range.Goals as goal
 use Rattle.strat_cursor.proofs.ThroughLemmas.{names_more, through_more, through_refl}

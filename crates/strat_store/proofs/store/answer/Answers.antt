@@ -8,7 +8,8 @@ use Rattle.strat_model.specs.Pairs.{Pairs}
 use Rattle.strat_model.specs.Request.{Request}
 use Rattle.strat_store.specs.Applying.{FollowsStep, is_fault}
 use Rattle.strat_store.specs.Cursoring.{IsAppliedAt, LeavesCursors, cursors_after}
-use Rattle.strat_store.specs.Recovering.{held_of, held_after}
+use Rattle.strat_memory.specs.RecoveredFields.{held_of}
+use Rattle.strat_store.specs.Applying.{held_after}
 use Rattle.strat_store.proofs.AppliedLemmas.{change_applied}
 use Rattle.strat_store.proofs.ApplyLemmas.{look_follows, look_no_change, pairs_wanted, reads_no_look, tells_from_wanted, tells_of_change, wanted_for}
 use Rattle.strat_store.proofs.LeavingLemmas.{left_queried, leaves_wanted, untouched_by}

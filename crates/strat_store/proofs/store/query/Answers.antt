@@ -8,7 +8,7 @@ use Rattle.strat_model.specs.Spelling.{has_lawful_sizes}
 use Rattle.strat_model.specs.declared.commands.Command.{Command}
 use Rattle.strat_model.specs.declared.replies.Refusal.TheVariants as why
 use Rattle.strat_model.specs.declared.replies.Reply.TheVariants as reply
-use Rattle.strat_store.specs.Recovering.{held_of}
+use Rattle.strat_memory.specs.RecoveredFields.{held_of}
 use Rattle.strat_store.proofs.ApplyLemmas.{cursor_refused, fails_none, next_fits, no_pairs, of_cursor_not, reads_still, tells_calm, tells_look}
 use Rattle.strat_store.proofs.CursoringLemmas.{closing_applied, looks_wider, opened_applied}
 use Rattle.strat_store.proofs.store.query.Goals as goal

@@ -3,7 +3,7 @@ use Rattle.strat_base.specs.declared.descriptors.ArrayDesc.{ArrayDesc}
 use Rattle.strat_format.specs.Manifest.{Manifest}
 use Rattle.strat_recovery.specs.Head.{descriptors}
 use Rattle.strat_standing.proofs.ListLemmas.{contained_among}
-use Rattle.strat_store.specs.Paying.{KeepsCount, manifest_with_array}
+use Rattle.strat_publish.specs.Counting.{KeepsCount, manifest_with_array}
 use Rattle.strat_store_pins.proofs.keeping.a_count_is_kept_or_counts.Goals as goal
 
 -- no other number takes the place of four and eight

@@ -1,6 +1,6 @@
 use Rattle.std.proofs.Common.{refl, ap}
 use Rattle.strat_base.specs.Change as change
-use Rattle.strat_store.specs.Held.{Held}
+use Rattle.strat_memory.specs.Held.{Held}
 use Rattle.strat_store_pins.proofs.keeping.commands_leave_cursors.Goals as goal
 
 pub returns-clause-looked : goal.returns-clause-looked

@@ -3,7 +3,7 @@ use Rattle.strat_model.specs.Request.{Get, NextPairs}
 use Rattle.strat_model.specs.declared.replies.Refusal.{Refusal}
 use Rattle.strat_model.specs.declared.replies.Refusal.TheVariants as why
 use Rattle.strat_store.specs.Applying.{refusal_of_look}
-use Rattle.strat_store.specs.Memory.{Memory}
+use Rattle.strat_memory.specs.Memory.{Memory}
 use Rattle.strat_store_pins.proofs.keeping.what_is_refused_meets_no_fault.Goals as goal
 
 pub returns-clause-version : goal.returns-clause-version

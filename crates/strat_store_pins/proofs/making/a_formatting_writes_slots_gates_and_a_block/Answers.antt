@@ -1,5 +1,5 @@
 use Rattle.std.proofs.Common.{◌≢◌, ◌≤◌, ◌<◌, ℕ, inl, inr, refl, arith}
-use Rattle.strat_store.specs.Format.{IsFormatted}
+use Rattle.strat_open.specs.Format.{IsFormatted}
 use Rattle.strat_store_pins.proofs.making.a_formatting_writes_slots_gates_and_a_block.Goals as goal
 
 -- a byte that is formatted lies in one of these places

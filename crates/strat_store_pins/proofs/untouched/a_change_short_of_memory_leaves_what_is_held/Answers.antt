@@ -1,6 +1,6 @@
 use Rattle.std.proofs.Common.{refl, ap}
 use Rattle.strat_base.specs.Change as change
-use Rattle.strat_store.specs.Held.{Held}
+use Rattle.strat_memory.specs.Held.{Held}
 use Rattle.strat_store_pins.proofs.untouched.a_change_short_of_memory_leaves_what_is_held.Goals as goal
 
 pub returns-clause-same : goal.returns-clause-same

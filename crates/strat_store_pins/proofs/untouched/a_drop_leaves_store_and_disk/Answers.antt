@@ -1,7 +1,7 @@
 use Rattle.std.proofs.Common.{refl, ap}
 use Rattle.strat_base.specs.Change as change
 use Rattle.strat_model.specs.declared.replies.Refusal.TheVariants as why
-use Rattle.strat_store.specs.Held.{Held}
+use Rattle.strat_memory.specs.Held.{Held}
 use Rattle.strat_store_pins.proofs.untouched.a_drop_leaves_store_and_disk.Goals as goal
 
 pub returns-clause-err : goal.returns-clause-err

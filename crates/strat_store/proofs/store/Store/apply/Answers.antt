@@ -2,9 +2,9 @@ use Rattle.std.proofs.Common.{Bool, sym, subst, ◌∙◌}
 use Rattle.strat_model.specs.Answer.{as_told}
 use Rattle.strat_model.specs.Command.{request_of}
 use Rattle.strat_store.specs.Cursoring.{IsAppliedAt}
-use Rattle.strat_store.specs.Recovering.{held_of}
+use Rattle.strat_memory.specs.RecoveredFields.{held_of}
 use Rattle.strat_store.proofs.ApplyLemmas.{old_after, spent_at, spent_consistent, spent_reads, spent_tells}
-use Rattle.strat_store.proofs.PayingLemmas.{stored_since}
+use Rattle.strat_memory.proofs.PayingLemmas.{stored_since}
 use Rattle.strat_store.proofs.store.Store.apply.Goals as goal
 
 pub answer-told-requires-clause-kept : goal.answer-told-requires-clause-kept

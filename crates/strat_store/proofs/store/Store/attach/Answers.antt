@@ -1,7 +1,7 @@
 use Rattle.std.proofs.Common.{sym, subst}
 use Rattle.strat_array.specs.Kept.{Blocks}
-use Rattle.strat_store.specs.Following.{IsOpenedAs}
-use Rattle.strat_store.specs.Recovering.{held_of}
+use Rattle.strat_open.specs.Following.{IsOpenedAs}
+use Rattle.strat_memory.specs.RecoveredFields.{held_of}
 use Rattle.strat_store.proofs.store.Store.attach.Goals as goal
 
 pub returns-in-Ok-clause-ok : goal.returns-in-Ok-clause-ok

@@ -1,0 +1,14 @@
+pub mod BelongingLemmas
+pub mod MemoryLawLemmas
+pub mod MemoryLemmas
+pub mod PoolLemmas
+pub mod PageLemmas
+pub mod IdLemmas
+pub mod OwnLemmas
+pub mod TagLemmas
+pub mod PlacingLemmas
+pub mod AdmitLemmas
+pub mod ThreeTests
+pub mod NumbersLemmas
+pub mod PayingLemmas
+pub mod OnDiskLemmas

@@ -1,0 +1,33 @@
+-- A store that was recovered, as its callers see it.
+use Rattle.std.specs.Prelude.{ℕ, false, []}
+use Rattle.strat_array.specs.Kept.{Blocks}
+use Rattle.strat_gate.specs.SuperView.{super_of}
+use Rattle.strat_recovery.specs.Head.{Head}
+use Rattle.strat_memory.specs.Held.{Held}
+use Rattle.strat_memory.specs.declared.recovered.Recovered.{Recovered}
+use Rattle.strat_memory.specs.Admitting.{chained_of}
+
+-- the head of a store that was recovered
+abbrev pub head_recovered : Recovered → Head
+head_recovered r = record {
+  sb = super_of r.sb;
+  manifest = (chained_of r.published).manifest;
+  journal = r.journal.list;
+}
+
+-- a cache for so many blocks that has none
+abbrev pub empty_cache : ℕ → Blocks
+empty_cache cap = record { entries = []; cap = cap }
+
+-- a store that was recovered as its callers see it, with these blocks cached
+abbrev pub held_of : Recovered → Blocks → Held
+held_of r cached = record {
+  slot = r.slot;
+  sb = super_of r.sb;
+  chained = chained_of r.published;
+  log = r.journal;
+  memory = r.memory;
+  levels = r.published.levels;
+  cached = cached;
+  spent = false;
+}

@@ -1,0 +1,462 @@
+//! What an open store has in memory beside its levels and its journal: the tree of its versions, its
+//! counts, level 0 with what the latest updates say, and the open cursors.
+
+ghost use Rattle.std.specs.Prelude.{◌≡◌, ◌<◌, ◌≤◌, ℕ, ◌+◌, ◌↔◌, [], ◌∷◌, length, map, false, Some, None, Contains, IfOk, OnOk, OnErr, IsErrOf, IsTrue, is_some};
+ghost use Rattle.strat_array.specs.Told.{TellsFound};
+ghost use Rattle.strat_base.specs.Change.{is_lawful};
+ghost use Rattle.strat_base.specs.ChangeView.{change_of};
+ghost use Rattle.strat_base.specs.EntryBytes.{fits_fields};
+ghost use Rattle.strat_base.specs.EntryView.{val_of};
+ghost use Rattle.strat_base.specs.Tree.{is_known, with_child, IsTree};
+ghost use Rattle.strat_base.specs.declared.limits.TheConstants.{PAIRS_MAX, VERSIONS_MAX};
+ghost use Rattle.strat_base.specs.declared.limits.TheConstants.{CURSORS_MAX as the_most};
+ghost use Rattle.strat_crash.specs.Faults.{HasCause};
+ghost use Rattle.strat_crash.specs.Image.{Image};
+ghost use Rattle.strat_crash.specs.Moments.{Exposes};
+ghost use Rattle.strat_cursor.specs.Cursors.{MayGoOn, TellsNext, arrays_named, arrays_of_number, closed_at, is_opened, moved_at, retired_by};
+ghost use Rattle.strat_cursor.specs.Held.{HeldCursor, IsMapHeld};
+ghost use Rattle.strat_cursor.specs.Looking.{LooksThrough, MayBeFound, NamesNoBlock, ReadsArrays, arrays_there};
+ghost use Rattle.strat_cursor.specs.Ranges.{FillsPage};
+ghost use Rattle.strat_cursor.specs.declared.cursors.CursorFault.TheVariants as start_fault;
+ghost use Rattle.strat_cursor.specs.declared.cursors.NextFault.TheVariants as next_fault;
+ghost use Rattle.strat_format.specs.Manifest.{are_older};
+ghost use Rattle.strat_level.specs.Memtable.{entries_held, ListStands};
+ghost use Rattle.strat_model.specs.Pairs.{Pairs};
+ghost use Rattle.strat_recovery.specs.TableOver.{are_known};
+ghost use Rattle.strat_state.specs.Reading.{live_of};
+ghost use Rattle.strat_memory.specs.Memory.{refusal_of_update, refusal_of_clone, refusal_of_change, with_update, memory_after, HasRoomFor, reply_to, info_told, stat_told, emptied, fresh_memory, KeepsRows, cursor_from, with_cursor};
+ghost use Rattle.strat_base.specs.Marks.{is_dropped};
+
+use std::alloc::Global;
+use std::marker::Model;
+use std::mem;
+use strat_arena::ArenaPool;
+use strat_array::{Cache, Seen};
+use strat_base::{ArrayDesc, Change, NoMemory, PairBuf, Val, Version};
+use strat_cursor::{CursorFault, Cursors, Desks, NextFault};
+use strat_disk::Disk;
+use strat_level::{Levels, Zero};
+use strat_model::{Refusal, Reply};
+use strat_tree::Tree;
+
+/// What a store has in memory of its versions, of level 0 and of its cursors, which share level 0's memory.
+/// Beside level 0 the next one may stand ready, which takes its place when level 0 has gone into the levels.
+#[derive(Drop)]
+pub struct Memory {
+    changes_max: u32,
+    versions_max: u32,
+    updates: u32,
+    changes: u32,
+    tree: Tree,
+    pool: ArenaPool,
+    zero: Zero,
+    next: Option<Zero>,
+    cursors: Cursors,
+}
+
+impl Model for Memory {
+    ghost use Rattle.strat_memory.specs.Memory.{Memory as TheMemory};
+
+    ghost Value = { TheMemory };
+
+    ghost use Rattle.strat_memory.specs.MemoryFields.{memory_held, IsInMemory};
+
+    ghost view = { memory_held };
+
+    ghost invariant = { IsInMemory };
+}
+
+/// Makes a version of each of these, a child of it.
+fn grow(tree: &mut Tree, parents: &[u32])
+    requires fits { IsTrue (are_older 1 parents.now) }
+    requires room { 1 + length parents.now ≤ tree.old.versions_max }
+    requires none { tree.old.parents ≡ None ∷ [] }
+    requires kept { (v : ℕ) → is_dropped tree.old.marks v ≡ false }
+    ensures ok { (tree.new.parents ≡ None ∷ map (λ p. Some p) parents.now)
+        × (tree.new.versions_max ≡ tree.old.versions_max) }
+    ensures kept { (v : ℕ) → is_dropped tree.new.marks v ≡ false }
+{
+    for p in parents {
+        tree.add_child(*p);
+    }
+}
+
+impl Memory {
+    /// Memory of a new store. It takes 1.3 KB for each of `mem` updates and 75 bytes for each version
+    /// that there may be; the only error is want of memory. Of the other calls `prepare`, `open_cursor` and
+    /// `reserve_retired` alone take any.
+    pub fn new(
+        alloc: Global,
+        mem: u32,
+        changes_max: u32,
+        versions_max: u32,
+    ) -> Result<Memory, NoMemory>
+        requires fits { (4 ≤ mem) × (mem ≤ 4096) }
+        requires room { (1 ≤ versions_max) × (versions_max ≤ VERSIONS_MAX) }
+        ensures ok { IfOk result (λ m. m ≡ fresh_memory mem changes_max versions_max) }
+    {
+        let tree = Tree::new(alloc, versions_max)?;
+        let mut pool = ArenaPool::new(alloc);
+        let zero = Zero::new(alloc, &mut pool, mem)?;
+        let cursors = Cursors::new(alloc)?;
+        Ok(Memory {
+            changes_max,
+            versions_max,
+            updates: 0,
+            changes: 0,
+            tree,
+            pool,
+            zero,
+            next: None,
+            cursors,
+        })
+    }
+
+    /// Takes the versions and the counts of a manifest into new memory, where `parents` are those of
+    /// the versions from 1 on. O(versions log versions_max).
+    #[tactic(auto, using(strat_base::proofs::MarkLemmas::living_at))]
+    pub fn load(&mut self, parents: &[u32], updates: u32, changes: u32)
+        requires fits { IsTrue (are_older 1 parents.now) }
+        requires room { 1 + length parents.now ≤ self.old.versions_max }
+        requires none { (self.old.parents ≡ None ∷ []) × (self.old.entries ≡ [])
+            × (self.old.cursors.opened ≡ []) }
+        requires kept { (updates ≤ changes) × (changes ≤ self.old.changes_max) }
+        ensures ok { self.new ≡ record self.old {
+          parents = None ∷ map (λ p. Some p) parents.now;
+          updates = updates;
+          changes = changes;
+        } }
+    {
+        grow(&mut self.tree, parents);
+        self.updates = updates;
+        self.changes = changes;
+    }
+
+    /// Whether there is such a version. O(1).
+    pub fn has(&self, version: Version) -> bool
+        ensures ok { result ≡ is_known self.now.parents version }
+    {
+        version < self.tree.count()
+    }
+
+    fn update_refusal(&self, version: Version) -> Option<Refusal>
+        ensures ok { result ≡ refusal_of_update self.now version }
+    {
+        if !self.has(version) {
+            Some(Refusal::UnknownVersion)
+        } else if self.tree.has_child(version) {
+            Some(Refusal::Frozen)
+        } else if self.changes == self.changes_max {
+            Some(Refusal::ChangeLimit)
+        } else {
+            None
+        }
+    }
+
+    fn clone_refusal(&self, version: Version) -> Option<Refusal>
+        ensures ok { result ≡ refusal_of_clone self.now version }
+    {
+        if !self.has(version) {
+            Some(Refusal::UnknownVersion)
+        } else if self.tree.count() == self.versions_max {
+            Some(Refusal::VersionLimit)
+        } else if self.changes == self.changes_max {
+            Some(Refusal::ChangeLimit)
+        } else {
+            None
+        }
+    }
+
+    /// Why a change is refused, if it is. A drop is, since no build takes one yet. O(1).
+    pub fn refusal(&self, change: &Change<'_>) -> Option<Refusal>
+        ensures ok { result ≡ refusal_of_change self.now (change_of change.now) }
+    {
+        match *change {
+            Change::Put { version, .. } => self.update_refusal(version),
+            Change::Delete { version, .. } => self.update_refusal(version),
+            Change::Clone { version } => self.clone_refusal(version),
+            Change::DropVersion { .. } => Some(Refusal::UnknownVersion),
+        }
+    }
+
+    /// Sets an entry in level 0.
+    fn set(&mut self, version: Version, key: &[u8], val: Val<'_>)
+        requires none { refusal_of_update self.old version ≡ None }
+        requires room { 1 ≤ self.old.spare }
+        requires fits { IsTrue (fits_fields (record {
+          key = key.now;
+          version = version;
+          value = val_of val;
+        })) }
+        ensures ok { self.new ≡ with_update self.old (record {
+          key = key.now;
+          version = version;
+          value = val_of val.entry;
+        }) }
+        ensures kept { KeepsRows self.old self.new }
+    {
+        self.updates += 1;
+        self.changes += 1;
+        self.zero.put(&mut self.pool, version, key, val);
+    }
+
+    /// Makes a version, a child of another.
+    fn add_child(&mut self, version: Version) -> Version
+        requires none { refusal_of_clone self.old version ≡ None }
+        ensures ok { self.new ≡ record self.old {
+          parents = with_child self.old.parents version;
+          changes = self.old.changes + 1;
+        } }
+        ensures found { result ≡ length self.old.parents }
+        ensures kept { KeepsRows self.old self.new }
+    {
+        // A tree says with its count that it has room.
+        let _ = self.tree.count();
+        self.changes += 1;
+        self.tree.add_child(version)
+    }
+
+    /// Carries out a change that is not refused, and answers what is told of it. It takes no memory.
+    /// An update costs one insertion into level 0, a clone O(log versions_max).
+    pub fn take(&mut self, change: &Change<'_>) -> Reply
+        requires none { refusal_of_change self.old (change_of change.now) ≡ None }
+        requires fits { IsTrue (is_lawful (change_of change.now)) }
+        requires room { HasRoomFor self.old (change_of change.now) }
+        ensures ok { self.new ≡ memory_after self.old (change_of change.now) }
+        ensures found { result ≡ reply_to self.old (change_of change.now) }
+        ensures kept { KeepsRows self.old self.new }
+    {
+        match *change {
+            Change::Put {
+                version,
+                key,
+                value,
+            } => {
+                self.set(version, key, Val::Put(value));
+                Reply::Done
+            }
+            Change::Delete { version, key } => {
+                self.set(version, key, Val::Gone);
+                Reply::Done
+            }
+            Change::Clone { version } => Reply::Made {
+                version: self.add_child(version),
+            },
+            // A drop is refused.
+            Change::DropVersion { .. } => Reply::Done,
+        }
+    }
+
+    /// What is told of a version that is there. O(1).
+    pub fn info(&self, version: Version) -> Reply
+        requires found { IsTrue (is_known self.now.parents version) }
+        ensures ok { result ≡ info_told self.now version }
+    {
+        Reply::Info {
+            parent: self.tree.parent(version),
+            depth: self.tree.depth(version),
+            frozen: self.tree.has_child(version),
+        }
+    }
+
+    /// How many versions and how many open cursors there are, and how many updates and changes were accepted. O(1).
+    pub fn stat(&self) -> Reply
+        ensures ok { result ≡ stat_told self.now }
+    {
+        Reply::Stat {
+            versions: self.tree.count(),
+            updates: self.updates,
+            changes: self.changes,
+            cursors: self.cursors.len() as u32,
+        }
+    }
+
+    /// What level 0 says of a key at a version. The pair of a value is added to `out`. O(log items)
+    /// comparisons of keys, and a walk over the items of the key at versions up to this one.
+    pub fn find(&self, key: &[u8], version: Version, out: &mut PairBuf) -> Seen
+        requires found { version < length self.now.parents }
+        requires room { length out.old < PAIRS_MAX }
+        ensures ok { TellsFound (live_of self.now.parents self.now.entries version key.now)
+            key.now out.old out.new result }
+    {
+        let Some(place) = self.zero.find(&self.pool, &self.tree, key, version) else {
+            return Seen::None;
+        };
+        match self.zero.value(&self.pool, place) {
+            None => Seen::Gone,
+            Some(value) => {
+                out.push(key, value);
+                Seen::Put
+            }
+        }
+    }
+
+    /// Level 0, the pool that has its keys and values, and the versions, as a promotion takes them. O(1).
+    #[tactic(auto, using(crate::proofs::MemoryLemmas::items_counted))]
+    pub fn parts(&self) -> (&Zero, &ArenaPool, &Tree)
+        ensures ok { entries_held result.1.now result.0.now.list ≡ self.now.entries }
+        ensures kept { ListStands result.1.now result.0.now.list }
+        ensures len { length result.0.now.list.items ≡ length self.now.entries }
+        ensures fits { IsTrue (are_known self.now.parents self.now.entries) }
+        ensures found { (result.2.now.parents ≡ self.now.parents) × IsTree result.2.now.parents }
+    {
+        let _ = self.tree.count();
+        (&self.zero, &self.pool, &self.tree)
+    }
+
+    /// How many changes and how many updates were accepted. O(1).
+    pub fn counts(&self) -> (u32, u32)
+        ensures ok { (result.0 ≡ self.now.changes) × (result.1 ≡ self.now.updates) }
+    {
+        (self.changes, self.updates)
+    }
+
+    /// Gives the next level 0 back, if one stands ready.
+    fn forget_next(&mut self)
+        ensures ok { self.new ≡ record self.old { ready = None } }
+    {
+        if let Some(next) = self.next.take() {
+            next.release(&mut self.pool);
+        }
+    }
+
+    /// Makes the next level 0, with room for `mem` updates of the largest pairs, 1.3 KB for each. It
+    /// takes the place of one that stands ready already. The only error is want of memory; then none
+    /// stands ready.
+    pub fn prepare(&mut self, alloc: Global, mem: u32) -> Result<(), NoMemory>
+        requires fits { (4 ≤ mem) × (mem ≤ 4096) }
+        ensures ok { OnOk result (self.new ≡ record self.old { ready = Some mem }) }
+        ensures err { OnErr result (self.new ≡ record self.old { ready = None }) }
+    {
+        self.forget_next();
+        // Cursors say with their count that they are few.
+        let _ = self.cursors.len();
+        let next = Zero::new(alloc, &mut self.pool, mem)?;
+        self.next = Some(next);
+        Ok(())
+    }
+
+    /// Puts the next level 0, which stands ready, in the place of level 0, whose memory is given back unless a
+    /// cursor shares it. It takes no memory and cannot fail.
+    pub fn restart(&mut self)
+        requires found { IsTrue (is_some self.old.ready) }
+        ensures ok { (mem : ℕ) → self.old.ready ≡ Some mem → self.new ≡ emptied mem self.old }
+    {
+        if let Some(next) = self.next.take() {
+            mem::replace(&mut self.zero, next).release(&mut self.pool);
+        }
+    }
+
+    /// The arrays that no level names any more but a cursor does. O(1).
+    pub fn retired(&self) -> &[ArrayDesc]
+        ensures ok { result.now ≡ self.now.cursors.retired }
+        ensures len { length self.now.cursors.opened ≤ 64 }
+    {
+        // Cursors say with their count that they are few.
+        let _ = self.cursors.len();
+        self.cursors.retired()
+    }
+
+    /// Opens a cursor over a range of a version as it is now, and answers its number. After a refusal all is as before.
+    /// O(items of level 0), 12 bytes for each, and the time of copying at most 22 descriptors: no block is read.
+    pub fn open_cursor(
+        &mut self,
+        levels: &Levels,
+        version: Version,
+        lo: &[u8],
+        hi: &[u8],
+    ) -> Result<u64, CursorFault>
+        requires found { version < length self.old.parents }
+        requires kept { MayBeFound (arrays_there levels.now) }
+        ensures ok { IfOk result (λ n. (n ≡ self.old.cursors.next)
+            × (self.new ≡ record self.old {
+              cursors = with_cursor self.old.cursors
+                  (cursor_from self.old levels.now version lo.now hi.now);
+            })) }
+        ensures cause { IsErrOf result start_fault.CursorLimit
+            ↔ (length self.old.cursors.opened ≡ the_most) }
+        ensures err { OnErr result (self.new ≡ self.old) }
+    {
+        // Cursors say with their count that they are few.
+        let _ = self.cursors.len();
+        self.cursors.start(
+            &mut self.pool,
+            &self.tree,
+            &self.zero,
+            None,
+            levels,
+            version,
+            lo,
+            hi,
+        )
+    }
+
+    /// Puts the first pairs that a cursor has left into `out`, at most `limit`: it then has the others left. Answers
+    /// whether there are any. Costs what `strat_cursor::scan` does, and takes no memory but for blocks that are cached.
+    /// After an error all cursors are as before.
+    pub fn next_pairs<D: Disk>(
+        &mut self,
+        disk: &mut D,
+        cache: &mut Cache,
+        number: u64,
+        limit: u16,
+        desks: &mut Desks,
+        out: &mut PairBuf,
+    ) -> Result<bool, NextFault>
+        requires fits { (1 ≤ limit) × (limit ≤ 256) }
+        requires room { out.old ≡ [] }
+        ensures ok { IfOk result (λ more. (c : HeldCursor) → Contains self.old.cursors.opened c
+            → c.number ≡ number → (f : Image) (next : ℕ) (m : Pairs)
+            → Exposes (D.view disk.old) f → MayGoOn f next c cache.old
+            → IsMapHeld f self.old.parents c m → TellsNext m c limit out.new more) }
+        ensures len { IfOk result (λ more. FillsPage limit (length out.new) more) }
+        ensures end { IfOk result (λ more. self.new ≡ record self.old {
+          cursors = record self.old.cursors {
+            opened = moved_at number more out.new self.old.cursors.opened;
+          };
+        }) }
+        ensures found { IsErrOf result next_fault.UnknownCursor
+            ↔ (is_opened number self.old.cursors.opened ≡ false) }
+        ensures err { OnErr result ((self.new ≡ self.old) × (out.new ≡ [])) }
+        ensures same { LooksThrough (D.view disk.old) (D.view disk.new)
+            (arrays_named self.old.cursors.opened) cache.old cache.new }
+        ensures damaged { (b : ℕ) → IsErrOf result (next_fault.Damaged b)
+            → NamesNoBlock (D.view disk.old).content (arrays_named self.old.cursors.opened) b }
+        ensures cause { HasCause next_fault.Device (D.faults disk.old) (D.faults disk.new) result }
+        ensures reads { ReadsArrays (arrays_of_number number self.old.cursors.opened)
+            (D.reads disk.old) (D.reads disk.new) }
+    {
+        let more = self.cursors.next(
+            disk, cache, &self.pool, &self.tree, number, limit, desks, out,
+        )?;
+        Ok(more)
+    }
+
+    /// Closes a cursor, where one has the number, and answers whether one had. The arrays that were kept for it alone are
+    /// kept no longer. O(retired arrays * arrays of all cursors).
+    pub fn close_cursor(&mut self, number: u64) -> bool
+        ensures ok { result ≡ is_opened number self.old.cursors.opened }
+        ensures end { self.new ≡ record self.old { cursors = closed_at number self.old.cursors } }
+        ensures none { result ≡ false → self.new ≡ self.old }
+    {
+        self.cursors.close(&mut self.pool, number)
+    }
+
+    /// Makes room for so many more arrays that are kept for cursors.
+    pub fn reserve_retired(&mut self, n: usize) -> Result<(), NoMemory>
+        ensures ok { OnOk result (length self.old.cursors.retired + n ≤ self.new.cursors.room) }
+        ensures same { self.new ≡ record self.old {
+          cursors = record self.old.cursors { room = self.new.cursors.room };
+        } }
+    {
+        self.cursors.reserve_retired(n)
+    }
+
+    /// Keeps the descriptor of an array that no level names any more, where a cursor names it.
+    pub fn retire(&mut self, desc: ArrayDesc)
+        requires room { length self.old.cursors.retired < self.old.cursors.room }
+        ensures ok { self.new ≡ record self.old { cursors = retired_by desc self.old.cursors } }
+    {
+        self.cursors.retire(desc);
+    }
+}

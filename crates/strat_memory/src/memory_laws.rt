@@ -1,0 +1,105 @@
+//! Laws of what a store has in memory: it answers as the table that its head means, and follows the
+//! head from change to change. Each is the contract of a function that does nothing.
+
+ghost use Rattle.std.specs.Prelude.{◌≡◌, ◌<◌, ◌≤◌, ℕ, List, [], ◌∷◌, ◌++◌, length, Some, None, IsTrue, false, is_some, not};
+ghost use Rattle.strat_base.specs.Change.{Change};
+ghost use Rattle.strat_base.specs.Tree.{is_known};
+ghost use Rattle.strat_crash.specs.Image.{Image};
+ghost use Rattle.strat_model.specs.Answer.{plain};
+ghost use Rattle.strat_model.specs.Request.{Get, Info, Stat};
+ghost use Rattle.strat_model.specs.Step.{step, refuses};
+ghost use Rattle.strat_model.specs.Table.{Cursor};
+ghost use Rattle.strat_model.specs.declared.replies.Refusal.{Refusal};
+ghost use Rattle.strat_model.specs.declared.replies.Refusal.TheVariants as why;
+ghost use Rattle.strat_recovery.specs.Head.{Head, head_versions, head_updates, head_changes, head_marks};
+ghost use Rattle.strat_recovery.specs.Opened.{parents_in};
+ghost use Rattle.strat_recovery.specs.Opening.{state_of};
+ghost use Rattle.strat_recovery.specs.StateTable.{request_for};
+ghost use Rattle.strat_state.specs.Reading.{live_of, level_zero};
+ghost use Rattle.strat_state.specs.Sound.{is_accepted, accepts_change, IsSound};
+ghost use Rattle.strat_state.specs.State.{State};
+ghost use Rattle.strat_memory.specs.Memory.{Memory, refusal_of_change, memory_after, HasRoomFor, reply_to, info_told, stat_told, emptied, fresh_memory, table_with, IsMemoryOf};
+ghost use Rattle.strat_base.specs.Marks.{Marks, none_dropped};
+
+/// Memory refuses a change just where the table does, and for the same reason; of any other it tells
+/// what the table answers, wherever the change then goes and whatever cursors there are.
+pub fn memory_answers_changes_as_the_table()
+    ensures err { (f : Image) (h : Head) (s : State) (m : Memory) (rows : List Cursor) (n : ℕ)
+        (change : Change) (r : Refusal)
+        → state_of f h ≡ Some s → IsMemoryOf h m → refusal_of_change m change ≡ Some r
+        → step (table_with s rows n) (request_for change) ≡ refuses (table_with s rows n) r }
+    ensures ok { (f : Image) (h : Head) (s : State) (m : Memory) (rows : List Cursor) (n : ℕ)
+        (change : Change)
+        → state_of f h ≡ Some s → IsMemoryOf h m → refusal_of_change m change ≡ None
+        → (step (table_with s rows n) (request_for change)).answer ≡ plain (reply_to m change) }
+    ensures found { (f : Image) (h : Head) (s : State) (m : Memory) (change : Change)
+        → state_of f h ≡ Some s → IsMemoryOf h m → refusal_of_change m change ≡ None
+        → IsTrue (accepts_change s change) }
+{}
+
+/// Memory refuses just the changes that its limits, versions and counts do not accept, where no version was dropped.
+pub fn memory_refuses_what_is_not_accepted()
+    ensures ok { (m : Memory) (marks : Marks) (change : Change) → IsTrue (none_dropped marks)
+        → is_accepted m.changes_max m.versions_max m.parents marks m.changes change
+        ≡ not (is_some (refusal_of_change m change)) }
+{}
+
+/// Memory tells of versions and of the whole store what the table answers that has as many cursors as are open, and knows
+/// the versions that the table has.
+pub fn memory_tells_of_versions_as_the_table()
+    ensures found { (f : Image) (h : Head) (s : State) (m : Memory) (rows : List Cursor) (n v : ℕ)
+        → state_of f h ≡ Some s → IsMemoryOf h m → IsTrue (is_known m.parents v)
+        → (step (table_with s rows n) (Info v)).answer ≡ plain (info_told m v) }
+    ensures ok { (f : Image) (h : Head) (s : State) (m : Memory) (rows : List Cursor) (n : ℕ)
+        → state_of f h ≡ Some s → IsMemoryOf h m → length rows ≡ length m.cursors.opened
+        → (step (table_with s rows n) Stat).answer ≡ plain (stat_told m) }
+    ensures none { (f : Image) (h : Head) (s : State) (m : Memory) (rows : List Cursor) (n v : ℕ)
+        → state_of f h ≡ Some s → IsMemoryOf h m → is_known m.parents v ≡ false
+        → step (table_with s rows n) (Info v) ≡ refuses (table_with s rows n) why.UnknownVersion }
+    ensures err { (f : Image) (h : Head) (s : State) (m : Memory) (rows : List Cursor) (n v : ℕ)
+        (key : List ℕ)
+        → state_of f h ≡ Some s → IsMemoryOf h m → is_known m.parents v ≡ false
+        → step (table_with s rows n) (Get v key)
+        ≡ refuses (table_with s rows n) why.UnknownVersion }
+{}
+
+/// A key is found in the entries of level 0 in memory as in the latest updates of the journal.
+pub fn memory_finds_what_level_zero_says()
+    ensures same { (f : Image) (h : Head) (s : State) (m : Memory) (v : ℕ) (key : List ℕ)
+        → state_of f h ≡ Some s → IsMemoryOf h m → IsSound s
+        → live_of m.parents m.entries v key ≡ live_of m.parents (level_zero s) v key }
+{}
+
+/// Memory after a change that it does not refuse is that of the head with the change in its journal, and has room for what the
+/// change sets as long as the journal has room for it. Level 0 has no more entries than the journal changes.
+pub fn memory_follows_the_journal()
+    ensures ok { (h : Head) (m : Memory) (change : Change) → IsMemoryOf h m
+        → refusal_of_change m change ≡ None
+        → IsMemoryOf (record h { journal = h.journal ++ change ∷ [] }) (memory_after m change) }
+    ensures room { (h : Head) (m : Memory) (change : Change) → IsMemoryOf h m
+        → length h.journal < h.sb.mem → HasRoomFor m change }
+    ensures len { (h : Head) (m : Memory) → IsMemoryOf h m
+        → length m.entries ≤ length h.journal }
+{}
+
+/// Memory with an empty level 0 is that of a head with the same limits, versions and counts, and no
+/// change in its journal.
+pub fn emptied_memory_follows_a_publication()
+    ensures ok { (h new : Head) (m : Memory) → IsMemoryOf h m → new.journal ≡ []
+        → new.sb.changes_max ≡ h.sb.changes_max → new.sb.versions_max ≡ h.sb.versions_max
+        → head_versions new ≡ head_versions h → head_updates new ≡ head_updates h
+        → head_changes new ≡ head_changes h → IsTrue (none_dropped (head_marks new))
+        → IsMemoryOf new (emptied new.sb.mem m) }
+{}
+
+/// New memory that took the versions and the counts of a manifest is that of the manifest's head with
+/// no change in its journal.
+pub fn loaded_memory_is_that_of_a_manifest()
+    ensures ok { (h : Head) → h.journal ≡ [] → IsTrue (none_dropped h.manifest.marks)
+        → IsMemoryOf h
+        (record (fresh_memory h.sb.mem h.sb.changes_max h.sb.versions_max) {
+          parents = parents_in h.manifest;
+          updates = h.manifest.updates;
+          changes = h.manifest.changes;
+        }) }
+{}

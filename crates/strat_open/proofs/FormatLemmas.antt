@@ -1,0 +1,151 @@
+-- What a crash leaves of a disk while a new store is made on it, phase by phase.
+use Rattle.std.proofs.Common.{◌≡◌, ◌≢◌, ◌<◌, ℕ, ◌+◌, ◌*◌, inl, inr, [], length, Some, None, Ok, Option, IfSome, refl, sym, ap, subst, ◌∙◌, arith}
+use Rattle.std.proofs.lemmas.Bool.{le-leb}
+use Rattle.std.proofs.lemmas.List.{length-replicate}
+use Rattle.strat_format.specs.Chain.{link_bytes}
+use Rattle.strat_crash.specs.Image.{Image, Outside, SameIn, patch, window}
+use Rattle.strat_format.specs.Layout.{region_at, first_free}
+use Rattle.strat_format.specs.Manifest.{manifest_bytes}
+use Rattle.strat_crash.specs.Moments.{DiskView, Images, Since, Passes, TearsOnly, IsDurable}
+use Rattle.strat_base.specs.Numbers.{be}
+use Rattle.strat_format.specs.SuperBlock.{Super, slot_in, newer, verdict, chosen_in, newest_in}
+use Rattle.strat_crash.proofs.ImageLemmas.{over_below, outside_same_above, window_same, window_patch}
+use Rattle.strat_crash.proofs.MomentLemmas.{now_since_start, at_told, settled_at}
+use Rattle.strat_format.proofs.SuperBlockLemmas.{slot_closed}
+use Rattle.strat_gate.specs.Laying.{LaysOver, OldOrNew}
+use Rattle.strat_format.proofs.TwoRegionsLemmas.{journal_none}
+use Rattle.strat_format.specs.Records.{journal_in_two}
+use Rattle.strat_state.specs.Sound.{journal_max, IsSound}
+use Rattle.strat_state.specs.State.{deep, fresh_state, IsPaid}
+use Rattle.strat_open.specs.Format.{new_block, IsNewDisk, IsShut, IsNewStore, IsNoneOrNew, super_for}
+use Rattle.strat_open.proofs.NewStoreLemmas.{head_found, state_found}
+use Rattle.strat_open.proofs.ShutLemmas.{StaysBlank}
+
+-- the manifest of a new store fills a block
+pub length-new_block : length new_block ≡ 4096
+unfolding link_bytes manifest_bytes be
+length-new_block = ap (λ (n : ℕ). 33 + n) (length-replicate {A = ℕ} 4063 0)
+
+-- an image with both slots shut is no store
+pub none_newest : (c : Image) → c 0 ≢ 0xa7 → c 4096 ≢ 0xa7 → newest_in c ≡ Ok None
+none_newest c first second =
+    let one : slot_in c 0 ≡ None = slot_closed c 0 first in
+    let two : slot_in c 4096 ≡ None = slot_closed c 4096 second in
+    λ j. verdict (newer (one j) (two j))
+
+-- where both slots stay shut, no image is a store
+pub none_yet : (mem changes_max versions_max : ℕ) (old new : DiskView) → StaysBlank old new → (c : Image) → Since new old.moment c → IsNoneOrNew mem changes_max versions_max c
+none_yet mem changes_max versions_max old new stays c since = let shut = stays.each c since in inl (none_newest c shut.0 shut.1)
+
+-- once the manifest is there: each image is the content, in which both slots and both regions are shut, and the manifest has its block
+pub record Prepared (mem : ℕ) (v : DiskView) : Type 0 where
+  pub content : Image
+  pub exposed : v.content ≡ Some content
+  pub only : (c : Image) → Images v c → c ≡ content
+  pub first : content 0 ≢ 0xa7
+  pub second : content 4096 ≢ 0xa7
+  pub active : content (region_at mem 0) ≢ 0xa7
+  pub other : content (region_at mem 1) ≢ 0xa7
+  pub block : window content (4096 * first_free mem) 4096 ≡ new_block
+
+-- after the gates were shut and the manifest was written
+pub prepared : (mem : ℕ) (v1 v2 : DiskView) → IsShut mem v1 → IfSome v1.content (λ f. v2.content ≡ Some (patch f (4096 * first_free mem) new_block)) → IsDurable v2 → Prepared mem v2
+prepared mem v1 v2 shut writes settled =
+    let at : ℕ = 4096 * first_free mem in
+    let f : Image = shut.content in
+    let exposed : v2.content ≡ Some (patch f at new_block) =
+    at_told v1.content (λ (g : Image). v2.content ≡ Some (patch g at new_block)) f shut.exposed writes in
+    record {
+      content = patch f at new_block;
+      exposed = exposed;
+      only = settled_at v2 (patch f at new_block) exposed settled;
+      first = λ up. shut.first (sym (over_below at (length new_block) _ f 0 (omega arith)) ∙ up);
+      second = λ up. shut.second (sym (over_below at (length new_block) _ f 4096 (omega arith)) ∙ up);
+      active = λ up. shut.active (sym (over_below at (length new_block) _ f (region_at mem 0) (omega arith)) ∙ up);
+      other = λ up. shut.other (sym (over_below at (length new_block) _ f (region_at mem 1) (omega arith)) ∙ up);
+      block = ap (λ (n : ℕ). window (patch f at new_block) at n) (sym length-new_block) ∙ window_patch f at new_block;
+    }
+
+-- the superblock may be laid into the first slot
+pub lays_over : (mem : ℕ) (v : DiskView) (p : Prepared mem v) (sb : Super) → LaysOver v p.content 0 sb
+lays_over mem v p sb =
+    let one : slot_in p.content 0 ≡ None = slot_closed p.content 0 p.first in
+    let two : slot_in p.content 4096 ≡ None = slot_closed p.content 4096 p.second in
+    let none : chosen_in p.content ≡ None = λ j. newer (one j) (two j) in
+    record {
+      content = p.exposed;
+      same = λ c left. record { byte = λ i from to. λ j. p.only c left j i };
+      newest = subst (λ (o : Option (ℕ × Super)). IfSome o (λ s. (s.0 ≢ 0) × (s.1.generation < sb.generation))) (sym none) tt;
+    }
+
+-- the state of a new store is sound
+fresh_sound : (mem changes_max versions_max : ℕ) → IsSound (fresh_state mem changes_max versions_max)
+fresh_sound mem changes_max versions_max = record {
+  formed = record { tree = refl; pruned = refl; numbered = refl; accepted = refl; fits = le-leb 0 (journal_max mem) (omega arith) };
+  stratified = tt;
+  roomy = refl;
+  old = refl;
+  settled = refl;
+  described = refl;
+  few = refl;
+  ascending = refl;
+}
+
+-- and it has written nothing
+fresh_paid : (mem changes_max versions_max : ℕ) → IsPaid (fresh_state mem changes_max versions_max)
+fresh_paid mem changes_max versions_max = record { shallow = refl; bounded = le-leb (0 + 4 * 0) (4 * deep mem 0 * 0) (omega arith) }
+
+module _ (mem changes_max versions_max : ℕ) (some : 0 < mem) (v : DiskView) (p : Prepared mem v) where
+  -- the content with the new superblock in the first block is a new store
+  new_store : (c : Image) → Outside 0 4096 p.content c → newest_in c ≡ Ok (Some (0, super_for mem changes_max versions_max)) → IsNewStore mem changes_max versions_max c
+  new_store c out newest =
+      let sb : Super = super_for mem changes_max versions_max in
+      let same : SameIn (4096 * first_free mem) 4096 p.content c = outside_same_above 0 4096 (4096 * first_free mem) 4096 (omega arith) out in
+      let block : window c (4096 * first_free mem) 4096 ≡ new_block = window_same p.content c (4096 * first_free mem) 4096 same ∙ p.block in
+      let none : journal_in_two c mem 0 ≡ Ok [] = journal_none c mem 0 some (λ up. p.active (sym (out.above (region_at mem 0) (omega arith)) ∙ up)) in
+      record {
+        found = head_found c sb refl refl block 0 newest none;
+        reads = state_found c sb refl refl block 0 newest none;
+        shows = record {
+          state = fresh_state mem changes_max versions_max;
+          reads = state_found c sb refl refl block 0 newest none;
+          sound = fresh_sound mem changes_max versions_max;
+          table = refl;
+        };
+        slot = λ up. p.second (sym (out.above 4096 (omega arith)) ∙ up);
+        region = λ up. p.other (sym (out.above (region_at mem 1) (omega arith)) ∙ up);
+        paid = λ s reads.
+            let e : Some (fresh_state mem changes_max versions_max) ≡ Some s = sym (state_found c sb refl refl block 0 newest none) ∙ reads in
+            let same : fresh_state mem changes_max versions_max ≡ s = cc in
+            subst IsPaid same (fresh_paid mem changes_max versions_max);
+      }
+
+  -- the superblock of a new store, with the number of its manifest's block as it was reckoned
+  abbrev super_at : ℕ → Super
+  super_at first = record (super_for mem changes_max versions_max) { manifest = first }
+
+  -- an image of the content, but for the first block
+  torn_front : (new : DiskView) → TearsOnly v new 0 4096 → (c : Image) → Since new v.moment c → Outside 0 4096 p.content c
+  torn_front new tears c since = let torn = tears.each c since in subst (λ (d : Image). Outside 0 4096 d c) (p.only torn.0 torn.1) torn.2
+
+  -- while the superblock is laid, an image is no store or the new one
+  pub laying : (new : DiskView) (first : ℕ) → first ≡ first_free mem → TearsOnly v new 0 4096
+      → ((c : Image) → Since new v.moment c → OldOrNew p.content 0 (super_at first) c) → (c : Image) → Since new v.moment c → IsNoneOrNew mem changes_max versions_max c
+  laying new first is tears either c since = elim (either c since) [
+    | inl old ↦ inl (old ∙ none_newest p.content p.first p.second)
+    | inr here ↦ inr (new_store c (torn_front new tears c since) (here ∙ (λ j. Ok (Some (0, super_at (is j))))))
+  ]
+
+  -- once it is laid, an image is the new store
+  pub laid : (new : DiskView) (first : ℕ) → first ≡ first_free mem → Passes v new → TearsOnly v new 0 4096
+      → ((c : Image) → Images new c → newest_in c ≡ Ok (Some (0, super_at first))) → (c : Image) → Images new c → IsNewStore mem changes_max versions_max c
+  laid new first is passes tears newest c left =
+      new_store c (torn_front new tears c (now_since_start v new c passes left)) (newest c left ∙ (λ j. Ok (Some (0, super_at (is j)))))
+
+-- a settled disk each of whose images is a new store is a new disk
+pub new_disk : (mem changes_max versions_max : ℕ) (v : DiskView) (f : Image) → v.content ≡ Some f → ((c : Image) → Images v c → c ≡ f) → IfSome v.content (Images v)
+    → ((c : Image) → Images v c → IsNewStore mem changes_max versions_max c) → IsNewDisk mem changes_max versions_max v
+new_disk mem changes_max versions_max v f exposed alone law each = record {
+  rest = record { content = f; exposed = exposed; alone = alone };
+  new = each f (at_told v.content (Images v) f exposed law);
+}

@@ -1,0 +1,9 @@
+pub mod FormatLemmas
+pub mod NewBlockLemmas
+pub mod NewStoreLemmas
+pub mod ShutLemmas
+pub mod OtherLemmas
+pub mod RedoLemmas
+pub mod RecoverLemmas
+pub mod OpenLemmas
+pub mod ReadingLemmas

@@ -1,0 +1,140 @@
+-- What an image shows that has the manifest of a new store.
+use Rattle.std.proofs.Common.{◌≡◌, ◌≤◌, ◌<◌, ◌-◌, ◌*◌, ℕ, Bool, true, false, cond, leb, ltb, List, [], ◌∷◌, length, Option, Some, None, Ok, Err, refl, sym, ap, ◌∙◌, arith}
+use Rattle.std.specs.Prelude.{option_and_then}
+use Rattle.std.proofs.lemmas.Bool.{and_parts, leb-true, le-leb, ltb-true}
+use Rattle.std.proofs.lemmas.List.{take_all, drop_all}
+use Rattle.strat_base.specs.declared.limits.TheConstants.{BLOCK}
+use Rattle.strat_base.specs.Change.{Change}
+use Rattle.strat_base.specs.Numbers.{be}
+use Rattle.strat_crash.specs.Image.{Image, window}
+use Rattle.strat_format.specs.Chain.{link_bytes, chain_length, HoldsChain, IsChain}
+use Rattle.strat_format.specs.Chained.{Chained, manifest_at}
+use Rattle.strat_format.specs.Damage.{Read, and_then, passed_or}
+use Rattle.strat_format.specs.Layout.{first_free, newest_format, shortest_manifest}
+use Rattle.strat_format.specs.Manifest.{Manifest, manifest_bytes, all_pass, SpellsManifest, new_manifest}
+use Rattle.strat_format.specs.Records.{Logged, journal_in_two}
+use Rattle.strat_format.specs.SuperBlock.{Super, in_range, chosen_in, verdict, newest_in}
+use Rattle.strat_format.proofs.ChainLemmas.{chain_read}
+use Rattle.strat_recovery.specs.Head.{Head}
+use Rattle.strat_recovery.specs.Opened.{parents_in}
+use Rattle.strat_recovery.specs.Opening.{belongs, recover_manifest, accepted_in, recover_journal, recover_slot, recover, opened, state_of, reads_as}
+use Rattle.strat_state.specs.State.{fresh_state}
+use Rattle.strat_open.specs.Format.{new_block}
+
+-- a superblock that is read in a slot
+abbrev slot_read : ℕ → Super → Read (Option (ℕ × Super))
+slot_read slot sb = Ok (Some (slot, sb))
+
+-- two superblocks that are read are the same where what is read is
+one_super : (n m : ℕ) (x y : Super) → slot_read n x ≡ slot_read m y → x ≡ y
+one_super n m x y e =
+    let pair : (n, x) ≡ (m, y) = cc in
+    ap (λ (p : ℕ × Super). p.1) pair
+
+-- the newest superblock has its fields in range
+pub newest_fits : (c : Image) (slot : ℕ) (sb : Super) → newest_in c ≡ Ok (Some (slot, sb)) → in_range sb ≡ true
+newest_fits c slot sb e = by_slot (chosen_in c) e
+  where
+    by_test : (n : ℕ) (s : Super) (b : Bool) → in_range s ≡ b → cond b (slot_read n s) (Err n) ≡ slot_read slot sb → in_range sb ≡ true
+    by_test n s false fits e = absurd (cc)
+    by_test n s true fits e =
+        let same : s ≡ sb = one_super n slot s sb e in
+        ap in_range (sym same) ∙ fits
+
+    by_slot : (found : Option (ℕ × Super)) → verdict found ≡ Ok (Some (slot, sb)) → in_range sb ≡ true
+    by_slot None e = absurd (cc)
+    by_slot (Some s) e = by_test s.0 s.1 (in_range s.1) refl e
+
+-- what an opening needs of the fields of the newest superblock
+pub record Fits (sb : Super) : Type 0 where
+  pub format : sb.format ≡ newest_format
+  pub manifest_least : first_free sb.mem ≤ sb.manifest
+  pub manifest_most : sb.manifest < 4294967295
+  pub region : sb.region ≤ 1
+  pub mem_least : 4 ≤ sb.mem
+  pub mem_most : sb.mem ≤ 4096
+  pub versions : 1 ≤ sb.versions_max
+
+pub fits_of : (c : Image) (slot : ℕ) (sb : Super) → newest_in c ≡ Ok (Some (slot, sb)) → Fits sb
+fits_of c slot sb e =
+    let found = newest_fits c slot sb e in
+    let p1 = and_parts _ (leb sb.versions_max 16384) found in
+    let p2 = and_parts _ (leb 1 sb.versions_max) p1.0 in
+    let p3 = and_parts _ (leb sb.changes_max 16777216) p2.0 in
+    let p4 = and_parts _ (leb 1 sb.changes_max) p3.0 in
+    let p5 = and_parts _ (leb sb.region 1) p4.0 in
+    let p6 = and_parts _ (leb (shortest_manifest sb.format) sb.length) p5.0 in
+    let p7 = and_parts _ (ltb sb.manifest 4294967295) p6.0 in
+    let p8 = and_parts _ (leb (first_free sb.mem) sb.manifest) p7.0 in
+    let p9 = and_parts _ (leb sb.mem 4096) p8.0 in
+    let p10 = and_parts _ (leb 4 sb.mem) p9.0 in
+    let p11 = and_parts _ (leb 1 sb.generation) p10.0 in
+    let p12 = and_parts (leb 1 sb.format) (leb sb.format newest_format) p11.0 in
+    record {
+      format = omega (arith, leb-true 1 sb.format p12.0, leb-true sb.format 1 p12.1);
+      manifest_least = leb-true (first_free sb.mem) sb.manifest p8.1;
+      manifest_most = ltb-true sb.manifest 4294967295 p7.1;
+      region = leb-true sb.region 1 p5.1;
+      mem_least = leb-true 4 sb.mem p10.1;
+      mem_most = leb-true sb.mem 4096 p9.1;
+      versions = leb-true 1 sb.versions_max p2.1;
+    }
+
+-- a new store's manifest is spelled in 29 bytes
+new_spelled : SpellsManifest newest_format (manifest_bytes newest_format new_manifest) new_manifest
+unfolding all_pass
+new_spelled = record { lawful = refl; text = refl }
+
+length-new : length (manifest_bytes newest_format new_manifest) ≡ 29
+unfolding manifest_bytes be
+length-new = refl
+
+-- a superblock of the first generation leads to the manifest of a new store, and to a journal without changes
+module _ (c : Image) (sb : Super) (once : sb.generation ≡ 1) (size : sb.length ≡ 29) (block : window c (BLOCK * sb.manifest) BLOCK ≡ new_block) where
+  module _ (fits : Fits sb) where
+    few : length (manifest_bytes newest_format new_manifest) ≤ BLOCK - 4
+    few = omega (arith, length-new)
+
+    the_chain : IsChain c (sb.manifest ∷ []) (manifest_bytes newest_format new_manifest)
+    unfolding HoldsChain
+    the_chain = record {
+      holds = (
+        block ∙ ap (link_bytes 0) (sym (take_all (BLOCK - 4) (manifest_bytes newest_format new_manifest) few)),
+        drop_all (BLOCK - 4) (manifest_bytes newest_format new_manifest) few,
+      );
+      count = ap chain_length (sym length-new);
+      named = ((omega (arith, fits.manifest_least), omega (arith, fits.manifest_most)), tt);
+      distinct = λ i j d lt within. absurd (omega arith);
+    }
+
+    found_chain : manifest_at sb.format c sb.manifest sb.length ≡ Ok (record { manifest = new_manifest; blocks = sb.manifest ∷ [] })
+    found_chain = (λ i. manifest_at (fits.format i) c sb.manifest ((size ∙ sym length-new) i)) ∙ chain_read newest_format c sb.manifest [] (manifest_bytes newest_format new_manifest) new_manifest new_spelled the_chain
+
+    it_belongs : belongs sb (record { manifest = new_manifest; blocks = sb.manifest ∷ [] }) ≡ true
+    unfolding all_pass
+    it_belongs =
+        let low : leb (first_free sb.mem) sb.manifest ≡ true = le-leb (first_free sb.mem) sb.manifest fits.manifest_least in
+        let some : leb 1 sb.versions_max ≡ true = le-leb 1 sb.versions_max fits.versions in
+        let first : leb sb.generation 1 ≡ true = le-leb sb.generation 1 (omega (arith, once)) in
+        let least : leb 0 sb.changes_max ≡ true = le-leb 0 sb.changes_max (omega arith) in
+        simp (low, some, first, least)
+
+    -- it is the manifest of the superblock
+    manifest_found : recover_manifest c sb ≡ Ok new_manifest
+    manifest_found =
+        ap (λ (r : Read Chained). and_then r (λ found. passed_or sb.manifest (belongs sb found) found.manifest)) found_chain
+        ∙ ap (λ (test : Bool). passed_or sb.manifest test new_manifest) it_belongs
+
+  -- an opening finds the head, and the image reads as the state of a new store
+  module _ (slot : ℕ) (newest : newest_in c ≡ Ok (Some (slot, sb))) (empty : journal_in_two c sb.mem sb.region ≡ Ok []) where
+    journal_found : recover_journal c sb new_manifest ≡ Ok []
+    journal_found = ap (λ (r : Read (List Logged)). and_then r (accepted_in sb.changes_max sb.versions_max (parents_in new_manifest) new_manifest.marks new_manifest.changes)) empty
+
+    pub head_found : recover c ≡ Ok (Some (record { sb = sb; manifest = new_manifest; journal = [] }))
+    head_found =
+        ap (λ (r : Read (Option (ℕ × Super))). and_then r (recover_slot c)) newest
+        ∙ ap (λ (r : Read Manifest). and_then (and_then r (λ m. and_then (recover_journal c sb m) (λ journal. Ok (record { sb = sb; manifest = m; journal = journal })))) (λ h. Ok (Some h))) (manifest_found (fits_of c slot sb newest))
+        ∙ ap (λ (r : Read (List Change)). and_then (and_then r (λ journal. Ok (record { sb = sb; manifest = new_manifest; journal = journal }))) (λ h. Ok (Some h))) journal_found
+
+    pub state_found : reads_as c ≡ Some (fresh_state sb.mem sb.changes_max sb.versions_max)
+    state_found = ap (λ (r : Read (Option Head)). option_and_then (state_of c) (opened r)) head_found

@@ -1,0 +1,7 @@
+use Rattle.std.proofs.Common.{refl}
+use Rattle.strat_format.specs.SuperBlock.{zeros}
+use Rattle.strat_open.proofs.manifest.write_manifest.Goals as goal
+
+pub spell-requires : goal.spell-requires
+unfolding zeros
+spell-requires g c = refl

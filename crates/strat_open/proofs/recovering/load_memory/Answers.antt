@@ -1,0 +1,22 @@
+use Rattle.strat_gate.specs.SuperView.{super_of}
+use Rattle.strat_open.proofs.RecoverLemmas.{load_older, load_room, load_counts}
+use Rattle.strat_open.proofs.recovering.load_memory.Goals as goal
+use Rattle.std.proofs.Common.{refl, suc, length, []}
+use Rattle.strat_format.proofs.MarkLemmas.{none_marked}
+use Rattle.strat_memory.specs.Admitting.{chained_of}
+use Rattle.strat_memory.proofs.MemoryLawLemmas.{memory_loaded}
+
+pub load-requires-clause-fits : goal.load-requires-clause-fits
+load-requires-clause-fits c = load_older (super_of c.args.sb.now) c.args.published.now c.requires.kept c.as_slice.result.now c.as_slice.ensures.ok
+
+pub load-requires-clause-room : goal.load-requires-clause-room
+load-requires-clause-room c = rw c.in_ok-memory.ensures.ok (load_room (super_of c.args.sb.now) c.args.published.now c.requires.kept c.as_slice.result.now c.as_slice.ensures.ok)
+
+pub load-requires-clause-kept : goal.load-requires-clause-kept
+load-requires-clause-kept c = rw c.in_ok-memory.ensures.ok (load_counts (super_of c.args.sb.now) c.args.published.now c.requires.kept)
+
+pub returns-clause-ok : goal.returns-clause-ok
+returns-clause-ok c =
+    rw (c.load.ensures.ok, c.in_ok-memory.ensures.ok, c.as_slice.ensures.ok)
+    (memory_loaded (record { sb = super_of c.args.sb.now; manifest = (chained_of c.args.published.now).manifest; journal = [] }) refl
+    (none_marked (suc (length c.args.published.now.manifest.parents))))

@@ -1,0 +1,53 @@
+use Rattle.std.proofs.Common.{◌≡◌, ◌≤◌, ℕ, inl, Err, ap, ◌∙◌, subst}
+use Rattle.std.proofs.lemmas.Result.{err_from_is_err_and}
+use Rattle.strat_crash.specs.Faults.{Rose}
+use Rattle.strat_crash.specs.Moments.{OnlyReads}
+use Rattle.strat_crash.proofs.MomentLemmas.{reads_trans}
+use Rattle.strat_memory.specs.RecoveredFields.{empty_cache}
+use Rattle.strat_open.specs.declared.opening.AttachFault.{AttachFault}
+use Rattle.strat_open.proofs.OpenLemmas.{failed_cause, looks_kept, opened_as, leaves_follows}
+use Rattle.strat_open.proofs.recovering.open.Given.{Over}
+use Rattle.strat_open.proofs.recovering.open.Goals as goal
+use Rattle.strat_open.proofs.recovering.open.Goals.{After-recover_store}
+
+-- a sync leaves the disk as it was read
+synced : (g : Over) (c : After-recover_store g) → OnlyReads (g.D.Disk.view c.args.disk.now) (g.D.Disk.view c.sync_first.new.disk)
+synced g c = record { same = c.sync_first.ensures.same; images = c.sync_first.ensures.images; time = c.sync_first.ensures.time }
+
+-- until the store is recovered the disk was only read
+looks : (g : Over) (c : After-recover_store g) → OnlyReads (g.D.Disk.view c.args.disk.now) (g.D.Disk.view c.recover_store.new.disk)
+looks g c = reads_trans (synced g c) c.recover_store.ensures.same
+
+pub shut_other-requires : goal.shut_other-requires
+shut_other-requires g c = record { fits = (c.in_ok-recovered.ensures.kept (empty_cache 0)).lawful }
+
+pub returns-in_err-recovered-clause-err : goal.returns-in_err-recovered-clause-err
+returns-in_err-recovered-clause-err g c = λ failed f exposed.
+    let l = looks g (goal.at.returns-in_err-recovered-clause-err g c).After-recover_store in
+    inl (l.same, l.images)
+
+pub returns-in_err-recovered-clause-same : goal.returns-in_err-recovered-clause-same
+returns-in_err-recovered-clause-same g c =
+    looks_kept c.from_residual-in_err-recovered.result _ (g.D.Disk.view c.recover_store.new.disk) (looks g (goal.at.returns-in_err-recovered-clause-same g c).After-recover_store)
+
+pub returns-in_err-shut_other-clause-err : goal.returns-in_err-shut_other-clause-err
+returns-in_err-shut_other-clause-err g c = λ failed f exposed.
+    leaves_follows _ (g.D.Disk.view c.sync_first.new.disk) (g.D.Disk.view c.recover_store.new.disk) _ c.in_ok-recovered.recovered
+    (synced g (goal.at.returns-in_err-shut_other-clause-err g c).After-recover_store) c.in_ok-sync_first.ensures.ok (g.met.D.Disk.leaves_content c.sync_first.new.disk) c.recover_store.ensures.same c.shut_other.ensures.time
+    (λ f exposed. c.in_ok-recovered.ensures.found f (c.sync_first.ensures.same ∙ exposed)) c.shut_other.ensures.trail c.shut_other.ensures.images f exposed
+
+pub returns-clause-ok : goal.returns-clause-ok
+returns-clause-ok g c = λ cap.
+    opened_as _ (g.D.Disk.view c.sync_first.new.disk) (g.D.Disk.view c.recover_store.new.disk) _ c.in_ok-recovered.recovered
+    (synced g (goal.at.returns-clause-ok g c).After-recover_store) c.in_ok-sync_first.ensures.ok (g.met.D.Disk.leaves_content c.sync_first.new.disk) c.recover_store.ensures.same c.shut_other.ensures.time
+    (λ f exposed. c.in_ok-recovered.ensures.found f (c.sync_first.ensures.same ∙ exposed)) c.shut_other.ensures.trail c.shut_other.ensures.images c.in_ok-shut_other.ensures.kept c.in_ok-recovered.ensures.end c.in_ok-recovered.ensures.kept cap
+
+pub returns-in_err-shut_other-clause-cause : goal.returns-in_err-shut_other-clause-cause
+returns-in_err-shut_other-clause-cause g c =
+    let p = err_from_is_err_and c.from_residual-in_err-shut_other.result c.from_residual-in_err-shut_other.ensures.1 in
+    let before : ℕ = g.D.Disk.faults c.args.disk.now in
+    let now : ℕ = g.D.Disk.faults c.shut_other.new.disk in
+    let calm : g.D.Disk.faults c.recover_store.new.disk ≡ before = c.in_ok-recovered.ensures.cause.ok ∙ c.in_ok-sync_first.ensures.cause.ok in
+    failed_cause c.from_residual-in_err-shut_other.result before now (p.1 ∙ ap (λ (e : AttachFault). Err e) p.2)
+    (subst (λ (n : ℕ). n ≤ now) calm c.shut_other.ensures.cause.later)
+    (subst (λ (n : ℕ). Rose n now) calm c.in_err-shut_other.ensures.cause.err)

@@ -1,0 +1,17 @@
+pub mod LookLawLemmas
+pub mod NeededLemmas
+pub mod PublishingLemmas
+pub mod PromotingLemmas
+pub mod WritingLemmas
+pub mod ComputingLemmas
+pub mod NextContentsLemmas
+pub mod ComputedLemmas
+pub mod WholeLemmas
+pub mod RoomLemmas
+pub mod ObstacleLemmas
+pub mod SettlingLemmas
+pub mod RetiringLemmas
+pub mod KeptLemmas
+pub mod SettledLemmas
+pub mod CountingLemmas
+pub mod LaidLemmas

@@ -1,0 +1,235 @@
+-- The contents that a promotion and the next manifest make.
+use Rattle.std.proofs.Common.{◌≡◌, ◌≤◌, ◌<◌, ℕ, suc, Bool, true, false, cond, leb, ltb, inl, inr, List, [], ◌∷◌, ◌++◌, length, map, filter, drop, Option, Some, refl, sym, ap, ◌∙◌, subst, arith, not, eqb, replicate, None, true≢false, ◌&&◌}
+use Rattle.std.specs.Option.{option_to_list}
+use Rattle.std.proofs.Math.Seq.{drop-append_seam}
+use Rattle.std.proofs.lemmas.Bool.{and_parts, cases_lt, lt-leb, le-leb, lt-ltb, le-ltb, ltb-true, not-true, eqb-true}
+use Rattle.strat_base.specs.declared.descriptors.Extent.{Extent}
+use Rattle.strat_base.specs.declared.descriptors.LevelDesc.{LevelDesc}
+use Rattle.strat_crash.specs.Image.{Image}
+use Rattle.strat_crash.specs.Moments.{DiskView}
+use Rattle.strat_extent.specs.Blocks.{SpaceView, is_free}
+use Rattle.strat_format.specs.Arrays.{all_some}
+use Rattle.strat_format.specs.Manifest.{Manifest, is_lawful_manifest, is_rising}
+use Rattle.strat_format.proofs.ManifestLemmas.{pass_at}
+use Rattle.strat_journal.specs.Log.{Log}
+use Rattle.strat_promotion.specs.Promoted.{levels_behind, promoted, SaysTheSame}
+use Rattle.strat_recovery.proofs.OpeningLemmas.{each_some, map_some, manifest_tests}
+use Rattle.strat_recovery.specs.Head.{parent_numbers}
+use Rattle.strat_recovery.specs.Opened.{array_on, level_on}
+use Rattle.strat_standing.proofs.ComputedLemmas.{promotion_next}
+use Rattle.strat_standing.proofs.FreeLemmas.{free_stands}
+use Rattle.strat_standing.proofs.LocalLemmas.{levels_local}
+use Rattle.strat_standing.proofs.PlaceLemmas.{newest_fits}
+use Rattle.strat_standing.proofs.PromotedLemmas.{none_later, promoted_whole, sealed_whole}
+use Rattle.strat_standing.proofs.OccupiedLemmas.{array_blocks_used, taken_beside, free_beside}
+use Rattle.strat_standing.specs.Appending.{IsLogOf}
+use Rattle.strat_standing.specs.Contents.{Contents, contents_head, contents_state}
+use Rattle.strat_promote.specs.Replacing.{LeavesTheSame}
+use Rattle.strat_standing.specs.Next.{AreNewArrays, IsNextOf, IsPromotion, MayBeNext, arrays_made, state_after}
+use Rattle.strat_standing.specs.Occupied.{IsSpaceOf, extents_of}
+use Rattle.strat_standing.specs.Standing.{ContentsStand, ReadsAs}
+use Rattle.strat_state.specs.Level.{Level}
+use Rattle.strat_state.specs.Sound.{IsSound, is_tree, is_tree_from}
+use Rattle.strat_state.specs.State.{changes_of, updates_of, versions_of, marks_of}
+use Rattle.strat_memory.specs.Memory.{Memory, IsMemoryOf}
+use Rattle.strat_publish.specs.Publishing.{IsComputed, IsWrittenBeside, contents_after, descs_to, descs_behind}
+use Rattle.strat_format.specs.Layout.{newest_format}
+use Rattle.strat_base.specs.Marks.{Marks, none_dropped}
+use Rattle.strat_base.specs.Tree.{Parents}
+use Rattle.strat_state.proofs.SoundLemmas.{sound_tree, sound_pruned}
+use Rattle.strat_promotion.proofs.LevelsLemmas.{tree_test}
+
+rising_behind : (n : ℕ) (ns : List ℕ) → is_rising (n ∷ ns) ≡ true → is_rising ns ≡ true
+rising_behind n [] rising = refl
+rising_behind n (k ∷ ns) rising = (and_parts (ltb n k) (is_rising (k ∷ ns)) rising).1
+
+-- items in the order of their numbers, parted at a number
+module _ {X : Type 0} (number : X → ℕ) (t : ℕ) where
+  abbrev pub low : List X → List X
+  low xs = filter (λ x. leb (number x) t) xs
+
+  abbrev pub high : List X → List X
+  high xs = filter (λ x. ltb t (number x)) xs
+
+  all_high : (x : X) (xs : List X) → is_rising (number x ∷ map number xs) ≡ true → t < number x → (low (x ∷ xs) ≡ []) × (high (x ∷ xs) ≡ x ∷ xs)
+  all_high x [] rising lt = (
+    ap (λ (b : Bool). cond b (x ∷ []) []) (lt-leb (number x) t lt),
+    ap (λ (b : Bool). cond b (x ∷ []) []) (lt-ltb t (number x) lt),
+  )
+  all_high x (y ∷ ys) rising lt =
+      let up = ltb-true (number x) (number y) (and_parts (ltb (number x) (number y)) (is_rising (number y ∷ map number ys)) rising).0 in
+      let rest = all_high y ys (rising_behind (number x) (number y ∷ map number ys) rising) (omega (arith, lt, up)) in (
+        ap (λ (b : Bool). cond b (x ∷ low (y ∷ ys)) (low (y ∷ ys))) (lt-leb (number x) t lt) ∙ rest.0,
+        ap (λ (b : Bool). cond b (x ∷ high (y ∷ ys)) (high (y ∷ ys))) (lt-ltb t (number x) lt) ∙ ap (λ (zs : List X). x ∷ zs) rest.1,
+      )
+
+  pub parted : (xs : List X) → is_rising (map number xs) ≡ true → xs ≡ low xs ++ high xs
+  parted [] rising = refl
+  parted (x ∷ xs) rising =
+      let rest = parted xs (rising_behind (number x) (map number xs) rising) in
+      elim (cases_lt t (number x)) [
+        | inl above ↦
+            let all = all_high x xs rising above in
+            sym (all.1) ∙ ap (λ (zs : List X). zs ++ high (x ∷ xs)) (sym all.0)
+        | inr within ↦
+            ap (λ (zs : List X). x ∷ zs) rest
+            ∙ (λ i. cond (sym (le-leb (number x) t within) i) (x ∷ low xs) (low xs) ++ cond (sym (le-ltb t (number x) within) i) (x ∷ high xs) (high xs))
+      ]
+
+-- how many items pass depends on their numbers
+passing : {X : Type 0} (number : X → ℕ) (p : ℕ → Bool) (xs : List X) → length (filter (λ x. p (number x)) xs) ≡ length (filter p (map number xs))
+passing number p [] = refl
+passing number p (x ∷ xs) = by (p (number x)) (passing number p xs)
+  where
+    by : (b : Bool) → length (filter (λ y. p (number y)) xs) ≡ length (filter p (map number xs))
+        → length (cond b (x ∷ filter (λ y. p (number y)) xs) (filter (λ y. p (number y)) xs)) ≡ length (cond b (number x ∷ filter p (map number xs)) (filter p (map number xs)))
+    by true rest = ap suc rest
+    by false rest = rest
+
+-- levels have the numbers of their descriptors
+numbers_read : (f : Image) (ds : List LevelDesc) (levels : List Level) → all_some (level_on f) ds ≡ Some levels → map (λ (l : Level). l.number) levels ≡ map (λ (d : LevelDesc). d.number) ds
+numbers_read f [] levels e = let none : [] ≡ levels = cc in ap (map (λ (l : Level). l.number)) (sym none)
+numbers_read f (d ∷ ds) levels e =
+    let parts = each_some (level_on f) d ds levels e in
+    let made = map_some (λ arrays. record { number = d.number; horizon = d.horizon; arrays = arrays }) (all_some (array_on f) d.arrays) parts.0 parts.2 in
+    let here : parts.0.number ≡ d.number = ap (λ (l : Level). l.number) (sym made.2) in
+    ap (map (λ (l : Level). l.number)) (sym parts.4) ∙ (λ i. here i ∷ numbers_read f ds parts.1 parts.3 i)
+
+-- so the levels behind a number are those of the descriptors behind it
+pub behind_dropped : (f : Image) (ds : List LevelDesc) (levels : List Level) (t : ℕ) → all_some (level_on f) ds ≡ Some levels → is_rising (map (λ (d : LevelDesc). d.number) ds) ≡ true
+    → levels_behind t levels ≡ drop (length (descs_to t ds)) levels
+behind_dropped f ds levels t read rising =
+    let same = numbers_read f ds levels read in
+    let up : is_rising (map (λ (l : Level). l.number) levels) ≡ true = ap is_rising same ∙ rising in
+    let two : levels ≡ low (λ (l : Level). l.number) t levels ++ levels_behind t levels = parted (λ (l : Level). l.number) t levels up in
+    let many : length (descs_to t ds) ≡ length (low (λ (l : Level). l.number) t levels) =
+    passing (λ (d : LevelDesc). d.number) (λ n. leb n t) ds ∙ ap (λ (ns : List ℕ). length (filter (λ n. leb n t) ns)) (sym same) ∙ sym (passing (λ (l : Level). l.number) (λ n. leb n t) levels) in
+    sym (drop-append_seam (low (λ (l : Level). l.number) t levels) (levels_behind t levels)) ∙ ap (λ (n : ℕ). drop n (low (λ (l : Level). l.number) t levels ++ levels_behind t levels)) (sym many)
+    ∙ ap (drop (length (descs_to t ds))) (sym two)
+
+-- marks none of which is set
+clear_marks : (marks : Marks) → none_dropped marks ≡ true → marks ≡ replicate (length marks) false
+clear_marks [] none = refl
+clear_marks (m ∷ marks) none =
+    let parts = and_parts (not m) (none_dropped marks) none in
+    λ i. not-true m parts.0 i ∷ clear_marks marks parts.1 i
+
+-- the versions of a tree are one more than the numbers of their parents
+numbered_all : (n : ℕ) (parents : Parents) → is_tree_from (suc n) parents ≡ true → length (parent_numbers parents) ≡ length parents
+numbered_all n [] tree = refl
+numbered_all n (None ∷ parents) tree = absurd (omega (arith, eqb-true (suc n) 0 (and_parts (eqb (suc n) 0) (is_tree_from (suc (suc n)) parents) tree).0))
+numbered_all n (Some p ∷ parents) tree = ap suc (numbered_all (suc n) parents (and_parts (ltb p (suc n)) (is_tree_from (suc (suc n)) parents) tree).1)
+
+rooted_all : (parents : Parents) → is_tree parents ≡ true → length parents ≡ suc (length (parent_numbers parents))
+rooted_all [] tree = absurd (cc)
+rooted_all (None ∷ parents) tree =
+    let rest = (and_parts (ltb 0 (length (None ∷ parents))) (is_tree_from 0 (None ∷ parents)) tree).1 in
+    ap suc (sym (numbered_all 0 parents (and_parts (eqb 0 0) (is_tree_from 1 parents) rest).1))
+rooted_all (Some p ∷ parents) tree =
+    let rest = (and_parts (ltb 0 (length (Some p ∷ parents))) (is_tree_from 0 (Some p ∷ parents)) tree).1 in
+    absurd (omega (arith, ltb-true p 0 (and_parts (ltb p 0) (is_tree_from 1 parents) rest).0))
+
+-- where none of them was dropped their marks are clear
+marks_clear : (x : Contents) (m : Memory) → IsMemoryOf (contents_head x) m → IsSound (contents_state x) → replicate (suc (length (parent_numbers m.parents))) false ≡ marks_of (contents_state x)
+marks_clear x m of sound =
+    let marks : Marks = marks_of (contents_state x) in
+    let versions : Parents = versions_of (contents_state x) in
+    let many : length marks ≡ suc (length (parent_numbers m.parents)) =
+    (sound_pruned (contents_state x) sound.formed).len ∙ rooted_all versions (tree_test versions (sound_tree (contents_state x) sound.formed))
+    ∙ ap (λ (ps : Parents). suc (length (parent_numbers ps))) (sym of.parents) in
+    sym (clear_marks marks of.undropped ∙ ap (λ (n : ℕ). replicate n false) many)
+
+-- the next manifest makes the next contents
+pub after_next : (old : Contents) (m : Memory) (target : ℕ) (made : Option LevelDesc) (levels : List Level) (first size : ℕ) (blocks : List ℕ) → IsMemoryOf (contents_head old) m → IsSound (contents_state old) → length old.journal ≤ old.sb.mem
+    → is_rising (map (λ (d : LevelDesc). d.number) old.chained.manifest.levels) ≡ true
+    → IsNextOf old (contents_after old m target made levels first size blocks) made (descs_to target old.chained.manifest.levels) (descs_behind target old.chained.manifest.levels)
+after_next old m target made levels first size blocks of sound few rising = record {
+  slot = refl;
+  generation = refl;
+  region = refl;
+  promoted = record {
+    mem = refl;
+    changes_max = refl;
+    versions_max = refl;
+    format = refl;
+    marks = marks_clear old m of sound ∙ ap marks_of (sym (sealed_whole old few));
+    compacted = refl;
+    parents = ap parent_numbers (of.parents ∙ ap versions_of (sym (sealed_whole old few)));
+    updates = of.updates ∙ ap updates_of (sym (sealed_whole old few));
+    changes = of.changes ∙ ap changes_of (sym (sealed_whole old few));
+    journal = sym (none_later old few);
+  };
+  written = refl;
+  next_array = refl;
+  levels_were = parted (λ (d : LevelDesc). d.number) target old.chained.manifest.levels rising;
+  levels_are = refl;
+}
+
+-- contents with a level that was made may be the next ones, in an image that has it
+module _ (c : Image) (old new : Contents) (target : ℕ) (made : Option LevelDesc) (reads : ReadsAs c old) (sound : IsSound (contents_state old)) (full : length old.journal ≡ old.sb.mem)
+    (left : LeavesTheSame c made (contents_state old) (λ fresh written next. promoted (contents_state old) (fresh ++ levels_behind target old.levels) written next))
+    (numbered : AreNewArrays old.chained.manifest.next_array (arrays_made made)) (levels : new.levels ≡ left.fresh ++ levels_behind target old.levels)
+    (next : IsNextOf old new made (descs_to target old.chained.manifest.levels) (descs_behind target old.chained.manifest.levels))
+    (rising : is_rising (map (λ (d : LevelDesc). d.number) old.chained.manifest.levels) ≡ true) where
+  promotion_here : IsPromotion c old new made (descs_to target old.chained.manifest.levels)
+  promotion_here =
+      let same : promoted (contents_state old) (left.fresh ++ levels_behind target old.levels) new.chained.manifest.written new.chained.manifest.next_array ≡ state_after old new =
+      ap (λ (ls : List Level). promoted (contents_state old) ls new.chained.manifest.written new.chained.manifest.next_array) (sym levels)
+      ∙ sym (promoted_whole old new (omega (arith, full))) in
+      record {
+        fresh = left.fresh;
+        lies = reads.lies;
+        read = left.read;
+        levels = levels ∙ ap (λ (ls : List Level). left.fresh ++ ls) (behind_dropped c old.chained.manifest.levels old.levels target reads.lies.arrays rising);
+        sound = subst IsSound same (left.sound new.chained.manifest.written new.chained.manifest.next_array);
+        says = subst (SaysTheSame (contents_state old)) same (left.says new.chained.manifest.written new.chained.manifest.next_array);
+      }
+
+  pub next_here : MayBeNext c c old new made (descs_to target old.chained.manifest.levels) (descs_behind target old.chained.manifest.levels) × SaysTheSame (contents_state old) (contents_state new)
+  next_here =
+      promotion_next c c old new made (descs_to target old.chained.manifest.levels) (descs_behind target old.chained.manifest.levels)
+      reads (omega (arith, full, (newest_fits c old.slot old.sb reads.newest).mem_least)) sound next numbered promotion_here
+
+-- what was written beside contents is computed
+module _ (v w u : DiskView) (s t r : SpaceView) (old new : Contents) (target : ℕ) (made : Option LevelDesc) (besides others : List Extent) (b : IsWrittenBeside v w u s t r old new target made besides others)
+    (rising : is_rising (map (λ (d : LevelDesc). d.number) old.chained.manifest.levels) ≡ true) (log : Log) (is_log : IsLogOf old log) where
+  between : ContentsStand w old
+  between = free_stands (is_free s) old (free_beside s old besides b.space) v w b.promoting b.stands b.between
+
+  space_between : IsSpaceOf t old (extents_of (arrays_made made) ++ besides)
+  space_between = taken_beside s t old besides (extents_of (arrays_made made)) b.space b.taken
+
+  at_end : ContentsStand u old
+  at_end = free_stands (is_free t) old (free_beside t old (extents_of (arrays_made made) ++ besides) space_between) w u b.writing between b.after
+
+  made_read : all_some (level_on at_end.content) (option_to_list made) ≡ Some b.promoted.says.fresh
+  made_read =
+      levels_local b.content at_end.content (option_to_list made) (λ c among.
+      b.writing.content b.content at_end.content b.exposed at_end.exposed c (array_blocks_used s t made c b.taken among))
+      ∙ b.promoted.says.read
+
+  pub computed : IsComputed u new.slot new.sb log old new
+  computed =
+      let left : LeavesTheSame at_end.content made (contents_state old) (λ fresh written next. promoted (contents_state old) (fresh ++ levels_behind target old.levels) written next) =
+      record { fresh = b.promoted.says.fresh; read = made_read; says = b.promoted.says.says; sound = b.promoted.says.sound } in
+      let may = next_here at_end.content old new target made (at_end.reads at_end.content at_end.left) at_end.sound b.full left b.promoted.fresh b.levels b.next rising in
+      record {
+        stands = at_end;
+        log_is = is_log;
+        slot_is = refl;
+        sb_is = refl;
+        made = made;
+        taken = descs_to target old.chained.manifest.levels;
+        kept = descs_behind target old.chained.manifest.levels;
+        was = at_end.content;
+        next = may.0;
+        says = may.1;
+        space = r;
+        others = others;
+        used = b.used;
+        manifest = b.manifest at_end.content at_end.exposed;
+      }
+
+-- the levels of a lawful manifest stand in the order of their numbers
+pub numbers_rise : (m : Manifest) → is_lawful_manifest newest_format m ≡ true → is_rising (map (λ (d : LevelDesc). d.number) m.levels) ≡ true
+numbers_rise m lawful = pass_at (manifest_tests newest_format m) 9 lawful

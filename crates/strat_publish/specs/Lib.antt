@@ -1,0 +1,5 @@
+pub mod Publishing
+pub mod Promoting
+pub mod Settling
+pub mod Counting
+pub mod Outcomes

@@ -1,0 +1,186 @@
+-- A publication of a store: what takes the place of what the store holds.
+use Rattle.std.specs.Prelude.{◌≡◌, ◌≢◌, ◌⊎◌, ◌≤◌, ◌<◌, ◌==◌, ℕ, ◌+◌, ◌-◌, ◌^◌, ◌&&◌, nat_le, nat_lt, Bool, true, false, List, [], length, Contains, Option, IsTrue}
+use Rattle.std.specs.List.{count_by, list_all}
+use Rattle.strat_base.specs.declared.descriptors.ArrayDesc.{ArrayDesc}
+use Rattle.strat_base.specs.declared.descriptors.LevelDesc.{LevelDesc}
+use Rattle.strat_crash.specs.Blocks.{AgreeOn, TearsBlocks}
+use Rattle.strat_crash.specs.Image.{Image}
+use Rattle.strat_crash.specs.Moments.{DiskView, Exposes}
+use Rattle.strat_cursor.specs.Cursors.{retired_all}
+use Rattle.strat_cursor.specs.Held.{HeldCursors}
+use Rattle.strat_extent.specs.Blocks.{times_in}
+use Rattle.strat_format.specs.Arrays.{blocks_of}
+use Rattle.strat_format.specs.Chained.{Chained}
+use Rattle.strat_format.specs.Layout.{other_region, newest_format}
+use Rattle.strat_format.specs.Manifest.{Manifest}
+use Rattle.strat_format.specs.SuperBlock.{Super, IsLawful}
+use Rattle.strat_journal.specs.Log.{region_begun}
+use Rattle.strat_model.specs.declared.replies.Refusal.TheVariants as why
+use Rattle.strat_model.specs.declared.replies.Reply.{Reply}
+use Rattle.strat_model.specs.declared.replies.Reply.TheVariants as reply
+use Rattle.strat_model.specs.Answer.{accepts}
+use Rattle.strat_model.specs.Request.{Request}
+use Rattle.strat_model.specs.Run.{is_change}
+use Rattle.strat_promote.specs.Job.{blocks_listed}
+use Rattle.strat_recovery.specs.Head.{parent_numbers}
+use Rattle.strat_recovery.specs.Opening.{belongs}
+use Rattle.strat_standing.specs.Contents.{Contents, contents_state}
+use Rattle.strat_standing.specs.Next.{arrays_made}
+use Rattle.strat_standing.specs.Occupied.{arrays_in, extents_of}
+use Rattle.strat_standing.specs.Standing.{AreFree}
+use Rattle.strat_state.specs.Level.{Level}
+use Rattle.strat_state.specs.State.{IsPaid}
+use Rattle.strat_memory.specs.Held.{Held, IsOnDisk, StandsWith, arrays_held, blocks_named, contents_held}
+use Rattle.strat_memory.specs.Memory.{Memory, renewed}
+use Rattle.strat_memory.specs.Paying.{ArePaidSince}
+use Rattle.strat_publish.specs.Counting.{KeepsCount}
+use Rattle.strat_publish.specs.Publishing.{IsComputed, descs_to, manifest_after}
+use Rattle.strat_base.specs.Marks.{none_dropped}
+
+-- the superblock after one, whose manifest begins in this block and is of so many bytes
+abbrev pub super_after : Super → ℕ → ℕ → Super
+super_after sb first size = record sb {
+  format = newest_format;
+  generation = sb.generation + 1;
+  manifest = first;
+  length = size;
+  region = other_region sb.region;
+}
+
+-- the arrays of a manifest that a promotion down to a level took
+abbrev pub arrays_taken : ℕ → Manifest → List ArrayDesc
+arrays_taken target m = arrays_in (descs_to target m.levels)
+
+-- what a store holds after a publication of this superblock, manifest and levels: level 0 and the journal are emptied, and the
+-- arrays of the levels down to a target are kept where a cursor names them
+abbrev pub held_next : Held → ℕ → Super → Chained → List (Option LevelDesc) → Held
+held_next s target sb chained levels = record {
+  slot = 1 - s.slot;
+  sb = sb;
+  chained = chained;
+  log = region_begun s.log;
+  memory = renewed s.sb.mem (arrays_taken target s.chained.manifest) s.memory;
+  levels = levels;
+  cached = s.cached;
+  spent = false;
+}
+
+-- the contents that it then has, with these levels
+abbrev pub contents_next : Held → Super → Chained → List Level → Contents
+contents_next s sb chained levels = record {
+  slot = 1 - s.slot;
+  sb = sb;
+  chained = chained;
+  journal = [];
+  levels = levels;
+}
+
+-- a superblock and a manifest may follow those that a store holds: the limits are the same, and all that memory counts
+-- is behind the manifest
+pub record MayFollow (s : Held) (sb : Super) (chained : Chained) : Type 0 where
+  pub lawful : IsLawful sb
+  pub region : sb.region ≡ other_region s.sb.region
+  pub mem : sb.mem ≡ s.sb.mem
+  pub changes_max : sb.changes_max ≡ s.sb.changes_max
+  pub versions_max : sb.versions_max ≡ s.sb.versions_max
+  pub changes : chained.manifest.changes ≡ s.memory.changes
+  pub updates : chained.manifest.updates ≡ s.memory.updates
+  pub parents : chained.manifest.parents ≡ parent_numbers s.memory.parents
+  pub undropped : IsTrue (none_dropped chained.manifest.marks)
+
+-- a disk changed in blocks alone that are free beside what a store holds, whatever its levels say, and that no array has
+-- which is kept for a cursor
+pub record WritesBeside (old new : DiskView) (s : Held) : Type 0 where
+  pub free : ℕ → Bool
+  pub beside : AreFree free (contents_held s [])
+  pub retired : (a : ArrayDesc) (b : ℕ) → Contains s.memory.cursors.retired a
+      → Contains (blocks_of a.extents) b → free b ≡ false
+  pub tears : TearsBlocks free old new
+
+-- the next contents of a store, of this superblock and manifest, are written beside those that it stands on
+pub record IsReadied (v : DiskView) (s : Held) (x : Contents) (sb : Super) (chained : Chained)
+    : Type 0 where
+  pub levels : List Level
+  pub computed : IsComputed v (1 - s.slot) sb s.log x (contents_next s sb chained levels)
+  -- they are paid for where those are and the journal is full
+  pub paid : IsPaid (contents_state x) → s.sb.mem ≤ length s.log.list
+      → IsPaid (contents_state (contents_next s sb chained levels))
+
+-- a superblock and a manifest that were computed pass all tests that come before they are laid: the arrays that were made are
+-- numbered from the old next number on, another generation has a number, and so have the blocks of the chain, and the
+-- manifest belongs to its superblock
+pub record MayBeAdmitted (sb : Super) (m : Manifest) (made : Option LevelDesc) (next_sb : Super)
+    (next : Chained) : Type 0 where
+  pub numbered : IsTrue (list_all (λ a. nat_le m.next_array a.id) (arrays_made made))
+  pub generation : sb.generation + 1 < 2 ^ 64
+  pub low : IsTrue (list_all (λ b. nat_lt b 4294967295) next.blocks)
+  pub belonging : IsTrue (belongs next_sb next)
+
+-- once a promotion took the levels of a store down to a target, no block stands twice among those of the next manifest, of the
+-- arrays that were taken, and of those that were kept for cursors before
+pub record StandApart (target : ℕ) (s : Held) (next : Chained) : Type 0 where
+  pub once : (b : ℕ) → count_by (λ other. other == b) (blocks_named next)
+      + (times_in (extents_of (arrays_taken target s.chained.manifest)) b
+      + times_in (extents_of s.memory.cursors.retired) b) ≤ 1
+
+-- after a superblock, a manifest and what is in memory come these that one promotion leaves, down to this target, of arrays
+-- that have new numbers, and of a manifest in some blocks
+pub record ArePublishedTo (target : ℕ) (sb : Super) (m : Manifest) (memory : Memory)
+    (next_sb : Super) (next : Manifest) : Type 0 where
+  pub made : Option LevelDesc
+  pub first : ℕ
+  pub size : ℕ
+  pub numbered : (a : ArrayDesc) → Contains (arrays_made made) a → m.next_array ≤ a.id
+  pub manifest_is : next ≡ manifest_after m memory target made
+  pub sb_is : next_sb ≡ super_after sb first size
+
+-- a superblock and a manifest are published so, down to some target, and the cursors are those of memory, for which those of the
+-- arrays taken are kept that one of them names
+pub record ArePublishedAfter (sb : Super) (m : Manifest) (memory : Memory) (next_sb : Super)
+    (next : Manifest) (cursors : HeldCursors) : Type 0 where
+  pub target : ℕ
+  pub are : ArePublishedTo target sb m memory next_sb next
+  pub cursors_are : cursors
+      ≡ record (retired_all (arrays_taken target m) memory.cursors) { room = cursors.room }
+
+-- a store holds the superblock and the manifest that it held, with their levels
+pub record KeepsPublished (old new : Held) : Type 0 where
+  pub slot : new.slot ≡ old.slot
+  pub sb : new.sb ≡ old.sb
+  pub chained : new.chained ≡ old.chained
+  pub levels : new.levels ≡ old.levels
+
+-- a store whose journal was full holds those that a publication left
+pub record HasPublished (old new : Held) : Type 0 where
+  pub full : old.log.mem ≤ length old.log.list
+  pub slot : new.slot ≡ 1 - old.slot
+  pub after : ArePublishedAfter old.sb old.chained.manifest old.memory new.sb
+      new.chained.manifest new.memory.cursors
+
+-- a store has the cursors that it had, with the arrays that are kept for them
+abbrev pub KeepsCursors : Held → Held → Type 0
+KeepsCursors old new = new.memory.cursors
+    ≡ record old.memory.cursors { room = new.memory.cursors.room }
+
+-- a command is a change, and was carried out
+abbrev pub carries_out : Request → Reply → Bool
+carries_out request told = is_change request && accepts told
+
+-- what a command leaves of the superblock and the manifest of a store: a change that was carried out at a full journal
+-- published once, one that met a fault of the device there may have, and no other command did. Unless the device failed,
+-- those that the store then holds are on the disk, where they were before
+pub record LeavesPublished (before now : DiskView) (old : Held) (carried : Bool) (told : Reply)
+    (new : Held) : Type 0 where
+  pub either : KeepsPublished old new ⊎ HasPublished old new
+  pub kept : carried ≡ false → told ≢ reply.Refused why.DeviceFault → KeepsPublished old new
+  pub next : carried ≡ true → old.log.mem ≤ length old.log.list → HasPublished old new
+  pub on_disk : told ≢ reply.Refused why.DeviceFault → IsOnDisk before old → IsOnDisk now new
+  -- and so are the blocks of all arrays that it held, those of its levels and those that are kept for cursors
+  pub beside : told ≢ reply.Refused why.DeviceFault → (f g : Image) → Exposes before f
+      → Exposes now g → AgreeOn (blocks_listed (arrays_held old.memory old.levels)) f g
+  -- and where the store stands, what each crash leaves is paid for if its contents are, and its manifest counts what a
+  -- publication wrote
+  pub paid : (x : Contents) → StandsWith before old x → IsPaid (contents_state x)
+      → ArePaidSince now before.moment
+  pub counted : (x : Contents) → StandsWith before old x
+      → KeepsCount old.chained.manifest new.chained.manifest

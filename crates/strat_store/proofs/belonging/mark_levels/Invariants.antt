@@ -1,7 +1,0 @@
-use Rattle.std.proofs.Common.{drop}
-use Rattle.strat_standing.specs.Occupied.{arrays_in, extents_of}
-use Rattle.strat_store.proofs.OwnLemmas.{Marking}
-use Rattle.strat_store.proofs.belonging.mark_levels.Given as goal
-
-abbrev pub invariant-loop-level : goal.invariant-loop-level
-invariant-loop-level l = Marking l.fn.space l.space (extents_of (arrays_in (drop l.level-index l.levels))) (extents_of (arrays_in l.levels))

@@ -1,8 +1,0 @@
-use Rattle.strat_store.proofs.TagLemmas.{own_from, not_own_tags}
-use Rattle.strat_store.proofs.belonging_laws.disjoint_tags_are_own_versions.Goals as goal
-
-pub returns : goal.returns
-returns c = record {
-  ok = own_from;
-  none = not_own_tags;
-}

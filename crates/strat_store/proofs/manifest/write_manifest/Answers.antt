@@ -1,7 +1,0 @@
-use Rattle.std.proofs.Common.{refl}
-use Rattle.strat_format.specs.SuperBlock.{zeros}
-use Rattle.strat_store.proofs.manifest.write_manifest.Goals as goal
-
-pub spell-requires : goal.spell-requires
-unfolding zeros
-spell-requires g c = refl

@@ -1,5 +1,0 @@
-use Rattle.strat_store.proofs.MemoryLawLemmas.{key_found}
-use Rattle.strat_store.proofs.memory_laws.memory_finds_what_level_zero_says.Goals as goal
-
-pub returns : goal.returns
-returns c = record { same = λ f h s m v key read of sound. key_found f h s m read of sound v key }

@@ -1,5 +1,0 @@
-use Rattle.strat_store.proofs.MemoryLawLemmas.{accepted_same}
-use Rattle.strat_store.proofs.memory_laws.memory_refuses_what_is_not_accepted.Goals as goal
-
-pub returns : goal.returns
-returns c = record { ok = accepted_same }

@@ -1,5 +1,0 @@
-use Rattle.strat_store.proofs.WholeLemmas.{whole_promotes}
-use Rattle.strat_store.proofs.publishing_laws.a_whole_store_may_promote.Goals as goal
-
-pub returns : goal.returns
-returns c = record { ok = whole_promotes }

@@ -1,6 +1,0 @@
-use Rattle.strat_manifest.proofs.PrintLemmas.{few_levels}
-use Rattle.strat_store.specs.Recovering.{chained_of}
-use Rattle.strat_store.proofs.reading.Reading.manifest.Goals as goal
-
-pub returns-clause-fits : goal.returns-clause-fits
-returns-clause-fits c = few_levels (chained_of c.self.inside.found.published).manifest c.self.invariant.spelled
