@@ -1,5 +1,5 @@
 -- What a store has in memory, beside the head and the table that it is of.
-use Rattle.std.proofs.Common.{◌≡◌, ◌<◌, ◌≤◌, ◌+◌, ℕ, Bool, true, false, if◌then◌else◌, eqb, ltb, not, ◌&&◌, List, [], ◌∷◌, ◌++◌, length, Option, Some, None, refl, sym, ap, ◌∙◌, subst, arith, length-append, append-nil}
+use Rattle.std.proofs.Common.{◌≡◌, ◌<◌, ◌≤◌, ◌+◌, ℕ, Bool, true, false, if◌then◌else◌, eqb, not, ◌&&◌, List, [], ◌∷◌, ◌++◌, length, Option, Some, None, refl, sym, ap, ◌∙◌, subst, arith, length-append, append-nil}
 use Rattle.std.specs.Prelude.{filter_map, is_some}
 use Rattle.strat_base.specs.Change.{Change}
 use Rattle.strat_base.specs.Change as change
@@ -25,11 +25,10 @@ use Rattle.strat_recovery.proofs.HeadLemmas.{state_with}
 use Rattle.strat_recovery.proofs.OpeningLemmas.{map_some}
 use Rattle.strat_recovery.proofs.RowLemmas.{rows_many, parents_are, rows_known, rows_frozen}
 use Rattle.strat_recovery.proofs.StateTableLemmas.{accepts_same}
-use Rattle.strat_state.specs.Maps.{map_over}
 use Rattle.strat_state.specs.Reading.{live_of, level_zero}
 use Rattle.strat_state.specs.Setting.{set_entry, set_all}
 use Rattle.strat_state.specs.Sound.{is_accepted, accepts_change, IsSound}
-use Rattle.strat_state.specs.State.{State, versions_of, sources, journal_updates, updates_of, changes_of, tree_after, update_of, marks_of, marks_after, map_at, is_living}
+use Rattle.strat_state.specs.State.{State, versions_of, journal_updates, updates_of, changes_of, tree_after, update_of, marks_of, marks_after, map_at, is_living}
 use Rattle.strat_state.proofs.SoundLemmas.{sound_tree}
 use Rattle.strat_state.proofs.UpdateLemmas.{all_lives}
 use Rattle.strat_memory.specs.Memory.{Memory, refusal_of_update, refusal_of_clone, refusal_of_change, memory_after, HasRoomFor, reply_to, info_told, stat_told, emptied, fresh_memory, table_with, IsMemoryOf}

@@ -1,5 +1,5 @@
 -- The contents that a promotion and the next manifest make.
-use Rattle.std.proofs.Common.{◌≡◌, ◌≤◌, ◌<◌, ℕ, suc, Bool, true, false, cond, leb, ltb, inl, inr, List, [], ◌∷◌, ◌++◌, length, map, filter, drop, Option, Some, refl, sym, ap, ◌∙◌, subst, arith, not, eqb, replicate, None, true≢false, ◌&&◌}
+use Rattle.std.proofs.Common.{◌≡◌, ◌≤◌, ◌<◌, ℕ, suc, Bool, true, false, cond, leb, ltb, inl, inr, List, [], ◌∷◌, ◌++◌, length, map, filter, drop, Option, Some, refl, sym, ap, ◌∙◌, subst, arith, not, eqb, replicate, None}
 use Rattle.std.specs.Option.{option_to_list}
 use Rattle.std.proofs.Math.Seq.{drop-append_seam}
 use Rattle.std.proofs.lemmas.Bool.{and_parts, cases_lt, lt-leb, le-leb, lt-ltb, le-ltb, ltb-true, not-true, eqb-true}

@@ -1,5 +1,5 @@
 -- A store uses few blocks: those of its manifest and of its arrays, and those of the arrays that its cursors name.
-use Rattle.std.proofs.Common.{◌≡◌, ◌<◌, ◌≤◌, ◌+◌, ◌-◌, ◌*◌, ◌/◌, ◌^◌, ◌&&◌, ◌||◌, ◌==◌, not, ℕ, zero, suc, Bool, true, false, cond, eqb, leb, ltb, inl, inr, List, [], ◌∷◌, ◌++◌, length, flat_map, Contains, Option, None, Some, Ok, Err, option_map, refl, sym, ap, ◌∙◌, subst, arith}
+use Rattle.std.proofs.Common.{◌≡◌, ◌<◌, ◌≤◌, ◌+◌, ◌-◌, ◌*◌, ◌^◌, ℕ, zero, suc, Bool, true, false, cond, eqb, leb, inl, inr, List, [], ◌∷◌, ◌++◌, length, flat_map, Option, None, Some, Ok, Err, option_map, refl, sym, ap, ◌∙◌, subst, arith}
 use Rattle.std.specs.List.{cons_option, count_by, filter_map, list_all, list_any, sum_by}
 use Rattle.std.proofs.lemmas.Bool.{and_parts, eqb-true, leb-true}
 use Rattle.std.proofs.lemmas.List.Concat.{flat_map-append}
@@ -12,9 +12,9 @@ use Rattle.strat_base.specs.declared.descriptors.LevelDesc.{LevelDesc}
 use Rattle.strat_crash.specs.Image.{Image}
 use Rattle.strat_crash.specs.Moments.{DiskView}
 use Rattle.strat_cursor.proofs.ThroughLemmas.{id_names}
-use Rattle.strat_cursor.specs.Cursors.{are_named, arrays_named, is_array_named}
+use Rattle.strat_cursor.specs.Cursors.{arrays_named, is_array_named}
 use Rattle.strat_cursor.specs.Held.{HeldCursor}
-use Rattle.strat_cursor.specs.Looking.{arrays_asked, arrays_there, levels_there}
+use Rattle.strat_cursor.specs.Looking.{arrays_there}
 use Rattle.strat_extent.proofs.BlockLemmas.{times_listed, total_listed}
 use Rattle.strat_extent.proofs.CountLemmas.{times_append, total_append}
 use Rattle.strat_extent.specs.Blocks.{SpaceView, times_in, total_len, used_count, uses}
@@ -23,7 +23,7 @@ use Rattle.strat_format.proofs.DamageLemmas.{and_then_ok, found_ok, passed_ok, p
 use Rattle.strat_format.specs.Arrays.{blocks_of}
 use Rattle.strat_format.specs.Chain.{chain_length}
 use Rattle.strat_format.specs.Chained.{Chained, chain_from, chained_bytes, link_at, manifest_at, manifest_filled, manifest_in_chain, may_follow}
-use Rattle.strat_format.specs.Damage.{found_or, put_first}
+use Rattle.strat_format.specs.Damage.{put_first}
 use Rattle.strat_format.specs.Layout.{first_free, newest_format}
 use Rattle.strat_format.specs.Manifest.{Manifest}
 use Rattle.strat_level.specs.Levels.{desc_for, is_for}
@@ -31,12 +31,12 @@ use Rattle.strat_promote.specs.Spaces.{HasAmpleRoom}
 use Rattle.strat_recovery.proofs.OpeningLemmas.{manifest_tests, map_some}
 use Rattle.strat_recovery.proofs.PassedLemmas.{belonging_tests}
 use Rattle.strat_recovery.specs.Head.{descriptors}
-use Rattle.strat_recovery.specs.Opening.{array_blocks, belongs, is_filled}
+use Rattle.strat_recovery.specs.Opening.{array_blocks, is_filled}
 use Rattle.strat_standing.proofs.ListLemmas.{among_contained, contained_among}
 use Rattle.strat_standing.proofs.OccupiedLemmas.{named_times}
 use Rattle.strat_standing.specs.Contents.{Contents}
 use Rattle.strat_standing.specs.Occupied.{IsSpaceOf, extents_of}
-use Rattle.strat_memory.specs.Held.{Held, AreKept, ArePlaced, IsConsistent, StandsWith, arrays_held, contents_held}
+use Rattle.strat_memory.specs.Held.{Held, IsConsistent, StandsWith, arrays_held, contents_held}
 
 -- the blocks of two lists of arrays
 total_both : (xs ys : List ArrayDesc) → total_len (extents_of (xs ++ ys)) ≡ total_len (extents_of xs) + total_len (extents_of ys)

@@ -1,4 +1,4 @@
-use Rattle.std.proofs.Common.{[], List, ap, ◌∙◌, arith}
+use Rattle.std.proofs.Common.{List, ap, ◌∙◌, arith}
 use Rattle.strat_base.specs.Entries.{Entry}
 use Rattle.strat_recovery.specs.TableOver.{are_known}
 use Rattle.strat_memory.specs.Memory.{Memory}

@@ -1,4 +1,4 @@
-use Rattle.std.proofs.Common.{[], List, None, sym, ap, subst, arith}
+use Rattle.std.proofs.Common.{List, None, sym, ap, subst, arith}
 use Rattle.strat_arena.specs.PoolView.{SameBeside}
 use Rattle.strat_arena.specs.declared.pool.PoolEntry.{PoolEntry}
 use Rattle.strat_base.specs.Entries.{Entry}
