@@ -44,6 +44,7 @@ CLAUSES = {
 CLAUSES_MOST = 12  # of one function
 CONTRACT_WIDTH = 100
 COMMENT_WIDTH = 120
+FILE_LINES = 800  # of a file of code, of definitions, of proofs or of tests
 
 # The crate that owns a name of the vocabulary, though it may come later. No other crate defines the name.
 OWNERS = {
@@ -182,6 +183,12 @@ class Tree:
     def specs(self):
         return self.files("crates/*/specs/**/*.antt")
 
+    def all_code(self):
+        """Each file of code, of definitions, of proofs and of tests, in whatever language."""
+        patterns = ("crates/*/proofs/**/*.antt", "tests/**/*", "clients/python/**/*.py", "bench/*", "launcher/*", "castle*", "install")
+        names = [name for pattern in patterns for name in self.files(pattern) if not name.endswith((".pyc", ".md"))]
+        return [*self.sources(), *self.specs(), *names]
+
     @functools.lru_cache(maxsize=None)
     def code(self, name):
         return blanked(self.text(name))
@@ -259,6 +266,13 @@ def comments_are_narrow(tree):
         for number, line in enumerate(tree.text(name).split("\n"), 1):
             if len(line) > COMMENT_WIDTH and is_comment(line):
                 yield name, number, f"a comment of {len(line)} columns, above {COMMENT_WIDTH}"
+
+
+def files_are_short(tree):
+    for name in tree.all_code():
+        lines = len(tree.text(name).splitlines())
+        if lines > FILE_LINES:
+            yield name, lines, f"{lines} lines, above {FILE_LINES}"
 
 
 def a_definition_has_its_name_alone(tree):
@@ -408,6 +422,7 @@ RULES = [
     clauses_are_named_from_one_list,
     functions_have_few_clauses,
     contracts_are_narrow,
+    files_are_short,
     a_definition_has_its_name_alone,
     later_names_are_left_to_their_crates,
     statuses_are_documented,
@@ -443,6 +458,7 @@ RIGHT = {
     "crates/castle/README.md": README,
     "crates/low_tests/README.md": "# low_tests\n",
     "docs/ARCHITECTURE.md": "castle, low\n",
+    "tests/low.py": "pass\n",
     "crates/low/src/lib.rt": '''//! Numbers. ensures bad { not a clause }
 ghost use Rattle.std.specs.Prelude.{◌≡◌, ◌≤◌};
 
@@ -555,6 +571,8 @@ FAULTS = [
     (LOW, "    ensures { n ≡ n }\n", "    ensures { n ≡ n }\n" + MANY, 5, functions_have_few_clauses),
     (LOW, "        half = n;", f"        half = {WIDE};", 8, contracts_are_narrow),
     (HALF, "half n = n", f"half n = {WIDE}", 7, contracts_are_narrow),
+    (HALF, "pub thrice", "-- x\n" * FILE_LINES + "pub thrice", FILE_LINES + 17, files_are_short),
+    ("tests/low.py", "pass\n", "pass\n" * (FILE_LINES + 1), FILE_LINES + 1, files_are_short),
     (HALF, "pub thrice", "pub twice", 16, a_definition_has_its_name_alone),
     (HALF, "unfoldable pub twice", "abbrev pub half", 15, a_definition_has_its_name_alone),
     (HALF, "unfoldable pub twice", "pub data IsHalf", 15, a_definition_has_its_name_alone),
