@@ -24,12 +24,12 @@ def traced(folder, words, *inject, data=b""):
     return (ran.stdout, ran.returncode, ran.stderr), syncs
 
 
-def calls_of(folder, path, data):
-    """What a serving run asks of the system, in order: a write into the file with its place, a sync, or replies."""
+def calls_of(folder, words, data=b""):
+    """What a run writes, and asks of the system, in order: a write into the file with its place, a sync, or output."""
     if not shutil.which("strace"):
         raise Skipped("strace is not here")
     log = os.path.join(folder, "log")
-    ran = subprocess.run(["strace", "-xx", "-s", "8192", "-o", log, "-e", "trace=lseek,write,fdatasync", PROGRAM, "serve", path],
+    ran = subprocess.run(["strace", "-xx", "-s", "8192", "-o", log, "-e", "trace=lseek,write,fdatasync", PROGRAM, *words],
                          input=data, capture_output=True, timeout=DEADLINE)
     if not os.path.exists(log) or b"exited with" not in bytes_of(log):
         raise Skipped(f"strace cannot run a program: {ran.stderr.decode().strip()}")
@@ -42,5 +42,5 @@ def calls_of(folder, path, data):
             calls.append(("sync", None, None))
         else:
             piece = bytes.fromhex(fields[0].strip('"').replace("\\x", ""))
-            calls.append(("replies" if number == "1" else "write", place, piece))
+            calls.append(("output" if number == "1" else "write", place, piece))
     return ran.stdout, calls
