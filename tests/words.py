@@ -418,6 +418,78 @@ def crates_are_in_the_architecture(tree):
             yield document, 1, f"it doesn't name {crate}"
 
 
+LISTED = re.compile(r"^CHECKS = \[\n(.*?)^\]", re.M | re.S)
+
+
+def checks_of(tree):
+    """The name of each check that a script runs, or the client's tests."""
+    for name in tree.files("tests/**/*.py"):
+        for listed in LISTED.findall(tree.text(name)):
+            yield from re.findall(r"\w+", listed)
+    for name in tree.files("clients/python/tests/test_*.py"):
+        yield from re.findall(r"^    def (test_\w+)\(self", tree.text(name), re.M)
+
+
+def checks_are_run(tree):
+    scripts = [name for name in tree.files("tests/*.py") if re.search(r"^CHECKS = ", tree.text(name), re.M)]
+    subjects = {word for name in scripts for listed in re.findall(r"^SUBJECTS = \[(.*?)\]", tree.text(name), re.M | re.S)
+                for word in re.findall(r"\w+", listed)}
+    for name in [*scripts, *tree.files("tests/checks/*.py")]:
+        text, subject = tree.text(name), pathlib.PurePath(name).stem
+        if name not in scripts and LISTED.search(text) and subject not in subjects:
+            yield name, 1, "no script has it among its SUBJECTS"
+        for found in re.finditer(r"^def (\w+)\(folder\):", text, re.M):
+            if len(re.findall(rf"\b{found[1]}\b", text)) == 1:
+                yield name, line_at(text, found.start()), f"{found[1]} is not among the CHECKS"
+
+
+REGRESSIONS = "tests/REGRESSIONS.md"
+
+
+def parts_of(tree):
+    """Each field of a definition, and each clause of a function, as `A.b`."""
+    for name in tree.specs():
+        owner = None
+        for line in tree.text(name).split("\n"):
+            field = re.match(r"\s+(?:pub )?(\w+) :", line)
+            if field and owner:
+                yield f"{owner}.{field[1]}"
+            elif line and not line[0].isspace():
+                defined = DEFINITION.match(line)
+                owner = defined[1] if defined else owner if is_comment(line) else None
+    for name in tree.sources():
+        for function in tree.functions(name):
+            yield from (f"{function.name}.{clause.name}" for clause in function.clauses if clause.name)
+
+
+def tests_and_laws(tree):
+    """The name of each test and each law of Rattle's."""
+    for name in tree.sources():
+        code = tree.code(name)
+        yield from (function.name for function in tree.functions(name) if function.is_law)
+        yield from re.findall(r"#\[test\]\s+(?:pub )?fn (\w+)", code)
+
+
+def what_regressions_may_name(tree):
+    edits = (pathlib.PurePath(name).name for name in tree.files("crates/*/must-fail/*.edit"))
+    return {*edits, *checks_of(tree), *parts_of(tree), *tests_and_laws(tree), *(it.name for it in tree.definitions())}
+
+
+def regressions_name_what_notices_them(tree):
+    known = what_regressions_may_name(tree)
+    rows = [(line, text) for line, text in enumerate(tree.text(REGRESSIONS).split("\n"), 1) if text.startswith("| ")]
+    heads = {line - 1 for line, text in enumerate(tree.text(REGRESSIONS).split("\n"), 1) if text.startswith("|-")}
+    if not rows:
+        yield REGRESSIONS, 1, "it has no row"
+    for line, text in rows:
+        named = re.findall(r"`([^`]+)`", text.rstrip().rstrip("|").rpartition("|")[2])
+        if line not in heads and not named:
+            yield REGRESSIONS, line, "the row names nothing that would notice it"
+        for name in named:
+            if name not in known:
+                yield REGRESSIONS, line, f"{name} is no check, test, law, clause, definition or wrong body"
+
+
 RULES = [
     clauses_are_named_from_one_list,
     functions_have_few_clauses,
@@ -429,6 +501,8 @@ RULES = [
     refusals_are_documented,
     crates_have_readmes,
     crates_are_in_the_architecture,
+    checks_are_run,
+    regressions_name_what_notices_them,
 ]
 
 
@@ -458,7 +532,28 @@ RIGHT = {
     "crates/castle/README.md": README,
     "crates/low_tests/README.md": "# low_tests\n",
     "docs/ARCHITECTURE.md": "castle, low\n",
-    "tests/low.py": "pass\n",
+    "tests/low.py": "from checks import halves\n\nSUBJECTS = [halves]\nCHECKS = [check for subject in SUBJECTS for check in subject.CHECKS]\n",
+    "tests/checks/halves.py": """def made(folder):
+    return folder
+
+
+def a_half_is_made(folder):
+    made(folder)
+
+
+CHECKS = [
+    a_half_is_made,
+]
+""",
+    "clients/python/tests/test_low.py": "class Low(Case):\n    def test_low(self) -> None:\n        pass\n",
+    "crates/low/must-fail/half_is_whole.edit": "file: src/lib.rt\n",
+    "tests/REGRESSIONS.md": """Names: `of nothing`.
+
+| What | Who |
+|---|---|
+| `x` was | `a_half_is_made`, `test_low`, `half_is_whole.edit` |
+| y | `whole`, `a_test`, `IsHalf`, `IsHalf.half`, `whole.greatest` |
+""",
     "crates/low/src/lib.rt": '''//! Numbers. ensures bad { not a clause }
 ghost use Rattle.std.specs.Prelude.{◌≡◌, ◌≤◌};
 
@@ -520,7 +615,7 @@ pub fn status_text(status: u8) -> &'static str {
     }
 }
 ''',
-    "crates/low_tests/src/lib.rt": "pub fn a_test() { half(); }\n",
+    "crates/low_tests/src/lib.rt": "#[test]\nfn a_test() { half(); }\n\nfn no_test() { half(); }\n",
     "crates/low/specs/Half.antt": '''-- Halves.
 use Rattle.std.specs.Prelude.{ℕ}
 pub mod Other
@@ -572,7 +667,7 @@ FAULTS = [
     (LOW, "        half = n;", f"        half = {WIDE};", 8, contracts_are_narrow),
     (HALF, "half n = n", f"half n = {WIDE}", 7, contracts_are_narrow),
     (HALF, "pub thrice", "-- x\n" * FILE_LINES + "pub thrice", FILE_LINES + 17, files_are_short),
-    ("tests/low.py", "pass\n", "pass\n" * (FILE_LINES + 1), FILE_LINES + 1, files_are_short),
+    ("clients/python/tests/test_low.py", "pass\n", "pass\n" * FILE_LINES, FILE_LINES + 2, files_are_short),
     (HALF, "pub thrice", "pub twice", 16, a_definition_has_its_name_alone),
     (HALF, "unfoldable pub twice", "abbrev pub half", 15, a_definition_has_its_name_alone),
     (HALF, "unfoldable pub twice", "pub data IsHalf", 15, a_definition_has_its_name_alone),
@@ -592,6 +687,15 @@ FAULTS = [
     ("crates/low_tests/README.md", "# low_tests\n", "x\n" * 61, 61, crates_have_readmes),
     ("crates/low_tests/README.md", "# low_tests\n", "", 1, crates_have_readmes),
     ("docs/ARCHITECTURE.md", "castle, low", "castle, lower", 1, crates_are_in_the_architecture),
+    ("tests/low.py", "[halves]", "[]", 1, checks_are_run),
+    ("tests/checks/halves.py", "    a_half_is_made,\n", "    a_half_is_made,\n]\n\n\ndef another(folder):\n    pass\n\n\n[\n", 14, checks_are_run),
+    (REGRESSIONS, "`test_low`", "`test_lower`", 5, regressions_name_what_notices_them),
+    (REGRESSIONS, "half_is_whole", "half_is_half", 5, regressions_name_what_notices_them),
+    (REGRESSIONS, "`a_half_is_made`", "`made`", 5, regressions_name_what_notices_them),
+    (REGRESSIONS, "`a_test`", "`no_test`", 6, regressions_name_what_notices_them),
+    (REGRESSIONS, "IsHalf.half", "IsHalf.whole", 6, regressions_name_what_notices_them),
+    (REGRESSIONS, "whole.greatest", "whole.least", 6, regressions_name_what_notices_them),
+    (REGRESSIONS, "| `a_half_is_made`, `test_low`, `half_is_whole.edit` |", "| the tests |", 5, regressions_name_what_notices_them),
 ]
 
 
