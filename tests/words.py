@@ -1,5 +1,5 @@
 #!/usr/bin/env python3
-"""Holds the repository to its words: names of clauses and definitions, widths, and what the documents name.
+"""Holds the repository to its words: names of clauses and definitions, widths, lengths, which checks run, and what documents name.
 
 It reads files alone, and takes the crates as crates.txt and crates/ have them. Each fault is a line
 `FILE:LINE: what`; the last line counts the rules that passed and failed.
