@@ -41,9 +41,9 @@ def the_file_is_synced_at_each_sync_and_its_folder_once(folder):
         expect(f"serve {path}, the file's bytes are the same", bytes_of(file) == before, True)
 
 
-# What a run writes and syncs: the bytes that were durable when it began, the writes before it that were not, and its calls. Beside
-# these, how many changes are acknowledged before it (None where no store is yet), how many are made once so many commands are
-# answered, and the store after each number of changes.
+# What a run writes and syncs, call by call. `synced` has the bytes that were durable when it began, `pending` the writes before
+# it that were not. So many changes as `least` were acknowledged before it; None says that no store was there. `made` says how many
+# changes are made once so many commands are answered, and `stores` what the store is after each number of changes.
 History = collections.namedtuple("History", "synced pending calls least made stores")
 
 
