@@ -11,7 +11,7 @@ import subprocess
 import sys
 
 import model
-from outside import PROGRAM, TOP, StoreFile, Wrong, expect, run_checks
+from program import PROGRAM, TOP, StoreFile, Wrong, expect, run_checks
 
 CASTLE, SQLITE = "castle", "SQLite"
 

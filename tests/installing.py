@@ -12,9 +12,9 @@ import stat as modes
 import subprocess
 import sys
 
-from launcher import NOT_BUILT, REFUSED, Terminal, castle, expect_files, expect_refused, launch, served
+from launching import NOT_BUILT, REFUSED, Terminal, castle, expect_files, expect_refused, launch, served
 from model import Store
-from outside import DEADLINE, TOP, Skipped, StoreFile, bytes_of, complaint, expect, run_checks
+from program import DEADLINE, TOP, Skipped, StoreFile, bytes_of, complaint, expect, run_checks
 
 INSTALL = str(TOP / "install")
 

@@ -1,5 +1,6 @@
 #!/usr/bin/env python3
-"""Holds the repository to its words: names of clauses and definitions, widths, what the documents name, and prose.
+"""Holds the repository to its words: names of clauses and definitions, widths, lengths, which checks run, what the documents
+name, and prose.
 
 It reads files alone, and takes the crates as crates.txt and crates/ have them. Each fault is a line
 `FILE:LINE: what`; the last line counts the rules that passed and failed.
@@ -48,6 +49,7 @@ CLAUSES = {
 CLAUSES_MOST = 12  # of one function
 CONTRACT_WIDTH = 100
 COMMENT_WIDTH = 120
+FILE_LINES = 800  # of a file of code, of definitions, of proofs or of tests
 
 # The crate that owns a name of the vocabulary, though it may come later. No other crate defines the name.
 OWNERS = {
@@ -188,6 +190,12 @@ class Tree:
     def specs(self):
         return self.files("crates/*/specs/**/*.antt")
 
+    def all_code(self):
+        """Each file of code, of definitions, of proofs and of tests, in whatever language."""
+        patterns = ("crates/*/proofs/**/*.antt", "tests/**/*", "clients/python/**/*.py", "bench/*", "launcher/*", "castle*", "install")
+        names = [name for pattern in patterns for name in self.files(pattern) if not name.endswith((".pyc", ".md"))]
+        return [*self.sources(), *self.specs(), *names]
+
     @functools.lru_cache(maxsize=None)
     def code(self, name):
         return blanked(self.text(name))
@@ -265,6 +273,13 @@ def comments_are_narrow(tree):
         for number, line in enumerate(tree.text(name).split("\n"), 1):
             if len(line) > COMMENT_WIDTH and is_comment(line):
                 yield name, number, f"a comment of {len(line)} columns, above {COMMENT_WIDTH}"
+
+
+def files_are_short(tree):
+    for name in tree.all_code():
+        lines = len(tree.text(name).splitlines())
+        if lines > FILE_LINES:
+            yield name, lines, f"{lines} lines, above {FILE_LINES}"
 
 
 def a_definition_has_its_name_alone(tree):
@@ -410,16 +425,91 @@ def crates_are_in_the_architecture(tree):
             yield document, 1, f"it doesn't name {crate}"
 
 
+LISTED = re.compile(r"^CHECKS = \[\n(.*?)^\]", re.M | re.S)
+
+
+def checks_of(tree):
+    """The name of each check that a script runs, or the client's tests."""
+    for name in tree.files("tests/**/*.py"):
+        for listed in LISTED.findall(tree.text(name)):
+            yield from re.findall(r"\w+", listed)
+    for name in tree.files("clients/python/tests/test_*.py"):
+        yield from re.findall(r"^    def (test_\w+)\(self", tree.text(name), re.M)
+
+
+def checks_are_run(tree):
+    scripts = [name for name in tree.files("tests/*.py") if re.search(r"^CHECKS = ", tree.text(name), re.M)]
+    subjects = {word for name in scripts for listed in re.findall(r"^SUBJECTS = \[(.*?)\]", tree.text(name), re.M | re.S)
+                for word in re.findall(r"\w+", listed)}
+    for name in [*scripts, *tree.files("tests/checks/*.py")]:
+        text, subject = tree.text(name), pathlib.PurePath(name).stem
+        if name not in scripts and LISTED.search(text) and subject not in subjects:
+            yield name, 1, "no script has it among its SUBJECTS"
+        for found in re.finditer(r"^def (\w+)\(folder\):", text, re.M):
+            if len(re.findall(rf"\b{found[1]}\b", text)) == 1:
+                yield name, line_at(text, found.start()), f"{found[1]} is not among the CHECKS"
+
+
+REGRESSIONS = "tests/REGRESSIONS.md"
+
+
+def parts_of(tree):
+    """Each field of a definition, and each clause of a function, as `A.b`."""
+    for name in tree.specs():
+        owner = None
+        for line in tree.text(name).split("\n"):
+            field = re.match(r"\s+(?:pub )?(\w+) :", line)
+            if field and owner:
+                yield f"{owner}.{field[1]}"
+            elif line and not line[0].isspace():
+                defined = DEFINITION.match(line)
+                owner = defined[1] if defined else owner if is_comment(line) else None
+    for name in tree.sources():
+        for function in tree.functions(name):
+            yield from (f"{function.name}.{clause.name}" for clause in function.clauses if clause.name)
+
+
+def tests_and_laws(tree):
+    """The name of each test and each law of Rattle's."""
+    for name in tree.sources():
+        code = tree.code(name)
+        yield from (function.name for function in tree.functions(name) if function.is_law)
+        yield from re.findall(r"#\[test\]\s+(?:pub )?fn (\w+)", code)
+
+
+def what_regressions_may_name(tree):
+    edits = (pathlib.PurePath(name).name for name in tree.files("crates/*/must-fail/*.edit"))
+    return {*edits, *checks_of(tree), *parts_of(tree), *tests_and_laws(tree), *(it.name for it in tree.definitions())}
+
+
+def regressions_name_what_notices_them(tree):
+    known = what_regressions_may_name(tree)
+    rows = [(line, text) for line, text in enumerate(tree.text(REGRESSIONS).split("\n"), 1) if text.startswith("| ")]
+    heads = {line - 1 for line, text in enumerate(tree.text(REGRESSIONS).split("\n"), 1) if text.startswith("|-")}
+    if not rows:
+        yield REGRESSIONS, 1, "it has no row"
+    for line, text in rows:
+        named = re.findall(r"`([^`]+)`", text.rstrip().rstrip("|").rpartition("|")[2])
+        if line not in heads and not named:
+            yield REGRESSIONS, line, "the row names nothing that would notice it"
+        for name in named:
+            if name not in known:
+                yield REGRESSIONS, line, f"{name} is no check, test, law, clause, definition or wrong body"
+
+
 RULES = [
     clauses_are_named_from_one_list,
     functions_have_few_clauses,
     contracts_are_narrow,
+    files_are_short,
     a_definition_has_its_name_alone,
     later_names_are_left_to_their_crates,
     statuses_are_documented,
     refusals_are_documented,
     crates_have_readmes,
     crates_are_in_the_architecture,
+    checks_are_run,
+    regressions_name_what_notices_them,
     *prose.RULES,
 ]
 
@@ -470,6 +560,28 @@ an image
 | memtable | level 0 | updates |
 
 It is 1 or 2. It''' + " goes" * 28 + " on.\n",
+    "tests/low.py": "from checks import halves\n\nSUBJECTS = [halves]\nCHECKS = [check for subject in SUBJECTS for check in subject.CHECKS]\n",
+    "tests/checks/halves.py": """def made(folder):
+    return folder
+
+
+def a_half_is_made(folder):
+    made(folder)
+
+
+CHECKS = [
+    a_half_is_made,
+]
+""",
+    "clients/python/tests/test_low.py": "class Low(Case):\n    def test_low(self) -> None:\n        pass\n",
+    "crates/low/must-fail/half_is_whole.edit": "file: src/lib.rt\n",
+    "tests/REGRESSIONS.md": """Names: `of nothing`.
+
+| What | Who |
+|---|---|
+| `x` was | `a_half_is_made`, `test_low`, `half_is_whole.edit` |
+| y | `whole`, `a_test`, `IsHalf`, `IsHalf.half`, `whole.greatest` |
+""",
     "crates/low/src/lib.rt": '''//! Numbers. ensures bad { not a clause }
 ghost use Rattle.std.specs.Prelude.{◌≡◌, ◌≤◌};
 
@@ -531,7 +643,7 @@ pub fn status_text(status: u8) -> &'static str {
     }
 }
 ''',
-    "crates/low_tests/src/lib.rt": "pub fn a_test() { half(); }\n",
+    "crates/low_tests/src/lib.rt": "#[test]\nfn a_test() { half(); }\n\nfn no_test() { half(); }\n",
     "crates/low/specs/Half.antt": '''-- Halves.
 use Rattle.std.specs.Prelude.{ℕ}
 pub mod Other
@@ -582,6 +694,8 @@ FAULTS = [
     (LOW, "    ensures { n ≡ n }\n", "    ensures { n ≡ n }\n" + MANY, 5, functions_have_few_clauses),
     (LOW, "        half = n;", f"        half = {WIDE};", 8, contracts_are_narrow),
     (HALF, "half n = n", f"half n = {WIDE}", 7, contracts_are_narrow),
+    (HALF, "pub thrice", "-- x\n" * FILE_LINES + "pub thrice", FILE_LINES + 17, files_are_short),
+    ("clients/python/tests/test_low.py", "pass\n", "pass\n" * FILE_LINES, FILE_LINES + 2, files_are_short),
     (HALF, "pub thrice", "pub twice", 16, a_definition_has_its_name_alone),
     (HALF, "unfoldable pub twice", "abbrev pub half", 15, a_definition_has_its_name_alone),
     (HALF, "unfoldable pub twice", "pub data IsHalf", 15, a_definition_has_its_name_alone),
@@ -613,6 +727,15 @@ FAULTS = [
     ("docs/GLOSSARY.md", "| Prose |", "By the gate.\n\n| Prose |", 1, prose.prose_says_the_fields_word),
     ("docs/GLOSSARY.md", "| memtable |", "| `memtable` |", 3, prose.the_glossary_has_these_words),
     ("docs/GLOSSARY.md", "| out of memory | image |\n", "", 9, prose.the_glossary_has_these_words),
+    ("tests/low.py", "[halves]", "[]", 1, checks_are_run),
+    ("tests/checks/halves.py", "    a_half_is_made,\n", "    a_half_is_made,\n]\n\n\ndef another(folder):\n    pass\n\n\n[\n", 14, checks_are_run),
+    (REGRESSIONS, "`test_low`", "`test_lower`", 5, regressions_name_what_notices_them),
+    (REGRESSIONS, "half_is_whole", "half_is_half", 5, regressions_name_what_notices_them),
+    (REGRESSIONS, "`a_half_is_made`", "`made`", 5, regressions_name_what_notices_them),
+    (REGRESSIONS, "`a_test`", "`no_test`", 6, regressions_name_what_notices_them),
+    (REGRESSIONS, "IsHalf.half", "IsHalf.whole", 6, regressions_name_what_notices_them),
+    (REGRESSIONS, "whole.greatest", "whole.least", 6, regressions_name_what_notices_them),
+    (REGRESSIONS, "| `a_half_is_made`, `test_low`, `half_is_whole.edit` |", "| the tests |", 5, regressions_name_what_notices_them),
 ]
 
 

@@ -1,0 +1,181 @@
+"""Damaged files: arrays with wrong bytes, files cut short or overwritten, and the block that is named."""
+
+import random
+import struct
+
+import formats
+import model
+from model import BLOCK, close_cursor, get, info, next_pairs, open_cursor, put, reply, scan, stat, tag_of
+from program import GET_A, PUT_A, StoreFile, Talk, bytes_of, complaint, expect, expect_opened, read_exactly, serve
+from samples import DISTINCT, PUBLISHED, altered, store_after
+
+
+def expect_damaged(name, store, frames, block):
+    """All frames but the last are answered as by the model, the last with the damaged block; the same in the next run."""
+    for turn in range(2):
+        out, _ = store.model.serve(b"".join(frames[:-1]))
+        want = out + reply(tag_of(frames[-1][4:]), model.DAMAGED_BLOCK, struct.pack(">I", block))
+        expect(f"{name}, {turn}", serve(store.path, [b"".join(frames) + get(99, b"a")]), (want, 9, complaint(9)))
+
+
+def damaged_arrays_are_named(folder):
+    wrong = [(0, b"\0\0"), (2, b"\xff"), (2, b"\0\0"), (4095, b"\1"), (0, b"\xff\xff")]
+    for place, piece in wrong:
+        # level 2 has its 12 keys in block 7, and the journal the last
+        store, _ = store_after(folder, *DISTINCT[:2])
+        mended = formats.block_at(bytes_of(store.path), 7)
+        altered(store.path, 7 * BLOCK + place, piece)
+        fine = [get(1, b"k13"), stat(2), info(3), get(4, b"k01", 1)]
+        store.expect_answers("before", fine)
+        expect_damaged("a get", store, [*fine, get(1, b"k01")], 7)
+        expect_damaged("a scan", store, [*fine, scan(1, b"k01", b"k02")], 7)
+        # a cursor is opened without a look at a block, and its first page has one
+        expect_damaged("a cursor", store, [*fine, open_cursor(1, b"k01", b"k02"), open_cursor(2), close_cursor(3, 2), next_pairs(1, 1)], 7)
+        # four more keys are published without a look at level 2, and eight more with one
+        store.expect_answers("a publication of others", [put(i, b"n%02d" % i, b"1") for i in range(4)])
+        store.expect_answers("what it has", [get(i, b"n%02d" % i) for i in range(4)])
+        expect_damaged("a get after it", store, [get(1, b"k01")], 7)
+        store.expect_answers("more", [put(i, b"n%02d" % i, b"1") for i in range(4, 11)])
+        expect_damaged("a publication", store, [get(1, b"n00"), put(2, b"n11", b"1")], 7)
+        store.expect_answers("after it", [get(i, b"n%02d" % i) for i in range(11)])
+        altered(store.path, 7 * BLOCK, mended)
+        store.expect_served("mended", [put(1, b"n11", b"1") + get(2, b"k01") + scan(3)])
+    # two arrays of a level: only the versions of one are damaged
+    store, contents = store_after(folder, *PUBLISHED[1][:2])
+    first, second = formats.arrays_of(contents.manifest)
+    block = second.extents[0][0]
+    altered(store.path, block * BLOCK, b"\0\0")
+    fine = [get(v, key, v) for v in (0, 1) for key in (b"a", b"b", b"c")] + [scan(v, version=v) for v in (0, 1)]
+    for version in (2, 3):
+        expect_damaged(f"version {version}", store, [*fine, get(1, b"a", version)], block)
+        expect_damaged(f"a scan of version {version}", store, [*fine, scan(1, version=version)], block)
+
+
+def a_damaged_array_that_only_a_cursor_reads_is_named(folder):
+    store, contents = store_after(folder, *DISTINCT[:2], 1000, 10)
+    old, = formats.arrays_of(contents.manifest)
+    with Talk("a cursor", store) as talk:
+        cursor, change = talk.open(), 0
+        while old.id in (array.id for array in formats.arrays_of(formats.read(bytes_of(store.path)).manifest)):
+            talk.ask(put(change, b"k%02d" % (change % 12), b"new"))
+            change += 1
+        altered(store.path, old.extents[0][0] * BLOCK, b"\0\0")
+        for sent in (get(1, b"k03"), scan(2), next_pairs(3, talk.open(), 5), stat(4)):
+            talk.ask(sent)
+        talk.child.stdin.write(next_pairs(5, cursor, 1))
+        want = reply(5, model.DAMAGED_BLOCK, struct.pack(">I", old.extents[0][0]))
+        expect("a page", read_exactly(talk.child.stdout, len(want)), want)
+        talk.status = model.DAMAGED
+    store.expect_answers("the next run", [scan(1), get(2, b"k03"), stat(3)])
+
+
+def used_store(folder):
+    """A file with four puts in a journal region for four, and its bytes."""
+    store = StoreFile(folder, 4, 100, 10)
+    store.expect_served("puts", [b"".join(put(i, b"%d" % i, b"%d" % i) for i in range(4))])
+    return store.path, bytes_of(store.path)
+
+
+def a_store_cut_short_is_refused_by_name(folder):
+    path, data = used_store(folder)
+    places = [0, 1, 8, 9, 10, 39, 40, 41, 4096, 8191, 8192, 8193, 8235, 8236, 8237, 16384, 24575, 24576, 24580, 24607,
+              24608, 28671, 28672]
+    chance = random.Random(7)
+    for place in places + [chance.randrange(len(data)) for _ in range(20)]:
+        expect_opened(f"cut at {place}", path, data[:place])
+
+
+def noise_over(path, data, chance, turns, places):
+    """Serves the file with noise at some of the places, and gives the statuses that were met."""
+    seen = set()
+    for turn in range(turns):
+        noisy = bytearray(data)
+        at = chance.choice(places) + chance.randrange(50)
+        noise = chance.randbytes(chance.choice((1, 1, 2, 8, 40)))
+        noisy[at:at + len(noise)] = noise
+        seen.add(expect_opened(f"noise {turn}, {len(noise)} bytes at {at}", path, bytes(noisy)))
+    return seen
+
+
+def a_store_overwritten_with_noise_is_refused_by_name(folder):
+    path, data = used_store(folder)
+    chance = random.Random(8)
+    # superblock slots, the first records of both regions, and the manifest's block
+    seen = noise_over(path, data, chance, 200, [0, 0, 0, 4096, 8192, 8192, 8192, 16384, 24576])
+    for turn in range(10):
+        seen.add(expect_opened(f"all noise {turn}", path, chance.randbytes(chance.randrange(40000))))
+    expect("statuses", seen, {0, 2, 9})
+    # each gate alone, open and shut
+    for at in (0, 4096, 8192, 8203, 8236, 16384):
+        for gate in (0, 0xa6, 0xa7):
+            expect_opened(f"gate {gate} at {at}", path, data[:at] + bytes([gate]) + data[at + 1:])
+
+
+def blamed(data):
+    """The block that an opening of a file with these bytes names, or None."""
+    try:
+        formats.store_of(data, formats.read(data))
+    except formats.Damaged as damaged:
+        return damaged.block
+    except formats.NoRoom:
+        pass
+    return None
+
+
+def with_byte(data, place, byte):
+    return data[:place] + bytes([byte]) + data[place + 1:]
+
+
+def altered_bytes_are_named(folder):
+    stores = StoreFile(folder, 4, 100, 10), StoreFile(folder, 4, 100, 10), StoreFile(folder, 4, 100, 1)
+    for store in stores[1:]:
+        store.expect_served("a put", [PUT_A])
+    new, one, single = (bytes_of(store.path) for store in stores)
+    path, used = used_store(folder)
+    for name, place, byte in (("the slot's gate shut", 0, 0), ("its text", 1, 0x73)):
+        expect(name, expect_opened(name, path, with_byte(new, place, byte)), model.NOT_A_STORE)
+    for name, data, place, byte, block in (
+        ("the slot's generation", new, 18, 2, 6), ("its manifest's block", new, 22, 5, 0), ("its length", new, 26, 30, 6),
+        ("its region", new, 27, 2, 0), ("its versions", new, 38, 0xff, 0), ("a byte behind it", new, 40, 9, None),
+        ("the other slot open with no text", new, 4096, 0xa7, None), ("a gate with no change behind it", new, 8192, 0xa7, 2),
+        ("a chain that goes on", new, 24579, 1, 6), ("as many changes as may be", new, 24583, 100, None),
+        ("one more", new, 24583, 101, 6), ("an update without a change", new, 24587, 1, 6), ("a byte behind the manifest", new, 28671, 1, 6),
+        ("a put made a deletion", one, 8193, 2, None), ("a put made a clone", one, 8193, 3, None),
+        ("a put at a version that is not there", one, 8197, 1, 2), ("a clone past the limit", single, 8193, 3, 2),
+        ("the other region open behind a full one", used, 16384, 0xa7, 4), ("the last gate shut", used, 8225, 0, None),
+    ):
+        wrong = with_byte(data, place, byte)
+        status = expect_opened(name, path, wrong)
+        expect(name, (status, blamed(wrong)), (0 if block is None else model.DAMAGED, block))
+    # a journal that goes on in the other region, by one change or two, and by one too many
+    for many, ends in ((1, (model.NO_MEMORY, None)), (2, (model.NO_MEMORY, None)), (3, (model.DAMAGED, 4))):
+        records = many * formats.record_of((formats.PUT, 0, b"a", b"1"))
+        wrong = used[:16384] + records + b"\0" + used[16385 + len(records):]
+        name = f"a journal with {many} behind a full region"
+        expect(name, (expect_opened(name, path, wrong), blamed(wrong)), ends)
+    # the other region open behind one with room is shut
+    altered(stores[1].path, 16384, b"\xa7")
+    stores[1].expect_served("a look", [GET_A])
+
+
+def a_published_store_overwritten_with_noise_is_refused_by_name(folder):
+    chance = random.Random(9)
+    for frames in (PUBLISHED[0][1], PUBLISHED[2][1], DISTINCT[1]):
+        store, contents = store_after(folder, 4, frames)
+        data, blocks = bytes_of(store.path), [block for array in formats.arrays_of(contents.manifest)
+                                              for block in formats.blocks_of(array)]
+        # both slots, both regions, the manifest from its start and from the middle of it, and the arrays' first entries
+        places = [0, 4096, 8192, 16384, *(3 * [BLOCK * contents.chain[0], BLOCK * contents.chain[0] + 33]),
+                  *(BLOCK * block for block in blocks)]
+        seen = noise_over(store.path, data, chance, 80, places)
+        expect("statuses", seen, {0, 9})
+
+
+CHECKS = [
+    damaged_arrays_are_named,
+    a_damaged_array_that_only_a_cursor_reads_is_named,
+    a_store_cut_short_is_refused_by_name,
+    a_store_overwritten_with_noise_is_refused_by_name,
+    altered_bytes_are_named,
+    a_published_store_overwritten_with_noise_is_refused_by_name,
+]

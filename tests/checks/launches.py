@@ -1,0 +1,185 @@
+"""Launches: what the launcher passes on, what it does not overwrite, and what it shows at a terminal."""
+
+import os
+import signal
+import subprocess
+
+import formats
+import model
+from launching import MAKING, REFUSED, Terminal, expect_files, launch, limited
+from model import BLOCK, Store, put, reply
+from program import DEADLINE, GET_A, LAUNCHER, PUT_A, StoreFile, bytes_of, complaint, expect, hexed
+
+
+def the_launcher_passes_words_input_and_status_on(folder):
+    for data in (PUT_A + GET_A, hexed("00000801"), PUT_A[:-1]):
+        StoreFile(folder).expect_served("through the launcher", [data], program=LAUNCHER)
+    path = StoreFile(folder).path
+    expect("levels", launch(["levels", path]), (*formats.levels_printed(bytes_of(path)), b""))
+    with open(path, "r+b") as file:
+        file.seek(44 * BLOCK)  # docs/FORMATS.md: the manifest of a new store with M 64
+        file.write(b"\xff" * BLOCK)
+    expect("levels of a damaged file", launch(["levels", path]), (b"damaged block 44\n", 9, complaint(9)))
+
+
+def files_may_have_any_name(folder):
+    inner = os.path.join(folder, "a folder * of $HOME")
+    os.mkdir(inner)
+    for name in ("a b.store", "*", "-n", "--overwrite", "$(touch x)", "a\n.store", "a.store\n", "\t", "'\"", "ä.store"):
+        path = os.path.join(inner, name)
+        for given, cwd in ((path, folder), (f"./{name}", inner), (name, inner)):
+            words = [given, "4", "100", "10"]
+            expect(f"format {given!r}", launch(["format", *words], cwd=cwd), (Store(4, 100, 10).line(), 0, b""))
+            expect_files(f"format {given!r}", inner, [name, f"{name}.lock"])
+            expect(f"format {given!r} again", launch(["format", *words], cwd=cwd)[1], REFUSED)
+            out, status = Store(4, 100, 10).serve(PUT_A)
+            expect(f"serve {given!r}", launch(["serve", given], input=PUT_A, cwd=cwd), (out, status, b""))
+            expect(f"levels {given!r}", launch(["levels", given], cwd=cwd), (*formats.levels_printed(bytes_of(path)), b""))
+            for left in os.listdir(inner):
+                os.remove(os.path.join(inner, left))
+
+
+def a_file_that_is_a_standard_stream_is_refused(folder):
+    store = StoreFile(folder)
+    linked = os.path.join(folder, "linked")
+    os.symlink(store.path, linked)
+    for words, redirected, stream in (
+        (["serve", store.path], f"<{store.path}", "input"), (["serve", store.path], f">>{store.path}", "output"),
+        (["serve", linked], f"<>{store.path} >/dev/null", "input"),
+        (["--overwrite", "format", store.path, "4", "100", "10"], f"1<>{linked}", "output"),
+        (["--overwrite", "format", linked, "4", "100", "10"], f"<{store.path}", "input"),
+        (["levels", store.path], f">>{linked}", "output"),
+        (["--overwrite", "workload", store.path, "1", "10"], f">>{store.path}", "output"),
+    ):
+        ran = subprocess.run(["/bin/sh", "-c", f'"$@" {redirected}', "sh", LAUNCHER, *words], input=PUT_A,
+                             capture_output=True, timeout=DEADLINE)
+        said = f"castle: the store's file is standard {stream} as well\n".encode()
+        expect(f"{words} {redirected}", (ran.stdout, ran.returncode, ran.stderr), (b"", 1, said))
+        store.expect_bytes(f"{words} {redirected}")
+    # another file may be the input, and a closed stream is none
+    other = StoreFile(folder)
+    how = {"capture_output": True, "timeout": DEADLINE}
+    ran = subprocess.run(["/bin/sh", "-c", f'"$0" serve "$1" <{other.path}', LAUNCHER, store.path], **how)
+    out, status = store.model.serve(bytes_of(other.path))
+    expect("another file as input", (ran.stdout, ran.returncode, ran.stderr), (out, status, complaint(status)))
+    ran = subprocess.run(["/bin/sh", "-c", '"$0" serve "$1" <&-', LAUNCHER, store.path], **how)
+    expect("a closed input", (ran.stdout, ran.returncode, ran.stderr), (b"", 6, complaint(6)))
+
+
+def a_file_at_its_largest_size_is_told(folder):
+    path = os.path.join(folder, "small.store")
+    got = launch(["format", path, "4", "100", "10"], preexec_fn=lambda: limited(9000))
+    expect("format", got, (b"", 5, complaint(5)))
+    # the record of the second put lies across the end of what may be written
+    store = StoreFile(folder)
+    puts = put(0, b"0", b"value") + put(1, b"1", b"value")
+    most = 2 * BLOCK + len(formats.record_of((model.PUT, 0, b"0", b"value"))) + 5
+    got = launch(["serve", store.path], input=puts, preexec_fn=lambda: limited(most))
+    expect("serve", got, (reply(0, model.DONE) + reply(1, model.DEVICE_FAULT), 5, complaint(5)))
+
+
+def what_a_file_holds_is_not_overwritten_unasked(folder):
+    store = StoreFile(folder)
+    store.expect_served("a put", [PUT_A])
+    text, linked = os.path.join(folder, "text"), os.path.join(folder, "linked")
+    for path, data in ((text, b"x"), (f"{store.path}.names", b"x 0\n"), (f"{text}.names", b"x 0\n")):
+        with open(path, "wb") as file:
+            file.write(data)
+    os.symlink(store.path, linked)
+    before = {name: bytes_of(os.path.join(folder, name)) for name in os.listdir(folder)}
+    for word, limits in MAKING.items():
+        for path, held in ((text, "a file that is no castle store"), (store.path, "a castle store"), (linked, "a castle store")):
+            said = f"castle: {path}: {held} is there, and stays as it is; to lose it, use castle --overwrite {word} ..\n"
+            expect(f"{word} {path}", launch([word, path, *limits]), (b"", REFUSED, said.encode()))
+            now = {name: bytes_of(os.path.join(folder, name)) for name in os.listdir(folder)}
+            expect(f"{word} {path}, the files", now == before, True)
+    for word, limits in MAKING.items():
+        for path in (text, linked):
+            real = os.path.realpath(path)
+            with open(f"{real}.names", "w"):
+                pass
+            expect(f"--overwrite {word} {path}", launch(["--overwrite", word, path, *limits])[1:], (0, b""))
+            expect(f"--overwrite {word} {path}, names", os.path.exists(f"{real}.names"), False)
+            expect(f"--overwrite {word} {path}, a link stays", os.path.islink(path), path == linked)
+    expect("the last workload", bytes_of(text), bytes_of(store.path))
+    empty = os.path.join(folder, "empty")
+    for word, limits in MAKING.items():
+        with open(empty, "w"), open(f"{empty}.names", "w"):
+            pass
+        expect(f"{word} over an empty file", launch([word, empty, *limits])[1:], (0, b""))
+        expect(f"{word} over an empty file, names", os.path.exists(f"{empty}.names"), False)
+
+
+def names_stay_where_no_store_was_made(folder):
+    path = os.path.join(folder, "a.store")
+    for word, limits in MAKING.items():
+        with open(f"{path}.names", "w"):
+            pass
+        got = launch(["--overwrite", word, path, *limits], preexec_fn=lambda: limited(5000))
+        expect(f"{word}", got, (b"", 5, complaint(5)))
+        expect(f"{word}, names", os.path.exists(f"{path}.names"), True)
+    # where only the line about it could not be written the store is there
+    inside, outside = os.pipe()
+    os.close(inside)
+    ran = subprocess.run([LAUNCHER, "--overwrite", "format", path, "4", "100", "10"], stdin=subprocess.DEVNULL, stdout=outside,
+                         stderr=subprocess.PIPE, timeout=DEADLINE)
+    os.close(outside)
+    expect("a closed output", (ran.returncode, ran.stderr, os.path.exists(f"{path}.names")), (7, complaint(7), False))
+    os.mkdir(f"{path}.names")
+    out, status, said = launch(["--overwrite", "format", path, "4", "100", "10"])
+    expect("names that can't be removed", (out, status), (Store(4, 100, 10).line(), 0))
+    expect("names that can't be removed, what is said", said.splitlines()[-1],
+           f"castle: {path}.names: these names are of the store before; remove them".encode())
+
+
+def serve_says_at_a_terminal_what_it_waits_for(folder):
+    path = StoreFile(folder).path
+    said = "castle: serve reads frames from standard input, which is a terminal here; people use castle-shell\n"
+    with Terminal([LAUNCHER, "serve", path]) as run:
+        run.read_until(b"people use castle-shell\r\n")
+        run.type(b"\x04")
+        expect("what it says, at its end", run.end(), (0, said.encode(), []))
+
+
+def a_workload_that_fails_at_a_terminal_tells_its_status(folder):
+    path = os.path.join(folder, "a.store")
+    with Terminal([LAUNCHER, "workload", path, "1", "2000"], most=5000) as run:
+        expect("a full device", run.end(), (5, complaint(5), []))
+    # where a weaker signal does not end what shows the growth; so too where that has just begun, and loses it
+    with Terminal(["sh", "-c", 'trap "" TERM; exec "$@"', "sh", LAUNCHER, "workload", path, "1", "2000"], most=5000) as run:
+        expect("a full device, where SIGTERM is ignored", run.end(), (5, complaint(5), []))
+    text = os.path.join(folder, "text")
+    with open(text, "w") as file:
+        file.write("a text")
+    said = f"castle: {text}: a file that is no castle store is there, and stays as it is; to lose it, use castle --overwrite workload ..\n"
+    with Terminal([LAUNCHER, "workload", text, "1", "10"]) as run:
+        expect("a text", run.end(), (REFUSED, said.encode(), []))
+    with Terminal([LAUNCHER, "--overwrite", "workload", path, "1", "10"]) as run:
+        expect("one that ends well", run.end(), (0, launch(["workload", os.path.join(folder, "b.store"), "1", "10"])[0], []))
+
+
+def a_workload_is_ended_with_its_launcher(folder):
+    path = os.path.join(folder, "a.store")
+    for name, number, status in (("Ctrl-C", None, 130), ("SIGTERM", signal.SIGTERM, 143), ("SIGHUP", signal.SIGHUP, 129)):
+        with Terminal([LAUNCHER, "--overwrite", "workload", path, "1", "1000000"]) as run:
+            run.read_until(rb"castle: \d+ MB\r")
+            if number is None:
+                run.type(b"\x03")
+            else:
+                os.kill(int(bytes_of(f"{path}.lock")), number)
+            expect(f"{name}, its end", run.end(), (status, b"", []))
+        expect(f"{name}, the lock that it made", os.path.exists(f"{path}.lock"), name != "Ctrl-C")
+        expect(f"{name}, the lock is free", launch(["serve", path])[1:], (0, b""))
+
+
+CHECKS = [
+    the_launcher_passes_words_input_and_status_on,
+    files_may_have_any_name,
+    a_file_that_is_a_standard_stream_is_refused,
+    a_file_at_its_largest_size_is_told,
+    what_a_file_holds_is_not_overwritten_unasked,
+    names_stay_where_no_store_was_made,
+    serve_says_at_a_terminal_what_it_waits_for,
+    a_workload_that_fails_at_a_terminal_tells_its_status,
+    a_workload_is_ended_with_its_launcher,
+]

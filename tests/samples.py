@@ -1,0 +1,147 @@
+"""Streams of commands, some of them drawn, and stores to begin from, which the checks of several subjects use."""
+
+import copy
+import os
+
+import formats
+from model import clone, close_cursor, delete, frame, get, info, next_pairs, open_cursor, put, scan, stat
+from program import StoreFile, bytes_of
+
+ABC = put(1, b"a", b"1") + put(2, b"b", b"2") + put(3, b"c", b"3")
+SETTINGS = (put(1, b"user/1/name", b"Ann") + put(2, b"user/2/name", b"Bob") + clone(3) + clone(4)
+            + put(5, b"user/2/name", b"Rob", 1) + delete(6, b"user/1/name", 2))
+
+# Changes, and what the job `levels` prints of a store of M 4 (or the M that is said) that took them
+PUBLISHED = [
+    (4, [clone(1), put(2, b"a", b"1", 1), clone(3, 1), clone(4, 2), put(5, b"b", b"1", 3)], """
+store generation 2 mem 4 changes 5 of 100 versions 4 of 10
+journal changes 1 updates 1
+level 1 horizon 4 leads 1 entries 1
+array 1 density 1/1 lead 1/1 versions 1-3
+stored 2 updates 2 written 1
+"""),
+    (8, [put(1, b"a", b"1"), put(2, b"b", b"1"), clone(3), clone(4), clone(5), *(put(v, b"c", b"%d" % v, v) for v in (1, 2, 3)),
+         put(9, b"d", b"1", 1)], """
+store generation 2 mem 8 changes 9 of 100 versions 4 of 10
+journal changes 1 updates 1
+level 1 horizon 4 leads 5 entries 7
+array 1 density 2/3 lead 3/3 versions 0-1
+array 2 density 3/4 lead 2/4 versions 2-3
+stored 8 updates 6 written 7
+"""),
+    (4, [put(1, b"a", b"1"), clone(2), delete(3, b"a", 1), clone(4, 1), put(5, b"z", b"1", 2)], """
+store generation 2 mem 4 changes 5 of 100 versions 3 of 10
+journal changes 1 updates 1
+level 1 horizon 3 leads 2 entries 3
+array 1 density 1/1 lead 1/1 versions 0
+array 2 density 1/2 lead 1/2 versions 1-2
+stored 4 updates 3 written 3
+"""),
+    (4, [delete(1, b"x"), *(put(2, key, b"1") for key in (b"a", b"b", b"c", b"d"))], """
+store generation 2 mem 4 changes 5 of 100 versions 1 of 10
+journal changes 1 updates 1
+level 1 horizon 1 leads 3 entries 3
+array 1 density 3/3 lead 3/3 versions 0
+stored 4 updates 5 written 3
+"""),
+    (4, [put(i, b"k%02d" % i, b"%d" % i) for i in range(1, 14)], """
+store generation 4 mem 4 changes 13 of 100 versions 1 of 10
+journal changes 1 updates 1
+level 2 horizon 1 leads 12 entries 12
+array 3 density 12/12 lead 12/12 versions 0
+stored 13 updates 13 written 24
+"""),
+    (4, [put(i, b"a", b"%d" % i) for i in range(13)], """
+store generation 4 mem 4 changes 13 of 100 versions 1 of 10
+journal changes 1 updates 1
+level 1 horizon 1 leads 1 entries 1
+array 3 density 1/1 lead 1/1 versions 0
+stored 2 updates 13 written 3
+"""),
+    (4, [clone(i) for i in range(1, 6)], """
+store generation 2 mem 4 changes 5 of 100 versions 6 of 10
+journal changes 1 updates 0
+stored 0 updates 0 written 0
+"""),
+]
+DISTINCT = PUBLISHED[4]
+
+
+def store_after(folder, mem, frames, *limits):
+    """A store that took these changes, served one by one in a run, and what is in its file."""
+    store = StoreFile(folder, mem, *(limits or (100, 10)))
+    store.expect_served("changes", frames)
+    return store, formats.read(bytes_of(store.path))
+
+
+def folders_of(folder):
+    """Two new folders, one for links and one for files."""
+    links, files = os.path.join(folder, "links"), os.path.join(folder, "files")
+    os.mkdir(links)
+    os.mkdir(files)
+    return links, files
+
+
+def altered(path, place, piece):
+    with open(path, "r+b") as file:
+        file.seek(place)
+        file.write(piece)
+
+
+def drawn_changes(chance, count, versions, keys, clones):
+    """Puts, deletes and clones over a store with so many versions; most are accepted."""
+    frames = []
+    for tag in range(count):
+        version = chance.randrange(versions) if chance.random() < 0.4 else max(0, versions - 1 - chance.randrange(4))
+        if chance.random() < clones:
+            frames.append(clone(tag, version))
+            versions += 1
+        elif chance.random() < 0.3:
+            frames.append(delete(tag, b"%d" % chance.randrange(keys), version))
+        else:
+            frames.append(put(tag, b"%d" % chance.randrange(keys), chance.randbytes(chance.randrange(6)), version))
+    return frames
+
+
+def drawn_frames(chance, count, versions, keys, clones):
+    """All commands, and bodies that are none."""
+    frames = drawn_changes(chance, count, versions, keys, clones)
+    first = frames[0]
+    for tag in range(count):
+        version, key = chance.randrange(versions + count // 8), b"%d" % chance.randrange(keys)
+        bound, limit = b"%d" % chance.randrange(keys), chance.choice((1, 2, 256, chance.randrange(300)))
+        bounds, cursor = (chance.choice((b"", key)), chance.choice((b"", bound))), chance.randrange(1 + count // 16)
+        other = chance.choice((get(tag, key, version), get(tag, key, version), info(tag, version), stat(tag),
+                               scan(tag, *bounds, limit, version), open_cursor(tag, *bounds, version), next_pairs(tag, cursor, limit),
+                               close_cursor(tag, cursor)))
+        if chance.random() < 0.1:
+            body = bytearray(chance.choice((other, first))[4:])
+            body[chance.randrange(4, len(body))] = chance.randrange(256)
+            other = frame(bytes(body[:chance.choice((len(body), chance.randrange(len(body))))]))
+        frames.insert(chance.randrange(len(frames) + 1), other)
+    return frames
+
+
+def drawn_beside_cursors(chance, count, store, keys, clones):
+    """Changes of a store, and cursors at its versions between them: opened, read on and closed, up to the most that may be open."""
+    store, frames = copy.deepcopy(store), []
+    store.start_run()
+    openings = chance.choice((0.05, 0.2, 0.4))
+    for tag in range(count):
+        draw, open_now = chance.random(), list(store.cursors)
+        number = chance.choice([*open_now, 0, store.next_cursor, chance.randrange(store.next_cursor), 2 ** 64 - 1])
+        if draw < openings:
+            version = chance.randrange(len(store.parents) + (chance.random() < 0.1))
+            known = sorted(store.pairs[version]) if version < len(store.parents) else []
+            bounds = [b"", b"", *known, *(key + b"\0" for key in known), *(key[:-1] for key in known), b"\xff"]
+            frames.append(open_cursor(tag, chance.choice(bounds), chance.choice(bounds), version))
+        elif draw < 0.5:
+            frames.append(next_pairs(tag, number, chance.choice((1, 1, 2, 256, 256, chance.randrange(300)))))
+        elif draw < 0.5 + openings / 3:
+            frames.append(close_cursor(tag, number))
+        elif draw < 0.95:
+            frames += drawn_changes(chance, 1, len(store.parents), keys, clones)
+        else:
+            frames.append(stat(tag))
+        store.answer(frames[-1][4:])
+    return frames
