@@ -85,7 +85,7 @@ README_LINES = (15, 60)
 README_HEADINGS = ("Proved", "Premises", "Only tested", "Limits")
 
 Clause = collections.namedtuple("Clause", "kind name at end")
-Function = collections.namedtuple("Function", "name at clauses is_law")
+Function = collections.namedtuple("Function", "name at clauses is_law parameters lines")
 Definition = collections.namedtuple("Definition", "name file line")
 
 
@@ -130,11 +130,32 @@ def clauses_of(code, at):
     return clauses, at
 
 
+DEPTHS = {"(": 1, "[": 1, "{": 1, "<": 1, ")": -1, "]": -1, "}": -1, ">": -1}
+
+
+def parameters_of(code, at):
+    """How many parameters stand behind the name that ends at this place, and behind what it is generic over."""
+    depth, parts, within = 0, [""], False
+    for place in range(at, len(code)):
+        step = 0 if code[place - 1:place + 1] in ("->", "=>") else DEPTHS.get(code[place], 0)
+        within = within or (depth == 0 and code[place] == "(")
+        depth += step
+        if within and depth == 0:
+            break
+        if within and depth == 1 and code[place] == ",":
+            parts.append("")
+        elif within:
+            parts[-1] += code[place]
+    return sum(1 for part in parts if part.strip("( \n"))
+
+
 def functions_of(code):
-    """Each function of a file whose comments are blanked, with its clauses."""
+    """Each function of a file whose comments are blanked, with its clauses and the lines between its braces."""
     for found in re.finditer(r"\bfn\s+(\w+)", code):
         clauses, end = clauses_of(code, found.end())
-        yield Function(found[1], found.start(), clauses, re.match(r"\{\s*\}", code[end:end + 200]) is not None)
+        is_law = re.match(r"\{\s*\}", code[end:end + 200]) is not None
+        lines = code.count("\n", end, after_braces(code, end)) - 1
+        yield Function(found[1], found.start(), clauses, is_law, parameters_of(code, found.end()), max(lines, 0))
 
 
 def ghosts_of(code):
@@ -203,6 +224,13 @@ class Tree:
     @functools.lru_cache(maxsize=None)
     def functions(self, name):
         return list(functions_of(self.code(name)))
+
+    def line(self, name, place):
+        return line_at(self.code(name), place)
+
+    def has_code(self, crate):
+        """Whether the crate has a function with a body, and isn't of definitions and laws alone."""
+        return any(not it.is_law for name in self.files(f"crates/{crate}/src/**/*.rt") for it in self.functions(name))
 
     def definitions(self):
         """Each definition of specs/, but not what a definition has within it."""
@@ -389,12 +417,6 @@ def refusals_are_documented(tree):
                 yield document, told[variant][0], f"{variant} is status {numbers.get(variant)} in the code"
 
 
-def has_code(tree, crate):
-    """Whether the crate has a function with a body, and isn't of definitions and laws alone."""
-    return any(not function.is_law for name in tree.files(f"crates/{crate}/src/**/*.rt")
-               for function in tree.functions(name))
-
-
 def crates_have_readmes(tree):
     least, most = README_LINES
     for crate in tree.crates:
@@ -406,7 +428,7 @@ def crates_have_readmes(tree):
         lines = len(text.splitlines())
         if lines > most:
             yield name, lines, f"{lines} lines, above {most}"
-        if crate.endswith("_tests") or not has_code(tree, crate):
+        if crate.endswith("_tests") or not tree.has_code(crate):
             continue
         if lines < least:
             yield name, lines, f"{lines} lines, below {least}"
