@@ -9,7 +9,8 @@ It reads files alone, and takes the crates as crates.txt and crates/ have them. 
   tests/words.py --all    also prints the comment lines that are wide; these fail nothing
   tests/words.py --self   tries each rule on a made-up tree with one fault
 
-The rules of prose are in tests/prose.py, which measures the documents if it is run alone.
+The rules of prose are in tests/prose.py, which measures the documents if it is run alone. Those that some code breaks
+still are in tests/ratchet.py, with lists of what breaks them.
 """
 
 import collections
@@ -21,6 +22,7 @@ import sys
 import tempfile
 
 import prose
+import ratchet
 
 TOP = pathlib.Path(__file__).resolve().parent.parent
 
@@ -533,6 +535,7 @@ RULES = [
     checks_are_run,
     regressions_name_what_notices_them,
     *prose.RULES,
+    *ratchet.RULES,
 ]
 
 
@@ -557,11 +560,12 @@ def run(tree, rules, out=print):
 
 README = "# low\n\n" + "".join(f"## {heading}\n\nx\n\n" for heading in README_HEADINGS)
 RIGHT = {
-    "crates.txt": "# a comment: of no crate\nlow:\ncastle: low\nlow_tests: low\n",
+    "crates.txt": "# a comment: of no crate\nlow:\nlaws:\ncastle: low laws\nlow_tests: low\n",
     "crates/low/README.md": README,
+    "crates/laws/README.md": README,
     "crates/castle/README.md": README,
     "crates/low_tests/README.md": "# low_tests\n",
-    "docs/ARCHITECTURE.md": "castle, low\n",
+    "docs/ARCHITECTURE.md": "castle, low, laws\n",
     "docs/GLOSSARY.md": "| Prose | Code |\n|---|---|\n" + "".join(f"| {word} | image |\n" for word in prose.PAIRS),
     "README.md": "<!-- an\nimage -->\n" + '''# Low
 
@@ -704,6 +708,7 @@ pub record View : Type 0 where
 | 16 | Unknown, *open* | x |
 | 17 | Broken | x |
 ''',
+    **ratchet.RIGHT,
 }
 LOW, HALF = "crates/low/src/lib.rt", "crates/low/specs/Half.antt"
 MANY = "".join("    requires fits { 1 ≤ 2 }\n" for _ in range(CLAUSES_MOST - 2))
@@ -758,6 +763,7 @@ FAULTS = [
     (REGRESSIONS, "IsHalf.half", "IsHalf.whole", 6, regressions_name_what_notices_them),
     (REGRESSIONS, "whole.greatest", "whole.least", 6, regressions_name_what_notices_them),
     (REGRESSIONS, "| `a_half_is_made`, `test_low`, `half_is_whole.edit` |", "| the tests |", 5, regressions_name_what_notices_them),
+    *ratchet.FAULTS,
 ]
 
 
