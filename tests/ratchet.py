@@ -17,10 +17,9 @@ import sys
 
 PARAMETERS_MOST = 7  # of one function, `self` among them, as clippy's too_many_arguments counts
 FUNCTION_MOST = 40  # lines of a body, between its braces or behind its `def`; contracts have bounds of their own
-FILE_MOST = 800  # lines
 
-# A file that is too long and not listed, since it is being cut into several by subject. Once it is, this goes.
-LEFT_OUT = ("tests/outside.py",)
+# Most of what these have is definitions, on which those of other crates stand. Their lemmas are about these.
+DEFINING = ("strat_base", "strat_format", "strat_model")
 
 # What breaks a rule under one name: how much, the places where, and what is wrong there.
 Found = collections.namedtuple("Found", "count places what")
@@ -56,12 +55,12 @@ def lemmas_at(tree, crate, words):
 
 
 def is_run(tree, crate):
-    """Whether a store runs code of the crate.
+    """Whether a store runs code of the crate, and that is what the crate is for.
 
     A law is a function with nothing between its braces, so a crate of definitions and laws alone has no other function.
     What a crate of tests has only its tests run.
     """
-    return crate in tree.crates and tree.has_code(crate) and not crate.endswith("_tests")
+    return crate in tree.crates and tree.has_code(crate) and not crate.endswith("_tests") and crate not in DEFINING
 
 
 @functools.lru_cache(maxsize=None)
@@ -141,18 +140,9 @@ def functions(tree):
     return above(bodies(tree), FUNCTION_MOST, "lines in its body")
 
 
-def files(tree):
-    found = {}
-    for file in [*of_rattle(tree), *scripts(tree)]:
-        count = tree.text(file).count("\n")
-        if count > FILE_MOST and file not in LEFT_OUT:
-            found[file,] = Found(count, [(file, count)], f"{count} lines, above {FILE_MOST}")
-    return found
-
-
 # The lists
 
-LISTS = {"citations": citations, "parameters": parameters, "functions": functions, "files": files}
+LISTS = {"citations": citations, "parameters": parameters, "functions": functions}
 
 
 def list_at(name):
@@ -208,11 +198,7 @@ def functions_are_short(tree):
     yield from faults(tree, "functions")
 
 
-def files_are_short(tree):
-    yield from faults(tree, "files")
-
-
-RULES = [crates_are_known_by_their_clauses, functions_have_few_parameters, functions_are_short, files_are_short]
+RULES = [crates_are_known_by_their_clauses, functions_have_few_parameters, functions_are_short]
 
 
 # What tests/words.py --self adds to its tree that is right, and the faults that it then tries one at a time
@@ -243,13 +229,9 @@ use Rattle.low_tests.proofs.TestLemmas.{tried}
     "crates/low/src/long.rt":
         "fn long() {\n" + "    one();\n" * 41 + "}\n\nfn full() {\n" + "    one();\n" * 39 + "    last();\n}\n",
     "bench/tool": "#!/usr/bin/env python3\ndef full():\n" + "    one()\n" * 39 + "    last()\n",
-    "tests/long.py": "one\n" * 800 + "last\n",
-    "tests/full.py": "one\n" * 800,
-    "tests/outside.py": "one\n" * 900,
     "tests/listed/citations.txt": "# why\ncastle low HalfLemmas 1\n",
     "tests/listed/parameters.txt": "# why\ncrates/low/src/wide.rt wide 8\n",
     "tests/listed/functions.txt": "# why\ncrates/low/src/long.rt long 41\n",
-    "tests/listed/files.txt": "# why\ntests/long.py 801\n",
 }
 MAIN, WIDE, LONG = "crates/castle/src/main.rt", "crates/low/src/wide.rt", "crates/low/src/long.rt"
 CITING = "#[tactic(auto, using(low::proofs::HalfLemmas::last))]\npub fn status_text"
@@ -272,10 +254,6 @@ FAULTS = [
     (LONG, "}\n\nfn", "    more();\n}\n\nfn", 1, functions_are_short),
     ("bench/tool", "last()\n", "last()\n    more()\n", 2, functions_are_short),
     (list_at("functions"), "41", "42", 2, functions_are_short),
-    ("tests/long.py", "last\n", "last\nmore\n", 802, files_are_short),
-    ("crates/low/proofs/HalfLemmas.antt", "last :", "\n" * 799 + "last :", 801, files_are_short),
-    (list_at("files"), "801", "802", 2, files_are_short),
-    (list_at("files"), "tests/long", "tests/longer", 2, files_are_short),
 ]
 
 
