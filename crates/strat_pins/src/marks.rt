@@ -101,7 +101,8 @@ pub fn drops_are_not_accepted_yet()
         → is_accepted changes_max versions_max parents marks changes (DropVersion v) ≡ false }
 {}
 
-/// A version that the manifest or the journal says was dropped has no map. The others keep theirs, its parent too.
+/// A version that the manifest or the journal says was dropped has no map. The others keep theirs, its parent too. One
+/// without a mark was not dropped.
 pub fn dropped_versions_have_no_map()
     ensures before { (map_at drop_of_three 3 ≡ []) × (is_living drop_of_three 3 ≡ false) }
     ensures others { (map_at drop_of_three 0 ≡ map_at fan 0)
@@ -110,6 +111,7 @@ pub fn dropped_versions_have_no_map()
         ≡ false ∷ true ∷ false ∷ true ∷ false ∷ [] }
     ensures after { (is_living (record drop_of_three { journal = DropVersion 1 ∷ [] }) 1 ≡ false)
         × (map_at (record drop_of_three { journal = DropVersion 1 ∷ [] }) 1 ≡ []) }
+    ensures past { is_living drop_of_three 9 ≡ true }
 {}
 
 /// A version whose one child below the horizon was dropped may have leads in shallower levels.
