@@ -60,7 +60,8 @@ def image_of(synced, pending, choose=lambda old, piece: piece):
 def images_of(synced, pending, chance, drawn=3):
     """What a cut of power may leave of pending pieces: all new, all old, gates, noise, or a mix; then each piece by itself."""
     def whole_or_torn(old, piece):
-        cut = chance.randrange(len(piece) + 1)
+        # a superblock is written with its whole block, so most cuts lie where the fields of a piece are, in front
+        cut = chance.randrange(min(len(piece), chance.choice((16, 64, len(piece)))) + 1)
         return chance.choice((old, piece, piece[:cut] + old[cut:], piece[:cut] + chance.randbytes(len(piece) - cut)))
 
     yield image_of(synced, pending)
@@ -219,7 +220,7 @@ def images_without(history, left_out, chance):
     next_sync = min((number for number, _ in roles_of(history) if number > left_out), default=len(history.calls))
     for number, answered, synced, pending in moments(history, left_out):
         if left_out < number <= next_sync:
-            yield from ((answered, data) for data in images_of(synced, pending, chance, 60))
+            yield from ((answered, data) for data in images_of(synced, pending, chance, 200))
 
 
 def a_loss_without(history, left_out, chance):
