@@ -1,5 +1,6 @@
 """The small tree on which tests/words.py tries its rules. It keeps them all, and one fault at a time breaks it."""
 
+import placed
 import prose
 import ratchet
 
@@ -10,7 +11,7 @@ RIGHT = {
     "crates/laws/README.md": README,
     "crates/castle/README.md": README,
     "crates/low_tests/README.md": "# low_tests\n",
-    "docs/ARCHITECTURE.md": "castle, low, laws\n",
+    "docs/ARCHITECTURE.md": "castle, low, laws\n" + placed.LISTED,
     "docs/GLOSSARY.md": "| Prose | Code |\n|---|---|\n" + "".join(f"| {word} | image |\n" for word in prose.PAIRS),
     "README.md": "<!-- an\nimage -->\n" + '''# Low
 
@@ -153,5 +154,6 @@ pub record View : Type 0 where
 | 16 | Unknown, *open* | x |
 | 17 | Broken | x |
 ''',
+    **placed.RIGHT,
     **ratchet.RIGHT,
 }

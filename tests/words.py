@@ -22,6 +22,7 @@ import sys
 import tempfile
 
 import made_up
+import placed
 import prose
 import ratchet
 
@@ -535,6 +536,7 @@ RULES = [
     crates_are_in_the_architecture,
     checks_are_run,
     regressions_name_what_notices_them,
+    *placed.RULES,
     *prose.RULES,
     *ratchet.RULES,
 ]
@@ -590,7 +592,7 @@ FAULTS = [
     ("crates/castle/README.md", made_up.README, "# castle\n", 1, crates_have_readmes),
     ("crates/low_tests/README.md", "# low_tests\n", "x\n" * 61, 61, crates_have_readmes),
     ("crates/low_tests/README.md", "# low_tests\n", "", 1, crates_have_readmes),
-    ("docs/ARCHITECTURE.md", "castle, low", "castle, lower", 1, crates_are_in_the_architecture),
+    ("docs/ARCHITECTURE.md", "castle, low, laws", "castle, low, lower", 1, crates_are_in_the_architecture),
     ("README.md", "`The image", "`A`" + " word" * 25 + "\n`image", 5, prose.sentences_are_short),
     ("README.md", "that goes on.", "ends. It" + " goes" * 30 + " on.", 12, prose.sentences_are_short),
     ("README.md", "by the gate.", "by the gate. It" + " goes" * 30 + ".", 6, prose.sentences_are_short),
@@ -612,6 +614,7 @@ FAULTS = [
     (REGRESSIONS, "IsHalf.half", "IsHalf.whole", 6, regressions_name_what_notices_them),
     (REGRESSIONS, "whole.greatest", "whole.least", 6, regressions_name_what_notices_them),
     (REGRESSIONS, "| `a_half_is_made`, `test_low`, `half_is_whole.edit` |", "| the tests |", 5, regressions_name_what_notices_them),
+    *placed.FAULTS,
     *ratchet.FAULTS,
 ]
 
