@@ -4,11 +4,11 @@ use Rattle.strat_array.specs.Kept.{Blocks}
 use Rattle.strat_gate.specs.SuperView.{super_of}
 use Rattle.strat_recovery.specs.Head.{Head}
 use Rattle.strat_memory.specs.Held.{Held}
-use Rattle.strat_memory.specs.declared.recovered.Recovered.{Recovered}
+use Rattle.strat_memory.specs.declared.open_store.OpenStore.{OpenStore}
 use Rattle.strat_memory.specs.Admitting.{chained_of}
 
 -- the head of a store that was recovered
-abbrev pub head_recovered : Recovered → Head
+abbrev pub head_recovered : OpenStore → Head
 head_recovered r = record {
   sb = super_of r.sb;
   manifest = (chained_of r.published).manifest;
@@ -20,7 +20,7 @@ abbrev pub empty_cache : ℕ → Blocks
 empty_cache cap = record { entries = []; cap = cap }
 
 -- a store that was recovered as its callers see it, with these blocks cached
-abbrev pub held_of : Recovered → Blocks → Held
+abbrev pub held_of : OpenStore → Blocks → Held
 held_of r cached = record {
   slot = r.slot;
   sb = super_of r.sb;

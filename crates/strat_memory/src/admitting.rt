@@ -16,7 +16,8 @@ ghost use Rattle.strat_memory.specs.Admitting.{FitsInMemory, MayBePlaced, counts
 ghost use Rattle.strat_format.specs.Layout.{newest_format};
 
 use crate::belonging::{
-    all_filled, has_few_leads, has_few_publications, has_low_tags, own_blocks, own_ids,
+    all_filled, has_few_leads, has_few_publications, has_low_tags, ids_are_distinct,
+    space_if_blocks_distinct,
 };
 use crate::copying::copy_levels;
 use std::alloc::Global;
@@ -38,7 +39,7 @@ pub struct Published {
 /// The level of a descriptor, or `None` where a version stands in two of its tags or is not below its horizon.
 /// O(greatest version + lengths of all tags). The only error is want of memory.
 #[tactic(auto, using(crate::proofs::TagLemmas::own_from, crate::proofs::TagLemmas::not_own_tags))]
-fn own_level(alloc: Global, desc: LevelDesc) -> Result<Option<Level>, NoMemory>
+fn level_if_tags_disjoint(alloc: Global, desc: LevelDesc) -> Result<Option<Level>, NoMemory>
     requires fits { FitsInMemory desc }
     ensures ok { IfOk result (λ own. IfSome own (λ level. (level ≡ desc)
         × IsTrue (has_own_versions desc))) }
@@ -68,7 +69,7 @@ fn place_levels(alloc: Global, listed: LevelList) -> Result<Option<Levels>, NoMe
     let mut levels = Levels::new();
     while let Some(desc) = left.pop() {
         let number = desc.number as usize;
-        let Some(level) = own_level(alloc, desc)? else {
+        let Some(level) = level_if_tags_disjoint(alloc, desc)? else {
             return Ok(None);
         };
         levels.set(number, Some(level));
@@ -79,7 +80,7 @@ fn place_levels(alloc: Global, listed: LevelList) -> Result<Option<Levels>, NoMe
 /// Whether a store with this superblock may have a manifest of such counts and such arrays, each taken alone. O(extents of
 /// all arrays).
 #[tactic(auto, unfolding(strat_format::specs::Manifest::all_pass))]
-fn has_fit_counts(sb: &SuperBlock, manifest: &Manifest) -> bool
+fn counts_are_plausible(sb: &SuperBlock, manifest: &Manifest) -> bool
     ensures ok { result ≡ counts_belong (super_of sb.now) (manifest_of manifest.now) }
 {
     let levels = manifest.levels.as_slice();
@@ -102,7 +103,7 @@ fn has_fit_counts(sb: &SuperBlock, manifest: &Manifest) -> bool
 /// The space in which just the blocks of a manifest's chain and of its arrays are used, or `None` where a store with this
 /// superblock may not have it, whatever the versions of its levels are. O((arrays + blocks in a row) log holes). The only
 /// error is want of memory.
-fn own_space(
+fn space_if_manifest_fits(
     alloc: Global,
     sb: &SuperBlock,
     manifest: &Manifest,
@@ -123,13 +124,13 @@ fn own_space(
         → belongs (super_of sb.now)
         (record { manifest = manifest_of manifest.now; blocks = blocks_of chain.now }) ≡ false)) }
 {
-    if !has_fit_counts(sb, manifest) {
+    if !counts_are_plausible(sb, manifest) {
         return Ok(None);
     }
-    if !own_ids(alloc, manifest.levels.as_slice())? {
+    if !ids_are_distinct(alloc, manifest.levels.as_slice())? {
         return Ok(None);
     }
-    own_blocks(alloc, sb.mem, chain, manifest.levels.as_slice())
+    space_if_blocks_distinct(alloc, sb.mem, chain, manifest.levels.as_slice())
 }
 
 /// A manifest, taken into memory with the blocks of its chain, or `None` where a store with this superblock may not have
@@ -151,7 +152,7 @@ pub fn admit(
         → belongs (super_of sb.now)
         (record { manifest = manifest_of manifest; blocks = blocks_of chain }) ≡ false)) }
 {
-    let Some(_space) = own_space(alloc, sb, &manifest, &chain)? else {
+    let Some(_space) = space_if_manifest_fits(alloc, sb, &manifest, &chain)? else {
         return Ok(None);
     };
     let listed = copy_levels(alloc, manifest.levels.as_slice())?;

@@ -185,7 +185,7 @@ fn mark_all(space: &mut Space, chain: &Extents, levels: &[LevelDesc]) -> Result<
 /// The space in which just the blocks of a manifest's chain and of its arrays are used, or `None` where one of them
 /// stands twice or lies before the end of the journal. O(log holes) an extent, and memory for as many holes as there
 /// are used blocks. The only error is want of memory.
-pub fn own_blocks(
+pub fn space_if_blocks_distinct(
     alloc: Global,
     mem: u32,
     chain: &Extents,
@@ -245,7 +245,7 @@ fn add_all_ids(seen: &mut BTreeSet<u64>, levels: &[LevelDesc]) -> Result<bool, N
 
 /// Whether no two arrays of levels have one number. O(arrays log arrays), and memory for each of them while it runs.
 /// The only error is want of memory.
-pub(crate) fn own_ids(alloc: Global, levels: &[LevelDesc]) -> Result<bool, NoMemory>
+pub(crate) fn ids_are_distinct(alloc: Global, levels: &[LevelDesc]) -> Result<bool, NoMemory>
     ensures ok { IfOk result (λ own. own
         ≡ is_distinct (map (λ a. a.id) (arrays_in levels.now))) }
 {

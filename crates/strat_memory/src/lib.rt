@@ -8,4 +8,4 @@ pub mod belonging_laws;
 pub mod copying;
 pub mod memory;
 pub mod memory_laws;
-pub mod recovered;
+pub mod open_store;

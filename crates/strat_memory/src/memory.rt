@@ -210,7 +210,7 @@ impl Memory {
         ensures found { result ≡ length self.old.parents }
         ensures kept { KeepsRows self.old self.new }
     {
-        // A tree says with its count that it has room.
+        // For the proof: the tree has room.
         let _ = self.tree.count();
         self.changes += 1;
         self.tree.add_child(version)
@@ -300,6 +300,7 @@ impl Memory {
         ensures fits { IsTrue (are_known self.now.parents self.now.entries) }
         ensures found { (result.2.now.parents ≡ self.now.parents) × IsTree result.2.now.parents }
     {
+        // For the proof: the parents are a tree.
         let _ = self.tree.count();
         (&self.zero, &self.pool, &self.tree)
     }
@@ -329,7 +330,7 @@ impl Memory {
         ensures err { OnErr result (self.new ≡ record self.old { ready = None }) }
     {
         self.forget_next();
-        // Cursors say with their count that they are few.
+        // For the proof: there are few cursors.
         let _ = self.cursors.len();
         let next = Zero::new(alloc, &mut self.pool, mem)?;
         self.next = Some(next);
@@ -352,7 +353,7 @@ impl Memory {
         ensures ok { result.now ≡ self.now.cursors.retired }
         ensures len { length self.now.cursors.opened ≤ 64 }
     {
-        // Cursors say with their count that they are few.
+        // For the proof: there are few cursors.
         let _ = self.cursors.len();
         self.cursors.retired()
     }
@@ -377,7 +378,7 @@ impl Memory {
             ↔ (length self.old.cursors.opened ≡ the_most) }
         ensures err { OnErr result (self.new ≡ self.old) }
     {
-        // Cursors say with their count that they are few.
+        // For the proof: there are few cursors.
         let _ = self.cursors.len();
         self.cursors.start(
             &mut self.pool,

@@ -35,7 +35,7 @@ use Rattle.strat_memory.specs.Paying.{IsPaidIn, ArePaidSince}
 use Rattle.strat_memory.specs.Admitting.{chained_of}
 use Rattle.strat_memory.specs.RecoveredFields.{head_recovered, held_of, empty_cache}
 use Rattle.strat_open.specs.Recovering.{IsRecoveredFrom, ReadsAsSound}
-use Rattle.strat_memory.specs.declared.recovered.Recovered.{Recovered}
+use Rattle.strat_memory.specs.declared.open_store.OpenStore.{OpenStore}
 use Rattle.strat_memory.proofs.OnDiskLemmas.{gate_on}
 use Rattle.strat_memory.proofs.PayingLemmas.{paid_as, stored_since}
 
@@ -78,7 +78,7 @@ none_cached g next cap arrays = record {
 }
 
 -- the contents of an image that shows a table, in which this store was recovered
-module _ (f : Image) (r : Recovered) (is : IsRecoveredFrom f r) (t : Table) (shows : ShowsTable f t) where
+module _ (f : Image) (r : OpenStore) (is : IsRecoveredFrom f r) (t : Table) (shows : ShowsTable f t) where
   abbrev parts : StateParts f shows.state
   parts = state_parts f shows.state shows.reads
 
@@ -162,7 +162,7 @@ module _ (f : Image) (r : Recovered) (is : IsRecoveredFrom f r) (t : Table) (sho
     }
 
 -- a disk was synced, a store was recovered from it, and the other region was shut
-module _ (before synced read now : DiskView) (r : Recovered) (syncs : OnlyReads before synced) (settled : IsDurable synced) (leaves : LeavesContent synced) (looks : OnlyReads synced read) (passes : Passes read now)
+module _ (before synced read now : DiskView) (r : OpenStore) (syncs : OnlyReads before synced) (settled : IsDurable synced) (leaves : LeavesContent synced) (looks : OnlyReads synced read) (passes : Passes read now)
     (found : (f : Image) → Exposes before f → IsRecoveredFrom f r)
     (images : (f : Image) (x : Contents) → Exposes read f → IsDurable read → x.sb ≡ super_of r.sb → ReadsAsSound f r.journal.stale x → (c : Image) → Since now read.moment c → ReadsAs c x)
     (torn : TearsOnly read now (region_at r.sb.mem (other_region r.sb.region)) 1) where

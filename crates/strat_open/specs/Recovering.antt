@@ -9,13 +9,13 @@ use Rattle.strat_recovery.specs.Opening.{recover}
 use Rattle.strat_standing.specs.Contents.{Contents, contents_state}
 use Rattle.strat_standing.specs.Standing.{ReadsAs}
 use Rattle.strat_state.specs.Sound.{IsSound}
-use Rattle.strat_memory.specs.declared.recovered.Recovered.{Recovered}
+use Rattle.strat_memory.specs.declared.open_store.OpenStore.{OpenStore}
 use Rattle.strat_format.specs.Layout.{newest_format}
 use Rattle.strat_memory.specs.Admitting.{chained_of}
 use Rattle.strat_memory.specs.RecoveredFields.{head_recovered}
 
 -- this store is what recovery finds in an image, and its journal knows whether the other region is to be shut
-pub record IsRecoveredFrom (f : Image) (r : Recovered) : Type 0 where
+pub record IsRecoveredFrom (f : Image) (r : OpenStore) : Type 0 where
   pub newest : newest_in f ≡ Ok (Some (r.slot, super_of r.sb))
   pub chain : manifest_at newest_format f r.sb.manifest r.sb.length ≡ Ok (chained_of r.published)
   pub head : recover f ≡ Ok (Some (head_recovered r))

@@ -25,14 +25,14 @@ use strat_disk::Disk;
 use strat_gate::SuperBlock;
 use strat_level::ZeroView;
 use strat_manifest::Manifest;
-use strat_memory::recovered::Recovered;
+use strat_memory::open_store::OpenStore;
 use strat_tree::Tree;
 
 /// A store that was read and is not open: what recovery finds of it, beside the blocks of its arrays. It is seen as that
 /// head. Each of its calls is O(1) and takes no memory.
 #[derive(Drop)]
 pub struct Reading {
-    found: Recovered,
+    found: OpenStore,
 }
 
 impl Model for Reading {

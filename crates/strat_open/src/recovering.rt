@@ -37,7 +37,7 @@ use strat_gate::{SuperBlock, newest};
 use strat_journal::{Journal, Logged, close_region};
 use strat_memory::admitting::{Published, admit};
 use strat_memory::memory::Memory;
-use strat_memory::recovered::Recovered;
+use strat_memory::open_store::OpenStore;
 
 /// What the last publication left, from the blocks that a superblock leads to: one read a block. Damaged: the block
 /// of its chain with a wrong link, or the first where no manifest of such a store stands.
@@ -206,7 +206,7 @@ fn recover_at<D: Disk>(
     disk: &mut D,
     slot: u8,
     sb: SuperBlock,
-) -> Result<Recovered, Trouble>
+) -> Result<OpenStore, Trouble>
     requires fits { (slot ≤ 1) × IsLawful (super_of sb) }
     ensures found { IfOk result (λ r. (f : Image) → Exposes (D.view disk.old) f
         → newest_in f ≡ Ok (Some (slot, super_of sb)) → IsRecoveredFrom f r) }
@@ -225,7 +225,7 @@ fn recover_at<D: Disk>(
 {
     let published = read_published(alloc, disk, &sb)?;
     let (journal, memory) = read_journal(alloc, disk, &sb, &published)?;
-    Ok(Recovered {
+    Ok(OpenStore {
         slot,
         sb,
         published,
@@ -238,7 +238,7 @@ fn recover_at<D: Disk>(
 /// reads the two superblock slots and what `recover_at` reads behind the newest. NotAStore: no slot is open with the
 /// text of a store. Device: the disk counted a fault. Damaged: the block that recovery finds damaged. Linear in the
 /// manifest and the journal, but for O(log versions_max) at each version and one insertion at each change.
-pub(crate) fn recover_store<D: Disk>(alloc: Global, disk: &mut D) -> Result<Recovered, AttachFault>
+pub(crate) fn recover_store<D: Disk>(alloc: Global, disk: &mut D) -> Result<OpenStore, AttachFault>
     ensures found { IfOk result (λ r. (f : Image) → Exposes (D.view disk.old) f
         → IsRecoveredFrom f r) }
     ensures kept { IfOk result (λ r. (cached : Blocks) → IsConsistent (held_of r cached)) }
@@ -289,7 +289,7 @@ fn shut_other<D: Disk>(disk: &mut D, sb: &SuperBlock, journal: &Journal) -> Resu
 /// have left before. It takes all the memory that the store needs beside its cache until its journal is full. After
 /// an error other than `Device` the disk is as it was; after that one too, or its last step failed, which shuts that
 /// gate.
-pub fn open<D: Disk>(alloc: Global, disk: &mut D) -> Result<Recovered, AttachFault>
+pub fn open<D: Disk>(alloc: Global, disk: &mut D) -> Result<OpenStore, AttachFault>
     ensures ok { IfOk result (λ r. (cap : ℕ)
         → IsOpenedAs (D.view disk.old) (D.view disk.new) (held_of r (empty_cache cap))) }
     ensures kept { IfOk result (λ r. (cached : Blocks) → IsConsistent (held_of r cached)) }

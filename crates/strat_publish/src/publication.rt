@@ -49,9 +49,9 @@ use strat_extent::Space;
 use strat_gate::SuperBlock;
 use strat_manifest::LevelList;
 use strat_memory::admitting::{Published, admit};
-use strat_memory::belonging::{mark_arrays, own_blocks};
+use strat_memory::belonging::{mark_arrays, space_if_blocks_distinct};
 use strat_memory::memory::Memory;
-use strat_memory::recovered::Recovered;
+use strat_memory::open_store::OpenStore;
 use strat_promote::obstacle::{Obstacle, Unfit};
 
 /// The superblock after one, with this manifest, unless no number is left for its generation: no store comes so far.
@@ -78,7 +78,7 @@ fn next_super(old: &SuperBlock, first: u32, length: u32) -> Result<SuperBlock, U
 
 /// The space in which just the blocks of a store are used, those of the arrays that are kept for cursors among them.
 /// `Unfit`: a block of all these stands twice, or has no number; none does where the store stands.
-fn used_space(alloc: Global, held: &Recovered) -> Result<Space, Obstacle>
+fn used_space(alloc: Global, held: &OpenStore) -> Result<Space, Obstacle>
     requires kept { (cached : Blocks) → IsConsistent (held_of held.now cached) }
     ensures ok { IfOk result (λ space. (cached : Blocks) (levels : List Level)
         → IsSpaceOf space (contents_held (held_of held.now cached) levels)
@@ -90,7 +90,13 @@ fn used_space(alloc: Global, held: &Recovered) -> Result<Space, Obstacle>
     ensures cause { IsOkOrShort result }
 {
     let levels = held.published.manifest.levels.as_slice();
-    let Some(mut space) = own_blocks(alloc, held.sb.mem, &held.published.chain, levels)? else {
+    let Some(mut space) = space_if_blocks_distinct(
+        alloc,
+        held.sb.mem,
+        &held.published.chain,
+        levels,
+    )?
+    else {
         return Err(Obstacle::Unfit);
     };
     if !mark_arrays(&mut space, held.memory.retired())? {
@@ -106,7 +112,7 @@ fn used_space(alloc: Global, held: &Recovered) -> Result<Space, Obstacle>
 /// where the store stands.
 fn compute_beside<D: Disk>(
     alloc: Global,
-    held: &Recovered,
+    held: &OpenStore,
     disk: &mut D,
 ) -> Result<Computed, Obstacle>
     requires kept { (cached : Blocks) → IsConsistent (held_of held.now cached) }
@@ -185,7 +191,7 @@ fn has_new_numbers(made: &Made, next_array: u64) -> bool
 
 /// The next superblock, and the manifest that it leads to, tested as an opening tests them. `Unfit`: an opening would
 /// refuse them, or arrays have numbers that are not new, or no generation is left.
-fn admit_next(alloc: Global, held: &Recovered, computed: Computed) -> Result<Next, Obstacle>
+fn admit_next(alloc: Global, held: &OpenStore, computed: Computed) -> Result<Next, Obstacle>
     requires kept { IsLawful (super_of held.now.sb)
         × IsTrue (is_lawful_manifest newest_format (manifest_of computed.manifest)) }
     requires fits { (places.first_free held.now.sb.mem ≤ computed.first)
@@ -223,7 +229,7 @@ fn admit_next(alloc: Global, held: &Recovered, computed: Computed) -> Result<Nex
 /// Writes the next contents of a store but for their superblock beside what it holds, and tests what their manifest
 /// says. Errors are those of `compute_beside`, and want of memory; `Unfit` never comes where the store stands.
 #[tactic(auto, using(strat_format::proofs::MarkLemmas::none_marked))]
-fn prepare_next<D: Disk>(alloc: Global, held: &Recovered, disk: &mut D) -> Result<Next, Obstacle>
+fn prepare_next<D: Disk>(alloc: Global, held: &OpenStore, disk: &mut D) -> Result<Next, Obstacle>
     requires kept { (cached : Blocks) → IsConsistent (held_of held.now cached) }
     requires len { length held.now.journal.list ≡ held.now.sb.mem }
     ensures ok { IfOk result (λ next. (x : Contents) (cached : Blocks)
@@ -318,7 +324,7 @@ fn retire_levels(memory: &mut Memory, mut levels: LevelList, target: usize)
 
 /// Lays the superblock of what a store made ready, which then takes the place of what it holds. At most five syncs, and
 /// no memory.
-fn settle<D: Disk>(held: &mut Recovered, next: Next, disk: &mut D) -> Result<(), Failed>
+fn settle<D: Disk>(held: &mut OpenStore, next: Next, disk: &mut D) -> Result<(), Failed>
     requires fits { (held.old.slot ≤ 1) × (held.old.journal.active ≤ 1)
         × IsLawful (super_of next.sb) }
     requires room { (held.old.memory.ready ≡ Some held.old.sb.mem)
@@ -362,7 +368,7 @@ fn settle<D: Disk>(held: &mut Recovered, next: Next, disk: &mut D) -> Result<(),
 /// the store's arrays that is no block of entries, or is out of order: no store that stands on its disk has one. After `Device` only another
 /// opening can tell which contents the disk holds: they mean the same table. It reads each block of the arrays twice at
 /// most, writes the new arrays' blocks and those of the manifest once each, and takes five syncs at most.
-pub fn publish<D: Disk>(alloc: Global, held: &mut Recovered, disk: &mut D) -> Result<(), Obstacle>
+pub fn publish<D: Disk>(alloc: Global, held: &mut OpenStore, disk: &mut D) -> Result<(), Obstacle>
     requires kept { ((cached : Blocks) → IsConsistent (held_of held.old cached))
         × (length held.old.journal.list ≡ held.old.sb.mem) }
     ensures ok { OnOk result ((x : Contents) (cached : Blocks)

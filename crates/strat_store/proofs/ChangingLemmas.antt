@@ -53,7 +53,7 @@ use Rattle.strat_publish.specs.Publishing.{is_in_front}
 use Rattle.strat_memory.specs.Admitting.{chained_of}
 use Rattle.strat_memory.specs.RecoveredFields.{held_of}
 use Rattle.strat_store.specs.Applying.{held_after}
-use Rattle.strat_memory.specs.declared.recovered.Recovered.{Recovered}
+use Rattle.strat_memory.specs.declared.open_store.OpenStore.{OpenStore}
 use Rattle.strat_publish.proofs.KeptLemmas.{named_behind}
 use Rattle.strat_memory.proofs.MemoryLawLemmas.{accepted_same, change_answered, change_taken, memory_follows}
 use Rattle.strat_base.specs.Marks.{Marks}
@@ -126,7 +126,7 @@ cached_still f g chained c agree was = record {
       ap block_in (window_same f g (4096 * block) 4096 keeps) ∙ was.same a index block x among there at;
 }
 
-module _ (r : Recovered) (cached : Blocks) (kept : IsConsistent (held_of r cached)) where
+module _ (r : OpenStore) (cached : Blocks) (kept : IsConsistent (held_of r cached)) where
   -- the journal is that of the contents that the store holds
   module _ (x : Contents) (held : x ≡ contents_held (held_of r cached) x.levels) where
     pub log_of : IsLogOf x r.journal
@@ -190,7 +190,7 @@ module _ (r : Recovered) (cached : Blocks) (kept : IsConsistent (held_of r cache
       acceptable = accepts_same (contents_state x) c ∙ taken
 
       -- a fault of the device
-      pub breaks : (r' : Recovered) (w : DiskView) → IsAppliedTo w (held_of r cached) x (request_for c) (plain (reply.Refused why.DeviceFault)) (held_after r' cached (reply.Refused why.DeviceFault))
+      pub breaks : (r' : OpenStore) (w : DiskView) → IsAppliedTo w (held_of r cached) x (request_for c) (plain (reply.Refused why.DeviceFault)) (held_after r' cached (reply.Refused why.DeviceFault))
       breaks r' w = inr (inr (record { reached = reached c; acceptable = acceptable; told = refl; spent = refl }))
 
       module _ (room : length r.journal.list < r.sb.mem) where

@@ -33,7 +33,7 @@ use Rattle.strat_memory.specs.Held.{AreKept, IsConsistent, arrays_held}
 use Rattle.strat_memory.specs.Memory.{Memory, cursor_from, with_cursor}
 use Rattle.strat_memory.specs.Admitting.{chained_of}
 use Rattle.strat_memory.specs.RecoveredFields.{held_of}
-use Rattle.strat_memory.specs.declared.recovered.Recovered.{Recovered}
+use Rattle.strat_memory.specs.declared.open_store.OpenStore.{OpenStore}
 
 -- some of the arrays have no more blocks than all
 times_filtered : (p : ArrayDesc → Bool) (arrays : List ArrayDesc) (b : ℕ) → times_in (extents_of (filter p arrays)) b ≤ times_in (extents_of arrays) b
@@ -133,7 +133,7 @@ module _ (sb : Super) (chained : Chained) (levels : List (Option LevelDesc)) (m 
           ]
 
 -- so a store stays consistent
-consistent_with : (r : Recovered) (m : Memory) (cached : Blocks) (c : HeldCursors) → IsConsistent (held_of r cached) → m ≡ record r.memory { cursors = c }
+consistent_with : (r : OpenStore) (m : Memory) (cached : Blocks) (c : HeldCursors) → IsConsistent (held_of r cached) → m ≡ record r.memory { cursors = c }
     → AreKept (super_of r.sb) (chained_of r.published) r.published.levels (record r.memory { cursors = c }) → IsConsistent (held_of (record r { memory = m }) cached)
 consistent_with r m cached c whole is kept =
     subst (λ (z : Memory). IsConsistent (held_of (record r { memory = z }) cached)) (sym is)
@@ -159,7 +159,7 @@ consistent_with r m cached c whole is kept =
     })
 
 -- after any command that asks for no change
-pub consistent_after : (r : Recovered) (m : Memory) (request : Request) (answer : Answer) → ((cached : Blocks) → IsConsistent (held_of r cached))
+pub consistent_after : (r : OpenStore) (m : Memory) (request : Request) (answer : Answer) → ((cached : Blocks) → IsConsistent (held_of r cached))
     → m ≡ record r.memory { cursors = cursors_after r.memory r.published.levels request answer } → (cached : Blocks) → IsConsistent (held_of (record r { memory = m }) cached)
 consistent_after r m request answer whole is cached = consistent_with r m cached (cursors_after r.memory r.published.levels request answer) (whole cached) is (by request answer)
   where

@@ -43,7 +43,7 @@ use Rattle.strat_memory.specs.RecoveredFields.{held_of}
 use Rattle.strat_store.specs.Applying.{held_after}
 use Rattle.strat_publish.specs.Publishing.{is_in_front}
 use Rattle.strat_publish.specs.Settling.{ArePublishedAfter, KeepsCursors, KeepsPublished, HasPublished, LeavesPublished, arrays_taken, carries_out}
-use Rattle.strat_memory.specs.declared.recovered.Recovered.{Recovered}
+use Rattle.strat_memory.specs.declared.open_store.OpenStore.{OpenStore}
 use Rattle.strat_publish.proofs.KeptLemmas.{behind_kept, left_held}
 use Rattle.strat_publish.proofs.LaidLemmas.{kept_on}
 use Rattle.strat_memory.proofs.OnDiskLemmas.{read_on, logged_on, some_told, told_some}
@@ -83,7 +83,7 @@ wanted_change (DropVersion v) c wanted = refl
 wanted_change _ c wanted = absurd (cc)
 
 -- a store that keeps what is published, its journal and its memory, but for what stands ready, holds the same
-pub holds_the_same : (r new : Recovered) (cached : Blocks) (told : Reply) → KeepsPublished (held_of r cached) (held_of new cached) → new.journal ≡ r.journal
+pub holds_the_same : (r new : OpenStore) (cached : Blocks) (told : Reply) → KeepsPublished (held_of r cached) (held_of new cached) → new.journal ≡ r.journal
     → new.memory ≡ prepared r.memory new.memory.ready new.memory.cursors.room → HoldsTheSame (held_of r cached) (held_after new cached told)
 holds_the_same r new cached told keeps journal memory = λ i. record {
   slot = keeps.slot i;
@@ -97,7 +97,7 @@ holds_the_same r new cached told keeps journal memory = λ i. record {
 }
 
 -- a change that is refused leaves the disk as it was
-pub untouched_by : (v w : DiskView) (request : Request) (c : Change) (r new : Recovered) (cached : Blocks) (told : Reply) → change_wanted request ≡ Some c
+pub untouched_by : (v w : DiskView) (request : Request) (c : Change) (r new : OpenStore) (cached : Blocks) (told : Reply) → change_wanted request ≡ Some c
     → ((q : Refusal) → refusal_of_change r.memory c ≡ Some q → (told ≡ reply.Refused q) × (new ≡ r) × OnlyReads v w) → (refusal_of_change r.memory c ≡ None → may_write told ≡ true)
     → (told ≡ reply.Refused why.NoMemory → HoldsTheSame (held_of r cached) (held_after new cached told))
     → IsUntouched v w request (held_of r cached) told (held_after new cached told)
@@ -107,7 +107,7 @@ untouched_by v w request c r new cached told wanted refuses writes same = record
       let both : Some c ≡ Some d = sym wanted ∙ asks in
       let same : c ≡ d = cc in
       let one = refuses q (subst (λ (x : Change). refusal_of_change r.memory x ≡ Some q) (sym same) e) in
-      (one.0, ap (λ (s : Recovered). held_after s cached told) one.1, one.2);
+      (one.0, ap (λ (s : OpenStore). held_after s cached told) one.1, one.2);
   taken = λ d asks e.
       let both : Some c ≡ Some d = sym wanted ∙ asks in
       let same : c ≡ d = cc in
@@ -160,13 +160,13 @@ left_alone v w s carried told b none reads =
     }
 
 -- nor where blocks were cached, and cursors opened, paged or closed
-pub left_queried : (v w : DiskView) (r new : Recovered) (m : Memory) (old now : Blocks) (carried : Bool) (told : Reply) (b : Bool) → new ≡ record r { memory = m } → carried ≡ false → OnlyReads v w
+pub left_queried : (v w : DiskView) (r new : OpenStore) (m : Memory) (old now : Blocks) (carried : Bool) (told : Reply) (b : Bool) → new ≡ record r { memory = m } → carried ≡ false → OnlyReads v w
     → LeavesPublished v w (held_of r old) carried told (record (held_of new now) { spent = b })
 left_queried v w r new m old now carried told b is none reads =
     let s : Held = held_of r old in
     let t : Held = record (held_of (record r { memory = m }) now) { spent = b } in
     let same : KeepsPublished s t = record { slot = refl; sb = refl; chained = refl; levels = refl } in
-    subst (λ (z : Recovered). LeavesPublished v w s carried told (record (held_of z now) { spent = b })) (sym is)
+    subst (λ (z : OpenStore). LeavesPublished v w s carried told (record (held_of z now) { spent = b })) (sym is)
     (record {
       either = inl same;
       kept = λ _ _. same;
@@ -194,7 +194,7 @@ leaves_room v w s t carried told b room same still pays agree =
     }
 
 -- a publication gave up
-pub gives_up : (v w : DiskView) (r new : Recovered) (cached : Blocks) (t : Trouble) (told : Refusal) → told ≡ refusal_of_trouble t → KeepsPublished (held_of r cached) (held_of new cached)
+pub gives_up : (v w : DiskView) (r new : OpenStore) (cached : Blocks) (t : Trouble) (told : Refusal) → told ≡ refusal_of_trouble t → KeepsPublished (held_of r cached) (held_of new cached)
     → ((t ≡ trouble.Device → ⊥) → IsOnDisk v (held_of r cached) → IsOnDisk w (held_of new cached))
     → ((x : Contents) → StandsWith v (held_of r cached) x → IsPaid (contents_state x) → ArePaidSince w v.moment) → KeepsArrays v w (held_of r cached)
     → LeavesPublished v w (held_of r cached) false (reply.Refused told) (held_after new cached (reply.Refused told))
@@ -211,7 +211,7 @@ gives_up v w r new cached t told is same still pays agree =
     }
 
 -- a publication, and then a change that leaves what was published
-pub has_published : (r mid new : Recovered) (cached : Blocks) (told : Reply) → r.journal.mem ≤ length r.journal.list → mid.slot ≡ 1 - r.slot
+pub has_published : (r mid new : OpenStore) (cached : Blocks) (told : Reply) → r.journal.mem ≤ length r.journal.list → mid.slot ≡ 1 - r.slot
     → ArePublishedAfter (super_of r.sb) (manifest_of r.published.manifest) r.memory (super_of mid.sb) (manifest_of mid.published.manifest) mid.memory.cursors
     → KeepsPublished (held_of mid cached) (held_of new cached) → new.memory.cursors ≡ mid.memory.cursors → HasPublished (held_of r cached) (held_after new cached told)
 has_published r mid new cached told full slot after same cursors =
@@ -234,7 +234,7 @@ has_published r mid new cached told full slot after same cursors =
       };
     }
 
-pub renews : (v u w : DiskView) (r mid new : Recovered) (cached : Blocks) (told : Reply) → HasPublished (held_of r cached) (held_after new cached told)
+pub renews : (v u w : DiskView) (r mid new : OpenStore) (cached : Blocks) (told : Reply) → HasPublished (held_of r cached) (held_after new cached told)
     → KeepsPublished (held_of mid cached) (held_of new cached) × (IsOnDisk u (held_of mid cached) → IsOnDisk w (held_of new cached))
     → (accepts told ≡ false → told ≡ reply.Refused why.DeviceFault) → (IsOnDisk v (held_of r cached) → IsOnDisk u (held_of mid cached))
     → ((x : Contents) → StandsWith v (held_of r cached) x → IsPaid (contents_state x) → ArePaidSince w v.moment)

@@ -18,7 +18,7 @@ use Rattle.strat_store.specs.Applying.{change_wanted}
 use Rattle.strat_store.specs.Cursoring.{LeavesCursors, cursors_after, paged_at}
 use Rattle.strat_memory.specs.Memory.{Memory, cursor_from, with_cursor}
 use Rattle.strat_memory.specs.RecoveredFields.{held_of}
-use Rattle.strat_memory.specs.declared.recovered.Recovered.{Recovered}
+use Rattle.strat_memory.specs.declared.open_store.OpenStore.{OpenStore}
 
 -- no array is kept that was not
 kept_by : (m : Memory) (levels : List (Option LevelDesc)) (request : Request) (answer : Answer) (a : ArrayDesc) → Contains (cursors_after m levels request answer).retired a → Contains m.cursors.retired a
@@ -39,13 +39,13 @@ kept_by m levels (CloseCursor n) answer a of = by (accepts answer.reply) of
     by false there = there
 kept_by m levels _ answer a of = of
 
-pub query_leaves : (r new : Recovered) (cached later : Blocks) (request : Request) (answer : Answer) (b : Bool) → change_wanted request ≡ None
+pub query_leaves : (r new : OpenStore) (cached later : Blocks) (request : Request) (answer : Answer) (b : Bool) → change_wanted request ≡ None
     → new ≡ record r { memory = record r.memory { cursors = cursors_after r.memory r.published.levels request answer } }
     → LeavesCursors (held_of r cached) request answer (record (held_of new later) { spent = b })
 query_leaves r new cached later request answer b none is = record {
-  looked = λ _. ap (λ (z : Recovered). record (held_of z later) { spent = b }) is;
+  looked = λ _. ap (λ (z : OpenStore). record (held_of z later) { spent = b }) is;
   changed = λ c wanted. absurd (let x : ◌≡◌ {A = Option Change} None (Some c) = sym none ∙ wanted in cc);
   retired = λ a of.
       Contains-append_right (arrays_there r.published.levels) r.memory.cursors.retired a
-      (kept_by r.memory r.published.levels request answer a (subst (λ (z : Recovered). Contains z.memory.cursors.retired a) is of));
+      (kept_by r.memory r.published.levels request answer a (subst (λ (z : OpenStore). Contains z.memory.cursors.retired a) is of));
 }

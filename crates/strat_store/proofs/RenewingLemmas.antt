@@ -29,7 +29,7 @@ use Rattle.strat_memory.specs.Held.{head_held, IsConsistent, StandsWith, positio
 use Rattle.strat_memory.specs.Memory.{Memory, refusal_of_change}
 use Rattle.strat_memory.specs.RecoveredFields.{held_of}
 use Rattle.strat_store.specs.Applying.{held_after}
-use Rattle.strat_memory.specs.declared.recovered.Recovered.{Recovered}
+use Rattle.strat_memory.specs.declared.open_store.OpenStore.{OpenStore}
 use Rattle.strat_store.proofs.ChangingLemmas.{changes_it, state_held, acceptable, breaks}
 use Rattle.strat_memory.proofs.MemoryLawLemmas.{change_refused}
 
@@ -55,7 +55,7 @@ pub refused_not_short : (m : Memory) (c : Change) (q : Refusal) → refusal_of_c
 refused_not_short m c q e = of_change (λ (r : Refusal). reply.Refused r ≡ reply.Refused why.NoMemory → ⊥) m c q (λ short. cc) (λ short. cc) (λ short. cc) (λ short. cc) e
 
 -- and changes nothing
-module _ (r : Recovered) (cached : Blocks) (kept : IsConsistent (held_of r cached)) (v : DiskView) (x : Contents) (stands : StandsWith v (held_of r cached) x)
+module _ (r : OpenStore) (cached : Blocks) (kept : IsConsistent (held_of r cached)) (v : DiskView) (x : Contents) (stands : StandsWith v (held_of r cached) x)
     (c : Change) (q : Refusal) (refused : refusal_of_change r.memory c ≡ Some q) where
   pub refused_well : IsAppliedTo v (held_of r cached) x (request_for c) (plain (reply.Refused q)) (held_after r cached (reply.Refused q))
   refused_well =
@@ -89,13 +89,13 @@ short_of trouble.NoMemory told is short = refl
 short_of trouble.Device told is short = absurd (let e : reply.Refused why.DeviceFault ≡ reply.Refused why.NoMemory = sym (ap reply.Refused is) ∙ short in cc)
 short_of (trouble.Damaged b) told is short = absurd (let e : reply.Refused (why.Damaged b) ≡ reply.Refused why.NoMemory = sym (ap reply.Refused is) ∙ short in cc)
 
-module _ (r : Recovered) (cached : Blocks) (kept : IsConsistent (held_of r cached)) (v : DiskView) (x : Contents) (stands : StandsWith v (held_of r cached) x)
+module _ (r : OpenStore) (cached : Blocks) (kept : IsConsistent (held_of r cached)) (v : DiskView) (x : Contents) (stands : StandsWith v (held_of r cached) x)
     (c : Change) (free : refusal_of_change r.memory c ≡ None) (full : length r.journal.list ≡ r.sb.mem) where
   accepted : accepts (step (table_of (contents_state x)) (request_for c)).answer.reply ≡ true
   accepted = acceptable r cached kept v x stands c free
 
   -- the publication gave up
-  gives_up : (new : Recovered) (w : DiskView) (t : Trouble) → (t ≡ trouble.NoMemory → StandsWith w (held_of new cached) x) → (t ≡ trouble.NoMemory → new.journal ≡ r.journal)
+  gives_up : (new : OpenStore) (w : DiskView) (t : Trouble) → (t ≡ trouble.NoMemory → StandsWith w (held_of new cached) x) → (t ≡ trouble.NoMemory → new.journal ≡ r.journal)
       → ((b : ℕ) → t ≡ trouble.Damaged b → ⊥)
       → IsAppliedTo w (held_of r cached) x (request_for c) (plain (reply.Refused (refusal_of_trouble t))) (held_after new cached (reply.Refused (refusal_of_trouble t)))
   gives_up new w trouble.NoMemory still same whole =
@@ -112,7 +112,7 @@ module _ (r : Recovered) (cached : Blocks) (kept : IsConsistent (held_of r cache
   gives_up new w trouble.Device still same whole = breaks r cached kept v x stands c free new w
   gives_up new w (trouble.Damaged b) still same whole = absurd (whole b refl)
 
-  pub told_up : (new : Recovered) (w : DiskView) (t : Trouble) (told : Refusal) → told ≡ refusal_of_trouble t → (t ≡ trouble.NoMemory → StandsWith w (held_of new cached) x)
+  pub told_up : (new : OpenStore) (w : DiskView) (t : Trouble) (told : Refusal) → told ≡ refusal_of_trouble t → (t ≡ trouble.NoMemory → StandsWith w (held_of new cached) x)
       → (t ≡ trouble.NoMemory → new.journal ≡ r.journal) → ((b : ℕ) → t ≡ trouble.Damaged b → ⊥)
       → IsAppliedTo w (held_of r cached) x (request_for c) (plain (reply.Refused told)) (held_after new cached (reply.Refused told))
   told_up new w t told is still same whole =
@@ -120,7 +120,7 @@ module _ (r : Recovered) (cached : Blocks) (kept : IsConsistent (held_of r cache
       (gives_up new w t still same whole)
 
   -- or other contents that mean the same table stand, and the journal is empty
-  module _ (mid : Recovered) (u : DiskView) (held : IsConsistent (held_of mid cached)) (empty : mid.journal.list ≡ []) (p : IsPublishedAs u x (held_of mid cached)) where
+  module _ (mid : OpenStore) (u : DiskView) (held : IsConsistent (held_of mid cached)) (empty : mid.journal.list ≡ []) (p : IsPublishedAs u x (held_of mid cached)) where
     -- it is accepted there too, and so carried out
     there : is_carried_out (position_with (held_of mid cached) p.after) (request_for c) ≡ true
     there = carried (position_with (held_of mid cached) p.after) (request_for c) (changes_it c) (ap (λ (t : Table). accepts (step t (request_for c)).answer.reply) p.table ∙ accepted)
@@ -138,7 +138,7 @@ module _ (r : Recovered) (cached : Blocks) (kept : IsConsistent (held_of r cache
         (subst (λ (k : ℕ). MayFill mid.journal.mem k n) (ap length empty) may)
 
     -- the change is carried out on these
-    pub renewed : (new : Recovered) (w : DiskView) (told : Reply) → IsAppliedTo w (held_of mid cached) p.after (request_for c) (plain told) (held_after new cached told)
+    pub renewed : (new : OpenStore) (w : DiskView) (told : Reply) → IsAppliedTo w (held_of mid cached) p.after (request_for c) (plain told) (held_after new cached told)
         → IsAppliedTo w (held_of r cached) x (request_for c) (plain told) (held_after new cached told)
     renewed new w told (inl a) = inl (record {
       told = a.told ∙ ap (λ (t : Table). (step t (request_for c)).answer) p.table;

@@ -27,7 +27,7 @@ use Rattle.strat_cursor.specs.Cursors.{is_opened}
 use Rattle.strat_cursor.specs.Looking.{LooksThrough}
 use Rattle.strat_memory.specs.Memory.{Memory, prepared, refusal_of_change}
 use Rattle.strat_array.specs.Kept.{Blocks}
-use Rattle.strat_memory.specs.declared.recovered.Recovered.{Recovered}
+use Rattle.strat_memory.specs.declared.open_store.OpenStore.{OpenStore}
 use Rattle.strat_memory.specs.RecoveredFields.{held_of}
 
 -- the change that a command asks for, if it asks for one
@@ -185,5 +185,5 @@ refusal_of_trouble trouble.Device = why.DeviceFault
 refusal_of_trouble (trouble.Damaged block) = why.Damaged block
 
 -- a store after a reply, which may have left it unfit for use
-abbrev pub held_after : Recovered → Blocks → Reply → Held
+abbrev pub held_after : OpenStore → Blocks → Reply → Held
 held_after r cached told = record (held_of r cached) { spent = is_fault told }

@@ -37,7 +37,7 @@ use std::alloc::Global;
 use strat_base::{Change, Failed};
 use strat_disk::Disk;
 use strat_journal::Journal;
-use strat_memory::recovered::Recovered;
+use strat_memory::open_store::OpenStore;
 use strat_model::{Refusal, Reply};
 use strat_promote::obstacle::Obstacle;
 use strat_publish::publish;
@@ -79,7 +79,7 @@ fn log_change<D: Disk>(
 
 /// Carries out a change that is not refused, where the journal has room: it is durable before it is in memory. Two writes
 /// and two syncs, and one insertion into level 0 or O(log versions_max); no memory. DeviceFault: the disk failed.
-fn carry_out<D: Disk>(held: &mut Recovered, disk: &mut D, change: &Change<'_>) -> Reply
+fn carry_out<D: Disk>(held: &mut OpenStore, disk: &mut D, change: &Change<'_>) -> Reply
     requires kept { (cached : Blocks) → IsConsistent (held_of held.old cached) }
     requires fits { IsTrue (is_lawful (change_of change.now)) }
     requires none { refusal_of_change held.old.memory (change_of change.now) ≡ None }
@@ -131,7 +131,7 @@ fn refusal_of(obstacle: Obstacle) -> Refusal
 /// begins it anew. It costs a publication, and then what `carry_out` costs.
 fn carry_out_anew<D: Disk>(
     alloc: Global,
-    held: &mut Recovered,
+    held: &mut OpenStore,
     disk: &mut D,
     change: &Change<'_>,
 ) -> Reply
@@ -174,7 +174,7 @@ fn carry_out_anew<D: Disk>(
 /// failed. Damaged: a block of an array is bad. After these two the store is not to be used again.
 pub(crate) fn change<D: Disk>(
     alloc: Global,
-    held: &mut Recovered,
+    held: &mut OpenStore,
     disk: &mut D,
     change: &Change<'_>,
 ) -> Reply

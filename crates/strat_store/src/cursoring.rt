@@ -25,7 +25,7 @@ use strat_array::Cache;
 use strat_base::{PairBuf, Version};
 use strat_cursor::{CursorFault, Desks, NextFault};
 use strat_disk::Disk;
-use strat_memory::recovered::Recovered;
+use strat_memory::open_store::OpenStore;
 use strat_model::{Refusal, Reply};
 
 /// What is told of an opening.
@@ -65,7 +65,7 @@ fn reply_of_close(there: bool) -> Reply
 /// Opens a cursor over the pairs of a version as they are now, from `lo` on and below `hi`. It reads no block: O(items of
 /// level 0), and the time of copying at most 22 descriptors. UnknownVersion: there is no such version. CursorLimit: 64
 /// are open. NoMemory: memory ran out. After a refusal all is as before.
-pub(crate) fn open_cursor(held: &mut Recovered, version: Version, lo: &[u8], hi: &[u8]) -> Reply
+pub(crate) fn open_cursor(held: &mut OpenStore, version: Version, lo: &[u8], hi: &[u8]) -> Reply
     requires kept { (cached : Blocks) → IsConsistent (held_of held.old cached) }
     ensures found { (f : Image) (cached : Blocks) → TellsFrom f (held_of held.old cached)
         (OpenCursor version lo.now hi.now) (plain result) }
@@ -92,7 +92,7 @@ pub(crate) fn open_cursor(held: &mut Recovered, version: Version, lo: &[u8], hi:
 /// are cached. UnknownCursor: no cursor has the number. DeviceFault: the disk counted a fault.
 /// Damaged: this block of one of these arrays is no block of entries.
 pub(crate) fn next_pairs<D: Disk>(
-    held: &mut Recovered,
+    held: &mut OpenStore,
     cache: &mut Cache,
     desks: &mut Desks,
     disk: &mut D,
@@ -138,7 +138,7 @@ pub(crate) fn next_pairs<D: Disk>(
 
 /// Closes a cursor. The blocks of arrays that were kept for it alone are free from the next publication on. UnknownCursor:
 /// no cursor has the number.
-pub(crate) fn close_cursor(held: &mut Recovered, number: u64) -> Reply
+pub(crate) fn close_cursor(held: &mut OpenStore, number: u64) -> Reply
     requires kept { (cached : Blocks) → IsConsistent (held_of held.old cached) }
     ensures found { (f : Image) (cached : Blocks) → TellsFrom f (held_of held.old cached)
         (CloseCursor number) (plain result) }

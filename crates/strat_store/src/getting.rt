@@ -29,7 +29,7 @@ use crate::looking::look_up;
 use strat_array::{Cache, Scratch, Seen};
 use strat_base::{Fault, PairBuf, Version};
 use strat_disk::Disk;
-use strat_memory::recovered::Recovered;
+use strat_memory::open_store::OpenStore;
 use strat_model::{Refusal, Reply};
 
 /// What is told of a key after a look-up, or after the fault that ended it.
@@ -48,7 +48,7 @@ fn reply_of_get(found: Result<Seen, Fault>) -> Reply
 /// The entry that is live for a key at a version in level 0, or else in the first of the levels that says something of
 /// it: a value's pair is put into `out`. Level 0 costs what `Memory::find` does, the levels what `look_up` does.
 fn look_through<D: Disk>(
-    held: &Recovered,
+    held: &OpenStore,
     cache: &mut Cache,
     scratch: &mut Scratch,
     disk: &mut D,
@@ -98,7 +98,7 @@ fn look_through<D: Disk>(
 /// reads n + 1 of them, and each block is read once more at most. It takes no memory but for blocks that are cached. UnknownVersion: there is no such version, and nothing was read. DeviceFault: the disk counted a fault.
 /// Damaged: this block of one of the arrays is no block of entries.
 pub(crate) fn get<D: Disk>(
-    held: &Recovered,
+    held: &OpenStore,
     cache: &mut Cache,
     scratch: &mut Scratch,
     disk: &mut D,

@@ -24,7 +24,7 @@ use strat_array::Cache;
 use strat_base::{Fault, PairBuf, Version};
 use strat_cursor::{Desks, Picked, View, scan};
 use strat_disk::Disk;
-use strat_memory::recovered::Recovered;
+use strat_memory::open_store::OpenStore;
 use strat_model::{Refusal, Reply};
 
 /// What is told of a range after a scan, or after the fault that ended it.
@@ -43,7 +43,7 @@ fn reply_of_scan(found: Result<bool, Fault>) -> Reply
 /// takes no memory but for blocks that are cached. UnknownVersion: there is no such version, and nothing was read. DeviceFault:
 /// the disk counted a fault. Damaged: this block of one of the arrays is no block of entries.
 pub(crate) fn scan_range<D: Disk>(
-    held: &Recovered,
+    held: &OpenStore,
     cache: &mut Cache,
     desks: &mut Desks,
     disk: &mut D,

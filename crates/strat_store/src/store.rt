@@ -43,7 +43,7 @@ use strat_base::{Change, NoMemory, PairBuf, Version};
 use strat_cursor::Desks;
 use strat_disk::Disk;
 use strat_memory::memory::Memory;
-use strat_memory::recovered::Recovered;
+use strat_memory::open_store::OpenStore;
 use strat_model::{Command, Refusal, Reply};
 use strat_open::{AttachFault, open};
 
@@ -56,7 +56,7 @@ const CACHED_MAX: usize = 256;
 #[derive(Drop)]
 pub struct Store {
     alloc: Global,
-    held: Recovered,
+    held: OpenStore,
     cache: Cache,
     scratch: Scratch,
     desks: Desks,
@@ -120,7 +120,7 @@ fn info(memory: &Memory, version: Version) -> Reply
 
 /// Answers a command that asks for no change and is about no cursor.
 fn look<D: Disk>(
-    held: &Recovered,
+    held: &OpenStore,
     cache: &mut Cache,
     scratch: &mut Scratch,
     desks: &mut Desks,
@@ -170,7 +170,7 @@ fn look<D: Disk>(
 
 /// Answers a command that asks for no change.
 fn query<D: Disk>(
-    held: &mut Recovered,
+    held: &mut OpenStore,
     cache: &mut Cache,
     scratch: &mut Scratch,
     desks: &mut Desks,
@@ -221,7 +221,7 @@ fn query<D: Disk>(
 /// Answers a command: one that asks for a change is carried out, any other is answered without one.
 fn answer<D: Disk>(
     alloc: Global,
-    held: &mut Recovered,
+    held: &mut OpenStore,
     cache: &mut Cache,
     scratch: &mut Scratch,
     desks: &mut Desks,

@@ -6,8 +6,8 @@ use Rattle.strat_memory.proofs.admitting.place_levels.Goals as goal
 pub loop-desc-init : goal.loop-desc-init
 loop-desc-init c = subst (λ (levels : List (Option LevelDesc)). IsPlacing c.args.listed c.args.listed levels) (sym c.new-levels.ensures.ok) (placing_begins c.args.listed c.requires.fits)
 
-pub own_level-requires : goal.own_level-requires
-own_level-requires c = record { fits = popped_fits c.args.listed c.loop-desc.left c.pop.new.self c.in-Some.desc c.loop-desc.levels c.loop-desc.invariant c.in-Some.ensures.found }
+pub level_if_tags_disjoint-requires : goal.level_if_tags_disjoint-requires
+level_if_tags_disjoint-requires c = record { fits = popped_fits c.args.listed c.loop-desc.left c.pop.new.self c.in-Some.desc c.loop-desc.levels c.loop-desc.invariant c.in-Some.ensures.found }
 
 pub loop-desc-preserved-in-Some-2 : goal.loop-desc-preserved-in-Some-2
 loop-desc-preserved-in-Some-2 c =

@@ -8,8 +8,8 @@ use Rattle.strat_publish.proofs.RoomLemmas.{ample_room}
 use Rattle.strat_publish.proofs.SettlingLemmas.{keeps_own, owns_blocks, space_held}
 use Rattle.strat_publish.proofs.publication.used_space.Goals as goal
 
-pub own_blocks-requires : goal.own_blocks-requires
-own_blocks-requires c = record { fits = (c.requires.kept (empty_cache 0)).lawful.mem_most }
+pub space_if_blocks_distinct-requires : goal.space_if_blocks_distinct-requires
+space_if_blocks_distinct-requires c = record { fits = (c.requires.kept (empty_cache 0)).lawful.mem_most }
 
 pub returns-clause-ok : goal.returns-clause-ok
 returns-clause-ok c = λ cached levels.

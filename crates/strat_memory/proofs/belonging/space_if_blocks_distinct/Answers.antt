@@ -1,6 +1,6 @@
 use Rattle.std.proofs.Common.{◌∙◌}
 use Rattle.strat_memory.proofs.OwnLemmas.{is_space, not_own}
-use Rattle.strat_memory.proofs.belonging.own_blocks.Goals as goal
+use Rattle.strat_memory.proofs.belonging.space_if_blocks_distinct.Goals as goal
 
 pub returns-then-not-branch-clause-none : goal.returns-then-not-branch-clause-none
 returns-then-not-branch-clause-none c =

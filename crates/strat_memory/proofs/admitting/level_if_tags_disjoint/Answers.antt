@@ -1,5 +1,5 @@
 use Rattle.strat_memory.proofs.TagLemmas.{not_own_tags}
-use Rattle.strat_memory.proofs.admitting.own_level.Goals as goal
+use Rattle.strat_memory.proofs.admitting.level_if_tags_disjoint.Goals as goal
 
 pub returns-in-Err-Overlap-default-clause-none : goal.returns-in-Err-Overlap-default-clause-none
 returns-in-Err-Overlap-default-clause-none c =
