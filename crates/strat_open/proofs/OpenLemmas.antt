@@ -26,8 +26,8 @@ use Rattle.strat_standing.proofs.ListLemmas.{contained_among}
 use Rattle.strat_standing.proofs.PartsLemmas.{reads_head, reads_state, StateParts, state_parts}
 use Rattle.strat_standing.proofs.PlaceLemmas.{one_super}
 use Rattle.strat_state.specs.Sound.{IsSound}
-use Rattle.strat_open.specs.declared.opening.AttachFault.{AttachFault}
-use Rattle.strat_open.specs.declared.opening.AttachFault.TheVariants.{Device}
+use Rattle.strat_open.specs.declared.attach_fault.AttachFault.{AttachFault}
+use Rattle.strat_open.specs.declared.attach_fault.AttachFault.TheVariants.{Device}
 use Rattle.strat_open.specs.Following.{ChangesGateAlone, FollowsFrom, IsOpenedAs, LeavesOpening}
 use Rattle.strat_memory.specs.Held.{contents_held, IsConsistent, StandsWith}
 use Rattle.strat_cursor.specs.Looking.{AreCachedFrom}

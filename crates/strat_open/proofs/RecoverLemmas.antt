@@ -5,8 +5,8 @@ use Rattle.std.specs.List.{list_all}
 use Rattle.std.specs.Prelude.{fold}
 use Rattle.strat_base.specs.declared.failures.Trouble.{Trouble}
 use Rattle.strat_base.specs.declared.failures.Trouble.TheVariants.{NoMemory, Device, Damaged}
-use Rattle.strat_open.specs.declared.opening.AttachFault.{AttachFault}
-use Rattle.strat_open.specs.declared.opening.AttachFault.TheVariants as fault
+use Rattle.strat_open.specs.declared.attach_fault.AttachFault.{AttachFault}
+use Rattle.strat_open.specs.declared.attach_fault.AttachFault.TheVariants as fault
 use Rattle.strat_open.specs.Causes.{of_trouble}
 use Rattle.strat_crash.specs.Image.{Image}
 use Rattle.strat_format.specs.Chained.{Chained, manifest_at}

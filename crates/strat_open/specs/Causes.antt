@@ -1,6 +1,6 @@
 -- Why an opening gave up.
-use Rattle.strat_open.specs.declared.opening.AttachFault.{AttachFault}
-use Rattle.strat_open.specs.declared.opening.AttachFault.TheVariants.{NotAStore, Device, Damaged, NoMemory}
+use Rattle.strat_open.specs.declared.attach_fault.AttachFault.{AttachFault}
+use Rattle.strat_open.specs.declared.attach_fault.AttachFault.TheVariants.{NotAStore, Device, Damaged, NoMemory}
 use Rattle.strat_base.specs.declared.failures.Fault.{Fault}
 use Rattle.strat_base.specs.declared.failures.Fault.TheVariants as fault
 use Rattle.strat_base.specs.declared.failures.Trouble.{Trouble}

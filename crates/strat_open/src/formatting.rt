@@ -9,7 +9,7 @@ ghost use Rattle.strat_open.specs.declared.formatting.FormatFault.TheVariants as
 ghost use Rattle.strat_open.specs.Format.{IsNewDisk, IsBlank, IsShut, IsNoneOrNew, KeepsOthers};
 ghost use Rattle.strat_format.specs.Layout.{open_flag};
 
-use crate::manifest::write_manifest;
+use crate::new_manifest::write_manifest;
 use std::alloc::Global;
 use strat_base::Failed;
 use strat_base::limits::BLOCK;

@@ -1,13 +1,13 @@
 //! Making a store on a disk, and recovering it: what stands there is taken into memory.
 #![tactic(auto)]
 
+mod attach_fault;
 mod formatting;
-mod manifest;
-mod opening;
+mod new_manifest;
 mod reading;
-mod recovering;
+mod recovery;
 
+pub use attach_fault::AttachFault;
 pub use formatting::{FormatFault, format};
-pub use opening::AttachFault;
 pub use reading::{Reading, read_store};
-pub use recovering::open;
+pub use recovery::open;

@@ -14,10 +14,10 @@ ghost use Rattle.strat_gate.specs.SuperView.{super_of};
 ghost use Rattle.strat_manifest.specs.ManifestView.{manifest_of};
 ghost use Rattle.strat_recovery.specs.Head.{head_versions, journal_count, head_changes, head_updates};
 ghost use Rattle.strat_recovery.specs.Opening.{recover};
-ghost use Rattle.strat_open.specs.declared.opening.AttachFault.TheVariants as fault;
+ghost use Rattle.strat_open.specs.declared.attach_fault.AttachFault.TheVariants as fault;
 
-use crate::opening::{AttachFault, sync_first};
-use crate::recovering::recover_store;
+use crate::attach_fault::AttachFault;
+use crate::recovery::{recover_store, sync_first};
 use std::alloc::Global;
 use std::marker::Model;
 use strat_arena::ArenaPool;

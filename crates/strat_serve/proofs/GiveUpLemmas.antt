@@ -13,8 +13,8 @@ use Rattle.strat_recovery.specs.Head.{Head}
 use Rattle.strat_recovery.specs.Opening.{recover, recover_head, recover_slot}
 use Rattle.strat_model.specs.declared.ended.Ended.{Ended}
 use Rattle.strat_model.specs.declared.ended.Ended.TheVariants as ended
-use Rattle.strat_open.specs.declared.opening.AttachFault.{AttachFault}
-use Rattle.strat_open.specs.declared.opening.AttachFault.TheVariants as fault
+use Rattle.strat_open.specs.declared.attach_fault.AttachFault.{AttachFault}
+use Rattle.strat_open.specs.declared.attach_fault.AttachFault.TheVariants as fault
 use Rattle.strat_open.specs.Causes.{ended_for}
 use Rattle.strat_open.specs.Following.{IsUnchanged, LeavesOpening}
 use Rattle.strat_serve.specs.Session.{IsGivenUp, GaveUp, RefusesFor, EndHasCause, EndsFor, Served, IsEarlyEnd, broken_by}

@@ -30,7 +30,7 @@ ghost use Rattle.strat_store.specs.Ranging.{HasPairsFor, ReadsForLook, TellsFrom
 ghost use Rattle.strat_memory.specs.RecoveredFields.{held_of, empty_cache};
 ghost use Rattle.strat_store.specs.Applying.{held_after};
 ghost use Rattle.strat_publish.specs.Settling.{LeavesPublished, carries_out};
-ghost use Rattle.strat_open.specs.declared.opening.AttachFault.TheVariants as fault;
+ghost use Rattle.strat_open.specs.declared.attach_fault.AttachFault.TheVariants as fault;
 
 use crate::changing::change;
 use crate::cursoring::{close_cursor, next_pairs, open_cursor};

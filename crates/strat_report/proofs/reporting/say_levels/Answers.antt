@@ -1,5 +1,5 @@
 use Rattle.std.proofs.Common.{Err, ap, string_bytes}
-use Rattle.strat_open.specs.declared.opening.AttachFault.{AttachFault}
+use Rattle.strat_open.specs.declared.attach_fault.AttachFault.{AttachFault}
 use Rattle.strat_report.specs.Reporting.{levels_text}
 use Rattle.strat_report.proofs.ReportingLemmas.{said_store, said_damage}
 use Rattle.strat_report.proofs.reporting.say_levels.Goals as goal

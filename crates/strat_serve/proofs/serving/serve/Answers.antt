@@ -1,5 +1,5 @@
 use Rattle.std.proofs.Common.{Err, refl, ap, inl, inr}
-use Rattle.strat_open.specs.declared.opening.AttachFault.{AttachFault}
+use Rattle.strat_open.specs.declared.attach_fault.AttachFault.{AttachFault}
 use Rattle.strat_serve.specs.Session.{Served}
 use Rattle.strat_serve.specs.World.{World, world}
 use Rattle.strat_serve.proofs.GiveUpLemmas.{gave_up, gave_up_for, served_refuses, served_late, caused_since}

@@ -6,7 +6,7 @@ use Rattle.strat_journal.proofs.ReadLemmas.{same_err}
 use Rattle.strat_memory.specs.Admitting.{chained_of}
 use Rattle.strat_memory.proofs.NumbersLemmas.{kept_without}
 use Rattle.strat_open.proofs.RecoverLemmas.{manifest_recovered, head_recovered_from, head_damaged_journal, store_recovered_from}
-use Rattle.strat_open.proofs.recovering.recover_at.Goals as goal
+use Rattle.strat_open.proofs.recovery.recover_at.Goals as goal
 
 pub returns-in_err-journal-clause-damaged : goal.returns-in_err-journal-clause-damaged
 returns-in_err-journal-clause-damaged g c = λ block damaged f exposed.

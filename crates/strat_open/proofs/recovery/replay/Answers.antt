@@ -8,7 +8,7 @@ use Rattle.strat_journal.specs.Records.{logged_of}
 use Rattle.strat_base.specs.Change.{Change, is_lawful}
 use Rattle.strat_format.specs.Records.{Logged}
 use Rattle.strat_open.proofs.RedoLemmas.{redone_all, redone_more, redone_not}
-use Rattle.strat_open.proofs.recovering.replay.Goals as goal
+use Rattle.strat_open.proofs.recovery.replay.Goals as goal
 
 pub returns-in_err-redo-clause-damaged : goal.returns-in_err-redo-clause-damaged
 returns-in_err-redo-clause-damaged c =

@@ -4,7 +4,7 @@ use Rattle.strat_base.proofs.PlacedLemmas.{length-placed}
 use Rattle.strat_base.proofs.NumberLemmas.{length-be}
 use Rattle.strat_format.proofs.SuperBlockLemmas.{length-zeros}
 use Rattle.strat_open.proofs.NewBlockLemmas.{spelled_block}
-use Rattle.strat_open.proofs.manifest.spell.Goals as goal
+use Rattle.strat_open.proofs.new_manifest.spell.Goals as goal
 
 pub put_u64-requires : goal.put_u64-requires
 put_u64-requires c = omega (arith, ap length c.requires, length-zeros 4096)

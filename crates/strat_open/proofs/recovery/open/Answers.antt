@@ -4,11 +4,11 @@ use Rattle.strat_crash.specs.Faults.{Rose}
 use Rattle.strat_crash.specs.Moments.{OnlyReads}
 use Rattle.strat_crash.proofs.MomentLemmas.{reads_trans}
 use Rattle.strat_memory.specs.RecoveredFields.{empty_cache}
-use Rattle.strat_open.specs.declared.opening.AttachFault.{AttachFault}
+use Rattle.strat_open.specs.declared.attach_fault.AttachFault.{AttachFault}
 use Rattle.strat_open.proofs.OpenLemmas.{failed_cause, looks_kept, opened_as, leaves_follows}
-use Rattle.strat_open.proofs.recovering.open.Given.{Over}
-use Rattle.strat_open.proofs.recovering.open.Goals as goal
-use Rattle.strat_open.proofs.recovering.open.Goals.{After-recover_store}
+use Rattle.strat_open.proofs.recovery.open.Given.{Over}
+use Rattle.strat_open.proofs.recovery.open.Goals as goal
+use Rattle.strat_open.proofs.recovery.open.Goals.{After-recover_store}
 
 -- a sync leaves the disk as it was read
 synced : (g : Over) (c : After-recover_store g) → OnlyReads (g.D.Disk.view c.args.disk.now) (g.D.Disk.view c.sync_first.new.disk)

@@ -6,7 +6,7 @@ use Rattle.strat_journal.specs.Records.{logged_of}
 use Rattle.strat_recovery.specs.Opened.{parents_in}
 use Rattle.strat_memory.specs.Admitting.{chained_of}
 use Rattle.strat_open.proofs.RecoverLemmas.{journal_recovered, accepted_in_turn}
-use Rattle.strat_open.proofs.recovering.read_journal.Goals as goal
+use Rattle.strat_open.proofs.recovery.read_journal.Goals as goal
 
 pub returns-clause-found : goal.returns-clause-found
 returns-clause-found g c = λ f exposed.

@@ -1,11 +1,8 @@
-//! Why an opening fails, and its first step.
+//! Why a store could not be opened.
 
-ghost use Rattle.std.specs.Prelude.{◌≡◌, OnOk};
-ghost use Rattle.strat_crash.specs.Faults.{CountsFaults};
-ghost use Rattle.strat_crash.specs.Moments.{Passes, KeepsImages, IsDurable};
+ghost use Rattle.std.specs.Prelude.{◌≡◌};
 
 use strat_base::{Failed, Fault, NoMemory, Trouble};
-use strat_disk::Disk;
 use thiserror::Error;
 
 /// Why a store could not be opened.
@@ -26,7 +23,7 @@ pub enum AttachFault {
 }
 
 impl From<NoMemory> for AttachFault {
-    ghost use Rattle.strat_open.specs.declared.opening.AttachFault.TheVariants as fault;
+    ghost use Rattle.strat_open.specs.declared.attach_fault.AttachFault.TheVariants as fault;
 
     ghost from_gives = { λ _ e. e ≡ fault.NoMemory };
 
@@ -36,7 +33,7 @@ impl From<NoMemory> for AttachFault {
 }
 
 impl From<Failed> for AttachFault {
-    ghost use Rattle.strat_open.specs.declared.opening.AttachFault.TheVariants as fault;
+    ghost use Rattle.strat_open.specs.declared.attach_fault.AttachFault.TheVariants as fault;
 
     ghost from_gives = { λ _ e. e ≡ fault.Device };
 
@@ -70,17 +67,4 @@ impl From<Trouble> for AttachFault {
             Trouble::Damaged { block } => AttachFault::Damaged { block },
         }
     }
-}
-
-/// Syncs, so that what is read from now on is what a crash leaves.
-pub(crate) fn sync_first<D: Disk>(disk: &mut D) -> Result<(), Failed>
-    ensures ok { OnOk result (IsDurable (D.view disk.new)) }
-    ensures same { (D.view disk.new).content ≡ (D.view disk.old).content }
-    ensures images { KeepsImages (D.view disk.old) (D.view disk.new) }
-    ensures time { Passes (D.view disk.old) (D.view disk.new) }
-    ensures cause { CountsFaults (D.faults disk.old) (D.faults disk.new) result }
-    ensures reads { D.reads disk.new ≡ D.reads disk.old }
-{
-    disk.sync()?;
-    Ok(())
 }

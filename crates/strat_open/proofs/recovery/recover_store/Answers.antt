@@ -3,7 +3,7 @@ use Rattle.std.proofs.lemmas.Result.{err_from_is_err_and}
 use Rattle.strat_crash.proofs.MomentLemmas.{reads_trans}
 use Rattle.strat_gate.specs.SuperView.{super_of, seen}
 use Rattle.strat_open.proofs.RecoverLemmas.{store_damaged, trouble_is}
-use Rattle.strat_open.proofs.recovering.recover_store.Goals as goal
+use Rattle.strat_open.proofs.recovery.recover_store.Goals as goal
 
 pub returns-in_err-recovered-clause-damaged : goal.returns-in_err-recovered-clause-damaged
 returns-in_err-recovered-clause-damaged g c = λ block damaged f exposed.

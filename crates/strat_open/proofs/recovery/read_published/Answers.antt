@@ -3,7 +3,7 @@ use Rattle.strat_format.specs.Arrays.{blocks_of}
 use Rattle.strat_gate.specs.SuperView.{super_of}
 use Rattle.strat_manifest.specs.ManifestView.{manifest_of}
 use Rattle.strat_open.proofs.RecoverLemmas.{damaged_block, manifest_damaged}
-use Rattle.strat_open.proofs.recovering.read_published.Goals as goal
+use Rattle.strat_open.proofs.recovery.read_published.Goals as goal
 
 pub returns-in-None-clause-damaged : goal.returns-in-None-clause-damaged
 returns-in-None-clause-damaged g c = λ block damaged f exposed.

@@ -1,7 +1,7 @@
 use Rattle.std.proofs.Common.{sym, ◌∙◌}
 use Rattle.strat_gate.specs.SuperView.{super_of}
 use Rattle.strat_open.proofs.OpenLemmas.{quiet_reads, quiet_stands, quiet_tears, shut_reads, shut_stands}
-use Rattle.strat_open.proofs.recovering.shut_other.Goals as goal
+use Rattle.strat_open.proofs.recovery.shut_other.Goals as goal
 
 pub returns-in_err-close_region-clause-trail : goal.returns-in_err-close_region-clause-trail
 returns-in_err-close_region-clause-trail g c = λ f x exposed settled same is.

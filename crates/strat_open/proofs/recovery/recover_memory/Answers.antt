@@ -8,7 +8,7 @@ use Rattle.strat_memory.specs.Admitting.{chained_of}
 use Rattle.strat_open.proofs.RecoverLemmas.{accepted_in_turn, damaged_block, memory_accepts, memory_redone, same_err_in}
 use Rattle.strat_memory.specs.Memory.{Memory}
 use Rattle.strat_open.proofs.RedoLemmas.{cursors_redone}
-use Rattle.strat_open.proofs.recovering.recover_memory.Goals as goal
+use Rattle.strat_open.proofs.recovery.recover_memory.Goals as goal
 
 pub returns-clause-ok : goal.returns-clause-ok
 returns-clause-ok c =

@@ -7,7 +7,7 @@ ghost use Rattle.strat_base.specs.Change.{is_lawful};
 ghost use Rattle.strat_base.specs.declared.failures.Trouble.TheVariants.{Damaged, Device};
 ghost use Rattle.strat_crash.specs.Faults.{CountsFaults, HasCause, ReadsAtMost};
 ghost use Rattle.strat_crash.specs.Image.{Image};
-ghost use Rattle.strat_crash.specs.Moments.{Exposes, Since, Passes, TearsOnly, IsDurable, OnlyReads};
+ghost use Rattle.strat_crash.specs.Moments.{Exposes, Since, Passes, TearsOnly, KeepsImages, IsDurable, OnlyReads};
 ghost use Rattle.strat_cursor.specs.Held.{no_cursors};
 ghost use Rattle.strat_format.specs.Chain.{chain_length};
 ghost use Rattle.strat_format.specs.Chained.{manifest_at};
@@ -27,9 +27,9 @@ ghost use Rattle.strat_memory.specs.Memory.{refusal_of_change, memory_after, Has
 ghost use Rattle.strat_memory.specs.Admitting.{chained_of, IsAdmitted};
 ghost use Rattle.strat_memory.specs.RecoveredFields.{held_of, empty_cache};
 ghost use Rattle.strat_open.specs.Recovering.{IsRecoveredFrom, ReadsAsSound};
-ghost use Rattle.strat_open.specs.declared.opening.AttachFault.TheVariants as fault;
+ghost use Rattle.strat_open.specs.declared.attach_fault.AttachFault.TheVariants as fault;
 
-use crate::opening::{AttachFault, sync_first};
+use crate::attach_fault::AttachFault;
 use std::alloc::Global;
 use strat_base::{Failed, NoMemory, Trouble};
 use strat_disk::Disk;
@@ -38,6 +38,19 @@ use strat_journal::{Journal, Logged, close_region};
 use strat_memory::admitting::{Published, admit};
 use strat_memory::memory::Memory;
 use strat_memory::open_store::OpenStore;
+
+/// Syncs, so that what is read from now on is what a crash leaves.
+pub(crate) fn sync_first<D: Disk>(disk: &mut D) -> Result<(), Failed>
+    ensures ok { OnOk result (IsDurable (D.view disk.new)) }
+    ensures same { (D.view disk.new).content ≡ (D.view disk.old).content }
+    ensures images { KeepsImages (D.view disk.old) (D.view disk.new) }
+    ensures time { Passes (D.view disk.old) (D.view disk.new) }
+    ensures cause { CountsFaults (D.faults disk.old) (D.faults disk.new) result }
+    ensures reads { D.reads disk.new ≡ D.reads disk.old }
+{
+    disk.sync()?;
+    Ok(())
+}
 
 /// What the last publication left, from the blocks that a superblock leads to: one read a block. Damaged: the block
 /// of its chain with a wrong link, or the first where no manifest of such a store stands.
