@@ -2,10 +2,10 @@
 //! disk.
 #![tactic(auto)]
 
-mod computing;
-mod promoting;
-mod publication;
-mod publishing;
+mod checkpoint;
+mod lay;
+mod next_manifest;
+mod promote;
 pub mod publishing_laws;
 
-pub use publication::publish;
+pub use checkpoint::publish;

@@ -1,6 +1,0 @@
-use Rattle.std.proofs.Common.{◌≡◌, take}
-use Rattle.strat_recovery.specs.Head.{parent_numbers}
-use Rattle.strat_publish.proofs.computing.parents_of.Given as goal
-
-abbrev pub invariant-loop-v : goal.invariant-loop-v
-invariant-loop-v l = l.parents ≡ parent_numbers (take l.v l.tree.parents)

@@ -1,0 +1,429 @@
+//! A publication of a store, whole: its journal is emptied into its levels.
+
+ghost use Rattle.std.specs.List.{list_all};
+ghost use Rattle.std.specs.Prelude.{◌≡◌, ◌<◌, ◌≤◌, ℕ, ◌+◌, ◌-◌, ◌*◌, ◌^◌, List, [], ◌∷◌, length, min, nat_le, nat_lt, Some, IfOk, OnOk, OnErr, IsErrOf, IsTrue};
+ghost use Rattle.strat_array.specs.Kept.{Blocks};
+ghost use Rattle.strat_crash.specs.Blocks.{TearsBlocks, AgreeOn};
+ghost use Rattle.strat_crash.specs.Faults.{CountsFaults, HasCause};
+ghost use Rattle.strat_crash.specs.Image.{Image};
+ghost use Rattle.strat_crash.specs.Moments.{Exposes, Passes};
+ghost use Rattle.strat_crash.specs.Trail.{Trail};
+ghost use Rattle.strat_format.specs.Arrays.{blocks_of};
+ghost use Rattle.strat_format.specs.Layout as places;
+ghost use Rattle.strat_format.specs.Manifest.{is_lawful_manifest};
+ghost use Rattle.strat_format.specs.SuperBlock.{IsLawful};
+ghost use Rattle.strat_gate.specs.SuperView.{super_of};
+ghost use Rattle.strat_manifest.specs.ManifestView.{manifest_of};
+ghost use Rattle.strat_promote.specs.Job.{blocks_listed};
+ghost use Rattle.strat_promote.specs.Spaces.{HasAmpleRoom};
+ghost use Rattle.strat_promote.specs.declared.obstacle.Obstacle.TheVariants as obstacle;
+ghost use Rattle.strat_promote.specs.declared.obstacle.Obstacle.TheVariants.{Device, Damaged};
+ghost use Rattle.strat_recovery.specs.StateTable.{table_of};
+ghost use Rattle.strat_standing.specs.Contents.{Contents, contents_state};
+ghost use Rattle.strat_standing.specs.Next.{AreNewArrays, arrays_made};
+ghost use Rattle.strat_standing.specs.Occupied.{IsSpaceOf, arrays_in, extents_of};
+ghost use Rattle.strat_standing.specs.Standing.{ShowsTable, ContentsStand};
+ghost use Rattle.strat_state.specs.Level.{Level};
+ghost use Rattle.strat_state.specs.State.{IsPaid};
+ghost use Rattle.strat_publish.specs.Outcomes.{IsDamagedIn, IsPublishedAs, IsOkOrShort, RanShort};
+ghost use Rattle.strat_memory.specs.Held.{IsConsistent, IsOnDisk, StandsWith, arrays_held, contents_held};
+ghost use Rattle.strat_cursor.specs.Cursors.{retired_all};
+ghost use Rattle.strat_cursor.specs.Looking.{arrays_there};
+ghost use Rattle.strat_memory.specs.Memory.{emptied, prepared};
+ghost use Rattle.strat_memory.specs.Paying.{ArePaidSince};
+ghost use Rattle.strat_publish.specs.Counting.{CountsWritten};
+ghost use Rattle.strat_publish.specs.Publishing.{IsComputed, LaysSuperblock, WritesManifest, descs_to, is_in_front, manifest_after};
+ghost use Rattle.strat_memory.specs.Admitting.{chained_of, IsAdmitted};
+ghost use Rattle.strat_memory.specs.RecoveredFields.{held_of};
+ghost use Rattle.strat_publish.specs.Settling.{super_after, held_next, ArePublishedAfter, ArePublishedTo, KeepsCursors, KeepsPublished, MayBeAdmitted, MayFollow, StandApart, WritesBeside, IsReadied};
+ghost use Rattle.strat_format.specs.Layout.{newest_format};
+
+use crate::lay::lay_next;
+use crate::next_manifest::{Computed, compute_next};
+use crate::promote::Made;
+use std::alloc::Global;
+use std::mem;
+use strat_base::{ArrayDesc, Arrays, Failed, LevelDesc, NoMemory};
+use strat_disk::Disk;
+use strat_extent::Space;
+use strat_gate::SuperBlock;
+use strat_manifest::LevelList;
+use strat_memory::admitting::{Published, admit};
+use strat_memory::belonging::{mark_arrays, space_if_blocks_distinct};
+use strat_memory::memory::Memory;
+use strat_memory::open_store::OpenStore;
+use strat_promote::obstacle::{Obstacle, Unfit};
+
+/// The superblock after one, with this manifest, unless no number is left for its generation: no store comes so far.
+fn next_super(old: &SuperBlock, first: u32, length: u32) -> Result<SuperBlock, Unfit>
+    requires kept { IsLawful (super_of old.now) }
+    requires fits { (places.first_free old.now.mem ≤ first) × (first < 4294967295) × (29 ≤ length) }
+    ensures ok { IfOk result (λ sb. super_of sb ≡ super_after (super_of old.now) first length) }
+    ensures kept { IfOk result (λ sb. IsLawful (super_of sb)) }
+    ensures cause { OnErr result (2 ^ 64 ≤ (super_of old.now).generation + 1) }
+{
+    let Some(generation) = old.generation.checked_add(1) else {
+        return Err(Unfit);
+    };
+    Ok(SuperBlock {
+        generation,
+        manifest: first,
+        length,
+        region: 1 - old.region,
+        mem: old.mem,
+        changes_max: old.changes_max,
+        versions_max: old.versions_max,
+    })
+}
+
+/// The space in which just the blocks of a store are used, those of the arrays that are kept for cursors among them.
+/// `Unfit`: a block of all these stands twice, or has no number; none does where the store stands.
+fn used_space(alloc: Global, held: &OpenStore) -> Result<Space, Obstacle>
+    requires kept { (cached : Blocks) → IsConsistent (held_of held.now cached) }
+    ensures ok { IfOk result (λ space. (cached : Blocks) (levels : List Level)
+        → IsSpaceOf space (contents_held (held_of held.now cached) levels)
+        (extents_of held.now.memory.cursors.retired)) }
+    ensures room { IfOk result (λ space. length (chained_of held.now.published).blocks ≤ 2 ^ 21
+        → HasAmpleRoom space) }
+    ensures err { IsErrOf result obstacle.Unfit → IsTrue (list_all (λ b. nat_lt b 4294967295)
+        (chained_of held.now.published).blocks) → ⊥ }
+    ensures cause { IsOkOrShort result }
+{
+    let levels = held.published.manifest.levels.as_slice();
+    let Some(mut space) = space_if_blocks_distinct(
+        alloc,
+        held.sb.mem,
+        &held.published.chain,
+        levels,
+    )?
+    else {
+        return Err(Obstacle::Unfit);
+    };
+    if !mark_arrays(&mut space, held.memory.retired())? {
+        return Err(Obstacle::Unfit);
+    }
+    // For the proof: no more blocks are used than were marked.
+    let _ = space.free();
+    Ok(space)
+}
+
+/// Computes the next contents of a store but for their superblock: nothing is written but blocks that are free beside
+/// what it holds. Errors are those of `compute_next`, and want of memory for the blocks that are used; `Unfit` never comes
+/// where the store stands.
+fn compute_beside<D: Disk>(
+    alloc: Global,
+    held: &OpenStore,
+    disk: &mut D,
+) -> Result<Computed, Obstacle>
+    requires kept { (cached : Blocks) → IsConsistent (held_of held.now cached) }
+    requires len { length held.now.journal.list ≡ held.now.sb.mem }
+    ensures ok { IfOk result (λ r. (x : Contents) (cached : Blocks)
+        → StandsWith (D.view disk.old) (held_of held.now cached) x
+        → IsReadied (D.view disk.new) (held_of held.now cached) x
+        (super_after (super_of held.now.sb) r.first r.length)
+        (record { manifest = manifest_of r.manifest; blocks = blocks_of r.chain })
+        × AreNewArrays held.now.published.manifest.next_array (arrays_made r.made.level)) }
+    ensures room { IfOk result (λ r. (cached : Blocks)
+        → StandApart r.made.target (held_of held.now cached)
+        (record { manifest = manifest_of r.manifest; blocks = blocks_of r.chain })) }
+    ensures found { IfOk result (λ r. manifest_of r.manifest ≡ manifest_after
+        (manifest_of held.now.published.manifest) held.now.memory r.made.target r.made.level) }
+    ensures end { IfOk result (λ r. WritesManifest (D.view disk.old) (D.view disk.new)
+        r.first r.length
+        (record { manifest = manifest_of r.manifest; blocks = blocks_of r.chain })) }
+    ensures fits { IfOk result (λ r. (places.first_free held.now.sb.mem ≤ r.first)
+        × (r.first < 4294967295) × (29 ≤ r.length)
+        × IsTrue (is_lawful_manifest newest_format (manifest_of r.manifest))) }
+    ensures err { IsErrOf result obstacle.Unfit → (x : Contents) (cached : Blocks)
+        → StandsWith (D.view disk.old) (held_of held.now cached) x → ⊥ }
+    ensures images { (cached : Blocks)
+        → WritesBeside (D.view disk.old) (D.view disk.new) (held_of held.now cached) }
+    ensures cause { HasCause Device (D.faults disk.old) (D.faults disk.new) result }
+    ensures damaged { (b : ℕ) → IsErrOf result (Damaged b) → IsDamagedIn
+        (D.view disk.old).content held.now.memory held.now.published.levels b
+        × ((x : Contents) (cached : Blocks)
+        → StandsWith (D.view disk.old) (held_of held.now cached) x → ⊥) }
+    ensures reads { D.reads disk.new ≤ D.reads disk.old
+        + 2 * length (blocks_listed (arrays_there held.now.published.levels)) }
+{
+    let mut space = used_space(alloc, held)?;
+    compute_next(
+        alloc,
+        &held.published.manifest,
+        &held.memory,
+        &held.published.levels,
+        held.sb.mem,
+        &mut space,
+        disk,
+    )
+}
+
+/// What takes the place of a store's superblock and of what its last publication left, and the number of the level that
+/// was filled.
+#[derive(Drop)]
+struct Next {
+    sb: SuperBlock,
+    published: Published,
+    target: usize,
+}
+
+/// Whether each of these arrays has a number from one on.
+fn are_numbered_from(arrays: &[ArrayDesc], next_array: u64) -> bool
+    ensures ok { result ≡ list_all (λ a. nat_le next_array a.id) arrays.now }
+{
+    for array in arrays {
+        if array.id < next_array {
+            return false;
+        }
+    }
+    true
+}
+
+/// Whether each array that a promotion made has a number from one on. O(arrays).
+fn has_new_numbers(made: &Made, next_array: u64) -> bool
+    ensures ok { result ≡ list_all (λ a. nat_le next_array a.id) (arrays_made made.now.level) }
+{
+    match &made.level {
+        Some(level) => are_numbered_from(level.arrays.as_slice(), next_array),
+        None => true,
+    }
+}
+
+/// The next superblock, and the manifest that it leads to, tested as an opening tests them. `Unfit`: an opening would
+/// refuse them, or arrays have numbers that are not new, or no generation is left.
+fn admit_next(alloc: Global, held: &OpenStore, computed: Computed) -> Result<Next, Obstacle>
+    requires kept { IsLawful (super_of held.now.sb)
+        × IsTrue (is_lawful_manifest newest_format (manifest_of computed.manifest)) }
+    requires fits { (places.first_free held.now.sb.mem ≤ computed.first)
+        × (computed.first < 4294967295) × (29 ≤ computed.length) }
+    ensures ok { IfOk result (λ next.
+        (super_of next.sb ≡ super_after (super_of held.now.sb) computed.first computed.length)
+        × IsLawful (super_of next.sb) × (next.target ≡ computed.made.target)) }
+    ensures found { IfOk result (λ next. chained_of next.published
+        ≡ record { manifest = manifest_of computed.manifest; blocks = blocks_of computed.chain }) }
+    ensures kept { IfOk result (λ next. IsAdmitted (super_of next.sb) next.published) }
+    ensures same { IfOk result (λ next. IsTrue (list_all
+        (λ a. nat_le held.now.published.manifest.next_array a.id)
+        (arrays_made computed.made.level))) }
+    ensures err { IsErrOf result obstacle.Unfit → MayBeAdmitted (super_of held.now.sb)
+        (manifest_of held.now.published.manifest) computed.made.level
+        (super_after (super_of held.now.sb) computed.first computed.length)
+        (record { manifest = manifest_of computed.manifest; blocks = blocks_of computed.chain })
+        → ⊥ }
+    ensures cause { IsOkOrShort result }
+{
+    if !has_new_numbers(&computed.made, held.published.manifest.next_array) {
+        return Err(Obstacle::Unfit);
+    }
+    let sb = next_super(&held.sb, computed.first, computed.length)?;
+    match admit(alloc, &sb, computed.manifest, computed.chain)? {
+        Some(published) => Ok(Next {
+            sb,
+            published,
+            target: computed.made.target,
+        }),
+        None => Err(Obstacle::Unfit),
+    }
+}
+
+/// Writes the next contents of a store but for their superblock beside what it holds, and tests what their manifest
+/// says. Errors are those of `compute_beside`, and want of memory; `Unfit` never comes where the store stands.
+#[tactic(auto, using(strat_format::proofs::MarkLemmas::none_marked))]
+fn prepare_next<D: Disk>(alloc: Global, held: &OpenStore, disk: &mut D) -> Result<Next, Obstacle>
+    requires kept { (cached : Blocks) → IsConsistent (held_of held.now cached) }
+    requires len { length held.now.journal.list ≡ held.now.sb.mem }
+    ensures ok { IfOk result (λ next. (x : Contents) (cached : Blocks)
+        → StandsWith (D.view disk.old) (held_of held.now cached) x
+        → IsReadied (D.view disk.new) (held_of held.now cached) x (super_of next.sb)
+        (chained_of next.published)) }
+    ensures fits { IfOk result (λ next. (cached : Blocks)
+        → MayFollow (held_of held.now cached) (super_of next.sb) (chained_of next.published)) }
+    ensures found { IfOk result (λ next. ArePublishedTo next.target (super_of held.now.sb)
+        (manifest_of held.now.published.manifest) held.now.memory (super_of next.sb)
+        (manifest_of next.published.manifest)) }
+    ensures end { IfOk result (λ next. WritesManifest (D.view disk.old) (D.view disk.new)
+        next.sb.manifest next.sb.length (chained_of next.published)) }
+    ensures kept { IfOk result (λ next. IsAdmitted (super_of next.sb) next.published
+        × ((cached : Blocks)
+        → StandApart next.target (held_of held.now cached) (chained_of next.published))) }
+    ensures err { IsErrOf result obstacle.Unfit → (x : Contents) (cached : Blocks)
+        → StandsWith (D.view disk.old) (held_of held.now cached) x → ⊥ }
+    ensures images { (cached : Blocks)
+        → WritesBeside (D.view disk.old) (D.view disk.new) (held_of held.now cached) }
+    ensures cause { HasCause Device (D.faults disk.old) (D.faults disk.new) result }
+    ensures damaged { (b : ℕ) → IsErrOf result (Damaged b) → IsDamagedIn
+        (D.view disk.old).content held.now.memory held.now.published.levels b
+        × ((x : Contents) (cached : Blocks)
+        → StandsWith (D.view disk.old) (held_of held.now cached) x → ⊥) }
+    ensures reads { D.reads disk.new ≤ D.reads disk.old
+        + 2 * length (blocks_listed (arrays_there held.now.published.levels)) }
+{
+    let computed = compute_beside(alloc, held, disk)?;
+    let next = admit_next(alloc, held, computed)?;
+    Ok(next)
+}
+
+/// How many arrays levels have, or 2^64 - 1 where there are more.
+fn count_arrays(levels: &[LevelDesc]) -> usize
+    ensures ok { result ≡ min (length (arrays_in levels.now)) (2 ^ 64 - 1) }
+{
+    let mut n = 0usize;
+    for level in levels {
+        n = n.saturating_add(level.arrays.len());
+    }
+    n
+}
+
+/// Takes the memory that `install` needs: the next level 0, and room for all arrays of these levels among those that are
+/// kept, which stays for the next time. The only error is want of memory, after which the rest of memory is as it was.
+fn reserve_for_next(
+    alloc: Global,
+    memory: &mut Memory,
+    mem: u32,
+    levels: &[LevelDesc],
+) -> Result<(), NoMemory>
+    requires fits { (4 ≤ mem) × (mem ≤ 4096) }
+    requires len { length (arrays_in levels.now) < 2 ^ 64 }
+    ensures ok { OnOk result ((memory.new.ready ≡ Some mem)
+        × (length memory.old.cursors.retired + length (arrays_in levels.now)
+        ≤ memory.new.cursors.room)) }
+    ensures same { memory.new ≡ prepared memory.old memory.new.ready memory.new.cursors.room }
+{
+    memory.prepare(alloc, mem)?;
+    memory.reserve_retired(count_arrays(levels))
+}
+
+/// Keeps those of these arrays that a cursor names. O(arrays * arrays of all cursors), and no memory.
+fn retire_arrays(memory: &mut Memory, mut arrays: Arrays)
+    requires room { length memory.old.cursors.retired + length arrays ≤ memory.old.cursors.room }
+    ensures ok { memory.new ≡ record memory.old {
+      cursors = retired_all arrays memory.old.cursors;
+    } }
+    ensures len { length memory.new.cursors.retired
+        ≤ length memory.old.cursors.retired + length arrays }
+{
+    while let Some(desc) = arrays.pop() {
+        memory.retire(desc);
+    }
+}
+
+/// Keeps those arrays of the levels down to a number that a cursor names. O(arrays * arrays of all cursors), and no memory.
+fn retire_levels(memory: &mut Memory, mut levels: LevelList, target: usize)
+    requires room { length memory.old.cursors.retired + length (arrays_in levels)
+        ≤ memory.old.cursors.room }
+    ensures ok { memory.new ≡ record memory.old {
+      cursors = retired_all (arrays_in (descs_to target levels)) memory.old.cursors;
+    } }
+{
+    while let Some(level) = levels.pop() {
+        if level.number as usize <= target {
+            retire_arrays(memory, level.arrays);
+        }
+    }
+}
+
+/// Lays the superblock of what a store made ready, which then takes the place of what it holds. At most five syncs, and
+/// no memory.
+fn install<D: Disk>(held: &mut OpenStore, next: Next, disk: &mut D) -> Result<(), Failed>
+    requires fits { (held.old.slot ≤ 1) × (held.old.journal.active ≤ 1)
+        × IsLawful (super_of next.sb) }
+    requires room { (held.old.memory.ready ≡ Some held.old.sb.mem)
+        × (length held.old.memory.cursors.retired
+        + length (arrays_in (manifest_of held.old.published.manifest).levels)
+        ≤ held.old.memory.cursors.room) }
+    requires same { next.sb.mem ≡ held.old.sb.mem }
+    ensures ok { OnOk result ((cached : Blocks) → held_of held.new cached
+        ≡ held_next (held_of held.old cached) next.target (super_of next.sb)
+        (chained_of next.published) next.published.levels) }
+    ensures kept { OnOk result ((x y : Contents) → IsComputed (D.view disk.old) (1 - held.old.slot)
+        (super_of next.sb) held.old.journal x y → ContentsStand (D.view disk.new) y) }
+    ensures trail { (x y : Contents) → IsComputed (D.view disk.old) (1 - held.old.slot)
+        (super_of next.sb) held.old.journal x y → Trail ShowsTable (D.view disk.new)
+        (D.view disk.old).moment (table_of (contents_state x) ∷ []) 0
+        × (IsPaid (contents_state x) → IsPaid (contents_state y)
+        → ArePaidSince (D.view disk.new) (D.view disk.old).moment) }
+    ensures end { OnOk result (LaysSuperblock (D.view disk.old) (D.view disk.new)
+        held.old.journal.mem (1 - held.old.slot) (super_of next.sb)) }
+    ensures err { OnErr result ((held.new.memory ≡ held.old.memory) × ((cached : Blocks)
+        → KeepsPublished (held_of held.old cached) (held_of held.new cached))) }
+    ensures same { held.new.sb.mem ≡ held.old.sb.mem }
+    ensures images { TearsBlocks (is_in_front held.old.journal.mem)
+        (D.view disk.old) (D.view disk.new) }
+    ensures time { Passes (D.view disk.old) (D.view disk.new) }
+    ensures cause { CountsFaults (D.faults disk.old) (D.faults disk.new) result }
+{
+    lay_next(disk, 1 - held.slot, &next.sb, &mut held.journal)?;
+    held.slot = 1 - held.slot;
+    held.sb = next.sb;
+    let left = mem::replace(&mut held.published, next.published);
+    held.memory.restart();
+    retire_levels(&mut held.memory, left.manifest.levels, next.target);
+    Ok(())
+}
+
+/// Empties the journal into the levels: level 0 and the shallow levels become one new level, and the manifest after that
+/// takes the place of the last one. Memory is taken before the superblock is laid: where it runs out the store is as it
+/// was. `Unfit`: too few blocks are free, an array would have more than 2^25 entries, or another bound of our own was
+/// reached. No store that stands on its disk reaches one; the store is as it was, too. `Damaged` names a block of the
+/// store's arrays that is no block of entries, or is out of order: no store that stands on its disk has one. After
+/// `Device` only another opening can tell which contents the disk holds: they mean the same table. It reads each block of
+/// the arrays twice at most, writes the new arrays' blocks and those of the manifest once each, and takes five syncs at
+/// most.
+pub fn publish<D: Disk>(alloc: Global, held: &mut OpenStore, disk: &mut D) -> Result<(), Obstacle>
+    requires kept { ((cached : Blocks) → IsConsistent (held_of held.old cached))
+        × (length held.old.journal.list ≡ held.old.sb.mem) }
+    ensures ok { OnOk result ((x : Contents) (cached : Blocks)
+        → StandsWith (D.view disk.old) (held_of held.old cached) x
+        → IsPublishedAs (D.view disk.new) x (held_of held.new cached)
+        × CountsWritten (manifest_of held.old.published.manifest)
+        (manifest_of held.new.published.manifest)) }
+    ensures found { OnOk result ((held.new.slot ≡ 1 - held.old.slot)
+        × ArePublishedAfter (super_of held.old.sb) (manifest_of held.old.published.manifest)
+        held.old.memory (super_of held.new.sb) (manifest_of held.new.published.manifest)
+        held.new.memory.cursors
+        × (held.new.journal.list ≡ [])
+        × (held.new.memory ≡ record (emptied held.old.sb.mem held.old.memory)
+        { cursors = held.new.memory.cursors })) }
+    ensures end { (IsErrOf result Device → ⊥) → (cached : Blocks)
+        → IsOnDisk (D.view disk.old) (held_of held.old cached)
+        → IsOnDisk (D.view disk.new) (held_of held.new cached) }
+    ensures none { RanShort result → (x : Contents) (cached : Blocks)
+        → StandsWith (D.view disk.old) (held_of held.old cached) x
+        → StandsWith (D.view disk.new) (held_of held.new cached) x }
+    ensures trail { (x : Contents) (cached : Blocks)
+        → StandsWith (D.view disk.old) (held_of held.old cached) x
+        → Trail ShowsTable (D.view disk.new) (D.view disk.old).moment
+        (table_of (contents_state x) ∷ []) 0
+        × (held.old.sb.mem ≤ length held.old.journal.list → IsPaid (contents_state x)
+        → ArePaidSince (D.view disk.new) (D.view disk.old).moment) }
+    ensures kept { IsOkOrShort result → (cached : Blocks)
+        → IsConsistent (held_of held.new cached) }
+    ensures same { (held.new.sb.mem ≡ held.old.sb.mem)
+        × (held.new.memory.parents ≡ held.old.memory.parents)
+        × (RanShort result → (held.new.journal ≡ held.old.journal)
+        × (held.new.memory ≡ prepared held.old.memory held.new.memory.ready
+        held.new.memory.cursors.room))
+        × OnErr result ((cached : Blocks)
+        → KeepsPublished (held_of held.old cached) (held_of held.new cached)
+        × KeepsCursors (held_of held.old cached) (held_of held.new cached)) }
+    ensures err { IsErrOf result obstacle.Unfit → (x : Contents) (cached : Blocks)
+        → StandsWith (D.view disk.old) (held_of held.old cached) x → ⊥ }
+    ensures images { Passes (D.view disk.old) (D.view disk.new)
+        × ((f g : Image) → Exposes (D.view disk.old) f → Exposes (D.view disk.new) g
+        → AgreeOn (blocks_listed (arrays_held held.old.memory held.old.published.levels)) f g) }
+    ensures cause { HasCause Device (D.faults disk.old) (D.faults disk.new) result }
+    ensures damaged { (b : ℕ) → IsErrOf result (Damaged b)
+        → IsDamagedIn (D.view disk.old).content held.old.memory held.old.published.levels b
+        × ((x : Contents) (cached : Blocks)
+        → StandsWith (D.view disk.old) (held_of held.old cached) x → ⊥) }
+{
+    reserve_for_next(
+        alloc,
+        &mut held.memory,
+        held.sb.mem,
+        held.published.manifest.levels.as_slice(),
+    )?;
+    let next = prepare_next(alloc, held, disk)?;
+    install(held, next, disk)?;
+    Ok(())
+}
