@@ -1,13 +1,13 @@
-//! The store: making one on a disk, recovering it, and carrying out commands.
+//! Commands of an open store. Making a store and reading one are re-exported from `strat_open`.
 #![tactic(auto)]
 
 mod changing;
-mod cursoring;
+mod cursors;
 pub mod damage_laws;
-mod getting;
-mod looking;
+mod get;
+mod level_lookup;
 pub mod looking_laws;
-mod ranging;
+mod scan;
 mod store;
 
 pub use store::Store;

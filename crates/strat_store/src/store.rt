@@ -33,9 +33,9 @@ ghost use Rattle.strat_publish.specs.Settling.{LeavesPublished, carries_out};
 ghost use Rattle.strat_open.specs.declared.attach_fault.AttachFault.TheVariants as fault;
 
 use crate::changing::change;
-use crate::cursoring::{close_cursor, next_pairs, open_cursor};
-use crate::getting::get;
-use crate::ranging::scan_range;
+use crate::cursors::{reply_to_close_cursor, reply_to_next_pairs, reply_to_open_cursor};
+use crate::get::get;
+use crate::scan::scan_range;
 use std::alloc::Global;
 use std::marker::Model;
 use strat_array::{Cache, Scratch};
@@ -209,11 +209,11 @@ fn query<D: Disk>(
         → IsDamagedIn (D.view disk.old).content held.old.memory held.old.published.levels b }
 {
     match *command {
-        Command::OpenCursor { version, lo, hi } => open_cursor(held, version, lo, hi),
+        Command::OpenCursor { version, lo, hi } => reply_to_open_cursor(held, version, lo, hi),
         Command::NextPairs { cursor, limit } => {
-            next_pairs(held, cache, desks, disk, cursor, limit, out)
+            reply_to_next_pairs(held, cache, desks, disk, cursor, limit, out)
         }
-        Command::CloseCursor { cursor } => close_cursor(held, cursor),
+        Command::CloseCursor { cursor } => reply_to_close_cursor(held, cursor),
         _ => look(held, cache, scratch, desks, disk, command, out),
     }
 }
@@ -271,7 +271,7 @@ fn answer<D: Disk>(
 
 /// What look-ups and scans work with: a cache of 256 blocks, which takes memory as it fills, and room for 25 blocks. The
 /// only error is want of memory.
-fn make_room(alloc: Global) -> Result<(Cache, Scratch, Desks), NoMemory>
+fn take_read_buffers(alloc: Global) -> Result<(Cache, Scratch, Desks), NoMemory>
     ensures ok { IfOk result (λ room. room.0 ≡ empty_cache 256) }
 {
     let cache = Cache::new(alloc, CACHED_MAX)?;
@@ -354,7 +354,7 @@ impl Store {
             out,
         );
         self.spent = is_fault(told);
-        // A cache says with its count that it keeps no more blocks than it may.
+        // For the proof: the cache keeps no more blocks than it may.
         let _ = self.cache.len();
         told
     }
@@ -385,7 +385,7 @@ impl Store {
             (chain_length s.sb.length + region_blocks s.sb.mem + 4)
             (D.reads disk.old) (D.reads disk.new)) }
     {
-        let (cache, scratch, desks) = make_room(alloc)?;
+        let (cache, scratch, desks) = take_read_buffers(alloc)?;
         match open(alloc, disk) {
             Ok(held) => Ok(Store {
                 alloc,

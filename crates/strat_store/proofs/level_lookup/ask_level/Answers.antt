@@ -6,7 +6,7 @@ use Rattle.strat_base.specs.declared.descriptors.ArrayDesc.{ArrayDesc}
 use Rattle.strat_crash.specs.Faults.{ReadsAtMost}
 use Rattle.strat_cursor.specs.Looking.{arrays_there, asked_of_level, array_says, HaveFewBlocks, reads_of_arrays}
 use Rattle.strat_store.proofs.LookLemmas.{one_read, tell_one}
-use Rattle.strat_store.proofs.looking.ask_level.Goals as goal
+use Rattle.strat_store.proofs.level_lookup.ask_level.Goals as goal
 use Rattle.strat_cursor.proofs.PickLemmas.{asked_there}
 use Rattle.strat_cursor.proofs.ThroughLemmas.{only_one, through_one, names_one}
 

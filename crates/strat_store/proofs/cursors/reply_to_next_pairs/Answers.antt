@@ -10,7 +10,7 @@ use Rattle.strat_memory.specs.RecoveredFields.{held_of}
 use Rattle.strat_store.specs.Applying.{held_after}
 use Rattle.strat_store.proofs.CursoringLemmas.{cursor_told, nothing_told, page_applied, page_blames, page_fails, page_found, page_leaves, page_short, pairs_paged}
 use Rattle.strat_store.proofs.KeepingLemmas.{consistent_after}
-use Rattle.strat_store.proofs.cursoring.next_pairs.Goals as goal
+use Rattle.strat_store.proofs.cursors.reply_to_next_pairs.Goals as goal
 
 pub returns-clause-ok : goal.returns-clause-ok
 returns-clause-ok g c = λ x rows at.

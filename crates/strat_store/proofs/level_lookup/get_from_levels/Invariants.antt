@@ -1,7 +1,7 @@
 use Rattle.std.proofs.Common.{◌≡◌, ◌≤◌, ◌+◌, ℕ, drop}
 use Rattle.strat_cursor.specs.Looking.{HaveFewBlocks, arrays_asked, reads_of_arrays}
 use Rattle.strat_store.proofs.LookLemmas.{Passing}
-use Rattle.strat_store.proofs.looking.look_up.Given as goal
+use Rattle.strat_store.proofs.level_lookup.get_from_levels.Given as goal
 
 abbrev pub invariant-loop-above : goal.invariant-loop-above
 invariant-loop-above g l =

@@ -11,7 +11,7 @@ use Rattle.strat_memory.specs.RecoveredFields.{empty_cache, held_of}
 use Rattle.strat_store.proofs.CursoringLemmas.{known_told, numbers, opening_told, start_calm, start_found, start_leaves, unknown_told}
 use Rattle.strat_publish.proofs.WholeLemmas.{whole_read}
 use Rattle.strat_store.proofs.KeepingLemmas.{consistent_after}
-use Rattle.strat_store.proofs.cursoring.open_cursor.Goals as goal
+use Rattle.strat_store.proofs.cursors.reply_to_open_cursor.Goals as goal
 
 pub returns-then-not-has-clause-found : goal.returns-then-not-has-clause-found
 returns-then-not-has-clause-found c = λ f cached.

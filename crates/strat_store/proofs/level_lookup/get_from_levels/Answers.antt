@@ -4,7 +4,7 @@ use Rattle.strat_recovery.specs.Asked.{on_disk}
 use Rattle.strat_state.specs.LookUp.{looked_up}
 use Rattle.strat_cursor.specs.Looking.{levels_there, decides}
 use Rattle.strat_store.proofs.LookLemmas.{passes_on, passing_answers, passed_all, reads_left, few_asked, adds_none}
-use Rattle.strat_store.proofs.looking.look_up.Goals as goal
+use Rattle.strat_store.proofs.level_lookup.get_from_levels.Goals as goal
 use Rattle.strat_cursor.proofs.ThroughLemmas.{through_trans, still_cached}
 
 pub returns-in_err-seen-clause-same : goal.returns-in_err-seen-clause-same

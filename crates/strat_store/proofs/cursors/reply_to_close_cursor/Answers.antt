@@ -7,7 +7,7 @@ use Rattle.strat_store.specs.Cursoring.{cursors_after, reply_of_close}
 use Rattle.strat_memory.specs.Memory.{Memory}
 use Rattle.strat_store.proofs.CursoringLemmas.{close_calm, close_found, close_leaves, close_short, close_told}
 use Rattle.strat_store.proofs.KeepingLemmas.{consistent_after}
-use Rattle.strat_store.proofs.cursoring.close_cursor.Goals as goal
+use Rattle.strat_store.proofs.cursors.reply_to_close_cursor.Goals as goal
 
 pub returns-clause-found : goal.returns-clause-found
 returns-clause-found c = λ f cached. ap plain c.reply_of_close.ensures.ok ∙ close_told c.close_cursor-there.result _ c.close_cursor-there.ensures.ok

@@ -6,7 +6,7 @@ use Rattle.strat_store.specs.Applying.{IsLookedUp, is_fault}
 use Rattle.strat_memory.specs.RecoveredFields.{held_of}
 use Rattle.strat_publish.proofs.WholeLemmas.{whole_read}
 use Rattle.strat_store.proofs.GettingLemmas.{answer_told, damaged_told, none_told, unknown_looked_up, known_looked_up}
-use Rattle.strat_store.proofs.getting.get.Goals as goal
+use Rattle.strat_store.proofs.get.get.Goals as goal
 use Rattle.strat_cursor.proofs.ThroughLemmas.{through_refl}
 
 pub returns-then-not-has-clause-ok : goal.returns-then-not-has-clause-ok

@@ -11,7 +11,7 @@ use Rattle.strat_store.specs.Ranging.{HasPairs}
 use Rattle.strat_memory.specs.RecoveredFields.{held_of}
 use Rattle.strat_publish.proofs.WholeLemmas.{whole_read}
 use Rattle.strat_store.proofs.RangingLemmas.{few_arrays, finds_range, range_told, damaged_range, none_in_range, unknown_range, known_range, pairs_scanned}
-use Rattle.strat_store.proofs.ranging.scan_range.Goals as goal
+use Rattle.strat_store.proofs.scan.scan_range.Goals as goal
 use Rattle.strat_cursor.proofs.ThroughLemmas.{names_more, through_more, through_refl}
 use Rattle.strat_cursor.proofs.HoldingLemmas.{asked_in_all}
 use Rattle.strat_cursor.specs.Looking.{ReadsArrays, arrays_asked, arrays_there}

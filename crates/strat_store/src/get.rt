@@ -25,7 +25,7 @@ ghost use Rattle.strat_memory.specs.Held.{IsConsistent, StandsWith};
 ghost use Rattle.strat_cursor.specs.Looking.{levels_there, arrays_there, MayBeFound, AreInOrder, AreCachedFrom, LooksThrough, NamesNoBlock, HaveOwnIds, ReadsArrays, arrays_asked};
 ghost use Rattle.strat_memory.specs.RecoveredFields.{held_of};
 
-use crate::looking::look_up;
+use crate::level_lookup::get_from_levels;
 use strat_array::{Cache, Scratch, Seen};
 use strat_base::{Fault, PairBuf, Version};
 use strat_disk::Disk;
@@ -46,7 +46,7 @@ fn reply_of_get(found: Result<Seen, Fault>) -> Reply
 }
 
 /// The entry that is live for a key at a version in level 0, or else in the first of the levels that says something of
-/// it: a value's pair is put into `out`. Level 0 costs what `Memory::find` does, the levels what `look_up` does.
+/// it: a value's pair is put into `out`. Level 0 costs what `Memory::find` does, the levels what `get_from_levels` does.
 fn look_through<D: Disk>(
     held: &OpenStore,
     cache: &mut Cache,
@@ -87,7 +87,7 @@ fn look_through<D: Disk>(
     match held.memory.find(key, version, out) {
         Seen::None => {
             let levels = &held.published.levels;
-            look_up(disk, cache, levels, tree, key, version, scratch, out)
+            get_from_levels(disk, cache, levels, tree, key, version, scratch, out)
         }
         seen => Ok(seen),
     }

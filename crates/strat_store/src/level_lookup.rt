@@ -73,7 +73,7 @@ fn ask_level<D: Disk>(
 /// answer is exactly that. In each level one array is asked at most, by what `find` does, and a level
 /// without an array for the version costs O(log versions_max) and no read. It takes no memory but for blocks that are
 /// cached. Device: the disk counted a fault. Damaged: this block of one of the arrays is no block of entries.
-pub(crate) fn look_up<D: Disk>(
+pub(crate) fn get_from_levels<D: Disk>(
     disk: &mut D,
     cache: &mut Cache,
     levels: &Levels,
@@ -107,7 +107,7 @@ pub(crate) fn look_up<D: Disk>(
     ensures reads { ReadsArrays (arrays_asked tree.now.parents levels.now v)
         (D.reads disk.old) (D.reads disk.new) }
 {
-    // How many levels there are is known where one is asked for.
+    // For the proof: there are 22 levels.
     let _first = levels.get(1);
     for above in 0..LEVELS {
         let seen = ask_level(disk, cache, levels, above + 1, tree, key, v, scratch, out)?;

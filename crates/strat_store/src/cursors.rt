@@ -65,7 +65,12 @@ fn reply_of_close(there: bool) -> Reply
 /// Opens a cursor over the pairs of a version as they are now, from `lo` on and below `hi`. It reads no block: O(items of
 /// level 0), and the time of copying at most 22 descriptors. UnknownVersion: there is no such version. CursorLimit: 64
 /// are open. NoMemory: memory ran out. After a refusal all is as before.
-pub(crate) fn open_cursor(held: &mut OpenStore, version: Version, lo: &[u8], hi: &[u8]) -> Reply
+pub(crate) fn reply_to_open_cursor(
+    held: &mut OpenStore,
+    version: Version,
+    lo: &[u8],
+    hi: &[u8],
+) -> Reply
     requires kept { (cached : Blocks) → IsConsistent (held_of held.old cached) }
     ensures found { (f : Image) (cached : Blocks) → TellsFrom f (held_of held.old cached)
         (OpenCursor version lo.now hi.now) (plain result) }
@@ -91,7 +96,7 @@ pub(crate) fn open_cursor(held: &mut OpenStore, version: Version, lo: &[u8], hi:
 /// `strat_cursor::scan` does, over the lists and arrays that the cursor holds on to, and takes no memory but for blocks that
 /// are cached. UnknownCursor: no cursor has the number. DeviceFault: the disk counted a fault.
 /// Damaged: this block of one of these arrays is no block of entries.
-pub(crate) fn next_pairs<D: Disk>(
+pub(crate) fn reply_to_next_pairs<D: Disk>(
     held: &mut OpenStore,
     cache: &mut Cache,
     desks: &mut Desks,
@@ -138,7 +143,7 @@ pub(crate) fn next_pairs<D: Disk>(
 
 /// Closes a cursor. The blocks of arrays that were kept for it alone are free from the next publication on. UnknownCursor:
 /// no cursor has the number.
-pub(crate) fn close_cursor(held: &mut OpenStore, number: u64) -> Reply
+pub(crate) fn reply_to_close_cursor(held: &mut OpenStore, number: u64) -> Reply
     requires kept { (cached : Blocks) → IsConsistent (held_of held.old cached) }
     ensures found { (f : Image) (cached : Blocks) → TellsFrom f (held_of held.old cached)
         (CloseCursor number) (plain result) }
