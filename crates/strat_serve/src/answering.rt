@@ -68,7 +68,7 @@ fn fault_told(reply: Reply) -> Option<Fault>
 /// Answers a body, in the buffer for replies, and says which fault the store met, if it met one:
 /// then it is not to be used again. A change that is answered otherwise is durable: its cost is
 /// that of `Store::apply`.
-pub fn answer<D: Disk>(
+pub fn answer_frame<D: Disk>(
     store: &mut Store,
     disk: &mut D,
     body: &[u8],

@@ -9,7 +9,7 @@ ghost use Rattle.strat_memory.specs.Held.{IsConsistent};
 ghost use Rattle.strat_serve.specs.Session.{Took, IsAtEnd, SendsPrefix, RunOutcome, RefusesFor, IsEarlyEnd, EndHasCause, HasOpened, Served, broken_by};
 ghost use Rattle.strat_serve.specs.World.{world};
 
-use crate::answering::{Buffers, answer, refuse_long};
+use crate::answering::{Buffers, answer_frame, refuse_long};
 use std::alloc::Global;
 use strat_base::{Failed, Fault};
 use strat_disk::Disk;
@@ -124,7 +124,7 @@ fn serve_frames<S: Source, K: Sink, D: Disk>(
     loop {
         match buffers.frames.next() {
             Next::Frame => {
-                let met = answer(
+                let met = answer_frame(
                     store,
                     disk,
                     buffers.frames.body(),

@@ -32,26 +32,26 @@ loop-store-init g c = record {
 }
 
 -- a body was answered, and its reply handed on
-answered : (g : Over) (c : After-send g) → Answered c.loop-store.store c.answer-met.new.store
-    (shown g c.loop-store.source c.loop-store.sink c.loop-store.disk) (shown g c.loop-store.source c.send.new.sink c.answer-met.new.disk) c.next.new.self.body c.answer-met.result c.answer-met.new.out
+answered : (g : Over) (c : After-send g) → Answered c.loop-store.store c.answer_frame-met.new.store
+    (shown g c.loop-store.source c.loop-store.sink c.loop-store.disk) (shown g c.loop-store.source c.send.new.sink c.answer_frame-met.new.disk) c.next.new.self.body c.answer_frame-met.result c.answer_frame-met.new.out
 answered g c = record {
   left = refl;
-  is = subst (λ (b : List ℕ). IsAnswered (g.D.Disk.view c.loop-store.disk) (g.D.Disk.view c.answer-met.new.disk) c.loop-store.store b c.answer-met.result c.answer-met.new.store c.answer-met.new.out) c.body.ensures c.answer-met.ensures.ok;
-  passes = c.answer-met.ensures.time;
-  cause = c.answer-met.ensures.cause;
-  spent = c.answer-met.ensures.end;
-  kept = c.answer-met.ensures.kept;
-  same = c.answer-met.ensures.same;
-  leaves = g.met.D.Disk.leaves_content c.answer-met.new.disk;
-  damaged = c.answer-met.ensures.damaged;
+  is = subst (λ (b : List ℕ). IsAnswered (g.D.Disk.view c.loop-store.disk) (g.D.Disk.view c.answer_frame-met.new.disk) c.loop-store.store b c.answer_frame-met.result c.answer_frame-met.new.store c.answer_frame-met.new.out) c.body.ensures c.answer_frame-met.ensures.ok;
+  passes = c.answer_frame-met.ensures.time;
+  cause = c.answer_frame-met.ensures.cause;
+  spent = c.answer_frame-met.ensures.end;
+  kept = c.answer_frame-met.ensures.kept;
+  same = c.answer_frame-met.ensures.same;
+  leaves = g.met.D.Disk.leaves_content c.answer_frame-met.new.disk;
+  damaged = c.answer_frame-met.ensures.damaged;
 }
 
 pub returns-in_default-clause-ok : goal.returns-in_default-clause-ok
 returns-in_default-clause-ok g c = λ d has.
     let s = c.loop-store in
     let sent = (goal.at.returns-in_default-clause-ok g c).After-send in
-    ends_unsent c.args.store.now s.store c.answer-met.new.store s.taken c.args.budget s.buffers.frames.held c.next.new.self.held c.next.new.self.body c.answer-met.result c.answer-met.new.out
-    (shown g c.args.source.now c.args.sink.now d) (shown g s.source s.sink s.disk) (shown g s.source c.send.new.sink c.answer-met.new.disk)
+    ends_unsent c.args.store.now s.store c.answer_frame-met.new.store s.taken c.args.budget s.buffers.frames.held c.next.new.self.held c.next.new.self.body c.answer_frame-met.result c.answer_frame-met.new.out
+    (shown g c.args.source.now c.args.sink.now d) (shown g s.source s.sink s.disk) (shown g s.source c.send.new.sink c.answer_frame-met.new.disk)
     (s.invariant.progress d has) s.invariant.within (answered g sent) c.in-Frame.ensures.ok.0 c.in-Frame.ensures.ok.1 c.in-Frame.ensures.fits
     (passes_trans has.passes s.invariant.time) c.in_default.ensures.err
 
@@ -59,17 +59,17 @@ pub returns-in-Some-clause-ok : goal.returns-in-Some-clause-ok
 returns-in-Some-clause-ok g c = λ d has.
     let s = c.loop-store in
     let sent = (goal.at.returns-in-Some-clause-ok g c).After-send in
-    ends_broken c.args.store.now s.store c.answer-met.new.store s.taken c.args.budget s.buffers.frames.held c.next.new.self.held c.next.new.self.body c.answer-met.result c.answer-met.new.out
-    (shown g c.args.source.now c.args.sink.now d) (shown g s.source s.sink s.disk) (shown g s.source c.send.new.sink c.answer-met.new.disk)
+    ends_broken c.args.store.now s.store c.answer_frame-met.new.store s.taken c.args.budget s.buffers.frames.held c.next.new.self.held c.next.new.self.body c.answer_frame-met.result c.answer_frame-met.new.out
+    (shown g c.args.source.now c.args.sink.now d) (shown g s.source s.sink s.disk) (shown g s.source c.send.new.sink c.answer_frame-met.new.disk)
     (s.invariant.progress d has) s.invariant.within (answered g sent) c.in-Frame.ensures.ok.0 c.in-Frame.ensures.ok.1 c.in-Frame.ensures.fits
     c.in-Some.fault c.in-Some.is (passes_trans has.passes s.invariant.time) c.in-Ok.ensures.ok c.broken_by.result c.broken_by.ensures
 
 pub returns-in-Some-clause-cause : goal.returns-in-Some-clause-cause
 returns-in-Some-clause-cause g c =
     let s = c.loop-store in
-    let cause = c.answer-met.ensures.cause in
-    caused_by_fault c.broken_by.result c.in-Some.fault (shown g c.args.source.now c.args.sink.now c.args.disk.now) (shown g s.source c.send.new.sink c.answer-met.new.disk) c.broken_by.ensures
-    (λ e. subst (λ (n : ℕ). Rose n (g.D.Disk.faults c.answer-met.new.disk)) s.invariant.disk_same (cause.rose (c.in-Some.is ∙ ap (λ (x : Fault). Some x) e)))
+    let cause = c.answer_frame-met.ensures.cause in
+    caused_by_fault c.broken_by.result c.in-Some.fault (shown g c.args.source.now c.args.sink.now c.args.disk.now) (shown g s.source c.send.new.sink c.answer_frame-met.new.disk) c.broken_by.ensures
+    (λ e. subst (λ (n : ℕ). Rose n (g.D.Disk.faults c.answer_frame-met.new.disk)) s.invariant.disk_same (cause.rose (c.in-Some.is ∙ ap (λ (x : Fault). Some x) e)))
     (λ other. cause.same (λ e. other (let same : Some c.in-Some.fault ≡ Some fault.Device = sym c.in-Some.is ∙ e in cc)) ∙ s.invariant.disk_same)
     s.invariant.source_same (c.in-Ok.ensures.cause.ok ∙ s.invariant.sink_same)
 
@@ -88,19 +88,19 @@ pub loop-store-preserved-in_default-met : goal.loop-store-preserved-in_default-m
 loop-store-preserved-in_default-met g c =
     let s = c.loop-store in
     let sent = (goal.at.loop-store-preserved-in_default-met g c).After-send in
-    let none : c.answer-met.result ≡ None = no_fault c.answer-met.result c.in_default-met.not-Some in
+    let none : c.answer_frame-met.result ≡ None = no_fault c.answer_frame-met.result c.in_default-met.not-Some in
     record {
-      progress = λ d has. goes_on c.args.store.now s.store c.answer-met.new.store s.taken c.args.budget s.buffers.frames.held c.next.new.self.held c.next.new.self.body c.answer-met.result c.answer-met.new.out
-          (shown g c.args.source.now c.args.sink.now d) (shown g s.source s.sink s.disk) (shown g s.source c.send.new.sink c.answer-met.new.disk)
+      progress = λ d has. goes_on c.args.store.now s.store c.answer_frame-met.new.store s.taken c.args.budget s.buffers.frames.held c.next.new.self.held c.next.new.self.body c.answer_frame-met.result c.answer_frame-met.new.out
+          (shown g c.args.source.now c.args.sink.now d) (shown g s.source s.sink s.disk) (shown g s.source c.send.new.sink c.answer_frame-met.new.disk)
           (s.invariant.progress d has) s.invariant.within (answered g sent) c.in-Frame.ensures.ok.0 c.in-Frame.ensures.ok.1 c.in-Frame.ensures.fits
           none c.in-Ok.ensures.ok;
-      going = c.answer-met.ensures.end ∙ ap is_some none;
-      lawful = c.answer-met.ensures.kept none;
-      time = passes_trans s.invariant.time c.answer-met.ensures.time;
+      going = c.answer_frame-met.ensures.end ∙ ap is_some none;
+      lawful = c.answer_frame-met.ensures.kept none;
+      time = passes_trans s.invariant.time c.answer_frame-met.ensures.time;
       within = s.invariant.within;
       source_same = s.invariant.source_same;
       sink_same = c.in-Ok.ensures.cause.ok ∙ s.invariant.sink_same;
-      disk_same = c.answer-met.ensures.cause.same (λ e. let f : ◌≡◌ {A = Option Fault} None (Some fault.Device) = sym none ∙ e in cc) ∙ s.invariant.disk_same;
+      disk_same = c.answer_frame-met.ensures.cause.same (λ e. let f : ◌≡◌ {A = Option Fault} None (Some fault.Device) = sym none ∙ e in cc) ∙ s.invariant.disk_same;
     }
 
 pub returns-in_default-most_next-clause-ok : goal.returns-in_default-most_next-clause-ok

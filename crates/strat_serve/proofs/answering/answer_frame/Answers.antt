@@ -8,7 +8,7 @@ use Rattle.strat_model.specs.Spelling.{reply_body}
 use Rattle.strat_model.specs.Stream.{frame}
 use Rattle.strat_model.specs.Answer.{as_told}
 use Rattle.strat_serve.proofs.AnswerLemmas.{answered, fails_as_met, told_faulty, told_damaged}
-use Rattle.strat_serve.proofs.answering.answer.Goals as goal
+use Rattle.strat_serve.proofs.answering.answer_frame.Goals as goal
 
 pub returns-in-Ok-clause-ok : goal.returns-in-Ok-clause-ok
 returns-in-Ok-clause-ok g c =
